@@ -1,0 +1,2 @@
+pub mod AcceptedFrames
+mod Beginnings

@@ -1,0 +1,5 @@
+pub mod Faults
+pub mod Frames
+pub mod Options
+pub mod Sending
+pub mod Sides

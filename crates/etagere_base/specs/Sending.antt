@@ -1,0 +1,6 @@
+use Rattle.std.specs.Prelude.{ℕ, ◌≤◌, List, Option, length, take}
+use Rattle.std.specs.Io.KnownBytes.{Appends}
+
+-- known bytes grow by a beginning of a text, which may be empty or whole
+abbrev pub AppendsBeginning : Option (List ℕ) → Option (List ℕ) → List ℕ → Type 0
+AppendsBeginning old new text = (sent : ℕ) × (sent ≤ length text) × Appends old new (take sent text)

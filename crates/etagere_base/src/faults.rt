@@ -1,0 +1,57 @@
+ghost use Rattle.std.specs.Prelude.{◌≡◌};
+ghost use Rattle.etagere_base.specs.Faults.{options_fault_number};
+
+use thiserror::Error;
+
+/// Why an atlas can't be made. The first that holds is answered, in this order.
+#[derive(Clone, Copy, Debug, PartialEq, Eq, Error)]
+pub enum OptionsFault {
+    /// A side of the atlas is out of range.
+    #[error("Size")]
+    Size,
+    /// The area doesn't fit an `i32`.
+    #[error("Area")]
+    Area,
+    /// An alignment is below 1.
+    #[error("Alignment")]
+    Alignment,
+    /// There is no column.
+    #[error("Columns")]
+    Columns,
+    /// A column is narrower than the alignment.
+    #[error("ColumnTooNarrow")]
+    ColumnTooNarrow,
+    /// There was no memory.
+    #[error("Memory")]
+    Memory,
+}
+
+impl OptionsFault {
+    /// The fault's number, from 1 to 6.
+    pub fn number(self) -> u32
+        ensures { result ≡ options_fault_number self }
+    {
+        match self {
+            OptionsFault::Size => 1,
+            OptionsFault::Area => 2,
+            OptionsFault::Alignment => 3,
+            OptionsFault::Columns => 4,
+            OptionsFault::ColumnTooNarrow => 5,
+            OptionsFault::Memory => 6,
+        }
+    }
+}
+
+/// Nothing that is held carries the id.
+#[derive(Clone, Copy, Debug, PartialEq, Eq, Error)]
+#[error("UnknownId")]
+pub struct UnknownId;
+
+impl UnknownId {
+    /// The fault's number, 1.
+    pub fn number(self) -> u32
+        ensures { result ≡ 1 }
+    {
+        1
+    }
+}

@@ -1,0 +1,114 @@
+ghost use Rattle.std.specs.Prelude.{◌≡◌, ◌<◌};
+ghost use Rattle.etagere_base.specs.Frames as spec;
+ghost use Rattle.etagere_base.specs.Frames.{IsAccepted, IsFrame, alignments_of, column_width_of};
+ghost use Rattle.etagere_base.specs.Sides.{side};
+
+use crate::faults::OptionsFault;
+use crate::geometry::Size;
+use crate::options::AllocatorOptions;
+use crate::sides::{Sides, side, turned, up};
+
+/// What an atlas keeps of its size and options, in pixels.
+#[derive(Clone, Copy, Debug, PartialEq, Eq)]
+pub struct Frame {
+    pub width: u32,
+    pub height: u32,
+    pub alignment_width: u32,
+    pub alignment_height: u32,
+    pub vertical: bool,
+    pub column_width: u32,
+    pub columns: u32,
+}
+
+/// The first fault of a size and options, want of memory aside, where no side may pass `longest`.
+pub fn options_fault(longest: u16, size: Size, options: &AllocatorOptions) -> Option<OptionsFault>
+    ensures { result ≡ spec.options_fault longest size options.now }
+{
+    if !is_side(longest, size.width) || !is_side(longest, size.height) {
+        return Some(OptionsFault::Size);
+    }
+    let area = u64::from(side(size.width)) * u64::from(side(size.height));
+    if area > i32::MAX as u64 {
+        return Some(OptionsFault::Area);
+    }
+    if side(options.alignment.width) == 0 || side(options.alignment.height) == 0 {
+        return Some(OptionsFault::Alignment);
+    }
+    if side(options.num_columns) == 0 {
+        return Some(OptionsFault::Columns);
+    }
+    if column_width(size, options) == 0 {
+        return Some(OptionsFault::ColumnTooNarrow);
+    }
+    None
+}
+
+/// The frame of a shelf atlas of a size and options that have no fault.
+pub fn atlas_frame(size: Size, options: &AllocatorOptions) -> Frame
+    requires { IsAccepted 65535 size options.now }
+    ensures value { result ≡ spec.atlas_frame size options.now }
+    ensures frame { IsFrame 65535 result }
+{
+    let along = if options.vertical_shelves {
+        size.height
+    } else {
+        size.width
+    };
+    let column_width = column_width(size, options);
+    Frame {
+        width: side(size.width),
+        height: side(size.height),
+        alignment_width: side(options.alignment.width),
+        alignment_height: side(options.alignment.height),
+        vertical: options.vertical_shelves,
+        column_width,
+        columns: side(along) / column_width,
+    }
+}
+
+/// What a size asks of the shelves, along and across; none where it is empty, too long or larger than
+/// a column.
+pub fn asked(frame: &Frame, size: Size) -> Option<Sides>
+    requires { IsFrame 65535 frame.now }
+    ensures { result ≡ spec.asked frame.now size }
+{
+    if !(is_side(u16::MAX, size.width) && is_side(u16::MAX, size.height)) {
+        return None;
+    }
+    let sides = turned(
+        frame.vertical,
+        Sides {
+            along: up(side(size.width), frame.alignment_width),
+            across: up(side(size.height), frame.alignment_height),
+        },
+    );
+    let height = if frame.vertical {
+        frame.width
+    } else {
+        frame.height
+    };
+    if sides.along <= frame.column_width && sides.across <= height {
+        Some(sides)
+    } else {
+        None
+    }
+}
+
+fn column_width(size: Size, options: &AllocatorOptions) -> u32
+    requires along { 0 < (alignments_of options.now).along }
+    requires columns { 0 < side options.now.num_columns }
+    ensures { result ≡ column_width_of size options.now }
+{
+    let (along, alignment) = if options.vertical_shelves {
+        (side(size.height), side(options.alignment.height))
+    } else {
+        (side(size.width), side(options.alignment.width))
+    };
+    along / side(options.num_columns) / alignment * alignment
+}
+
+fn is_side(longest: u16, length: i32) -> bool
+    ensures { result ≡ spec.is_side longest length }
+{
+    0 < side(length) && side(length) <= u32::from(longest)
+}

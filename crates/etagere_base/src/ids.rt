@@ -1,0 +1,43 @@
+ghost use Rattle.std.specs.Prelude.{◌≡◌, ℕ};
+
+use crate::geometry::Rectangle;
+use serde::{Deserialize, Serialize};
+use std::marker::Model;
+
+/// What names an allocation from `allocate` to its return. It is serialized as its number.
+#[derive(Clone, Copy, Debug, PartialEq, Eq, Hash, Serialize, Deserialize)]
+#[serde(transparent)]
+pub struct AllocId {
+    number: u32,
+}
+
+impl Model for AllocId {
+    ghost Value = { ℕ };
+
+    ghost view = { λ id. id.number };
+
+    ghost inverse = { λ number. record { number = number } };
+}
+
+impl AllocId {
+    /// The number that stands for the id.
+    pub fn serialize(&self) -> u32
+        ensures { result ≡ self.now }
+    {
+        self.number
+    }
+
+    /// The id that a number stands for.
+    pub fn deserialize(number: u32) -> AllocId
+        ensures { result ≡ number }
+    {
+        AllocId { number }
+    }
+}
+
+/// A rectangle of an atlas, and the id by which it is given back.
+#[derive(Clone, Copy, Debug, PartialEq, Serialize, Deserialize)]
+pub struct Allocation {
+    pub id: AllocId,
+    pub rectangle: Rectangle,
+}

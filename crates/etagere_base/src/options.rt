@@ -1,0 +1,35 @@
+ghost use Rattle.std.specs.Prelude.{◌≡◌};
+ghost use Rattle.etagere_base.specs.Options.{default_options};
+
+use crate::geometry::Size;
+use serde::{Deserialize, Serialize};
+
+/// How an atlas is divided and what it rounds sizes to.
+#[derive(Clone, Copy, Debug, PartialEq, Eq, Hash, Serialize, Deserialize)]
+pub struct AllocatorOptions {
+    /// Each width is rounded up to a multiple of `alignment.width`, each height to one of
+    /// `alignment.height`, in pixels.
+    pub alignment: Size,
+    /// Whether the shelves stand upright, side by side, in place of lying one above another.
+    pub vertical_shelves: bool,
+    /// Into how many columns the atlas is divided, each with shelves of its own.
+    pub num_columns: i32,
+}
+
+/// No alignment, horizontal shelves, one column.
+pub const DEFAULT_OPTIONS: AllocatorOptions = AllocatorOptions {
+    alignment: Size {
+        width: 1,
+        height: 1,
+    },
+    vertical_shelves: false,
+    num_columns: 1,
+};
+
+impl Default for AllocatorOptions {
+    ghost is_default = { λ options. options ≡ default_options };
+
+    fn default() -> Self {
+        DEFAULT_OPTIONS
+    }
+}

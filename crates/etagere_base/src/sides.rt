@@ -1,0 +1,54 @@
+ghost use Rattle.std.specs.Prelude.{◌≡◌, ◌+◌, ◌<◌, ◌≤◌, ◌^◌};
+ghost use Rattle.etagere_base.specs.Sides as spec;
+
+/// Two lengths in pixels: one along the shelves, one across them.
+#[derive(Clone, Copy, Debug, PartialEq, Eq)]
+pub struct Sides {
+    pub along: u32,
+    pub across: u32,
+}
+
+/// A signed length as an unsigned one: 0 where it is negative.
+pub fn side(length: i32) -> u32
+    ensures value { result ≡ spec.side length }
+    ensures short { result < 2 ^ 31 }
+{
+    length.max(0) as u32
+}
+
+/// Turns sides or places between the axes of the atlas and those of its shelves, either way.
+pub fn turned(vertical: bool, sides: Sides) -> Sides
+    ensures { result ≡ spec.turned vertical sides }
+{
+    if vertical {
+        Sides {
+            along: sides.across,
+            across: sides.along,
+        }
+    } else {
+        sides
+    }
+}
+
+/// The least multiple of `alignment` that is not below `length`.
+pub fn up(length: u32, alignment: u32) -> u32
+    requires positive { 0 < alignment }
+    requires fits { length + alignment ≤ 2 ^ 32 }
+    ensures { result ≡ spec.up length alignment }
+{
+    (length + (alignment - 1)) / alignment * alignment
+}
+
+/// The height of a shelf that is made for items of this height: the larger they are, the coarser.
+pub fn step(height: u32) -> u32
+    requires { height < 2 ^ 31 }
+    ensures { result ≡ spec.step height }
+{
+    let coarseness = match height {
+        0..=31 => 8,
+        32..=127 => 16,
+        128..=511 => 32,
+        _ => 64,
+    };
+    up(height, coarseness)
+}
