@@ -1,0 +1,54 @@
+-- What changing the first element that passes a test keeps of a list.
+use Rattle.std.proofs.Common.{◌≡◌, ℕ, ◌≤◌, Bool, true, List, [], ◌∷◌, refl, ◌∙◌, arith}
+use Rattle.std.proofs.lemmas.Bool.{cond_both}
+use Rattle.etagere.specs.Lists.{Each, at_first, NoneTouch}
+
+module _ {X : Type 0} (test : X → Bool) (change : X → X) where
+  -- a fact of each element that the change keeps
+  pub Each-at_first : (P : X → Type 0) → ((x : X) → test x ≡ true → P x → P (change x))
+      → (xs : List X) → Each P xs → Each P (at_first test change xs)
+  Each-at_first P keeps [] h = tt
+  Each-at_first P keeps (x ∷ xs) h =
+      cond_both (test x) (change x ∷ xs) (x ∷ at_first test change xs) (Each P)
+      (λ t. (keeps x t h.0, h.1)) (λ _. (h.0, Each-at_first P keeps xs h.1))
+
+  -- a measure that doesn't see the change
+  pub measure-at_first : {A : Type 0} (measure : List X → A)
+      → ((x : X) (xs ys : List X) → measure xs ≡ measure ys → measure (x ∷ xs) ≡ measure (x ∷ ys))
+      → ((x : X) (xs : List X) → measure (change x ∷ xs) ≡ measure (x ∷ xs))
+      → (xs : List X) → measure (at_first test change xs) ≡ measure xs
+  measure-at_first measure behind same [] = refl
+  measure-at_first measure behind same (x ∷ xs) =
+      cond_both (test x) (change x ∷ xs) (x ∷ at_first test change xs) (λ (l : List X). measure l ≡ measure (x ∷ xs))
+      (λ _. same x xs) (λ _. behind x (at_first test change xs) xs (measure-at_first measure behind same xs))
+
+  -- a measure that the change doesn't make larger
+  pub at_most-at_first : (measure : List X → ℕ)
+      → ((x : X) (xs ys : List X) → measure xs ≤ measure ys → measure (x ∷ xs) ≤ measure (x ∷ ys))
+      → ((x : X) (xs : List X) → test x ≡ true → measure (change x ∷ xs) ≤ measure (x ∷ xs))
+      → (xs : List X) → measure (at_first test change xs) ≤ measure xs
+  at_most-at_first measure behind smaller [] = omega arith
+  at_most-at_first measure behind smaller (x ∷ xs) =
+      cond_both (test x) (change x ∷ xs) (x ∷ at_first test change xs) (λ (l : List X). measure l ≤ measure (x ∷ xs))
+      (λ t. smaller x xs t) (λ _. behind x (at_first test change xs) xs (at_most-at_first measure behind smaller xs))
+
+  module _ (touch : X → X → Bool) (next : (x y : X) → touch (change x) y ≡ touch x y)
+      (before : (w x : X) → touch w (change x) ≡ touch w x) where
+    -- a changed first element touches the next one no more than before
+    NoneTouch-changed : (x : X) (xs : List X) → NoneTouch touch (x ∷ xs) → NoneTouch touch (change x ∷ xs)
+    NoneTouch-changed x [] h = tt
+    NoneTouch-changed x (y ∷ ys) h = (next x y ∙ h.0, h.1)
+
+    -- no two touch behind an element where one behind it is changed
+    NoneTouch-behind : (w : X) (xs : List X) → NoneTouch touch (w ∷ xs) → NoneTouch touch (w ∷ at_first test change xs)
+    NoneTouch-behind w [] h = tt
+    NoneTouch-behind w (x ∷ xs) h =
+        cond_both (test x) (change x ∷ xs) (x ∷ at_first test change xs) (λ (l : List X). NoneTouch touch (w ∷ l))
+        (λ _. (before w x ∙ h.0, NoneTouch-changed x xs h.1)) (λ _. (h.0, NoneTouch-behind x xs h.1))
+
+    -- what no two neighbours do, where the change keeps what touches
+    pub NoneTouch-at_first : (xs : List X) → NoneTouch touch xs → NoneTouch touch (at_first test change xs)
+    NoneTouch-at_first [] h = tt
+    NoneTouch-at_first (x ∷ xs) h =
+        cond_both (test x) (change x ∷ xs) (x ∷ at_first test change xs) (NoneTouch touch)
+        (λ _. NoneTouch-changed x xs h) (λ _. NoneTouch-behind x xs h)

@@ -1,0 +1,99 @@
+-- The first element that passes a test, by its number.
+use Rattle.std.proofs.Common.{◌≡◌, ℕ, suc, ◌+◌, Bool, true, false, cond, not, ◌||◌, Option, None, Some, List, [], ◌∷◌, ◌++◌, length, refl, ap, ◌∙◌, sym, arith}
+use Rattle.std.specs.Prelude.{slice_get, slice_set, position, nat_lt, option_map, is_some}
+use Rattle.std.specs.List.{list_any, position_or_len}
+use Rattle.std.proofs.lemmas.Bool.{cond-true, cond-false, or_from, or_parts}
+use Rattle.std.proofs.lemmas.List.{set_at}
+use Rattle.etagere.specs.Lists.{at_first}
+
+-- a number below a length, one further back
+one_back : (k n : ℕ) → nat_lt (1 + k) (suc n) ≡ nat_lt k n
+one_back k n = grind arith
+
+-- the first number is below the length of a list with an element
+zero_below : (n : ℕ) → nat_lt 0 (suc n) ≡ true
+zero_below n = grind arith
+
+-- the first place by cases on the first element's test
+position_step : (b : Bool) (k n : ℕ) → cond (nat_lt (cond (not b) (1 + k) 0) (suc n)) (Some (cond (not b) (1 + k) 0)) None ≡ cond b (Some 0) (option_map suc (cond (nat_lt k n) (Some k) None))
+position_step true k n = cond-true _ _ _ (zero_below n)
+position_step false k n = grind (arith, one_back k n)
+
+-- the element behind a front is found at the front's length
+pub slice_get_at : {X : Type 0} (front : List X) (x : X) (back : List X) (n : ℕ) → length front ≡ n → slice_get (front ++ x ∷ back) n ≡ Some x
+slice_get_at front x back n h = rw (← h) (at_length front x back)
+  where
+    at_length : {X : Type 0} (front : List X) (x : X) (back : List X) → slice_get (front ++ x ∷ back) (length front) ≡ Some x
+    at_length [] x back = refl
+    at_length (y ∷ front) x back = at_length front x back
+
+-- a list with an element that passes a test and none before it that does
+pub record Split {X : Type 0} (test : X → Bool) (xs : List X) (n : ℕ) : Type 0 where
+  pub front : List X
+  pub first : X
+  pub back : List X
+  pub is : xs ≡ front ++ first ∷ back
+  pub number : length front ≡ n
+  pub fails : list_any test front ≡ false
+  pub passes : test first ≡ true
+
+module _ {X : Type 0} (test : X → Bool) where
+  -- the first element is the first one to pass, or one behind it is
+  pub position-cons : (x : X) (xs : List X) → position test (x ∷ xs) ≡ cond (test x) (Some 0) (option_map suc (position test xs))
+  position-cons x xs = position_step (test x) (position_or_len test xs) (length xs)
+
+  -- there is a first place where the first element passes or one behind it does
+  is_some_step : (b : Bool) (o : Option ℕ) (any : Bool) → is_some o ≡ any → is_some (cond b (Some 0) (option_map suc o)) ≡ (b || any)
+  is_some_step true o any h = refl
+  is_some_step false None any h = h
+  is_some_step false (Some n) any h = h
+
+  -- there is a first element that passes where one does
+  pub is_some-position : (xs : List X) → is_some (position test xs) ≡ list_any test xs
+  is_some-position [] = refl
+  is_some-position (x ∷ xs) = ap is_some (position-cons x xs) ∙ is_some_step (test x) (position test xs) (list_any test xs) (is_some-position xs)
+
+  -- a split behind an element that fails, or one at an element that passes
+  split_step : (x : X) (xs : List X) (b : Bool) (o : Option ℕ) → test x ≡ b → o ≡ position test xs
+      → ((m : ℕ) → position test xs ≡ Some m → Split test xs m)
+      → (n : ℕ) → cond b (Some 0) (option_map suc o) ≡ Some n → Split test (x ∷ xs) n
+  split_step x xs true o t e rest n h =
+      record { front = []; first = x; back = xs; is = refl; number = cc; fails = refl; passes = t }
+  split_step x xs false None t e rest n h = absurd (cc)
+  split_step x xs false (Some m) t e rest n h =
+      let s = rest m (sym e) in
+      record {
+        front = x ∷ s.front;
+        first = s.first;
+        back = s.back;
+        is = ap (λ (l : List X). x ∷ l) s.is;
+        number = ap suc s.number ∙ (cc);
+        fails = or_from (test x) (list_any test s.front) t s.fails;
+        passes = s.passes;
+      }
+
+  -- the first element that passes splits the list
+  pub split-first : (xs : List X) (n : ℕ) → position test xs ≡ Some n → Split test xs n
+  split-first [] n h = absurd (cc)
+  split-first (x ∷ xs) n h = split_step x xs (test x) (position test xs) refl refl (split-first xs) n (sym (position-cons x xs) ∙ h)
+
+  -- changing the first element that passes a test, where it is known
+  at_first-split : (change : X → X) (front : List X) (x : X) (back : List X) → list_any test front ≡ false → test x ≡ true
+      → at_first test change (front ++ x ∷ back) ≡ front ++ change x ∷ back
+  at_first-split change [] x back fails passes = cond-true _ _ _ passes
+  at_first-split change (y ∷ front) x back fails passes =
+      let parts = or_parts (test y) (list_any test front) fails in
+      cond-false _ _ _ parts.0 ∙ ap (λ (l : List X). y ∷ l) (at_first-split change front x back parts.1 passes)
+
+  -- changing the first element that passes a test is writing it at its number
+  pub at_first-set : (change : X → X) (xs : List X) (n : ℕ) (x : X) → position test xs ≡ Some n → slice_get xs n ≡ Some x
+      → at_first test change xs ≡ slice_set xs n (change x)
+  at_first-set change xs n x p g =
+      let s = split-first xs n p in
+      let same : Some s.first ≡ Some x =
+      sym (slice_get_at s.front s.first s.back n s.number) ∙ ap (λ (l : List X). slice_get l n) (sym s.is) ∙ g in
+      ap (at_first test change) s.is
+      ∙ at_first-split change s.front s.first s.back s.fails s.passes
+      ∙ sym (set_at s.front s.first s.back (change s.first) n s.number)
+      ∙ ap (λ (l : List X). slice_set l n (change s.first)) (sym s.is)
+      ∙ ap (λ (y : X). slice_set xs n (change y)) (cc)

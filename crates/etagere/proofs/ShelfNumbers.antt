@@ -1,0 +1,133 @@
+-- Shelves by their numbers.
+use Rattle.std.proofs.Common.{◌≡◌, ℕ, zero, suc, ◌+◌, ◌<◌, ◌≤◌, true, false, cond, ◌&&◌, ◌==◌, Some, List, [], ◌∷◌, length, get_or, set, take, refl, sym, ◌∙◌, arith}
+use Rattle.std.specs.Prelude.{remove, slice_get}
+use Rattle.std.proofs.lemmas.Bool.{cond_both, and_parts, eqb-true}
+use Rattle.std.proofs.lemmas.Option.{get_or_from_slice_get, slice_get_read, slice_get_within}
+use Rattle.etagere.specs.Joining.{both_empty, merged_shelves}
+use Rattle.etagere.specs.Merging.{merged_at}
+use Rattle.etagere.specs.Places.{heights_in}
+use Rattle.etagere.specs.State.{Run, Shelf, is_empty, is_one_free, runs_in_use}
+use Rattle.etagere.proofs.ListEdits.{merged_at-touch, merged_at-apart}
+use Rattle.etagere.proofs.ReturnedValid.{heights_step, same_column}
+
+-- an element is still there after one behind it was taken out
+get-removed : {X : Type 0} (n : ℕ) (xs : List X) (x : X) → slice_get xs n ≡ Some x → slice_get (remove xs (suc n)) n ≡ Some x
+get-removed n [] x h = absurd (cc)
+get-removed zero (y ∷ ys) x h = h
+get-removed (suc n) (y ∷ ys) x h = get-removed n ys x h
+
+-- what is read at a number and behind it, also once the second was taken out
+pub record IsRead {X : Type 0} (n : ℕ) (xs : List X) (x y kept taken : X) : Type 0 where
+  pub here : slice_get xs n ≡ Some x
+  pub there : slice_get xs (suc n) ≡ Some y
+  pub same : kept ≡ x
+  pub next : taken ≡ y
+
+pub two_read : {X : Type 0} (n : ℕ) (xs ys : List X) (x y kept taken : X) → n + 1 < length xs → x ≡ get_or xs n x → y ≡ get_or xs (n + 1) y
+    → ys ≡ remove xs (n + 1) → kept ≡ get_or ys n kept → taken ≡ get_or xs (n + 1) taken → IsRead n xs x y kept taken
+two_read {X} n xs ys x y kept taken within h k removed m t =
+    let one : n + 1 ≡ suc n = omega arith in
+    let here : slice_get xs n ≡ Some x = slice_get_read xs (length xs) n x refl (omega arith) h in
+    let there : slice_get xs (suc n) ≡ Some y = slice_get_read xs (length xs) (suc n) y refl (omega arith) (rw one at k) in
+    let again : slice_get xs (suc n) ≡ Some taken = slice_get_read xs (length xs) (suc n) taken refl (omega arith) (rw one at t) in
+    let after : slice_get ys n ≡ Some x = rw (removed, one) (get-removed n xs x here) in
+    record {
+      here = here;
+      there = there;
+      same = m ∙ get_or_from_slice_get ys n x kept after;
+      next = cc;
+    }
+
+-- two heights of one column are among its heights
+heights_of_two : (a b x y rest : ℕ) → b ≡ a → x + y ≤ cond (a == a) x 0 + (cond (b == a) y 0 + rest)
+heights_of_two a b x y rest h = grind arith
+
+-- two neighbours of one column are no higher than it
+pub heights-le : (n : ℕ) (shelves : List Shelf) (shelf next : Shelf) → slice_get shelves n ≡ Some shelf → slice_get shelves (suc n) ≡ Some next
+    → both_empty shelf next ≡ true → shelf.height + next.height ≤ heights_in shelf.column shelves
+heights-le n [] shelf next h k t = absurd (cc)
+heights-le zero (x ∷ []) shelf next h k t = absurd (cc)
+heights-le zero (x ∷ y ∷ ys) shelf next h k t =
+    let first : x ≡ shelf = cc in
+    let second : y ≡ next = cc in
+    let column : next.column ≡ shelf.column = sym (eqb-true shelf.column next.column (and_parts (shelf.column == next.column) (is_empty shelf && is_empty next) t).0) in
+    rw (first, second) (heights_of_two shelf.column next.column shelf.height next.height (heights_in shelf.column ys) column)
+heights-le (suc n) (x ∷ xs) shelf next h k t = omega (arith, heights-le n xs shelf next h k t)
+
+-- an empty shelf has one run
+runs-empty : (runs : List Run) → is_one_free runs ≡ true → length runs ≡ 1
+runs-empty [] h = absurd (cc)
+runs-empty (run ∷ []) h = refl
+runs-empty (run ∷ next ∷ runs) h = absurd (cc)
+
+-- two empty shelves that become one have one run fewer
+pub runs_in_use-merged_at : (n : ℕ) (shelves : List Shelf) (shelf next : Shelf) → slice_get shelves n ≡ Some shelf → slice_get shelves (suc n) ≡ Some next
+    → both_empty shelf next ≡ true → runs_in_use (merged_at both_empty merged_shelves n shelves) + 1 ≡ runs_in_use shelves
+runs_in_use-merged_at n [] shelf next h k t = absurd (cc)
+runs_in_use-merged_at zero (x ∷ []) shelf next h k t = absurd (cc)
+runs_in_use-merged_at zero (x ∷ y ∷ ys) shelf next h k t =
+    let first : x ≡ shelf = cc in
+    let second : y ≡ next = cc in
+    let touch : both_empty x y ≡ true = rw (first, second) t in
+    let empty = and_parts (is_empty shelf) (is_empty next) (and_parts (shelf.column == next.column) (is_empty shelf && is_empty next) t).1 in
+    let one : length y.runs ≡ 1 = rw second (runs-empty next.runs empty.1) in
+    rw touch (omega arith)
+runs_in_use-merged_at (suc n) (x ∷ xs) shelf next h k t = omega (arith, runs_in_use-merged_at n xs shelf next h k t)
+
+-- a shelf that takes up the height of an empty next one is merged with it
+pub merged_at-raised : (n : ℕ) (shelves : List Shelf) (shelf next raised : Shelf) → slice_get shelves n ≡ Some shelf → slice_get shelves (suc n) ≡ Some next
+    → both_empty shelf next ≡ true → raised ≡ merged_shelves shelf next → set (remove shelves (suc n)) n raised ≡ merged_at both_empty merged_shelves n shelves
+merged_at-raised n shelves shelf next raised h k t r =
+    let here = get_or_from_slice_get shelves n shelf shelf h in
+    let there = get_or_from_slice_get shelves (suc n) next next k in
+    sym (merged_at-touch both_empty merged_shelves n shelves shelf next raised (slice_get_within shelves (suc n) next k)
+    (rw (here, there) t) (rw (here, there) (sym r)))
+
+-- shelves that don't touch stay
+pub merged_at-kept : (n : ℕ) (shelves : List Shelf) (shelf next : Shelf) → slice_get shelves n ≡ Some shelf → slice_get shelves (suc n) ≡ Some next
+    → both_empty shelf next ≡ false → shelves ≡ merged_at both_empty merged_shelves n shelves
+merged_at-kept n shelves shelf next h k t =
+    let here = get_or_from_slice_get shelves n shelf shelf h in
+    let there = get_or_from_slice_get shelves (suc n) next next k in
+    sym (merged_at-apart both_empty merged_shelves n shelves shelf next (slice_get_within shelves (suc n) next k) (rw (here, there) t))
+
+-- a shelf has no more runs than all
+pub runs-le-in_use : (n : ℕ) (shelves : List Shelf) (shelf : Shelf) → slice_get shelves n ≡ Some shelf → length shelf.runs ≤ runs_in_use shelves
+runs-le-in_use n [] shelf h = absurd (cc)
+runs-le-in_use zero (x ∷ xs) shelf h = let same : x ≡ shelf = cc in rw same (omega arith)
+runs-le-in_use (suc n) (x ∷ xs) shelf h = omega (arith, runs-le-in_use n xs shelf h)
+
+-- writing a shelf changes the count of runs by the difference of the two
+pub runs_in_use-set : (n : ℕ) (shelves : List Shelf) (shelf new : Shelf) → slice_get shelves n ≡ Some shelf
+    → runs_in_use (set shelves n new) + length shelf.runs ≡ runs_in_use shelves + length new.runs
+runs_in_use-set n [] shelf new h = absurd (cc)
+runs_in_use-set zero (x ∷ xs) shelf new h = let same : x ≡ shelf = cc in rw same (omega arith)
+runs_in_use-set (suc n) (x ∷ xs) shelf new h = omega (arith, runs_in_use-set n xs shelf new h)
+
+-- writing a shelf of the same column and height changes the height of no column
+pub heights_in-set : (column n : ℕ) (shelves : List Shelf) (shelf new : Shelf) → slice_get shelves n ≡ Some shelf → new.column ≡ shelf.column → new.height ≡ shelf.height
+    → heights_in column (set shelves n new) ≡ heights_in column shelves
+heights_in-set column n [] shelf new h c t = refl
+heights_in-set column zero (x ∷ xs) shelf new h c t = let same : x ≡ shelf = cc in rw (c, t, same) refl
+heights_in-set column (suc n) (x ∷ xs) shelf new h c t = omega (arith, heights_in-set column n xs shelf new h c t)
+
+-- merging two shelves changes the height of no column
+pub heights_in-merged_at : (column n : ℕ) (shelves : List Shelf) → heights_in column (merged_at both_empty merged_shelves n shelves) ≡ heights_in column shelves
+heights_in-merged_at column n [] = refl
+heights_in-merged_at column zero (x ∷ []) = refl
+heights_in-merged_at column zero (x ∷ y ∷ ys) =
+    cond_both (both_empty x y) (merged_shelves x y ∷ ys) (x ∷ y ∷ ys) (λ (l : List Shelf). heights_in column l ≡ heights_in column (x ∷ y ∷ ys))
+    (λ t. heights_step x.column y.column column x.height y.height (heights_in column ys) (same_column x y t)) (λ _. refl)
+heights_in-merged_at column (suc n) (x ∷ xs) = omega (arith, heights_in-merged_at column n xs)
+
+-- a first height of a column is among its heights
+height_of_first : (a height rest : ℕ) → 0 + height ≤ cond (a == a) height 0 + rest
+height_of_first a height rest = grind arith
+
+-- a shelf and those before it in its column are no higher than the column
+pub heights_in-upto : (n : ℕ) (shelves : List Shelf) (shelf : Shelf) → slice_get shelves n ≡ Some shelf
+    → heights_in shelf.column (take n shelves) + shelf.height ≤ heights_in shelf.column shelves
+heights_in-upto n [] shelf h = absurd (cc)
+heights_in-upto zero (x ∷ xs) shelf h =
+    let same : x ≡ shelf = cc in rw same (height_of_first shelf.column shelf.height (heights_in shelf.column xs))
+heights_in-upto (suc n) (x ∷ xs) shelf h = omega (arith, heights_in-upto n xs shelf h)

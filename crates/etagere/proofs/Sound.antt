@@ -1,0 +1,99 @@
+-- What each state that an atlas comes to keeps.
+use Rattle.std.specs.Prelude.{not, filter}
+use Rattle.std.specs.List.{list_any}
+use Rattle.std.proofs.Common.{◌≡◌, ℕ, suc, ◌+◌, ◌≤◌, ◌==◌, Bool, true, false, cond, Some, List, [], ◌∷◌, refl, ap, sym, subst, arith}
+use Rattle.std.proofs.lemmas.Bool.{cond_both}
+use Rattle.etagere_base.specs.declared.geometry.Rectangle.{Rectangle}
+use Rattle.etagere_base.specs.declared.geometry.Size.{Size}
+use Rattle.etagere_base.specs.declared.ids.Allocation.{Allocation}
+use Rattle.etagere.specs.Atlas.{IsSound}
+use Rattle.etagere.specs.Choice.{Placement, placement_of}
+use Rattle.etagere.specs.Corners.{AreCorners, corner}
+use Rattle.etagere.specs.Lists.{Each, times}
+use Rattle.etagere.specs.Places.{held, is_held}
+use Rattle.etagere.specs.Rectangles.{AreApart, IsInside}
+use Rattle.etagere.specs.Returning.{returned}
+use Rattle.etagere.specs.State.{AtlasState}
+use Rattle.etagere.specs.Taking.{given, taken}
+use Rattle.etagere.specs.Valid.{IsValid, ids}
+use Rattle.etagere.proofs.EachLemmas.{Each-append, Each-front, Each-back, Each-middle}
+use Rattle.etagere.proofs.FreshCorners.{corner-fresh}
+use Rattle.etagere.proofs.HeldIds.{ids-held_after}
+use Rattle.etagere.proofs.NothingHeld.{nothing_held-fresh}
+use Rattle.etagere.proofs.ReturnedHeld.{returned-held}
+use Rattle.etagere.proofs.TakenHeld.{TakesIn, taken-held}
+use Rattle.etagere.proofs.TakenValid.{taken-valid}
+use Rattle.etagere.proofs.Tiling.{held-apart, held-inside}
+
+-- a valid state is sound
+pub sound : (state : AtlasState) → IsValid state → IsSound state
+sound state valid = record {
+  valid = valid;
+  ids = λ id. omega (arith, valid.ids id, ap (times id) (ids-held_after state.frame [] state.shelves));
+  inside = held-inside state valid;
+  apart = held-apart state valid;
+  empty = nothing_held-fresh state valid;
+}
+
+-- a number above all of a list
+abbrev unused : List ℕ → ℕ
+unused [] = 0
+unused (n ∷ ns) = suc n + unused ns
+
+other_number : (b : Bool) (n m k : ℕ) → (n == m) ≡ b → suc n ≤ m → k ≡ 0 → cond b 1 0 + k ≡ 0
+other_number true n m k e h z = absurd (grind arith)
+other_number false n m k e h z = omega arith
+
+times-above : (m : ℕ) (ns : List ℕ) → unused ns ≤ m → times m ns ≡ 0
+times-above m [] h = refl
+times-above m (n ∷ ns) h = other_number (n == m) n m (times m ns) refl (omega arith) (times-above m ns (omega arith))
+
+-- a fact of each stays with those that pass a test
+Each-filter : {X : Type 0} (P : X → Type 0) (test : X → Bool) (xs : List X) → Each P xs → Each P (filter test xs)
+Each-filter P test [] each = tt
+Each-filter P test (x ∷ xs) each =
+    cond_both (test x) (x ∷ filter test xs) (filter test xs) (Each P)
+    (λ _. (each.0, Each-filter P test xs each.1)) (λ _. Each-filter P test xs each.1)
+
+-- what a placement gives lies within the atlas
+pub given-inside : (state : AtlasState) (size : Size) (placement : Placement) (rectangle : Rectangle) → IsValid state
+    → placement_of state size ≡ Some placement → given state placement ≡ Some rectangle → IsInside state.frame rectangle
+given-inside state size placement rectangle valid placed gives =
+    let id = unused (ids state.shelves) in
+    let valid' = taken-valid state size placement id valid placed (times-above id (ids state.shelves) (omega arith)) in
+    let takes = taken-held state size placement id valid placed in
+    let same : takes.rectangle ≡ rectangle = cc in
+    let P : Allocation → Type 0 = λ a. IsInside state.frame a.rectangle in
+    let inside = subst (Each P) takes.after (held-inside (taken state placement id) valid') in
+    subst (IsInside state.frame) same (Each-middle P takes.front (record { id = id; rectangle = takes.rectangle }) takes.back inside)
+
+-- the corner of what a placement gives is the corner of nothing that is held
+pub corner-not_held : (state : AtlasState) (size : Size) (placement : Placement) (rectangle : Rectangle) → IsValid state
+    → placement_of state size ≡ Some placement → given state placement ≡ Some rectangle → AreCorners (held state)
+    → is_held state (corner rectangle) ≡ false
+corner-not_held state size placement rectangle valid placed gives corners =
+    let id = unused (ids state.shelves) in
+    let valid' = taken-valid state size placement id valid placed (times-above id (ids state.shelves) (omega arith)) in
+    let takes = taken-held state size placement id valid placed in
+    let same : takes.rectangle ≡ rectangle = cc in
+    let new : Allocation = record { id = id; rectangle = takes.rectangle } in
+    let apart = subst AreApart takes.after (held-apart (taken state placement id) valid') in
+    let inside = subst (Each (λ (a : Allocation). IsInside state.frame a.rectangle)) takes.after (held-inside (taken state placement id) valid') in
+    let not_held = corner-fresh takes.front takes.back new state.frame valid.frame apart inside (subst AreCorners takes.before corners) in
+    subst (λ (r : Rectangle). is_held state (corner r) ≡ false) same
+    (subst (λ (allocations : List Allocation). list_any (λ (a : Allocation). a.id == corner takes.rectangle) allocations ≡ false) (sym takes.before) not_held)
+
+-- under its corner for an id, what is given is held beside what was
+pub taken-corners : (state : AtlasState) (placement : Placement) (rectangle : Rectangle) → (takes : TakesIn state placement (corner rectangle))
+    → given state placement ≡ Some rectangle → AreCorners (held state) → AreCorners (held (taken state placement (corner rectangle)))
+taken-corners state placement rectangle takes gives corners =
+    let same : rectangle ≡ takes.rectangle = cc in
+    let parts = subst AreCorners takes.before corners in
+    let P : Allocation → Type 0 = λ a. a.id ≡ corner a.rectangle in
+    subst AreCorners (sym takes.after)
+    (Each-append P takes.front _ (Each-front P takes.front takes.back parts) (ap corner same, Each-back P takes.front takes.back parts))
+
+-- what is left after a return keeps its corners
+pub returned-corners : (state : AtlasState) (id : ℕ) → IsValid state → AreCorners (held state) → AreCorners (held (returned state id))
+returned-corners state id valid corners =
+    subst AreCorners (sym (returned-held state id valid)) (Each-filter (λ (a : Allocation). a.id ≡ corner a.rectangle) (λ (a : Allocation). not (a.id == id)) (held state) corners)

@@ -1,0 +1,185 @@
+-- What it says that a size has a placement.
+use Rattle.std.proofs.Common.{◌≡◌, ℕ, ◌+◌, ◌%◌, ◌≤◌, Bool, true, false, cond, Option, None, Some, List, [], ◌∷◌, map, nat_le, nat_lt, refl, subst, ap, arith}
+use Rattle.std.specs.Prelude.{slice_get, option_map, option_and_then, ◌&&◌}
+use Rattle.std.proofs.Math.Nat.{mul-mod_left}
+use Rattle.std.proofs.lemmas.Bool.{leb-true}
+use Rattle.std.proofs.lemmas.Option.{slice_get-map}
+use Rattle.etagere_base.specs.declared.frames.Frame.{Frame}
+use Rattle.etagere_base.specs.declared.geometry.Size.{Size}
+use Rattle.etagere_base.specs.declared.sides.Sides.{Sides}
+use Rattle.etagere_base.specs.Frames.{IsFrame, asked, alignment_along, is_side}
+use Rattle.etagere_base.specs.Sides.{side, turned, up, coarseness, step}
+use Rattle.etagere.specs.Choice.{Found, Placement, one_later, first_or, first_least, shelf_height, fitting_place, rank, chosen, cuts, placement_of}
+use Rattle.etagere.specs.State.{Shelf, AtlasState, runs_in_use}
+
+-- what an option gives through a function that may give none
+and_then-parts : {A B : Type 0} (f : A → Option B) (o : Option A) (y : B) → option_and_then f o ≡ Some y → (x : A) × (o ≡ Some x) × (f x ≡ Some y)
+and_then-parts f None y h = cc
+and_then-parts f (Some x) y h = (x, refl, h)
+
+-- what an option gives through a function
+map-parts : {A B : Type 0} (f : A → B) (o : Option A) (y : B) → option_map f o ≡ Some y → (x : A) × (o ≡ Some x) × (f x ≡ y)
+map-parts f None y h = cc
+map-parts f (Some x) y h = (x, refl, cc)
+
+-- what is given where a test passes
+pub test-parts : {A : Type 0} (b : Bool) (x y : A) → cond b (Some x) None ≡ Some y → (b ≡ true) × (x ≡ y)
+test-parts true x y h = (refl, cc)
+test-parts false x y h = cc
+
+-- what is given where a test passes, by what may give none
+pub test-both : {A : Type 0} (b : Bool) (o : Option A) (y : A) → cond b o None ≡ Some y → (b ≡ true) × (o ≡ Some y)
+test-both true o y h = (refl, h)
+test-both false o y h = cc
+
+-- a rank that stands first or the one found after it stands where it was found
+first_or-at : (rank : ℕ) (ranks : List (Option ℕ)) (later : Option Found)
+    → ((found : Found) → later ≡ Some found → slice_get ranks found.number ≡ Some (Some found.rank)) → slice_get (Some rank ∷ ranks) (first_or rank later).number ≡ Some (Some (first_or rank later).rank)
+first_or-at rank ranks None h = refl
+first_or-at rank ranks (Some later) h = by_test (nat_le rank later.rank)
+  where
+    by_test : (b : Bool) → slice_get (Some rank ∷ ranks) (cond b (record { number = 0; rank = rank }) (one_later later)).number ≡ Some (Some (cond b (record { number = 0; rank = rank }) (one_later later)).rank)
+    by_test true = refl
+    by_test false = h later refl
+
+-- where the first of least rank stands, that rank stands
+first_least-at : (ranks : List (Option ℕ)) (found : Found) → first_least ranks ≡ Some found → slice_get ranks found.number ≡ Some (Some found.rank)
+first_least-at [] found h = cc
+first_least-at (None ∷ ranks) found h =
+    let parts = map-parts one_later (first_least ranks) found h in
+    subst (λ (f : Found). slice_get (None ∷ ranks) f.number ≡ Some (Some f.rank)) parts.2 (first_least-at ranks parts.0 parts.1)
+first_least-at (Some rank ∷ ranks) found h =
+    let same : first_or rank (first_least ranks) ≡ found = cc in
+    subst (λ (f : Found). slice_get (Some rank ∷ ranks) f.number ≡ Some (Some f.rank)) same
+    (first_or-at rank ranks (first_least ranks) (first_least-at ranks))
+
+-- a shelf that has a rank is high enough
+rank-high : (frame : Frame) (width height : ℕ) (shelf : Shelf) (r : ℕ) → rank frame width height shelf ≡ Some r → height ≤ shelf.height
+rank-high frame width height shelf r h = by_test (nat_le height shelf.height) _ refl h
+  where
+    by_test : (b : Bool) (o : Option ℕ) → nat_le height shelf.height ≡ b → cond b o None ≡ Some r → height ≤ shelf.height
+    by_test true o e k = grind arith
+    by_test false o e k = cc
+
+-- a length is at most what it is rounded up to, and that is a multiple of the alignment
+up-multiple : (length alignment : ℕ) → 1 ≤ alignment → (length ≤ up length alignment) × (up length alignment % alignment ≡ 0)
+up-multiple length alignment h = (omega arith, mul-mod_left _ _)
+
+-- a height is at most what it is stepped to
+step-high : (height : ℕ) → height ≤ step height
+step-high height = (up-multiple height (coarseness height) (grind arith)).0
+
+-- an item is at most as high as the shelf that is made for it
+pub shelf_height-high : (frame : Frame) (height : ℕ) → height ≤ shelf_height frame height
+shelf_height-high frame height = grind (arith, step-high height)
+
+-- what is asked of the shelves has both sides, and is aligned
+pub record IsAsked (frame : Frame) (sides : Sides) : Type 0 where
+  pub along : 1 ≤ sides.along
+  pub across : 1 ≤ sides.across
+  pub aligned : sides.along % alignment_along frame ≡ 0
+
+-- a width and a height that are aligned are aligned along the shelves, whichever lies along them
+turned-asked : (frame : Frame) (width height : ℕ)
+    → 1 ≤ width → 1 ≤ height → width % frame.alignment_width ≡ 0 → height % frame.alignment_height ≡ 0 → IsAsked frame (turned frame.vertical (record { along = width; across = height }))
+turned-asked frame width height wide high aligned_width aligned_height = by_turn frame.vertical refl
+  where
+    by_turn : (b : Bool) → frame.vertical ≡ b → IsAsked frame (turned b (record { along = width; across = height }))
+    by_turn true e = record { along = high; across = wide; aligned = rw e aligned_height }
+    by_turn false e = record { along = wide; across = high; aligned = rw e aligned_width }
+
+-- the tests of a size show that it has both sides
+sides_positive : (n m : ℕ) → ((nat_lt 0 n && nat_le n 65535) && (nat_lt 0 m && nat_le m 65535)) ≡ true → (1 ≤ n) × (1 ≤ m)
+sides_positive n m h = (grind arith, grind arith)
+
+-- what is asked of the shelves of an accepted frame has both sides, and is aligned
+pub asked-sides : (frame : Frame) (size : Size) (sides : Sides) → IsFrame 65535 frame → asked frame size ≡ Some sides → IsAsked frame sides
+asked-sides frame size sides valid h =
+    let tests = test-both (is_side 65535 size.width && is_side 65535 size.height) _ sides h in
+    let wide = up-multiple (side size.width) frame.alignment_width valid.alignment_width.0 in
+    let high = up-multiple (side size.height) frame.alignment_height valid.alignment_height.0 in
+    let range = sides_positive (side size.width) (side size.height) tests.0 in
+    subst (λ (s : Sides). IsAsked frame s) (test-parts _ _ sides tests.1).1
+    (turned-asked frame (up (side size.width) frame.alignment_width) (up (side size.height) frame.alignment_height)
+    (omega arith) (omega arith) wide.1 high.1)
+
+-- what is chosen for sides: a shelf that is high enough, and in it a place that is wide enough
+pub record IsChosen (state : AtlasState) (sides : Sides) (placement : Placement) : Type 0 where
+  pub shelf : Shelf
+  pub at : slice_get state.shelves placement.shelf ≡ Some shelf
+  pub place : fitting_place state.frame sides.along shelf ≡ Some placement.place
+  pub width : placement.width ≡ sides.along
+  pub height : placement.height ≡ shelf_height state.frame sides.across
+  pub high : placement.height ≤ shelf.height
+
+-- the shelf where a rank was found has that rank
+found-rank : (frame : Frame) (width height : ℕ) (shelves : List Shelf) (found : Found) (shelf : Shelf)
+    → first_least (map (rank frame width height) shelves) ≡ Some found → slice_get shelves found.number ≡ Some shelf → rank frame width height shelf ≡ Some found.rank
+found-rank frame width height shelves found shelf h at =
+    let ranked = first_least-at (map (rank frame width height) shelves) found h in
+    let mapped = slice_get-map (rank frame width height) shelves found.number in
+    let there = ap (option_map (rank frame width height)) at in
+    cc
+
+-- a choice is a shelf and a place in it, from the place
+chosen_in : (state : AtlasState) (sides : Sides) (placement : Placement) (found : Found) (shelf : Shelf) (place : ℕ)
+    → first_least (map (rank state.frame sides.along (shelf_height state.frame sides.across)) state.shelves) ≡ Some found
+    → slice_get state.shelves found.number ≡ Some shelf
+    → fitting_place state.frame sides.along shelf ≡ Some place
+    → record { shelf = found.number; place = place; width = sides.along; height = shelf_height state.frame sides.across } ≡ placement
+    → IsChosen state sides placement
+chosen_in state sides placement found shelf place least at fits same =
+    subst (λ (p : Placement). IsChosen state sides p) same
+    (record {
+      shelf = shelf;
+      at = at;
+      place = fits;
+      width = refl;
+      height = refl;
+      high = rank-high state.frame sides.along (shelf_height state.frame sides.across) shelf found.rank
+          (found-rank state.frame sides.along (shelf_height state.frame sides.across) state.shelves found shelf least at);
+    })
+
+-- the same, from the shelf
+chosen_at : (state : AtlasState) (sides : Sides) (placement : Placement) (found : Found) (shelf : Shelf)
+    → first_least (map (rank state.frame sides.along (shelf_height state.frame sides.across)) state.shelves) ≡ Some found
+    → slice_get state.shelves found.number ≡ Some shelf
+    → option_map (λ place. record { shelf = found.number; place = place; width = sides.along; height = shelf_height state.frame sides.across }) (fitting_place state.frame sides.along shelf) ≡ Some placement
+    → IsChosen state sides placement
+chosen_at state sides placement found shelf least at h =
+    let place = map-parts _ (fitting_place state.frame sides.along shelf) placement h in
+    chosen_in state sides placement found shelf place.0 least at place.1 place.2
+
+-- the same, from the choice alone
+pub chosen-parts : (state : AtlasState) (sides : Sides) (placement : Placement) → chosen state sides ≡ Some placement → IsChosen state sides placement
+chosen-parts state sides placement h =
+    let find = and_then-parts _ (first_least (map (rank state.frame sides.along (shelf_height state.frame sides.across)) state.shelves)) placement h in
+    let stand = and_then-parts _ (slice_get state.shelves find.0.number) placement find.2 in
+    chosen_at state sides placement find.0 stand.0 find.1 stand.1 stand.2
+
+-- a placement of a size: what is asked for has a chosen place, and there are records enough for its cuts
+pub record IsPlaced (state : AtlasState) (size : Size) (placement : Placement) : Type 0 where
+  pub sides : Sides
+  pub asked : asked state.frame size ≡ Some sides
+  pub chosen : IsChosen state sides placement
+  pub room : runs_in_use state.shelves + cuts state placement ≤ 65535
+
+-- a placement is a choice with records enough, from the choice
+placed_at : (state : AtlasState) (size : Size) (placement : Placement) (sides : Sides) (choice : Placement)
+    → asked state.frame size ≡ Some sides → chosen state sides ≡ Some choice → cond (nat_le (runs_in_use state.shelves + cuts state choice) 65535) (Some choice) None ≡ Some placement → IsPlaced state size placement
+placed_at state size placement sides choice asks chooses h =
+    let roomy = test-parts _ choice placement h in
+    subst (λ (p : Placement). IsPlaced state size p) roomy.1
+    (record {
+      sides = sides;
+      asked = asks;
+      chosen = chosen-parts state sides choice chooses;
+      room = leb-true _ _ roomy.0;
+    })
+
+-- what it says that a size has a placement
+pub placement_of-placed : (state : AtlasState) (size : Size) (placement : Placement) → placement_of state size ≡ Some placement → IsPlaced state size placement
+placement_of-placed state size placement h =
+    let asks = and_then-parts _ (asked state.frame size) placement h in
+    let choice = and_then-parts _ (chosen state asks.0) placement asks.2 in
+    placed_at state size placement asks.0 choice.0 asks.1 choice.1 choice.2

@@ -1,0 +1,200 @@
+-- A valid state stays valid when a placement is taken by a new id.
+use Rattle.std.proofs.Common.{◌≡◌, ℕ, ◌+◌, ◌-◌, ◌≤◌, Bool, true, false, cond, Some, List, [], ◌∷◌, ◌++◌, length, refl, sym, subst, ap, ◌∙◌, arith}
+use Rattle.std.specs.Prelude.{slice_get, ◌==◌}
+use Rattle.std.proofs.lemmas.Bool.{and_left, and_right}
+use Rattle.etagere_base.specs.declared.frames.Frame.{Frame}
+use Rattle.etagere_base.specs.declared.geometry.Size.{Size}
+use Rattle.etagere_base.specs.Frames.{IsFrame}
+use Rattle.etagere.specs.Choice.{Placement, is_run_cut, width_at, cuts, cuts_in, placement_of}
+use Rattle.etagere.specs.Joining.{both_empty}
+use Rattle.etagere.specs.Lists.{Each, NoneTouch, times}
+use Rattle.etagere.specs.Places.{column_place, heights_in}
+use Rattle.etagere.specs.State.{Shelf, AtlasState, is_empty, empty_shelf, runs_in_use}
+use Rattle.etagere.specs.Taking.{taken_shelf, shelf_pieces, taken}
+use Rattle.etagere.specs.Valid.{IsShelf, IsValid, holders, ids, is_out_of_order}
+use Rattle.etagere.proofs.TakenLists.{hit, slice_get-at, Each-append, Each-front, Each-back, NoneTouch-changed, NoneTouch-cut, times-append}
+use Rattle.etagere.proofs.TakenPieces.{pieces-length, pieces-holders}
+use Rattle.etagere.proofs.TakenPlacement.{placement_of-placed}
+use Rattle.etagere.proofs.TakenShelves.{IsTaking, taking, taken_shelf-valid, taken_shelf-not_empty, empty_shelf-valid, shelf_pieces-cases}
+
+-- the shelves are valid after a placement took a run in one
+each-shelf : (frame : Frame) (placement : Placement) (id : ℕ) (front : List Shelf) (shelf : Shelf) (back : List Shelf)
+    → IsFrame 65535 frame → IsTaking frame placement shelf → Each (IsShelf frame) (front ++ shelf ∷ back) → Each (IsShelf frame) (front ++ (shelf_pieces frame placement id shelf ++ back))
+each-shelf frame placement id front shelf back valid t each =
+    let old = Each-back (IsShelf frame) front (shelf ∷ back) each in
+    Each-append (IsShelf frame) front _ (Each-front (IsShelf frame) front (shelf ∷ back) each)
+    (shelf_pieces-cases (λ _ pieces. Each (IsShelf frame) (pieces ++ back)) frame placement id shelf
+    (λ empty cut. (taken_shelf-valid frame placement id placement.height shelf t t.height, (empty_shelf-valid frame shelf.column (shelf.height - placement.height) valid t.valid.column (omega arith), old.1)))
+    (taken_shelf-valid frame placement id shelf.height shelf t t.valid.height, old.1))
+
+-- the shelves stand column after column after a placement took a run in one
+ordered-shelves : (frame : Frame) (placement : Placement) (id : ℕ) (front : List Shelf) (shelf : Shelf) (back : List Shelf)
+    → NoneTouch is_out_of_order (front ++ shelf ∷ back) → NoneTouch is_out_of_order (front ++ (shelf_pieces frame placement id shelf ++ back))
+ordered-shelves frame placement id front shelf back ordered =
+    shelf_pieces-cases (λ _ pieces. NoneTouch is_out_of_order (front ++ (pieces ++ back))) frame placement id shelf
+    (λ empty cut. NoneTouch-cut is_out_of_order front shelf (taken_shelf frame placement id placement.height shelf) (empty_shelf frame shelf.column (shelf.height - placement.height)) back (λ y h. h) (grind arith) (λ y h. h) ordered)
+    (NoneTouch-changed is_out_of_order front shelf (taken_shelf frame placement id shelf.height shelf) back (λ y h. h) (λ y h. h) ordered)
+
+-- a shelf that is not empty is next to no empty one before it
+not_empty-before : (y shelf : Shelf) → is_empty shelf ≡ false → both_empty y shelf ≡ false
+not_empty-before y shelf h = and_right _ _ (and_right _ _ h)
+
+-- a shelf that is not empty is next to no empty one after it
+not_empty-after : (shelf y : Shelf) → is_empty shelf ≡ false → both_empty shelf y ≡ false
+not_empty-after shelf y h = and_right _ _ (and_left _ _ h)
+
+-- an empty shelf has the empty neighbours of another of its column
+empty-after : (frame : Frame) (shelf : Shelf) (height : ℕ) (y : Shelf)
+    → is_empty shelf ≡ true → both_empty shelf y ≡ false → both_empty (empty_shelf frame shelf.column height) y ≡ false
+empty-after frame shelf height y empty h = rw empty at h
+
+-- no two empty shelves stand side by side after a placement took a run in one
+apart-shelves : (frame : Frame) (placement : Placement) (id : ℕ) (front : List Shelf) (shelf : Shelf) (back : List Shelf)
+    → IsTaking frame placement shelf → NoneTouch both_empty (front ++ shelf ∷ back) → NoneTouch both_empty (front ++ (shelf_pieces frame placement id shelf ++ back))
+apart-shelves frame placement id front shelf back t apart =
+    shelf_pieces-cases (λ _ pieces. NoneTouch both_empty (front ++ (pieces ++ back))) frame placement id shelf
+    (λ empty cut. NoneTouch-cut both_empty front shelf (taken_shelf frame placement id placement.height shelf) (empty_shelf frame shelf.column (shelf.height - placement.height)) back
+    (λ y h. not_empty-before y (taken_shelf frame placement id placement.height shelf) (taken_shelf-not_empty frame placement id placement.height shelf t))
+    (not_empty-after (taken_shelf frame placement id placement.height shelf) (empty_shelf frame shelf.column (shelf.height - placement.height)) (taken_shelf-not_empty frame placement id placement.height shelf t))
+    (λ y h. empty-after frame shelf (shelf.height - placement.height) y empty h) apart)
+    (NoneTouch-changed both_empty front shelf (taken_shelf frame placement id shelf.height shelf) back
+    (λ y h. not_empty-before y (taken_shelf frame placement id shelf.height shelf) (taken_shelf-not_empty frame placement id shelf.height shelf t))
+    (λ y h. not_empty-after (taken_shelf frame placement id shelf.height shelf) y (taken_shelf-not_empty frame placement id shelf.height shelf t)) apart)
+
+-- the heights of a column, by a front and a back
+pub heights_in-append : (column : ℕ) (front back : List Shelf) → heights_in column (front ++ back) ≡ heights_in column front + heights_in column back
+heights_in-append column [] back = omega arith
+heights_in-append column (shelf ∷ shelves) back = omega (arith, heights_in-append column shelves back)
+
+-- the shelves that stand for a shelf are as high as it was
+pub pieces-heights : (frame : Frame) (placement : Placement) (id : ℕ) (shelf : Shelf) (column : ℕ)
+    → heights_in column (shelf_pieces frame placement id shelf) ≡ heights_in column (shelf ∷ [])
+pieces-heights frame placement id shelf column =
+    shelf_pieces-cases (λ _ pieces. heights_in column pieces ≡ heights_in column (shelf ∷ [])) frame placement id shelf
+    (λ empty cut. split_height (shelf.column == column) placement.height shelf.height (omega arith))
+    refl
+  where
+    split_height : (b : Bool) (n m : ℕ) → n ≤ m → cond b n 0 + (cond b (m - n) 0 + 0) ≡ cond b m 0 + 0
+    split_height true n m h = omega arith
+    split_height false n m h = refl
+
+-- how often an id holds a run, by a front and a back
+ids-append : (k : ℕ) (front back : List Shelf) → times k (ids (front ++ back)) ≡ times k (ids front) + times k (ids back)
+ids-append k [] back = omega arith
+ids-append k (shelf ∷ shelves) back = simp (times-append, ids-append k shelves back) (omega arith)
+
+-- how many runs shelves have, by a front and a back
+runs_in_use-append : (front back : List Shelf) → runs_in_use (front ++ back) ≡ runs_in_use front + runs_in_use back
+runs_in_use-append [] back = omega arith
+runs_in_use-append (shelf ∷ shelves) back = omega (arith, runs_in_use-append shelves back)
+
+-- how often an id holds a run of the shelf in which it takes one
+taken_shelf-holders : (k : ℕ) (frame : Frame) (placement : Placement) (id height : ℕ) (shelf : Shelf)
+    → IsTaking frame placement shelf → times k (holders (taken_shelf frame placement id height shelf).runs) ≡ times k (holders shelf.runs) + hit id k
+taken_shelf-holders k frame placement id height shelf t =
+    let f = t.found in
+    rw (f.taken placement.width id) (pieces-holders k f.front f.run f.back placement.width id f.free ∙ ap (λ rs. times k (holders rs) + hit id k) (sym f.whole))
+
+-- how many runs the shelf has in which one is taken
+taken_shelf-length : (frame : Frame) (placement : Placement) (id height : ℕ) (shelf : Shelf) → IsTaking frame placement shelf
+    → length (taken_shelf frame placement id height shelf).runs ≡ length shelf.runs + cond (is_run_cut placement.width (width_at (column_place frame shelf) shelf.runs placement.place)) 1 0
+taken_shelf-length frame placement id height shelf t =
+    let f = t.found in
+    rw (f.taken placement.width id, f.width) (pieces-length f.front f.run f.back placement.width id ∙ ap (λ rs. length rs + cond (is_run_cut placement.width f.run.width) 1 0) (sym f.whole))
+
+-- how often an id holds a run of the shelves that stand for one in which an id takes a run
+pieces-ids : (k : ℕ) (frame : Frame) (placement : Placement) (id : ℕ) (shelf : Shelf)
+    → IsTaking frame placement shelf → times k (ids (shelf_pieces frame placement id shelf)) ≡ times k (ids (shelf ∷ [])) + hit id k
+pieces-ids k frame placement id shelf t =
+    shelf_pieces-cases (λ _ pieces. times k (ids pieces) ≡ times k (ids (shelf ∷ [])) + hit id k) frame placement id shelf
+    (λ empty cut. omega (arith, taken_shelf-holders k frame placement id placement.height shelf t, times-append k (holders (taken_shelf frame placement id placement.height shelf).runs) [], times-append k (holders shelf.runs) []))
+    (omega (arith, taken_shelf-holders k frame placement id shelf.height shelf t, times-append k (holders (taken_shelf frame placement id shelf.height shelf).runs) [], times-append k (holders shelf.runs) []))
+
+-- how many runs the shelves have that stand for one in which a placement takes a run
+pieces-runs_in_use : (frame : Frame) (placement : Placement) (id : ℕ) (shelf : Shelf)
+    → IsTaking frame placement shelf → runs_in_use (shelf_pieces frame placement id shelf) ≡ length shelf.runs + cuts_in frame placement shelf
+pieces-runs_in_use frame placement id shelf t =
+    shelf_pieces-cases (λ b pieces. runs_in_use pieces ≡ length shelf.runs + (cond b 1 0 + cond (is_run_cut placement.width (width_at (column_place frame shelf) shelf.runs placement.place)) 1 0)) frame placement id shelf
+    (λ empty cut. omega (arith, taken_shelf-length frame placement id placement.height shelf t))
+    (omega (arith, taken_shelf-length frame placement id shelf.height shelf t))
+
+-- a new id counted once more is counted once
+fresh-once : (count : ℕ → ℕ) (id k : ℕ) → count id ≡ 0 → count k ≤ 1 → count k + hit id k ≤ 1
+fresh-once count id k fresh once = by_test (id == k) refl
+  where
+    by_test : (b : Bool) → (id == k) ≡ b → count k + cond b 1 0 ≤ 1
+    by_test true e =
+        let same : id ≡ k = grind arith in
+        omega (arith, ap count same)
+    by_test false e = omega arith
+
+-- the cuts of a placement are those in its shelf
+cuts-at : (state : AtlasState) (placement : Placement) (shelf : Shelf)
+    → slice_get state.shelves placement.shelf ≡ Some shelf → cuts state placement ≡ cuts_in state.frame placement shelf
+cuts-at state placement shelf at = rw at refl
+
+-- taking a placement takes as many more runs as it makes cuts
+pub taken-runs_in_use : (state : AtlasState) (size : Size) (placement : Placement) (id : ℕ) → IsValid state → placement_of state size ≡ Some placement
+    → runs_in_use (taken state placement id).shelves ≡ runs_in_use state.shelves + cuts state placement
+taken-runs_in_use state size placement id valid h =
+    let placed = placement_of-placed state size placement h in
+    let shelf = placed.chosen.shelf in
+    let t = taking state size placement valid placed in
+    let split = slice_get-at state.shelves placement.shelf shelf placed.chosen.at in
+    let pieces = shelf_pieces state.frame placement id shelf in
+    omega (
+      arith,
+      ap runs_in_use (split.cut (shelf_pieces state.frame placement id)),
+      ap runs_in_use split.whole,
+      runs_in_use-append split.front (pieces ++ split.back),
+      runs_in_use-append pieces split.back,
+      runs_in_use-append split.front (shelf ∷ split.back),
+      pieces-runs_in_use state.frame placement id shelf t,
+      cuts-at state placement shelf placed.chosen.at,
+    )
+
+-- taking a placement leaves runs enough for the records
+pub taken-room : (state : AtlasState) (size : Size) (placement : Placement) (id : ℕ) → IsValid state → placement_of state size ≡ Some placement
+    → runs_in_use (taken state placement id).shelves ≤ 65535
+taken-room state size placement id valid h =
+    let placed = placement_of-placed state size placement h in
+    omega (arith, taken-runs_in_use state size placement id valid h, placed.room)
+
+-- a valid state stays valid when a placement is taken by a new id
+pub taken-valid : (state : AtlasState) (size : Size) (placement : Placement) (id : ℕ)
+    → IsValid state → placement_of state size ≡ Some placement → times id (ids state.shelves) ≡ 0 → IsValid (taken state placement id)
+taken-valid state size placement id valid h fresh =
+    let placed = placement_of-placed state size placement h in
+    let shelf = placed.chosen.shelf in
+    let t = taking state size placement valid placed in
+    let split = slice_get-at state.shelves placement.shelf shelf placed.chosen.at in
+    let pieces = shelf_pieces state.frame placement id shelf in
+    let same = split.cut (shelf_pieces state.frame placement id) in
+    record {
+      frame = valid.frame;
+      shelves = rw same (each-shelf state.frame placement id split.front shelf split.back valid.frame t (subst (Each (IsShelf state.frame)) split.whole valid.shelves));
+      ordered = rw same (ordered-shelves state.frame placement id split.front shelf split.back (subst (NoneTouch is_out_of_order) split.whole valid.ordered));
+      heights = λ column c. omega (
+        arith,
+        ap (heights_in column) same,
+        ap (heights_in column) split.whole,
+        valid.heights column c,
+        heights_in-append column split.front (pieces ++ split.back),
+        heights_in-append column pieces split.back,
+        heights_in-append column split.front (shelf ∷ split.back),
+        pieces-heights state.frame placement id shelf column,
+      );
+      apart = rw same (apart-shelves state.frame placement id split.front shelf split.back t (subst (NoneTouch both_empty) split.whole valid.apart));
+      ids = λ k. omega (
+        arith,
+        fresh-once (λ n. times n (ids state.shelves)) id k fresh (valid.ids k),
+        ap (λ shelves. times k (ids shelves)) same,
+        ap (λ shelves. times k (ids shelves)) split.whole,
+        ids-append k split.front (pieces ++ split.back),
+        ids-append k pieces split.back,
+        ids-append k split.front (shelf ∷ split.back),
+        ids-append k (shelf ∷ []) split.back,
+        pieces-ids k state.frame placement id shelf t,
+      );
+      records = (omega arith, omega (arith, valid.records, taken-room state size placement id valid h));
+    }

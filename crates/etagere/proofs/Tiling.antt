@@ -1,0 +1,273 @@
+-- The rectangles of a valid state lie in the atlas, and any two of them apart.
+use Rattle.std.proofs.Common.{◌≡◌, ℕ, suc, ◌+◌, ◌*◌, ◌<◌, ◌≤◌, List, [], ◌∷◌, ◌++◌, Option, Some, None, arith, refl, ap, ⊎_elim}
+use Rattle.std.proofs.Math.Nat.{div-mul-le_self, mul-le-mul_right, suc-mul}
+use Rattle.std.proofs.lemmas.Bool.{cases_order}
+use Rattle.etagere_base.specs.declared.frames.Frame.{Frame}
+use Rattle.etagere_base.specs.declared.geometry.Rectangle.{Rectangle}
+use Rattle.etagere_base.specs.declared.ids.Allocation.{Allocation}
+use Rattle.etagere_base.specs.Frames.{IsFrame, along_side, across_side}
+use Rattle.etagere.specs.Places.{column_place, heights_in, rectangle_at, allocation_of, held_along, held_after, held}
+use Rattle.etagere.specs.Rectangles.{AreApart, SharesNone, IsInside}
+use Rattle.etagere.specs.State.{Run, Shelf, AtlasState, total_width}
+use Rattle.etagere.specs.Lists.{Each}
+use Rattle.etagere.specs.Valid.{IsRun, IsShelf, IsValid}
+use Rattle.etagere.proofs.Boxes.{LiesIn, LiesIn-widen, apart-along, apart-across, inside-from_lies}
+use Rattle.etagere.proofs.EachLemmas.{Each-weaken, Each-append, SharesNone-swap, AreApart-append, IsApartFrom}
+
+-- a shelf in a column of the frame, filled by runs that are not empty
+pub record IsFilled (frame : Frame) (shelf : Shelf) : Type 0 where
+  pub column : shelf.column < frame.columns
+  pub height : 1 ≤ shelf.height
+  pub runs : Each (λ (run : Run). 1 ≤ run.width) shelf.runs
+  pub width : total_width shelf.runs ≡ frame.column_width
+
+-- shelves that fill the columns of a frame
+pub record IsTiled (frame : Frame) (shelves : List Shelf) : Type 0 where
+  pub is_frame : IsFrame 65535 frame
+  pub filled : Each (IsFilled frame) shelves
+  pub heights : (column : ℕ) → column < frame.columns → heights_in column shelves ≡ across_side frame
+
+-- a shelf of a valid state is such a shelf
+filled-from-shelf : (frame : Frame) (shelf : Shelf) → IsShelf frame shelf → IsFilled frame shelf
+filled-from-shelf frame shelf is_shelf =
+    record {
+      column = is_shelf.column;
+      height = is_shelf.height;
+      runs = Each-weaken (IsRun frame) _ shelf.runs (λ (run : Run) (is_run : IsRun frame run). is_run.width) is_shelf.runs;
+      width = is_shelf.width;
+    }
+
+-- shelves of a valid state's form whose heights fill each column
+pub tiled-from-shelves : (frame : Frame) (shelves : List Shelf) → IsFrame 65535 frame → Each (IsShelf frame) shelves
+    → ((column : ℕ) → column < frame.columns → heights_in column shelves ≡ across_side frame) → IsTiled frame shelves
+tiled-from-shelves frame shelves is_frame are_shelves heights =
+    record {
+      is_frame = is_frame;
+      filled = Each-weaken (IsShelf frame) (IsFilled frame) shelves (filled-from-shelf frame) are_shelves;
+      heights = heights;
+    }
+
+-- the shelves of a valid state fill the columns
+pub tiled-from-valid : (state : AtlasState) → IsValid state → IsTiled state.frame state.shelves
+tiled-from-valid state valid = tiled-from-shelves state.frame state.shelves valid.frame valid.shelves valid.heights
+
+-- the heights of shelves end to end
+pub heights_in-append : (column : ℕ) (xs ys : List Shelf)
+    → heights_in column (xs ++ ys) ≡ heights_in column xs + heights_in column ys
+heights_in-append column [] ys = omega arith
+heights_in-append column (x ∷ xs) ys = omega (arith, heights_in-append column xs ys)
+
+-- an allocation whose rectangle lies between these places
+abbrev HeldIn : Frame → ℕ → ℕ → ℕ → ℕ → Allocation → Type 0
+HeldIn frame left right low high allocation = LiesIn frame left right low high allocation.rectangle
+
+-- what a run allocates lies where the run does
+allocation-lies : (holder : Option ℕ) (frame : Frame) (along across width height : ℕ) → 1 ≤ width → 1 ≤ height
+    → Each (HeldIn frame along (along + width) across (across + height))
+    (allocation_of holder (rectangle_at frame along across width height))
+allocation-lies None frame along across width height wide tall = tt
+allocation-lies (Some id) frame along across width height wide tall = (
+  record {
+    along = along;
+    across = across;
+    width = width;
+    height = height;
+    is = refl;
+    wide = wide;
+    tall = tall;
+    from_left = omega arith;
+    to_right = omega arith;
+    from_low = omega arith;
+    to_high = omega arith;
+  },
+  tt,
+)
+
+-- a list of at most one is apart
+allocation-apart : (holder : Option ℕ) (rectangle : Rectangle) → AreApart (allocation_of holder rectangle)
+allocation-apart None rectangle = tt
+allocation-apart (Some id) rectangle = (tt, tt)
+
+-- what runs hold lies between where the first begins and the last ends
+held_along-lies : (frame : Frame) (across height here : ℕ) (runs : List Run)
+    → 1 ≤ height → Each (λ (run : Run). 1 ≤ run.width) runs
+    → Each (HeldIn frame here (here + total_width runs) across (across + height)) (held_along frame across height here runs)
+held_along-lies frame across height here [] tall wide = tt
+held_along-lies frame across height here (run ∷ runs) tall wide =
+    Each-append _ (allocation_of run.holder (rectangle_at frame here across run.width height)) _
+    (Each-weaken (HeldIn frame here (here + run.width) across (across + height)) _ _
+    (λ (a : Allocation) (lies : HeldIn frame here (here + run.width) across (across + height) a).
+    LiesIn-widen frame _ _ _ _ _ _ _ _ _ (omega arith) (omega arith) (omega arith) (omega arith) lies)
+    (allocation-lies run.holder frame here across run.width height wide.0 tall))
+    (Each-weaken (HeldIn frame (here + run.width) (here + run.width + total_width runs) across (across + height)) _ _
+    (λ (a : Allocation) (lies : HeldIn frame (here + run.width) (here + run.width + total_width runs) across (across + height) a).
+    LiesIn-widen frame _ _ _ _ _ _ _ _ _ (omega arith) (omega arith) (omega arith) (omega arith) lies)
+    (held_along-lies frame across height (here + run.width) runs tall wide.1))
+
+-- two lists are apart where what holds of each of one keeps it apart from what holds of each of the other
+each-apart : (P Q : Allocation → Type 0) (xs ys : List Allocation)
+    → ((x y : Allocation) → P x → Q y → SharesNone x.rectangle y.rectangle) → Each P xs → Each Q ys → Each (IsApartFrom ys) xs
+each-apart P Q xs ys apart front back =
+    Each-weaken P (IsApartFrom ys) xs
+    (λ (x : Allocation) (p : P x). Each-weaken Q _ ys (λ (y : Allocation) (q : Q y). apart x y p q) back) front
+
+-- what the runs of a shelf hold is apart
+held_along-apart : (frame : Frame) (across height here : ℕ) (runs : List Run)
+    → 1 ≤ height → Each (λ (run : Run). 1 ≤ run.width) runs
+    → AreApart (held_along frame across height here runs)
+held_along-apart frame across height here [] tall wide = tt
+held_along-apart frame across height here (run ∷ runs) tall wide =
+    AreApart-append (allocation_of run.holder (rectangle_at frame here across run.width height)) _
+    (allocation-apart run.holder _)
+    (held_along-apart frame across height (here + run.width) runs tall wide.1)
+    (each-apart (HeldIn frame here (here + run.width) across (across + height))
+    (HeldIn frame (here + run.width) (here + run.width + total_width runs) across (across + height)) _ _
+    (λ (x y : Allocation) (p : HeldIn frame here (here + run.width) across (across + height) x)
+    (q : HeldIn frame (here + run.width) (here + run.width + total_width runs) across (across + height) y).
+    apart-along frame _ _ _ _ _ _ _ _ _ _ (omega arith) p q)
+    (allocation-lies run.holder frame here across run.width height wide.0 tall)
+    (held_along-lies frame across height (here + run.width) runs tall wide.1))
+
+-- an allocation lies in a column of the frame, after the heights of the shelves before it, within those of its own
+record LiesAfter (frame : Frame) (before shelves : List Shelf) (allocation : Allocation) : Type 0 where
+  column : ℕ
+  below : column < frame.columns
+  lies : HeldIn frame (column * frame.column_width) (column * frame.column_width + frame.column_width)
+      (heights_in column before) (heights_in column before + heights_in column shelves) allocation
+
+-- what a shelf holds that stands after others
+abbrev held_in_shelf : Frame → List Shelf → Shelf → List Allocation
+held_in_shelf frame before shelf =
+    held_along frame (heights_in shelf.column before) shelf.height (column_place frame shelf) shelf.runs
+
+-- an allocation lies in the column of a shelf, after the heights before it, within its height
+abbrev InShelf : Frame → List Shelf → Shelf → Allocation → Type 0
+InShelf frame before shelf allocation =
+    HeldIn frame (shelf.column * frame.column_width) (shelf.column * frame.column_width + frame.column_width)
+    (heights_in shelf.column before) (heights_in shelf.column before + shelf.height) allocation
+
+-- what one shelf holds lies in its column, within its height
+shelf-lies : (frame : Frame) (before : List Shelf) (shelf : Shelf) → IsFilled frame shelf
+    → Each (InShelf frame before shelf) (held_in_shelf frame before shelf)
+shelf-lies frame before shelf filled =
+    rw filled.width at
+    (held_along-lies frame (heights_in shelf.column before) shelf.height (column_place frame shelf) shelf.runs
+    filled.height filled.runs)
+
+-- the height of a shelf counts in its own column
+pub heights_in-own : (shelf : Shelf) (shelves : List Shelf)
+    → heights_in shelf.column (shelf ∷ shelves) ≡ shelf.height + heights_in shelf.column shelves
+heights_in-own shelf shelves = grind arith
+
+-- the heights before and after a shelf are those before it, and those from it on
+heights_in-moved : (column : ℕ) (before : List Shelf) (shelf : Shelf) (shelves : List Shelf)
+    → heights_in column (before ++ shelf ∷ []) + heights_in column shelves ≡ heights_in column before + heights_in column (shelf ∷ shelves)
+heights_in-moved column before shelf shelves = omega (arith, heights_in-append column before (shelf ∷ []))
+
+-- what a shelf holds lies after those before it
+shelf-lies_after : (frame : Frame) (before : List Shelf) (shelf : Shelf) (shelves : List Shelf) → IsFilled frame shelf
+    → Each (LiesAfter frame before (shelf ∷ shelves)) (held_in_shelf frame before shelf)
+shelf-lies_after frame before shelf shelves filled =
+    Each-weaken _ (LiesAfter frame before (shelf ∷ shelves)) _
+    (λ (a : Allocation) (lies : InShelf frame before shelf a). record {
+      column = shelf.column;
+      below = filled.column;
+      lies = LiesIn-widen frame _ _ _ _ _ _ _ _ _ (omega arith) (omega arith) (omega arith)
+          (omega (arith, heights_in-own shelf shelves)) lies;
+    })
+    (shelf-lies frame before shelf filled)
+
+-- what later shelves hold lies after those before the first
+later-lies_after : (frame : Frame) (before : List Shelf) (shelf : Shelf) (shelves : List Shelf) (a : Allocation)
+    → LiesAfter frame (before ++ shelf ∷ []) shelves a → LiesAfter frame before (shelf ∷ shelves) a
+later-lies_after frame before shelf shelves a later =
+    record {
+      column = later.column;
+      below = later.below;
+      lies = LiesIn-widen frame _ _ _ _ _ _ _ _ _ (omega arith) (omega arith)
+          (omega (arith, heights_in-append later.column before (shelf ∷ [])))
+          (omega (arith, heights_in-moved later.column before shelf shelves)) later.lies;
+    }
+
+-- what shelves hold that stand after others lies after these
+held_after-lies : (frame : Frame) (before shelves : List Shelf) → Each (IsFilled frame) shelves
+    → Each (LiesAfter frame before shelves) (held_after frame before shelves)
+held_after-lies frame before [] filled = tt
+held_after-lies frame before (shelf ∷ shelves) filled =
+    Each-append (LiesAfter frame before (shelf ∷ shelves)) _ _
+    (shelf-lies_after frame before shelf shelves filled.0)
+    (Each-weaken (LiesAfter frame (before ++ shelf ∷ []) shelves) _ _ (later-lies_after frame before shelf shelves)
+    (held_after-lies frame (before ++ shelf ∷ []) shelves filled.1))
+
+-- the next shelf of a column begins where this one ends
+heights_in-through : (column : ℕ) (before : List Shelf) (shelf : Shelf) → shelf.column ≡ column
+    → heights_in shelf.column before + shelf.height ≤ heights_in column (before ++ shelf ∷ [])
+heights_in-through column before shelf e =
+    rw (← e) (omega (arith, heights_in-append shelf.column before (shelf ∷ []), heights_in-own shelf []))
+
+-- an earlier column ends where a later one begins, or before it
+columns-apart : (one other width : ℕ) → one < other → one * width + width ≤ other * width
+columns-apart one other width h = omega (arith, mul-le-mul_right {m = suc one} {n = other} width h, suc-mul one width)
+
+-- what a shelf holds is apart from what lies after it
+shelf-apart : (frame : Frame) (before : List Shelf) (shelf : Shelf) (shelves : List Shelf) (x y : Allocation)
+    → InShelf frame before shelf x
+    → LiesAfter frame (before ++ shelf ∷ []) shelves y → SharesNone x.rectangle y.rectangle
+shelf-apart frame before shelf shelves x y lies after =
+    ⊎_elim
+    (λ (same : shelf.column ≡ after.column).
+    apart-across frame _ _ _ _ _ _ _ _ _ _ (heights_in-through after.column before shelf same) lies after.lies)
+    (⊎_elim
+    (λ (earlier : shelf.column < after.column).
+    apart-along frame _ _ _ _ _ _ _ _ _ _ (columns-apart _ _ frame.column_width earlier) lies after.lies)
+    (λ (later : after.column < shelf.column).
+    SharesNone-swap _ _ (apart-along frame _ _ _ _ _ _ _ _ _ _ (columns-apart _ _ frame.column_width later) after.lies lies)))
+    (cases_order shelf.column after.column)
+
+-- what shelves hold that stand after others is apart
+held_after-apart : (frame : Frame) (before shelves : List Shelf)
+    → Each (IsFilled frame) shelves → AreApart (held_after frame before shelves)
+held_after-apart frame before [] filled = tt
+held_after-apart frame before (shelf ∷ shelves) filled =
+    AreApart-append (held_in_shelf frame before shelf) _
+    (held_along-apart frame _ _ _ shelf.runs filled.0.height filled.0.runs)
+    (held_after-apart frame (before ++ shelf ∷ []) shelves filled.1)
+    (each-apart _ (LiesAfter frame (before ++ shelf ∷ []) shelves) _ _ (shelf-apart frame before shelf shelves)
+    (shelf-lies frame before shelf filled.0) (held_after-lies frame (before ++ shelf ∷ []) shelves filled.1))
+
+-- a column ends within the atlas
+pub column-within : (frame : Frame) (column : ℕ) → IsFrame 65535 frame → column < frame.columns
+    → column * frame.column_width + frame.column_width ≤ along_side frame
+column-within frame column is_frame below =
+    omega (
+      arith,
+      columns-apart column frame.columns frame.column_width below,
+      ap (λ (n : ℕ). n * frame.column_width) is_frame.columns,
+      div-mul-le_self (along_side frame) frame.column_width,
+    )
+
+-- what lies in a column lies in the atlas
+lies-inside : (frame : Frame) (shelves : List Shelf) → IsTiled frame shelves
+    → (a : Allocation) → LiesAfter frame [] shelves a → IsInside frame a.rectangle
+lies-inside frame shelves tiled a after =
+    inside-from_lies frame a.rectangle
+    (LiesIn-widen frame _ _ _ _ _ _ _ _ _ (omega arith) (column-within frame after.column tiled.is_frame after.below) (omega arith)
+    (omega (arith, tiled.heights after.column after.below)) after.lies)
+
+-- everything that tiled shelves hold lies within the atlas
+pub tiled-inside : (frame : Frame) (shelves : List Shelf) → IsTiled frame shelves
+    → Each (λ (a : Allocation). IsInside frame a.rectangle) (held_after frame [] shelves)
+tiled-inside frame shelves tiled =
+    Each-weaken (LiesAfter frame [] shelves) _ _ (lies-inside frame shelves tiled) (held_after-lies frame [] shelves tiled.filled)
+
+-- any two that tiled shelves hold share no unit square
+pub tiled-apart : (frame : Frame) (shelves : List Shelf) → IsTiled frame shelves → AreApart (held_after frame [] shelves)
+tiled-apart frame shelves tiled = held_after-apart frame [] shelves tiled.filled
+
+-- everything that is held lies within the atlas
+pub held-inside : (state : AtlasState) → IsValid state → Each (λ (a : Allocation). IsInside state.frame a.rectangle) (held state)
+held-inside state valid = tiled-inside state.frame state.shelves (tiled-from-valid state valid)
+
+-- any two that are held share no unit square
+pub held-apart : (state : AtlasState) → IsValid state → AreApart (held state)
+held-apart state valid = tiled-apart state.frame state.shelves (tiled-from-valid state valid)

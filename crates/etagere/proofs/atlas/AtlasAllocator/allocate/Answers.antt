@@ -1,0 +1,120 @@
+use Rattle.std.specs.Prelude.{OnErr, Result, Ok, Err}
+use Rattle.std.proofs.Common.{◌≡◌, ℕ, ◌+◌, Some, List, ap, sym, subst, ◌∙◌, arith}
+use Rattle.etagere.specs.Atlas.{Adds, Allocates, IsSound, NeedsCut}
+use Rattle.etagere.specs.Choice.{placement_of, cuts}
+use Rattle.etagere.specs.Kept.{state_in}
+use Rattle.etagere.specs.Places.{held}
+use Rattle.etagere.specs.Rectangles.{IsLarge}
+use Rattle.etagere.specs.State.{AtlasState, Shelf}
+use Rattle.etagere.specs.Taking.{given}
+use Rattle.etagere.proofs.Allocated.{Allocated, allocated}
+use Rattle.etagere.proofs.AtlasSteps.{cuts-read, narrow-read, shelf-read}
+use Rattle.etagere.proofs.FreshCorners.{corner-small}
+use Rattle.etagere.proofs.Sound.{given-inside, sound}
+use Rattle.etagere.proofs.Takeable.{can_take, narrow-valid}
+use Rattle.etagere.proofs.atlas.AtlasAllocator.allocate.Goals as goal
+
+on_err : {T E P : Type 0} (r : Result T E) → P → OnErr r P
+on_err (Ok x) p = tt
+on_err (Err e) p = p
+
+pub placement_of-requires-clause-narrow : goal.placement_of-requires-clause-narrow
+placement_of-requires-clause-narrow c = rw c.deref.ensures.value (narrow-valid (state_in c.self.inside) c.self.invariant.valid)
+
+pub returns-in_default-clause-sound : goal.returns-in_default-clause-sound
+returns-in_default-clause-sound c = subst IsSound c.self.view_is (sound (state_in c.self.inside) c.self.invariant.valid)
+
+pub given-rectangle-requires-clause-narrow : goal.given-rectangle-requires-clause-narrow
+given-rectangle-requires-clause-narrow c = rw c.deref-2.ensures.value (narrow-valid (state_in c.self.inside) c.self.invariant.valid)
+
+pub given-rectangle-requires-clause-takeable : goal.given-rectangle-requires-clause-takeable
+given-rectangle-requires-clause-takeable c =
+    let old = state_in c.self.inside in
+    let placed : placement_of old c.args.size ≡ Some c.in-Some.placement = sym (rw c.deref.ensures.value at c.placement_of.ensures) ∙ c.in-Some.is in
+    rw c.deref-2.ensures.value (can_take old c.args.size c.in-Some.placement c.self.invariant.valid placed)
+
+pub corner_id-id-requires : goal.corner_id-id-requires
+corner_id-id-requires c =
+    let old = state_in c.self.inside in
+    let placed : placement_of old c.args.size ≡ Some c.in-Some.placement = sym (rw c.deref.ensures.value at c.placement_of.ensures) ∙ c.in-Some.is in
+    let gives : given old c.in-Some.placement ≡ Some c.given-rectangle.result = sym (rw c.deref-2.ensures.value at c.given-rectangle.ensures) in
+    corner-small old.frame c.given-rectangle.result c.self.invariant.valid.frame (given-inside old c.args.size c.in-Some.placement c.given-rectangle.result c.self.invariant.valid placed gives)
+
+pub index-requires : goal.index-requires
+index-requires c =
+    let old = state_in c.self.inside in
+    let placed : placement_of old c.args.size ≡ Some c.in-Some.placement = sym (rw c.deref.ensures.value at c.placement_of.ensures) ∙ c.in-Some.is in
+    omega (arith, (can_take old c.args.size c.in-Some.placement c.self.invariant.valid placed).within)
+
+pub cuts-cuts-requires-clause-narrow : goal.cuts-cuts-requires-clause-narrow
+cuts-cuts-requires-clause-narrow c =
+    let old = state_in c.self.inside in
+    let placed : placement_of old c.args.size ≡ Some c.in-Some.placement = sym (rw c.deref.ensures.value at c.placement_of.ensures) ∙ c.in-Some.is in
+    narrow-read old.frame old.shelves c.in-Some.placement.shelf c.index.result.now (can_take old c.args.size c.in-Some.placement c.self.invariant.valid placed).within c.index.ensures
+    (narrow-valid old c.self.invariant.valid)
+
+pub cuts-cuts-requires-clause-short : goal.cuts-cuts-requires-clause-short
+cuts-cuts-requires-clause-short c =
+    let old = state_in c.self.inside in
+    let placed : placement_of old c.args.size ≡ Some c.in-Some.placement = sym (rw c.deref.ensures.value at c.placement_of.ensures) ∙ c.in-Some.is in
+    let can = can_take old c.args.size c.in-Some.placement c.self.invariant.valid placed in
+    let takeable = can.takeable c.index.result.now (shelf-read old.shelves c.in-Some.placement.shelf c.index.result.now can.within c.index.ensures) in
+    (takeable.width, takeable.height)
+
+pub take_placement-requires-clause-narrow : goal.take_placement-requires-clause-narrow
+take_placement-requires-clause-narrow c = narrow-valid (state_in c.self.inside) c.self.invariant.valid
+
+pub take_placement-requires-clause-takeable : goal.take_placement-requires-clause-takeable
+take_placement-requires-clause-takeable c =
+    let placed : placement_of (state_in c.self.inside) c.args.size ≡ Some c.in-Some.placement = sym (rw c.deref.ensures.value at c.placement_of.ensures) ∙ c.in-Some.is in
+    can_take (state_in c.self.inside) c.args.size c.in-Some.placement c.self.invariant.valid placed
+
+pub returns-in_err-take_placement-clause-cut : goal.returns-in_err-take_placement-clause-cut
+returns-in_err-take_placement-clause-cut c =
+    let placed : placement_of (state_in c.self.inside) c.args.size ≡ Some c.in-Some.placement = sym (rw c.deref.ensures.value at c.placement_of.ensures) ∙ c.in-Some.is in
+    let needs : NeedsCut (state_in c.self.inside) c.args.size = record { placement = c.in-Some.placement; placed = placed; cut = c.in_err-take_placement.ensures.cut } in
+    on_err c.from_residual.result (subst (λ (state : AtlasState). NeedsCut state c.args.size) c.self.view_is needs)
+
+pub returns-in_err-take_placement-clause-sound : goal.returns-in_err-take_placement-clause-sound
+returns-in_err-take_placement-clause-sound c =
+    let old = state_in c.self.inside in
+    subst IsSound (ap (λ (l : List Shelf). record { frame = old.frame; shelves = l; records = old.records }) (sym c.in_err-take_placement.ensures.err))
+    (sound old c.self.invariant.valid)
+
+-- what the allocation leaves
+made : (c : goal.After-self-2-1) → Allocated (state_in c.self.inside) c.args.size c.given-rectangle.result (c.self.inside.runs_in_use + c.cuts-cuts.result)
+    (record { frame = c.self.inside.frame; shelves = c.take_placement.new.shelves.items; records = c.max-self-inside.result })
+made c =
+    let old = state_in c.self.inside in
+    let placement = c.in-Some.placement in
+    let placed : placement_of old c.args.size ≡ Some placement = sym (rw c.deref.ensures.value at c.placement_of.ensures) ∙ c.in-Some.is in
+    let gives : given old placement ≡ Some c.given-rectangle.result = sym (rw c.deref-2.ensures.value at c.given-rectangle.ensures) in
+    let can = can_take old c.args.size placement c.self.invariant.valid placed in
+    let read = shelf-read old.shelves placement.shelf c.index.result.now can.within c.index.ensures in
+    let cuts_are : c.cuts-cuts.result ≡ cuts old placement = c.cuts-cuts.ensures ∙ sym (cuts-read old placement c.index.result.now read) in
+    allocated old c.args.size placement c.given-rectangle.result c.take_placement.new.shelves.items (c.self.inside.runs_in_use + c.cuts-cuts.result) c.max-self-inside.result
+    c.self.invariant.valid c.self.invariant.corners placed gives (rw c.corner_id-id.ensures at c.in_ok-take_placement.ensures.ok)
+    (omega (arith, cuts_are, c.self.invariant.counted)) c.max-self-inside.ensures
+
+pub invariant_of-self-2 : goal.invariant_of-self-2
+invariant_of-self-2 c = record { valid = (made c).sound_after.valid; corners = (made c).corners; counted = (made c).counted }
+
+pub returns-clause-placed : goal.returns-clause-placed
+returns-clause-placed c =
+    let rectangle = c.given-rectangle.result in
+    let new : AtlasState = record { frame = c.self.inside.frame; shelves = c.take_placement.new.shelves.items; records = c.max-self-inside.result } in
+    subst (λ (state : AtlasState). Allocates state c.args.size (record { id = c.corner_id-id.result; rectangle = rectangle }) new) c.self.view_is
+    (subst (λ (id : ℕ). Allocates (state_in c.self.inside) c.args.size (record { id = id; rectangle = rectangle }) new) (sym c.corner_id-id.ensures) (made c).allocates)
+
+pub returns-clause-held : goal.returns-clause-held
+returns-clause-held c =
+    let rectangle = c.given-rectangle.result in
+    let new : AtlasState = record { frame = c.self.inside.frame; shelves = c.take_placement.new.shelves.items; records = c.max-self-inside.result } in
+    subst (λ (state : AtlasState). Adds (held state) (record { id = c.corner_id-id.result; rectangle = rectangle }) (held new)) c.self.view_is
+    (subst (λ (id : ℕ). Adds (held (state_in c.self.inside)) (record { id = id; rectangle = rectangle }) (held new)) (sym c.corner_id-id.ensures) (made c).adds)
+
+pub returns-clause-large : goal.returns-clause-large
+returns-clause-large c = subst (λ (state : AtlasState). IsLarge state.frame c.args.size c.given-rectangle.result) c.self.view_is (made c).large
+
+pub returns-clause-sound : goal.returns-clause-sound
+returns-clause-sound c = (made c).sound_after

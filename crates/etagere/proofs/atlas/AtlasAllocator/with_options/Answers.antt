@@ -1,0 +1,30 @@
+use Rattle.std.proofs.Common.{◌≡◌, List, ap, sym, subst, ◌∙◌}
+use Rattle.etagere.specs.Atlas.{IsSound}
+use Rattle.etagere.specs.Corners.{AreCorners}
+use Rattle.etagere.specs.Fresh.{fresh}
+use Rattle.etagere.specs.Places.{held}
+use Rattle.etagere.specs.State.{AtlasState, Shelf, runs_in_use}
+use Rattle.etagere.specs.Valid.{IsValid}
+use Rattle.etagere.proofs.FreshLemmas.{fresh-held, fresh-valid, runs_in_use-empty_columns}
+use Rattle.etagere.proofs.Sound.{sound}
+use Rattle.etagere.proofs.atlas.AtlasAllocator.with_options.Goals as goal
+
+-- the state that the fields stand for at the end
+made : (c : goal.In-Ok) → fresh c.atlas_frame-frame.result ≡ record { frame = c.atlas_frame-frame.result; shelves = c.in-Ok.shelves.items; records = c.atlas_frame-frame.result.columns }
+made c =
+    let frame = c.atlas_frame-frame.result in
+    ap (λ (l : List Shelf). record { frame = frame; shelves = l; records = frame.columns }) (sym c.in-Ok.ensures)
+
+pub invariant_of-result : goal.invariant_of-result
+invariant_of-result c =
+    let frame = c.atlas_frame-frame.result in
+    record {
+      valid = subst IsValid (made c) (fresh-valid frame c.atlas_frame-frame.ensures.frame);
+      corners = subst (λ (state : AtlasState). AreCorners (held state)) (made c) (subst AreCorners (sym (fresh-held frame)) tt);
+      counted = sym (ap runs_in_use c.in-Ok.ensures ∙ runs_in_use-empty_columns frame 0 frame.columns);
+    }
+
+pub returns-clause-sound : goal.returns-clause-sound
+returns-clause-sound c =
+    let frame = c.atlas_frame-frame.result in
+    subst IsSound (made c) (sound (fresh frame) (fresh-valid frame c.atlas_frame-frame.ensures.frame))

@@ -1,0 +1,46 @@
+use Rattle.std.specs.Prelude.{◌≡◌, ℕ, ◌<◌, ◌≤◌, false, not, Some, List, [], ◌∷◌, ◌++◌, filter, map, ◌==◌}
+use Rattle.etagere_base.specs.declared.geometry.Size.{Size}
+use Rattle.etagere_base.specs.declared.ids.Allocation.{Allocation}
+use Rattle.etagere.specs.Choice.{Placement, cuts, placement_of}
+use Rattle.etagere.specs.Fresh.{fresh, without_records}
+use Rattle.etagere.specs.Lists.{Each, times}
+use Rattle.etagere.specs.Places.{held, is_held}
+use Rattle.etagere.specs.Rectangles.{AreApart, IsInside}
+use Rattle.etagere.specs.State.{AtlasState}
+use Rattle.etagere.specs.Taking.{given, taken}
+use Rattle.etagere.specs.Valid.{IsValid}
+
+-- an allocation of a size leads from one state to the next: the place of the size was taken by an id that held nothing,
+-- and its rectangle was given
+pub record Allocates (old : AtlasState) (size : Size) (allocation : Allocation) (new : AtlasState) : Type 0 where
+  pub placement : Placement
+  pub placed : placement_of old size ≡ Some placement
+  pub rectangle : given old placement ≡ Some allocation.rectangle
+  pub fresh_id : is_held old allocation.id ≡ false
+  pub after : new ≡ taken old placement allocation.id
+
+-- the place of a size needs a cut
+pub record NeedsCut (state : AtlasState) (size : Size) : Type 0 where
+  pub placement : Placement
+  pub placed : placement_of state size ≡ Some placement
+  pub cut : 0 < cuts state placement
+
+-- what is held after is what was held before and one more
+pub record Adds (old : List Allocation) (allocation : Allocation) (new : List Allocation) : Type 0 where
+  pub front : List Allocation
+  pub back : List Allocation
+  pub before : old ≡ front ++ back
+  pub after : new ≡ front ++ allocation ∷ back
+
+-- the allocations but for the one of an id
+abbrev pub without_id : ℕ → List Allocation → List Allocation
+without_id id allocations = filter (λ allocation. not (allocation.id == id)) allocations
+
+-- what each state of an atlas keeps: it is valid, what is held has ids that differ and lies inside and apart, and where
+-- nothing is held it is that of a new atlas but for its records
+pub record IsSound (state : AtlasState) : Type 0 where
+  pub valid : IsValid state
+  pub ids : (id : ℕ) → times id (map (λ allocation. allocation.id) (held state)) ≤ 1
+  pub inside : Each (λ (allocation : Allocation). IsInside state.frame allocation.rectangle) (held state)
+  pub apart : AreApart (held state)
+  pub empty : held state ≡ [] → without_records state ≡ without_records (fresh state.frame)

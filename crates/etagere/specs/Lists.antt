@@ -1,0 +1,28 @@
+use Rattle.std.specs.Prelude.{◌≡◌, ℕ, zero, suc, ◌+◌, Bool, false, List, [], ◌∷◌, ◌++◌, ◌==◌, if◌then◌else◌}
+
+-- how often a number stands in a list
+abbrev pub times : ℕ → List ℕ → ℕ
+times n [] = 0
+times n (m ∷ ms) = (if m == n then 1 else 0) + times n ms
+
+-- the list with the element of this number replaced by its pieces
+abbrev pub cut_at : {X : Type 0} → ℕ → (X → List X) → List X → List X
+cut_at n pieces [] = []
+cut_at zero pieces (x ∷ xs) = pieces x ++ xs
+cut_at (suc n) pieces (x ∷ xs) = x ∷ cut_at n pieces xs
+
+-- the list with its first element that passes the test changed
+abbrev pub at_first : {X : Type 0} → (X → Bool) → (X → X) → List X → List X
+at_first test change [] = []
+at_first test change (x ∷ xs) = if test x then change x ∷ xs else x ∷ at_first test change xs
+
+-- no two neighbours touch
+abbrev pub NoneTouch : {X : Type 0} → (X → X → Bool) → List X → Type 0
+NoneTouch touch [] = Unit {0}
+NoneTouch touch (x ∷ []) = Unit {0}
+NoneTouch touch (x ∷ y ∷ ys) = (touch x y ≡ false) × NoneTouch touch (y ∷ ys)
+
+-- a fact of each element
+abbrev pub Each : {X : Type 0} → (X → Type 0) → List X → Type 0
+Each P [] = Unit {0}
+Each P (x ∷ xs) = P x × Each P xs

@@ -1,0 +1,160 @@
+ghost use Rattle.std.specs.Prelude.{◌≡◌, ◌↔◌, Some, None, Ok, Err, false, pos, IfOk, IfErr, IfSome, IfNone, OnOk, OnErr, IsErr};
+ghost use Rattle.etagere_base.specs.Frames as frames;
+ghost use Rattle.etagere_base.specs.Frames.{IsAccepted, options_fault};
+ghost use Rattle.etagere_base.specs.Options.{default_options};
+ghost use Rattle.etagere_base.specs.declared.faults.OptionsFault.TheVariants as faults;
+ghost use Rattle.etagere.specs.Atlas.{Adds, Allocates, IsSound, NeedsCut, without_id};
+ghost use Rattle.etagere.specs.Choice.{IsRefused};
+ghost use Rattle.etagere.specs.Fresh.{fresh};
+ghost use Rattle.etagere.specs.Places as places;
+ghost use Rattle.etagere.specs.Places.{held, is_held};
+ghost use Rattle.etagere.specs.Rectangles.{IsLarge};
+ghost use Rattle.etagere.specs.Returning.{returned};
+
+use crate::choosing::{given, placement_of};
+use crate::ids::corner_id;
+use crate::looking::rectangle_of;
+use crate::returning::{free_in, shelf_of};
+use crate::shelves::Shelf;
+use crate::starting::empty_columns;
+use crate::taking::take_placement;
+use etagere_base::{
+    AllocId, Allocation, AllocatorOptions, DEFAULT_OPTIONS, Frame, OptionsFault, Rectangle, Size,
+    UnknownId, atlas_frame, options_fault,
+};
+use std::alloc::{AllocError, Global};
+use std::marker::Model;
+
+/// Places rectangles on the shelves of one atlas, and takes them back in any order.
+///
+/// Each shelf is a strip across a column of the atlas, cut into runs side by side. A size goes to the lowest
+/// shelf that is high enough and not much too high. Neighbours that are free become one again.
+#[derive(Drop)]
+pub struct AtlasAllocator {
+    frame: Frame,
+    shelves: Vec<Shelf>,
+    runs_in_use: u32,
+    records: u32,
+}
+
+impl Model for AtlasAllocator {
+    ghost use Rattle.etagere.specs.State.{AtlasState};
+
+    ghost Value = { AtlasState };
+
+    ghost use Rattle.etagere.specs.Kept.{IsKept, state_in};
+
+    ghost view = { state_in };
+
+    ghost invariant = { IsKept };
+}
+
+impl AtlasAllocator {
+    /// An empty atlas of this size in pixels, with the default options.
+    ///
+    /// The first fault that holds is answered; `Memory` only where there is no other and no memory. Takes
+    /// memory for one shelf.
+    pub fn new(alloc: Global, size: Size) -> Result<AtlasAllocator, OptionsFault>
+        ensures ok { IfOk result (λ atlas. atlas ≡ fresh (frames.atlas_frame size default_options)) }
+        ensures accepted { OnOk result (IsAccepted 65535 size default_options) }
+        ensures sound { IfOk result IsSound }
+        ensures fault { IfSome (options_fault 65535 size default_options) (λ fault. result ≡ Err fault) }
+        ensures memory { IfErr result (λ fault. IsAccepted 65535 size default_options → fault ≡ faults.Memory) }
+    {
+        AtlasAllocator::with_options(alloc, size, &DEFAULT_OPTIONS)
+    }
+
+    /// An empty atlas of this size in pixels.
+    ///
+    /// The first fault that holds is answered; `Memory` only where there is no other and no memory. Takes
+    /// memory for a shelf in each column.
+    pub fn with_options(
+        alloc: Global,
+        size: Size,
+        options: &AllocatorOptions,
+    ) -> Result<AtlasAllocator, OptionsFault>
+        ensures ok { IfOk result (λ atlas. atlas ≡ fresh (frames.atlas_frame size options.now)) }
+        ensures accepted { OnOk result (IsAccepted 65535 size options.now) }
+        ensures sound { IfOk result IsSound }
+        ensures fault { IfSome (options_fault 65535 size options.now) (λ fault. result ≡ Err fault) }
+        ensures memory { IfErr result (λ fault. IsAccepted 65535 size options.now → fault ≡ faults.Memory) }
+    {
+        if let Some(fault) = options_fault(u16::MAX, size, options) {
+            return Err(fault);
+        }
+        let frame = atlas_frame(size, options);
+        let Ok(shelves) = empty_columns(alloc, &frame) else {
+            return Err(OptionsFault::Memory);
+        };
+        Ok(AtlasAllocator {
+            frame,
+            shelves,
+            runs_in_use: frame.columns,
+            records: frame.columns,
+        })
+    }
+
+    /// The size that the atlas was made with.
+    pub fn size(&self) -> Size
+        ensures { result ≡ record { width = pos self.now.frame.width; height = pos self.now.frame.height } }
+    {
+        Size {
+            width: self.frame.width as i32,
+            height: self.frame.height as i32,
+        }
+    }
+
+    /// Gives a rectangle that is at least as large as the size in pixels, or none where there is no place.
+    ///
+    /// `Err` comes only where the place is to be cut and there was no memory. Nothing changes after an `Err`
+    /// or none. Each cut takes memory for one run or shelf; a size that needs none takes none. The shelves
+    /// are gone through once.
+    pub fn allocate(&mut self, size: Size) -> Result<Option<Allocation>, AllocError>
+        ensures placed { IfOk result (λ answer. IfSome answer (λ allocation. Allocates self.old size allocation self.new)) }
+        ensures refused { IfOk result (λ answer. IfNone answer (IsRefused self.old size)) }
+        ensures none { IfOk result (λ answer. IfNone answer (self.new ≡ self.old)) }
+        ensures err { OnErr result (self.new ≡ self.old) }
+        ensures cut { OnErr result (NeedsCut self.old size) }
+        ensures held { IfOk result (λ answer. IfSome answer (λ allocation. Adds (held self.old) allocation (held self.new))) }
+        ensures large { IfOk result (λ answer. IfSome answer (λ allocation. IsLarge self.old.frame size allocation.rectangle)) }
+        ensures sound { IsSound self.new }
+    {
+        let Some(placement) = placement_of(&self.frame, &self.shelves, self.runs_in_use, size)
+        else {
+            return Ok(None);
+        };
+        let rectangle = given(&self.frame, &self.shelves, &placement);
+        let id = corner_id(&rectangle);
+        let cuts = self.shelves[placement.shelf].cuts(&self.frame, &placement);
+        take_placement(&self.frame, &mut self.shelves, &placement, id)?;
+        self.runs_in_use += cuts;
+        self.records = self.records.max(self.runs_in_use);
+        Ok(Some(Allocation { id, rectangle }))
+    }
+
+    /// Takes back the rectangle that an id holds, and joins what is free with its neighbours.
+    ///
+    /// `Err` comes exactly where the id holds nothing; then nothing changes. Takes no memory. The shelves are
+    /// gone through once.
+    pub fn deallocate(&mut self, id: AllocId) -> Result<(), UnknownId>
+        ensures ok { OnOk result (self.new ≡ returned self.old id) }
+        ensures unknown { IsErr result ↔ (is_held self.old id ≡ false) }
+        ensures err { OnErr result (self.new ≡ self.old) }
+        ensures held { OnOk result (held self.new ≡ without_id id (held self.old)) }
+        ensures sound { IsSound self.new }
+    {
+        let Some(number) = shelf_of(&self.shelves, id) else {
+            return Err(UnknownId);
+        };
+        let joined = free_in(&self.frame, &mut self.shelves, number, id);
+        self.runs_in_use -= joined;
+        Ok(())
+    }
+
+    /// The rectangle that an id holds, as it was given; none exactly where it holds nothing.
+    pub fn get(&self, id: AllocId) -> Option<Rectangle>
+        ensures { result ≡ places.rectangle_of self.now id }
+    {
+        rectangle_of(&self.frame, &self.shelves, id)
+    }
+}

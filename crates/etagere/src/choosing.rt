@@ -1,0 +1,150 @@
+ghost use Rattle.std.specs.Prelude.{◌≡◌, ◌+◌, ◌<◌, ◌≤◌, ◌^◌, Some, IfSome, length, map};
+ghost use Rattle.std.specs.Option.{option_map};
+ghost use Rattle.etagere_base.specs.Frames.{IsFrame};
+ghost use Rattle.etagere.specs.Choice as choice;
+ghost use Rattle.etagere.specs.Choice.{first_least};
+ghost use Rattle.etagere.specs.Least.{first_of};
+ghost use Rattle.etagere.specs.Places as places;
+ghost use Rattle.etagere.specs.Places.{heights_in};
+ghost use Rattle.etagere.specs.State as state;
+ghost use Rattle.etagere.specs.Steps.{CanTake, IsNarrow, state_of};
+ghost use Rattle.etagere.specs.Taking as taking;
+ghost use Rattle.etagere.specs.Lists.{Each};
+
+use crate::placements::{Found, Placement};
+use crate::shelves::Shelf;
+use etagere_base::{Frame, Point, Rectangle, Sides, Size, asked, point2, step, turned};
+
+/// The place of a size among the shelves, where it has one and there are records enough for its cuts.
+pub(crate) fn placement_of(
+    frame: &Frame,
+    shelves: &[Shelf],
+    runs_in_use: u32,
+    size: Size,
+) -> Option<Placement>
+    requires frame { IsFrame 65535 frame.now }
+    requires narrow { Each (IsNarrow frame.now) shelves.now }
+    requires counted { runs_in_use ≡ state.runs_in_use shelves.now }
+    requires few { runs_in_use ≤ 65535 }
+    ensures { result ≡ choice.placement_of (state_of frame.now shelves.now) size }
+{
+    let sides = asked(frame, size)?;
+    let placement = chosen(frame, shelves, sides)?;
+    if runs_in_use + shelves[placement.shelf].cuts(frame, &placement) <= 65535 {
+        Some(placement)
+    } else {
+        None
+    }
+}
+
+/// The shelf of least rank, and in it the first place in trying order that is wide enough.
+fn chosen(frame: &Frame, shelves: &[Shelf], sides: Sides) -> Option<Placement>
+    requires frame { IsFrame 65535 frame.now }
+    requires low { sides.across ≤ 65535 }
+    requires narrow { Each (IsNarrow frame.now) shelves.now }
+    ensures { result ≡ choice.chosen (state_of frame.now shelves.now) sides }
+{
+    let height = shelf_height(frame, sides.across);
+    let shelf = best_shelf(frame, shelves, sides.along, height)?;
+    let place = shelves[shelf].fitting_place(frame, sides.along)?;
+    Some(Placement {
+        shelf,
+        place,
+        width: sides.along,
+        height,
+    })
+}
+
+/// The height of a shelf for items of this height: stepped, unless that is higher than the atlas.
+fn shelf_height(frame: &Frame, height: u32) -> u32
+    requires { height ≤ 65535 }
+    ensures value { result ≡ choice.shelf_height frame.now height }
+{
+    let across = if frame.vertical {
+        frame.width
+    } else {
+        frame.height
+    };
+    let stepped = step(height);
+    if stepped <= across { stepped } else { height }
+}
+
+/// The number of the first shelf of least rank.
+fn best_shelf(frame: &Frame, shelves: &[Shelf], width: u32, height: u32) -> Option<usize>
+    requires low { height ≤ 65535 }
+    requires narrow { Each (IsNarrow frame.now) shelves.now }
+    ensures number { result ≡ option_map (λ found. found.number) (first_least (map (choice.rank frame.now width height) shelves.now)) }
+    ensures within { IfSome result (λ number. number < length shelves.now) }
+{
+    let mut best = None;
+    for (number, shelf) in shelves.iter().enumerate() {
+        best = better(best, number, shelf.rank(frame, width, height));
+    }
+    best.map(|found| found.number)
+}
+
+/// What was found before, unless the rank of the next shelf is lower.
+fn better(best: Option<Found>, number: usize, rank: Option<u32>) -> Option<Found>
+    ensures { result ≡ first_of best (option_map (λ rank. record { number = number; rank = rank }) rank) }
+{
+    let Some(rank) = rank else {
+        return best;
+    };
+    match best {
+        Some(found) if found.rank <= rank => Some(found),
+        _ => Some(Found { number, rank }),
+    }
+}
+
+/// The rectangle that a placement gives.
+pub(crate) fn given(frame: &Frame, shelves: &[Shelf], placement: &Placement) -> Rectangle
+    requires narrow { Each (IsNarrow frame.now) shelves.now }
+    requires takeable { CanTake frame.now placement.now shelves.now }
+    ensures { Some result ≡ taking.given (state_of frame.now shelves.now) placement.now }
+{
+    let shelf = &shelves[placement.shelf];
+    let across = height_of_column(&shelves[..placement.shelf], shelf.column());
+    let width = shelf.given_width(frame, placement);
+    let height = shelf.given_height(placement);
+    rectangle_at(frame, placement.place, across, width, height)
+}
+
+/// The heights of the shelves of a column, added up.
+pub(crate) fn height_of_column(shelves: &[Shelf], column: u32) -> u32
+    requires { heights_in column shelves.now < 2 ^ 32 }
+    ensures { result ≡ heights_in column shelves.now }
+{
+    let mut height = 0;
+    for shelf in shelves {
+        if shelf.column() == column {
+            height += shelf.height();
+        }
+    }
+    height
+}
+
+/// What lies at a place along and across, this wide along and this high across.
+pub(crate) fn rectangle_at(
+    frame: &Frame,
+    along: u32,
+    across: u32,
+    width: u32,
+    height: u32,
+) -> Rectangle
+    requires right { along + width ≤ 65535 }
+    requires bottom { across + height ≤ 65535 }
+    ensures { result ≡ places.rectangle_at frame.now along across width height }
+{
+    Rectangle {
+        min: point_at(frame, along, across),
+        max: point_at(frame, along + width, across + height),
+    }
+}
+
+fn point_at(frame: &Frame, along: u32, across: u32) -> Point
+    requires { (along ≤ 65535) × (across ≤ 65535) }
+    ensures { result ≡ places.point_at frame.now along across }
+{
+    let place = turned(frame.vertical, Sides { along, across });
+    point2(place.along as i32, place.across as i32)
+}

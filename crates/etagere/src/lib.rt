@@ -1,0 +1,22 @@
+//! A texture atlas allocator: rectangles are placed on shelves and given back in any order.
+#![tactic(auto)]
+
+mod atlas;
+mod choosing;
+mod edits;
+mod ids;
+mod looking;
+mod placements;
+mod returning;
+mod runs;
+mod shelves;
+mod starting;
+mod taking;
+mod trying;
+mod vectors;
+
+pub use atlas::AtlasAllocator;
+pub use etagere_base::{
+    AllocId, Allocation, AllocatorOptions, DEFAULT_OPTIONS, OptionsFault, Point, Rectangle, Size,
+    UnknownId, point2, size2,
+};

@@ -1,0 +1,19 @@
+ghost use Rattle.std.specs.Prelude.{◌≡◌, None, Some};
+ghost use Rattle.etagere.specs.Places as places;
+ghost use Rattle.etagere.specs.Steps.{AreWithin, state_of};
+
+use crate::choosing::height_of_column;
+use crate::returning::shelf_of;
+use crate::shelves::Shelf;
+use etagere_base::{AllocId, Frame, Rectangle};
+
+/// The rectangle that an id holds.
+pub(crate) fn rectangle_of(frame: &Frame, shelves: &[Shelf], id: AllocId) -> Option<Rectangle>
+    requires { AreWithin frame.now shelves.now }
+    ensures { result ≡ places.rectangle_of (state_of frame.now shelves.now) id }
+{
+    let number = shelf_of(shelves, id)?;
+    let shelf = &shelves[number];
+    let across = height_of_column(&shelves[..number], shelf.column());
+    shelf.rectangle_of(frame, across, id)
+}

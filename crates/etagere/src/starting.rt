@@ -1,0 +1,24 @@
+ghost use Rattle.std.specs.Prelude.{◌≡◌, IfOk};
+ghost use Rattle.etagere_base.specs.Frames.{IsFrame};
+ghost use Rattle.etagere.specs.Fresh as starting;
+
+use crate::shelves::Shelf;
+use etagere_base::Frame;
+use std::alloc::{AllocError, Global};
+
+/// The columns of a new atlas, each with one empty shelf.
+pub(crate) fn empty_columns(alloc: Global, frame: &Frame) -> Result<Vec<Shelf>, AllocError>
+    requires { IsFrame 65535 frame.now }
+    ensures { IfOk result (λ shelves. shelves.items ≡ starting.empty_columns frame.now 0 frame.now.columns) }
+{
+    let height = if frame.vertical {
+        frame.width
+    } else {
+        frame.height
+    };
+    let mut shelves = Vec::with_capacity(alloc, frame.columns as usize)?;
+    for column in 0..frame.columns {
+        shelves.push(Shelf::empty(alloc, frame, column, height)?)?;
+    }
+    Ok(shelves)
+}
