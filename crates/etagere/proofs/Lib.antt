@@ -43,6 +43,7 @@ pub mod RunLemmas
 pub mod ShelfNumbers
 pub mod Sound
 pub mod SpaceBounds
+pub mod SpaceSteps
 pub mod Takeable
 pub mod TakenEdits
 pub mod TakenHeld

@@ -2,6 +2,7 @@ use Rattle.std.specs.Prelude.{◌≡◌}
 use Rattle.etagere.specs.declared.atlas.AtlasAllocator.TheInside.{Inside}
 use Rattle.etagere.specs.Corners.{AreCorners}
 use Rattle.etagere.specs.Places.{held}
+use Rattle.etagere.specs.Space.{space_in}
 use Rattle.etagere.specs.State.{AtlasState, runs_in_use}
 use Rattle.etagere.specs.Valid.{IsValid}
 
@@ -9,8 +10,9 @@ use Rattle.etagere.specs.Valid.{IsValid}
 abbrev pub state_in : Inside → AtlasState
 state_in atlas = record { frame = atlas.frame; shelves = atlas.shelves.items; records = atlas.records }
 
--- what they keep: a valid state, ids that are corners, and the count of runs
+-- what they keep: a valid state, ids that are corners, the count of runs and the space that is held
 pub record IsKept (atlas : Inside) : Type 0 where
   pub valid : IsValid (state_in atlas)
   pub corners : AreCorners (held (state_in atlas))
   pub counted : atlas.runs_in_use ≡ runs_in_use atlas.shelves.items
+  pub space : atlas.allocated_space ≡ space_in atlas.shelves.items

@@ -1,4 +1,4 @@
-ghost use Rattle.std.specs.Prelude.{◌≡◌, ◌↔◌, Some, None, Ok, Err, false, pos, IfOk, IfErr, IfSome, IfNone, OnOk, OnErr, IsErr};
+ghost use Rattle.std.specs.Prelude.{◌≡◌, ◌↔◌, ◌*◌, ◌-◌, [], Some, None, Ok, Err, false, pos, IfOk, IfErr, IfSome, IfNone, OnOk, OnErr, IsErr, IsTrue};
 ghost use Rattle.etagere_base.specs.Frames as frames;
 ghost use Rattle.etagere_base.specs.Frames.{IsAccepted, options_fault};
 ghost use Rattle.etagere_base.specs.Options.{default_options};
@@ -10,13 +10,14 @@ ghost use Rattle.etagere.specs.Places as places;
 ghost use Rattle.etagere.specs.Places.{held, is_held};
 ghost use Rattle.etagere.specs.Rectangles.{IsLarge};
 ghost use Rattle.etagere.specs.Returning.{returned};
+ghost use Rattle.etagere.specs.Space as space;
 
-use crate::choosing::{given, placement_of};
+use crate::choosing::{given, given_area, placement_of};
 use crate::ids::corner_id;
 use crate::looking::rectangle_of;
 use crate::returning::{free_in, shelf_of};
 use crate::shelves::Shelf;
-use crate::starting::empty_columns;
+use crate::starting::{empty_columns, reset_columns};
 use crate::taking::take_placement;
 use etagere_base::{
     AllocId, Allocation, AllocatorOptions, DEFAULT_OPTIONS, Frame, OptionsFault, Rectangle, Size,
@@ -35,6 +36,7 @@ pub struct AtlasAllocator {
     shelves: Vec<Shelf>,
     runs_in_use: u32,
     records: u32,
+    allocated_space: u32,
 }
 
 impl Model for AtlasAllocator {
@@ -91,6 +93,7 @@ impl AtlasAllocator {
             shelves,
             runs_in_use: frame.columns,
             records: frame.columns,
+            allocated_space: 0,
         })
     }
 
@@ -126,9 +129,11 @@ impl AtlasAllocator {
         let rectangle = given(&self.frame, &self.shelves, &placement);
         let id = corner_id(&rectangle);
         let cuts = self.shelves[placement.shelf].cuts(&self.frame, &placement);
+        let area = given_area(&self.frame, &self.shelves, &placement);
         take_placement(&self.frame, &mut self.shelves, &placement, id)?;
         self.runs_in_use += cuts;
         self.records = self.records.max(self.runs_in_use);
+        self.allocated_space += area;
         Ok(Some(Allocation { id, rectangle }))
     }
 
@@ -146,8 +151,10 @@ impl AtlasAllocator {
         let Some(number) = shelf_of(&self.shelves, id) else {
             return Err(UnknownId);
         };
+        let area = self.shelves[number].held_area(id);
         let joined = free_in(&self.frame, &mut self.shelves, number, id);
         self.runs_in_use -= joined;
+        self.allocated_space -= area;
         Ok(())
     }
 
@@ -156,5 +163,53 @@ impl AtlasAllocator {
         ensures { result ≡ places.rectangle_of self.now id }
     {
         rectangle_of(&self.frame, &self.shelves, id)
+    }
+
+    /// Takes everything back at once: the atlas is as it was when it was new. Takes no memory.
+    pub fn clear(&mut self)
+        ensures cleared { self.new ≡ fresh self.old.frame }
+        ensures sound { IsSound self.new }
+    {
+        reset_columns(&self.frame, &mut self.shelves);
+        self.runs_in_use = self.frame.columns;
+        self.records = self.frame.columns;
+        self.allocated_space = 0;
+    }
+
+    /// Whether nothing is held.
+    pub fn is_empty(&self) -> bool
+        ensures { IsTrue result ↔ (held self.now ≡ []) }
+    {
+        self.allocated_space == 0
+    }
+
+    /// The areas of everything that is held, added up, in square pixels.
+    pub fn allocated_space(&self) -> i32
+        ensures { result ≡ pos (space.allocated_space self.now) }
+    {
+        self.allocated_space as i32
+    }
+
+    /// The area of the atlas less what is held, in square pixels.
+    pub fn free_space(&self) -> i32
+        ensures { result ≡ pos (self.now.frame.width * self.now.frame.height - space.allocated_space self.now) }
+    {
+        (self.frame.width * self.frame.height - self.allocated_space) as i32
+    }
+}
+
+impl Clone for AtlasAllocator {
+    ghost is_clone = { λ atlas other. other ≡ atlas };
+
+    /// An atlas that equals this one, its ids and its later answers too, and shares nothing with it. Takes
+    /// memory for each shelf.
+    fn clone(&self) -> Result<AtlasAllocator, AllocError> {
+        Ok(AtlasAllocator {
+            frame: self.frame,
+            shelves: self.shelves.clone()?,
+            runs_in_use: self.runs_in_use,
+            records: self.records,
+            allocated_space: self.allocated_space,
+        })
     }
 }

@@ -1,4 +1,4 @@
-ghost use Rattle.std.specs.Prelude.{◌≡◌, ◌+◌, ◌<◌, ◌≤◌, ◌^◌, Some, IfSome, length, map};
+ghost use Rattle.std.specs.Prelude.{◌≡◌, ◌+◌, ◌*◌, ◌<◌, ◌≤◌, ◌^◌, Some, IfSome, length, map, slice_get};
 ghost use Rattle.std.specs.Option.{option_map};
 ghost use Rattle.etagere_base.specs.Frames.{IsFrame};
 ghost use Rattle.etagere.specs.Choice as choice;
@@ -107,6 +107,17 @@ pub(crate) fn given(frame: &Frame, shelves: &[Shelf], placement: &Placement) -> 
     let width = shelf.given_width(frame, placement);
     let height = shelf.given_height(placement);
     rectangle_at(frame, placement.place, across, width, height)
+}
+
+/// The area that a placement gives.
+pub(crate) fn given_area(frame: &Frame, shelves: &[Shelf], placement: &Placement) -> u32
+    requires narrow { Each (IsNarrow frame.now) shelves.now }
+    requires takeable { CanTake frame.now placement.now shelves.now }
+    ensures { (shelf : state.Shelf) → slice_get shelves.now placement.now.shelf ≡ Some shelf
+        → result ≡ taking.given_width frame.now placement.now shelf * taking.given_height placement.now shelf }
+{
+    let shelf = &shelves[placement.shelf];
+    shelf.given_width(frame, placement) * shelf.given_height(placement)
 }
 
 /// The heights of the shelves of a column, added up.

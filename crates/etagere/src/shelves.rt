@@ -265,11 +265,12 @@ impl Shelf {
         self.tried.clear();
         self.tried.push_reserved(column * frame.column_width);
     }
+}
 
-    /// A shelf that equals this one and shares nothing with it.
-    pub(crate) fn clone(&self) -> Result<Shelf, AllocError>
-        ensures { IfOk result (λ shelf. shelf ≡ self.now) }
-    {
+impl Clone for Shelf {
+    ghost is_clone = { λ shelf other. other ≡ shelf };
+
+    fn clone(&self) -> Result<Shelf, AllocError> {
         let alloc = *self.runs.allocator();
         let runs = Vec::from_slice(alloc, &self.runs)?;
         let mut tried = Vec::with_capacity(alloc, self.tried.len() + self.runs.len())?;

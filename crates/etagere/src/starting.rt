@@ -1,4 +1,4 @@
-ghost use Rattle.std.specs.Prelude.{◌≡◌, IfOk};
+ghost use Rattle.std.specs.Prelude.{◌≡◌, ◌≤◌, IfOk, vec_len};
 ghost use Rattle.etagere_base.specs.Frames.{IsFrame};
 ghost use Rattle.etagere.specs.Fresh as starting;
 
@@ -21,4 +21,21 @@ pub(crate) fn empty_columns(alloc: Global, frame: &Frame) -> Result<Vec<Shelf>, 
         shelves.push(Shelf::empty(alloc, frame, column, height)?)?;
     }
     Ok(shelves)
+}
+
+/// Makes the shelves those of a new atlas, in the memory that they have.
+pub(crate) fn reset_columns(frame: &Frame, shelves: &mut Vec<Shelf>)
+    requires frame { IsFrame 65535 frame.now }
+    requires enough { frame.now.columns ≤ vec_len shelves.old }
+    ensures { shelves.new.items ≡ starting.empty_columns frame.now 0 frame.now.columns }
+{
+    let height = if frame.vertical {
+        frame.width
+    } else {
+        frame.height
+    };
+    shelves.truncate(frame.columns as usize);
+    for column in 0..frame.columns {
+        shelves[column as usize].reset(frame, column, height);
+    }
 }

@@ -2,16 +2,21 @@ use Rattle.std.specs.Prelude.{OnErr, Result, Ok, Err}
 use Rattle.std.proofs.Common.{◌≡◌, ℕ, ◌+◌, Some, List, ap, sym, subst, ◌∙◌, arith}
 use Rattle.etagere.specs.Atlas.{Adds, Allocates, IsSound, NeedsCut}
 use Rattle.etagere.specs.Choice.{placement_of, cuts}
+use Rattle.etagere.specs.Corners.{corner}
 use Rattle.etagere.specs.Kept.{state_in}
 use Rattle.etagere.specs.Places.{held}
 use Rattle.etagere.specs.Rectangles.{IsLarge}
+use Rattle.etagere.specs.Space.{space_in}
 use Rattle.etagere.specs.State.{AtlasState, Shelf}
 use Rattle.etagere.specs.Taking.{given}
 use Rattle.etagere.proofs.Allocated.{Allocated, allocated}
 use Rattle.etagere.proofs.AtlasSteps.{cuts-read, narrow-read, shelf-read}
 use Rattle.etagere.proofs.FreshCorners.{corner-small}
-use Rattle.etagere.proofs.Sound.{given-inside, sound}
+use Rattle.etagere.proofs.HeldIds.{times-not_held}
+use Rattle.etagere.proofs.Sound.{corner-not_held, given-inside, sound}
+use Rattle.etagere.proofs.SpaceSteps.{space-taken-small}
 use Rattle.etagere.proofs.Takeable.{can_take, narrow-valid}
+use Rattle.etagere.proofs.TakenSpace.{space-taken}
 use Rattle.etagere.proofs.atlas.AtlasAllocator.allocate.Goals as goal
 
 on_err : {T E P : Type 0} (r : Result T E) → P → OnErr r P
@@ -82,7 +87,7 @@ returns-in_err-take_placement-clause-sound c =
     (sound old c.self.invariant.valid)
 
 -- what the allocation leaves
-made : (c : goal.After-self-2-1) → Allocated (state_in c.self.inside) c.args.size c.given-rectangle.result (c.self.inside.runs_in_use + c.cuts-cuts.result)
+made : (c : goal.After-self-3-1) → Allocated (state_in c.self.inside) c.args.size c.given-rectangle.result (c.self.inside.runs_in_use + c.cuts-cuts.result)
     (record { frame = c.self.inside.frame; shelves = c.take_placement.new.shelves.items; records = c.max-self-inside.result })
 made c =
     let old = state_in c.self.inside in
@@ -97,7 +102,24 @@ made c =
     (omega (arith, cuts_are, c.self.invariant.counted)) c.max-self-inside.ensures
 
 pub invariant_of-self-2 : goal.invariant_of-self-2
-invariant_of-self-2 c = record { valid = (made c).sound_after.valid; corners = (made c).corners; counted = (made c).counted }
+invariant_of-self-2 c =
+    let old = state_in c.self.inside in
+    let placement = c.in-Some.placement in
+    let placed : placement_of old c.args.size ≡ Some placement = sym (rw c.deref.ensures.value at c.placement_of.ensures) ∙ c.in-Some.is in
+    let read = shelf-read old.shelves placement.shelf c.index.result.now (can_take old c.args.size placement c.self.invariant.valid placed).within c.index.ensures in
+    let area = (rw c.deref-3.ensures.value at c.given_area-area.ensures) c.index.result.now read in
+    record {
+      valid = (made c).sound_after.valid;
+      corners = (made c).corners;
+      counted = (made c).counted;
+      space = omega (
+        arith,
+        area,
+        c.self.invariant.space,
+        ap space_in c.in_ok-take_placement.ensures.ok,
+        space-taken old c.args.size placement c.corner_id-id.result c.index.result.now c.self.invariant.valid placed read,
+      );
+    }
 
 pub returns-clause-placed : goal.returns-clause-placed
 returns-clause-placed c =
@@ -118,3 +140,27 @@ returns-clause-large c = subst (λ (state : AtlasState). IsLarge state.frame c.a
 
 pub returns-clause-sound : goal.returns-clause-sound
 returns-clause-sound c = (made c).sound_after
+
+pub given_area-area-requires-clause-narrow : goal.given_area-area-requires-clause-narrow
+given_area-area-requires-clause-narrow c = rw c.deref-3.ensures.value (narrow-valid (state_in c.self.inside) c.self.invariant.valid)
+
+pub given_area-area-requires-clause-takeable : goal.given_area-area-requires-clause-takeable
+given_area-area-requires-clause-takeable c =
+    let placed : placement_of (state_in c.self.inside) c.args.size ≡ Some c.in-Some.placement = sym (rw c.deref.ensures.value at c.placement_of.ensures) ∙ c.in-Some.is in
+    rw c.deref-3.ensures.value (can_take (state_in c.self.inside) c.args.size c.in-Some.placement c.self.invariant.valid placed)
+
+pub overflow_add-self-2 : goal.overflow_add-self-2
+overflow_add-self-2 c =
+    let old = state_in c.self.inside in
+    let placement = c.in-Some.placement in
+    let placed : placement_of old c.args.size ≡ Some placement = sym (rw c.deref.ensures.value at c.placement_of.ensures) ∙ c.in-Some.is in
+    let gives : given old placement ≡ Some c.given-rectangle.result = sym (rw c.deref-2.ensures.value at c.given-rectangle.ensures) in
+    let read = shelf-read old.shelves placement.shelf c.index.result.now (can_take old c.args.size placement c.self.invariant.valid placed).within c.index.ensures in
+    let area = (rw c.deref-3.ensures.value at c.given_area-area.ensures) c.index.result.now read in
+    let not_held = corner-not_held old c.args.size placement c.given-rectangle.result c.self.invariant.valid placed gives c.self.invariant.corners in
+    omega (
+      arith,
+      area,
+      c.self.invariant.space,
+      space-taken-small old c.args.size placement (corner c.given-rectangle.result) c.index.result.now c.self.invariant.valid placed (times-not_held old (corner c.given-rectangle.result) not_held) read,
+    )

@@ -3,9 +3,11 @@ use Rattle.etagere.specs.Atlas.{IsSound}
 use Rattle.etagere.specs.Corners.{AreCorners}
 use Rattle.etagere.specs.Fresh.{fresh}
 use Rattle.etagere.specs.Places.{held}
+use Rattle.etagere.specs.Space.{space_in}
 use Rattle.etagere.specs.State.{AtlasState, Shelf, runs_in_use}
 use Rattle.etagere.specs.Valid.{IsValid}
 use Rattle.etagere.proofs.FreshLemmas.{fresh-held, fresh-valid, runs_in_use-empty_columns}
+use Rattle.etagere.proofs.NoSpace.{space-fresh}
 use Rattle.etagere.proofs.Sound.{sound}
 use Rattle.etagere.proofs.atlas.AtlasAllocator.with_options.Goals as goal
 
@@ -22,6 +24,7 @@ invariant_of-result c =
       valid = subst IsValid (made c) (fresh-valid frame c.atlas_frame-frame.ensures.frame);
       corners = subst (λ (state : AtlasState). AreCorners (held state)) (made c) (subst AreCorners (sym (fresh-held frame)) tt);
       counted = sym (ap runs_in_use c.in-Ok.ensures ∙ runs_in_use-empty_columns frame 0 frame.columns);
+      space = sym (ap space_in c.in-Ok.ensures ∙ space-fresh frame);
     }
 
 pub returns-clause-sound : goal.returns-clause-sound

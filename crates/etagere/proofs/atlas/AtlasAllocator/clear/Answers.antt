@@ -1,0 +1,35 @@
+use Rattle.std.proofs.Common.{◌≡◌, List, ap, sym, subst, ◌∙◌, arith}
+use Rattle.etagere.specs.Atlas.{IsSound}
+use Rattle.etagere.specs.Corners.{AreCorners}
+use Rattle.etagere.specs.Fresh.{fresh}
+use Rattle.etagere.specs.Kept.{state_in}
+use Rattle.etagere.specs.Places.{held}
+use Rattle.etagere.specs.Space.{space_in}
+use Rattle.etagere.specs.State.{AtlasState, Shelf, runs_in_use}
+use Rattle.etagere.specs.Valid.{IsValid}
+use Rattle.etagere.proofs.ColumnShelves.{columns-le-shelves}
+use Rattle.etagere.proofs.FreshLemmas.{fresh-held, fresh-valid, runs_in_use-empty_columns}
+use Rattle.etagere.proofs.NoSpace.{space-fresh}
+use Rattle.etagere.proofs.Sound.{sound}
+use Rattle.etagere.proofs.atlas.AtlasAllocator.clear.Goals as goal
+
+pub reset_columns-requires-clause-enough : goal.reset_columns-requires-clause-enough
+reset_columns-requires-clause-enough c = omega (arith, columns-le-shelves (state_in c.self.inside) c.self.invariant.valid)
+
+pub invariant_of-self : goal.invariant_of-self
+invariant_of-self c =
+    let frame = c.self.inside.frame in
+    let made : fresh frame ≡ record { frame = frame; shelves = c.reset_columns.new.shelves.items; records = frame.columns } =
+    ap (λ (l : List Shelf). record { frame = frame; shelves = l; records = frame.columns }) (sym c.reset_columns.ensures) in
+    record {
+      valid = subst IsValid made (fresh-valid frame c.self.invariant.valid.frame);
+      corners = subst (λ (state : AtlasState). AreCorners (held state)) made (subst AreCorners (sym (fresh-held frame)) tt);
+      counted = sym (ap runs_in_use c.reset_columns.ensures ∙ runs_in_use-empty_columns frame 0 frame.columns);
+      space = sym (ap space_in c.reset_columns.ensures ∙ space-fresh frame);
+    }
+
+pub returns-clause-sound : goal.returns-clause-sound
+returns-clause-sound c =
+    let frame = c.self.inside.frame in
+    subst IsSound (ap (λ (l : List Shelf). record { frame = frame; shelves = l; records = frame.columns }) (sym c.reset_columns.ensures))
+    (sound (fresh frame) (fresh-valid frame c.self.invariant.valid.frame))
