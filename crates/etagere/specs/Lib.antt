@@ -4,6 +4,7 @@ pub mod Corners
 pub mod Fresh
 pub mod Joining
 pub mod Kept
+pub mod Laws
 pub mod Layout
 pub mod Least
 pub mod Lists

@@ -6,6 +6,7 @@ mod choosing;
 mod edits;
 mod ids;
 mod looking;
+mod model_laws;
 mod placements;
 mod returning;
 mod runs;
