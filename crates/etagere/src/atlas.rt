@@ -58,6 +58,7 @@ impl AtlasAllocator {
     /// memory for one shelf.
     pub fn new(alloc: Global, size: Size) -> Result<AtlasAllocator, OptionsFault>
         ensures ok { IfOk result (λ atlas. atlas ≡ fresh (frames.atlas_frame size default_options)) }
+        ensures empty { IfOk result (λ atlas. held atlas ≡ []) }
         ensures accepted { OnOk result (IsAccepted 65535 size default_options) }
         ensures sound { IfOk result IsSound }
         ensures fault { IfSome (options_fault 65535 size default_options) (λ fault. result ≡ Err fault) }
@@ -76,6 +77,7 @@ impl AtlasAllocator {
         options: &AllocatorOptions,
     ) -> Result<AtlasAllocator, OptionsFault>
         ensures ok { IfOk result (λ atlas. atlas ≡ fresh (frames.atlas_frame size options.now)) }
+        ensures empty { IfOk result (λ atlas. held atlas ≡ []) }
         ensures accepted { OnOk result (IsAccepted 65535 size options.now) }
         ensures sound { IfOk result IsSound }
         ensures fault { IfSome (options_fault 65535 size options.now) (λ fault. result ≡ Err fault) }
@@ -168,6 +170,7 @@ impl AtlasAllocator {
     /// Takes everything back at once: the atlas is as it was when it was new. Takes no memory.
     pub fn clear(&mut self)
         ensures cleared { self.new ≡ fresh self.old.frame }
+        ensures empty { held self.new ≡ [] }
         ensures sound { IsSound self.new }
     {
         reset_columns(&self.frame, &mut self.shelves);

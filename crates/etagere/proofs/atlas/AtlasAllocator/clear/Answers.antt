@@ -33,3 +33,8 @@ returns-clause-sound c =
     let frame = c.self.inside.frame in
     subst IsSound (ap (λ (l : List Shelf). record { frame = frame; shelves = l; records = frame.columns }) (sym c.reset_columns.ensures))
     (sound (fresh frame) (fresh-valid frame c.self.invariant.valid.frame))
+
+pub returns-clause-empty : goal.returns-clause-empty
+returns-clause-empty c =
+    let frame = c.self.inside.frame in
+    ap (λ (l : List Shelf). held (record { frame = frame; shelves = l; records = frame.columns })) c.reset_columns.ensures ∙ fresh-held frame

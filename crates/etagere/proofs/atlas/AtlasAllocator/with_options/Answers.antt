@@ -31,3 +31,6 @@ pub returns-clause-sound : goal.returns-clause-sound
 returns-clause-sound c =
     let frame = c.atlas_frame-frame.result in
     subst IsSound (made c) (sound (fresh frame) (fresh-valid frame c.atlas_frame-frame.ensures.frame))
+
+pub returns-clause-empty : goal.returns-clause-empty
+returns-clause-empty c = ap held (sym (made c)) ∙ fresh-held c.atlas_frame-frame.result

@@ -1,0 +1,113 @@
+-- The header of a script, found behind the lines without bytes that stand first.
+use Rattle.std.proofs.Common.{◌≡◌, ◌≢◌, ℕ, ◌+◌, ◌-◌, ◌<◌, ◌≤◌, suc, zero, cond, List, [], ◌∷◌, length, take, drop, get_or, Some, None, Result, Ok, Err, arith, refl, ap, ◌∙◌, sym, subst}
+use Rattle.std.specs.Prelude.{All}
+use Rattle.std.specs.List.{onto_first}
+use Rattle.std.proofs.Math.Seq.{take-length}
+use Rattle.std.proofs.lemmas.List.{length-drop}
+use Rattle.std.proofs.lemmas.List.Elements.{All-head, All-tail}
+use Rattle.etagere_run.specs.declared.commands.AtlasCommand.{AtlasCommand}
+use Rattle.etagere_run.specs.declared.script.Header.{Header}
+use Rattle.etagere_run.specs.declared.script.ScriptFault.{ScriptFault}
+use Rattle.etagere_run.specs.declared.script.ScriptFault.TheVariants as faults
+use Rattle.etagere_run.specs.Lines.{lines_of, words_of, filled_from}
+use Rattle.etagere_run.specs.Words.{header_of}
+use Rattle.etagere_run.specs.Script.{Request, script_of, request_of, commands_of, Fails, ◌>>=◌}
+use Rattle.etagere_run.proofs.Pieces.{before_pieces-separator, other_byte}
+
+-- what lines from this number on stand for
+abbrev request_from : ℕ → List (List ℕ) → Result Request ℕ
+request_from number lines = request_of (length lines + number) (filled_from number lines)
+
+-- the request of a header and a reading of commands
+abbrev pub headed : Header → Result (List AtlasCommand) ℕ → Result Request ℕ
+headed header read = read >>= λ commands. Ok (record { size = header.size; options = header.options; commands = commands })
+
+-- the request of a header and the lines after it
+abbrev pub with_header : Header → ℕ → List ℕ → Result Request ℕ
+with_header header number bytes = headed header (commands_of (filled_from number (lines_of bytes)))
+
+request_from-blank : (number : ℕ) (lines : List (List ℕ)) → request_from number ([] ∷ lines) ≡ request_from (number + 1) lines
+request_from-blank number lines = ap (λ n. request_of n (filled_from (number + 1) lines)) (omega arith)
+
+-- a line feed that stands first
+script-feed : (number byte : ℕ) (bytes : List ℕ) → byte ≡ 10 → request_from number (lines_of (byte ∷ bytes)) ≡ request_from (number + 1) (lines_of bytes)
+script-feed number byte bytes feed =
+    ap (λ b. request_from number (lines_of (b ∷ bytes))) feed
+    ∙ ap (request_from number) (before_pieces-separator 10 (lines_of bytes))
+    ∙ request_from-blank number (lines_of bytes)
+
+-- line feeds that stand first
+script-feeds : (number blanks : ℕ) (bytes : List ℕ) → blanks ≤ length bytes → All (λ byte. byte ≡ 10) (take blanks bytes) → request_from number (lines_of bytes) ≡ request_from (number + blanks) (lines_of (drop blanks bytes))
+script-feeds number zero bytes short feeds = ap (λ n. request_from n (lines_of bytes)) (omega arith)
+script-feeds number (suc blanks) [] short feeds = absurd (omega arith)
+script-feeds number (suc blanks) (byte ∷ bytes) short feeds =
+    script-feed number byte bytes (All-head (λ byte. byte ≡ 10) byte (take blanks bytes) feeds)
+    ∙ script-feeds (number + 1) blanks bytes (omega arith) (All-tail (λ byte. byte ≡ 10) byte (take blanks bytes) feeds)
+    ∙ ap (λ n. request_from n (lines_of (drop blanks bytes))) (omega arith)
+
+onto_first-filled : (byte : ℕ) (pieces lines : List (List ℕ)) (line : List ℕ) → onto_first byte pieces ≡ line ∷ lines → 0 < length line
+onto_first-filled byte [] lines line is = let same : byte ∷ [] ≡ line = cc in subst (λ l. 0 < length l) same (omega arith)
+onto_first-filled byte (piece ∷ pieces) lines line is = let same : byte ∷ piece ≡ line = cc in subst (λ l. 0 < length l) same (omega arith)
+
+-- a first line that begins with no line feed has bytes
+first-filled : (byte : ℕ) (bytes line : List ℕ) (lines : List (List ℕ)) → byte ≢ 10 → lines_of (byte ∷ bytes) ≡ line ∷ lines → 0 < length line
+first-filled byte bytes line lines other is =
+    onto_first-filled byte (lines_of bytes) lines line
+    (sym (ap (λ t. cond t ([] ∷ lines_of bytes) (onto_first byte (lines_of bytes))) (other_byte byte 10 other)) ∙ is)
+
+filled_from-line : (number : ℕ) (line : List ℕ) (lines : List (List ℕ)) → 0 < length line → filled_from number (line ∷ lines) ≡ (number, line) ∷ filled_from (number + 1) lines
+filled_from-line number [] lines some = absurd (omega arith)
+filled_from-line number (byte ∷ bytes) lines some = refl
+
+-- a first line with bytes that is no header
+first-bad : (number : ℕ) (line : List ℕ) (lines : List (List ℕ)) → 0 < length line → header_of (words_of line) ≡ None → request_from number (line ∷ lines) ≡ Err number
+first-bad number line lines some bad = rw (filled_from-line number line lines some, bad) refl
+
+-- a first line with bytes that is a header
+first-good : (number : ℕ) (line after : List ℕ) (header : Header) → 0 < length line → header_of (words_of line) ≡ Some header → request_from number (line ∷ lines_of after) ≡ with_header header (number + 1) after
+first-good number line after header some good = rw (filled_from-line number line (lines_of after) some, good) refl
+
+-- what stands behind the lines without bytes begins with no line feed
+head-other : (blanks byte : ℕ) (bytes rest : List ℕ) → drop blanks bytes ≡ byte ∷ rest → (blanks < length bytes → get_or bytes blanks 0 ≢ 10) → byte ≢ 10
+head-other zero byte [] rest is next = cc
+head-other zero byte (x ∷ xs) rest is next = let same : x ≡ byte = cc in subst (λ y. y ≢ 10) same (next (omega arith))
+head-other (suc blanks) byte [] rest is next = cc
+head-other (suc blanks) byte (x ∷ xs) rest is next = head-other blanks byte xs rest is (λ h. next (omega arith))
+
+-- no line with bytes
+script-empty : (blanks : ℕ) (bytes : List ℕ) → blanks ≤ length bytes → All (λ byte. byte ≡ 10) (take blanks bytes) → drop blanks bytes ≡ [] → script_of bytes ≡ Err (blanks + 1)
+script-empty blanks bytes short feeds none =
+    script-feeds 1 blanks bytes short feeds
+    ∙ ap (λ l. request_from (1 + blanks) (lines_of l)) none
+    ∙ ap Err (omega arith)
+
+-- a first line with bytes
+script-line : (blanks byte : ℕ) (bytes rest line after : List ℕ) → blanks ≤ length bytes → All (λ byte. byte ≡ 10) (take blanks bytes) → drop blanks bytes ≡ byte ∷ rest → lines_of (byte ∷ rest) ≡ line ∷ lines_of after → script_of bytes ≡ request_from (blanks + 1) (line ∷ lines_of after)
+script-line blanks byte bytes rest line after short feeds some lines =
+    script-feeds 1 blanks bytes short feeds
+    ∙ ap (λ l. request_from (1 + blanks) (lines_of l)) some
+    ∙ ap (request_from (1 + blanks)) lines
+    ∙ ap (λ n. request_from n (line ∷ lines_of after)) (omega arith)
+
+-- What a script stands for whose first line with bytes, behind some without, is this one, if there is one.
+pub script-bad : (blanks : ℕ) (bytes rest line after : List ℕ) → blanks ≤ length bytes → All (λ byte. byte ≡ 10) (take blanks bytes) → (blanks < length bytes → get_or bytes blanks 0 ≢ 10) → drop blanks bytes ≡ rest → (0 < length rest → lines_of rest ≡ line ∷ lines_of after) → header_of (words_of line) ≡ None → script_of bytes ≡ Err (blanks + 1)
+script-bad blanks bytes [] line after short feeds next is lines bad = script-empty blanks bytes short feeds is
+script-bad blanks bytes (byte ∷ rest) line after short feeds next is lines bad =
+    script-line blanks byte bytes rest line after short feeds is (lines (omega arith))
+    ∙ first-bad (blanks + 1) line (lines_of after) (first-filled byte rest line (lines_of after) (head-other blanks byte bytes rest is next) (lines (omega arith))) bad
+
+pub script-good : (blanks : ℕ) (bytes rest line after : List ℕ) (header : Header) → blanks ≤ length bytes → All (λ byte. byte ≡ 10) (take blanks bytes) → (blanks < length bytes → get_or bytes blanks 0 ≢ 10) → drop blanks bytes ≡ rest → (0 < length rest → lines_of rest ≡ line ∷ lines_of after) → (length rest ≡ 0 → line ≡ []) → header_of (words_of line) ≡ Some header → script_of bytes ≡ with_header header (blanks + 1 + 1) after
+script-good blanks bytes [] line after header short feeds next is lines none good =
+    let bad : header_of (words_of []) ≡ Some header = subst (λ l. header_of (words_of l) ≡ Some header) (none refl) good in cc
+script-good blanks bytes (byte ∷ rest) line after header short feeds next is lines none good =
+    script-line blanks byte bytes rest line after short feeds is (lines (omega arith))
+    ∙ first-good (blanks + 1) line after header (first-filled byte rest line (lines_of after) (head-other blanks byte bytes rest is next) (lines (omega arith))) good
+
+-- the rest of a list, as a slice to its end
+pub rest_is : (start : ℕ) (bytes : List ℕ) → drop start bytes ≡ take (length bytes - start) (drop start bytes)
+rest_is start bytes = sym (ap (λ n. take n (drop start bytes)) (sym (length-drop start bytes)) ∙ take-length (drop start bytes))
+
+-- a fault of the commands is one of the script
+pub script-fails : (input : Result Request ℕ) (header : Header) (number : ℕ) (bytes : List ℕ) (fault : ScriptFault) → input ≡ with_header header number bytes → Fails fault (commands_of (filled_from number (lines_of bytes))) → Fails fault input
+script-fails input header number bytes (faults.BadLine bad) is fails = is ∙ ap (headed header) fails
+script-fails input header number bytes faults.Memory is fails = tt

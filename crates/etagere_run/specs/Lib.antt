@@ -1,0 +1,10 @@
+pub mod Faults
+pub mod Lines
+pub mod Live
+pub mod Numbers
+pub mod Replaying
+pub mod ReplyText
+pub mod Runs
+pub mod Script
+pub mod Tied
+pub mod Words

@@ -1,0 +1,33 @@
+use etagere::{Allocation, Rectangle, Size};
+
+/// A command of a run on a shelf atlas. A position is the number, from 0, of an earlier command.
+#[derive(Clone, Copy, Debug, PartialEq, Eq)]
+pub enum AtlasCommand {
+    /// Asks for a rectangle of this size, in pixels.
+    Allocate(Size),
+    /// Gives back what the command at this position was given.
+    Return(usize),
+    /// Looks up what the command at this position was given.
+    Look(usize),
+    /// Gives everything back at once.
+    Clear,
+}
+
+/// What a run answers to a command.
+#[derive(Clone, Copy, Debug, PartialEq)]
+pub enum Reply {
+    /// The size has this place.
+    Placed(Allocation),
+    /// The atlas has no place for the size.
+    Refused,
+    /// The allocation was given back.
+    Returned,
+    /// The allocation is at this rectangle, and has this index.
+    At(Rectangle, u32),
+    /// The position names nothing that is held now.
+    NotLive,
+    /// The atlas is empty.
+    Cleared,
+    /// There was no memory for the command, which changed nothing.
+    NoMemory,
+}

@@ -1,0 +1,18 @@
+//! Runs of commands on a shelf atlas, and scripts that spell such runs.
+#![tactic(auto)]
+
+mod commands;
+mod faults;
+mod ledger;
+mod lines;
+mod numbers;
+mod reading;
+mod replaying;
+mod reply_text;
+mod running;
+mod script;
+
+pub use commands::{AtlasCommand, Reply};
+pub use faults::{Outcome, ReplayFault, RunFault};
+pub use replaying::replay;
+pub use running::run_atlas;

@@ -1,0 +1,113 @@
+ghost use Rattle.std.specs.Prelude.{◌<◌, ◌≤◌, ◌+◌, vec_capacity, vec_len, IfOk, IfErr, OnOk};
+ghost use Rattle.etagere_base.specs.Frames.{IsAccepted, atlas_frame};
+ghost use Rattle.etagere_run.specs.Runs.{IsOrderlyThroughout, RefusesRun, RunsTo};
+ghost use Rattle.etagere_run.specs.Tied.{AreTied, IsAnswer};
+
+use crate::commands::{AtlasCommand, Reply};
+use crate::faults::RunFault;
+use crate::ledger::Ledger;
+use etagere::{AllocatorOptions, AtlasAllocator, Size};
+use std::alloc::Global;
+
+/// Runs the commands in order on a new atlas, and gives a reply to each. The room for the replies and
+/// the ledger is taken first, then the atlas is made; after a fault nothing was run. Each command
+/// costs what its call of the atlas does, and a search of what is held.
+pub fn run_atlas(
+    alloc: Global,
+    size: Size,
+    options: &AllocatorOptions,
+    commands: &[AtlasCommand],
+) -> Result<Vec<Reply>, RunFault>
+    ensures run { IfOk result (λ replies. RunsTo size options.now commands.now replies.items) }
+    ensures orderly { IfOk result
+        (λ replies. IsOrderlyThroughout (atlas_frame size options.now) commands.now replies.items) }
+    ensures accepted { OnOk result (IsAccepted 65535 size options.now) }
+    ensures err { IfErr result (RefusesRun size options.now) }
+{
+    let mut replies = Vec::with_capacity(alloc, commands.len()).map_err(|_| RunFault::Memory)?;
+    let mut ledger = Ledger::with_capacity(alloc, commands.len()).map_err(|_| RunFault::Memory)?;
+    let mut atlas = AtlasAllocator::with_options(alloc, size, options).map_err(RunFault::Options)?;
+    for position in 0..commands.len() {
+        let reply = answer(&mut atlas, &mut ledger, position, commands[position]);
+        replies.push(reply).unwrap();
+    }
+    Ok(replies)
+}
+
+fn answer(
+    atlas: &mut AtlasAllocator,
+    ledger: &mut Ledger,
+    position: usize,
+    command: AtlasCommand,
+) -> Reply
+    requires tied { AreTied ledger.old.entries.items atlas.old }
+    requires space { vec_len ledger.old.entries < vec_capacity ledger.old.entries }
+    ensures answer { IsAnswer position command result
+        ledger.old.entries.items ledger.new.entries.items atlas.old atlas.new }
+    ensures length { vec_len ledger.new.entries ≤ vec_len ledger.old.entries + 1 }
+    ensures room { vec_capacity ledger.old.entries ≤ vec_capacity ledger.new.entries }
+{
+    match command {
+        AtlasCommand::Allocate(size) => place(atlas, ledger, position, size),
+        AtlasCommand::Return(other) => give_back(atlas, ledger, position, other),
+        AtlasCommand::Look(other) => look(atlas, ledger, position, other),
+        AtlasCommand::Clear => {
+            atlas.clear();
+            ledger.clear();
+            Reply::Cleared
+        }
+    }
+}
+
+fn place(atlas: &mut AtlasAllocator, ledger: &mut Ledger, position: usize, size: Size) -> Reply
+    requires tied { AreTied ledger.old.entries.items atlas.old }
+    requires space { vec_len ledger.old.entries < vec_capacity ledger.old.entries }
+    ensures answer { IsAnswer position (AtlasCommand.Allocate size) result
+        ledger.old.entries.items ledger.new.entries.items atlas.old atlas.new }
+    ensures length { vec_len ledger.new.entries ≤ vec_len ledger.old.entries + 1 }
+    ensures room { vec_capacity ledger.old.entries ≤ vec_capacity ledger.new.entries }
+{
+    let Ok(found) = atlas.allocate(size) else {
+        return Reply::NoMemory;
+    };
+    let Some(allocation) = found else {
+        return Reply::Refused;
+    };
+    ledger.add(position, &allocation);
+    Reply::Placed(allocation)
+}
+
+fn give_back(
+    atlas: &mut AtlasAllocator,
+    ledger: &mut Ledger,
+    position: usize,
+    other: usize,
+) -> Reply
+    requires { AreTied ledger.old.entries.items atlas.old }
+    ensures answer { IsAnswer position (AtlasCommand.Return other) result
+        ledger.old.entries.items ledger.new.entries.items atlas.old atlas.new }
+    ensures length { vec_len ledger.new.entries ≤ vec_len ledger.old.entries }
+    ensures room { vec_capacity ledger.old.entries ≤ vec_capacity ledger.new.entries }
+{
+    let Some(allocation) = ledger.take(other) else {
+        return Reply::NotLive;
+    };
+    match atlas.deallocate(allocation.id) {
+        Ok(()) => Reply::Returned,
+        Err(_) => Reply::NotLive,
+    }
+}
+
+fn look(atlas: &AtlasAllocator, ledger: &Ledger, position: usize, other: usize) -> Reply
+    requires { AreTied ledger.now.entries.items atlas.now }
+    ensures { IsAnswer position (AtlasCommand.Look other) result
+        ledger.now.entries.items ledger.now.entries.items atlas.now atlas.now }
+{
+    let Some(allocation) = ledger.find(other) else {
+        return Reply::NotLive;
+    };
+    match atlas.get(allocation.id) {
+        Some(rectangle) => Reply::At(rectangle, allocation.id.serialize() % 65536),
+        None => Reply::NotLive,
+    }
+}

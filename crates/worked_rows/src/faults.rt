@@ -1,0 +1,54 @@
+//! Messages and numbers of the faults.
+
+use etagere::{OptionsFault, UnknownId};
+use etagere_run::{ReplayFault, RunFault};
+use std::fmt::Display;
+use std::process::Abort;
+use std::test::Fail;
+
+fn says(
+    rt: &(impl AllocGlobal + Abort),
+    fault: impl Display + Drop,
+    text: &str,
+) -> Result<(), Fail> {
+    let said = fault.to_string(rt.alloc())?;
+    assert_eq!(rt; said.as_str(), text);
+    Ok(())
+}
+
+#[test]
+fn options_faults_are_numbered_in_the_order_of_their_tests(rt: HostRuntime) -> Result<(), Fail> {
+    let table = [
+        (OptionsFault::Size, 1, "Size"),
+        (OptionsFault::Area, 2, "Area"),
+        (OptionsFault::Alignment, 3, "Alignment"),
+        (OptionsFault::Columns, 4, "Columns"),
+        (OptionsFault::ColumnTooNarrow, 5, "ColumnTooNarrow"),
+        (OptionsFault::Memory, 6, "Memory"),
+    ];
+    for (fault, number, text) in table {
+        assert_eq!(rt; fault.number(), number);
+        says(&rt, fault, text)?;
+    }
+    assert_eq!(rt; UnknownId.number(), 1);
+    says(&rt, UnknownId, "UnknownId")
+}
+
+#[test]
+fn faults_of_runs_and_replays_are_numbered(rt: HostRuntime) -> Result<(), Fail> {
+    let options = RunFault::Options(OptionsFault::Area);
+    for (fault, number, text) in [(options, 1, "Options"), (RunFault::Memory, 2, "Memory")] {
+        assert_eq!(rt; fault.number(), number);
+        says(&rt, fault, text)?;
+    }
+    let table = [
+        (ReplayFault::Read, 1, "Read"),
+        (ReplayFault::Write, 2, "Write"),
+        (ReplayFault::Memory, 3, "Memory"),
+    ];
+    for (fault, number, text) in table {
+        assert_eq!(rt; fault.number(), number);
+        says(&rt, fault, text)?;
+    }
+    Ok(())
+}

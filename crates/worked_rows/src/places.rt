@@ -1,0 +1,198 @@
+//! Where a new atlas places sizes, and which it refuses.
+
+use etagere::{AllocatorOptions, AtlasAllocator, DEFAULT_OPTIONS, Rectangle, Size, point2, size2};
+use std::process::Abort;
+use std::test::Fail;
+
+const VERTICAL: AllocatorOptions = AllocatorOptions {
+    vertical_shelves: true,
+    ..DEFAULT_OPTIONS
+};
+
+fn in_columns(num_columns: i32) -> AllocatorOptions {
+    AllocatorOptions {
+        num_columns,
+        ..DEFAULT_OPTIONS
+    }
+}
+
+fn aligned(width: i32, height: i32) -> AllocatorOptions {
+    AllocatorOptions {
+        alignment: size2(width, height),
+        ..DEFAULT_OPTIONS
+    }
+}
+
+/// A size, and the corners of its place, or none where it is refused.
+type Answer = ((i32, i32), Option<[i32; 4]>);
+
+fn corners(place: Rectangle) -> [i32; 4] {
+    [place.min.x, place.min.y, place.max.x, place.max.y]
+}
+
+/// A new atlas, after it was asked for each size and gave these answers.
+fn answers(
+    rt: &(impl AllocGlobal + Abort),
+    size: Size,
+    options: &AllocatorOptions,
+    wanted: &[Answer],
+) -> Result<AtlasAllocator, Fail> {
+    let mut atlas = AtlasAllocator::with_options(rt.alloc(), size, options)?;
+    for ((width, height), place) in wanted {
+        let given = atlas.allocate(size2(*width, *height))?;
+        let given = given.map(|allocation| corners(allocation.rectangle));
+        assert_eq!(rt; given, *place, "at {width} by {height}");
+    }
+    Ok(atlas)
+}
+
+#[test]
+fn a_shelf_that_is_too_high_is_taken_where_no_other_is_left(rt: HostRuntime) -> Result<(), Fail> {
+    let wanted = [
+        ((100, 1000), Some([0, 0, 100, 1000])),
+        ((900, 200), Some([100, 0, 1000, 1000])),
+    ];
+    let _ = answers(&rt, size2(1000, 1000), &DEFAULT_OPTIONS, &wanted)?;
+    Ok(())
+}
+
+#[test]
+fn the_longest_sides_are_filled_whole(rt: HostRuntime) -> Result<(), Fail> {
+    let wide = [((65471, 64), Some([0, 0, 65472, 64]))];
+    let _ = answers(&rt, size2(65472, 64), &DEFAULT_OPTIONS, &wide)?;
+    let high = [((64, 65535), Some([0, 0, 64, 65535]))];
+    let _ = answers(&rt, size2(64, 65535), &DEFAULT_OPTIONS, &high)?;
+    Ok(())
+}
+
+#[test]
+fn a_size_that_needs_a_record_more_than_there_are_is_refused(rt: HostRuntime) -> Result<(), Fail> {
+    let wanted = [((1, 1), None), ((1, 92), Some([0, 0, 1, 100]))];
+    let _ = answers(&rt, size2(65535, 100), &in_columns(65535), &wanted)?;
+    Ok(())
+}
+
+#[test]
+fn more_columns_are_made_where_more_fit(rt: HostRuntime) -> Result<(), Fail> {
+    let mut atlas = AtlasAllocator::with_options(rt.alloc(), size2(7, 8), &in_columns(4))?;
+    for column in 0..7 {
+        let given = atlas.allocate(size2(1, 8))?;
+        let given = given.map(|allocation| corners(allocation.rectangle));
+        assert_eq!(rt; given, Some([column, 0, column + 1, 8]));
+    }
+    assert_eq!(rt; atlas.allocate(size2(1, 8))?, None);
+    assert_eq!(rt; atlas.allocate(size2(2, 1))?, None);
+    Ok(())
+}
+
+#[test]
+fn an_empty_shelf_keeps_at_most_eight_too_many(rt: HostRuntime) -> Result<(), Fail> {
+    let wanted = [
+        ((10, 80), Some([0, 0, 10, 80])),
+        ((10, 9), None),
+        ((10, 8), Some([0, 80, 10, 89])),
+    ];
+    let _ = answers(&rt, size2(10, 89), &DEFAULT_OPTIONS, &wanted)?;
+    Ok(())
+}
+
+#[test]
+fn sides_that_overflow_or_are_negative_are_refused(rt: HostRuntime) -> Result<(), Fail> {
+    let wanted = [
+        ((255, 65599), None),
+        ((2560, 2147483647), None),
+        ((-16711926, 0), None),
+    ];
+    let _ = answers(&rt, size2(1000, 1000), &DEFAULT_OPTIONS, &wanted)?;
+    Ok(())
+}
+
+#[test]
+fn much_lower_items_get_shelves_of_their_own(rt: HostRuntime) -> Result<(), Fail> {
+    let wanted = [
+        ((100, 300), Some([0, 0, 100, 320])),
+        ((100, 100), Some([0, 320, 100, 432])),
+        ((100, 30), Some([0, 432, 100, 464])),
+    ];
+    let _ = answers(&rt, size2(1000, 1000), &DEFAULT_OPTIONS, &wanted)?;
+    Ok(())
+}
+
+#[test]
+fn a_size_of_the_whole_atlas_fits_and_a_larger_one_does_not(rt: HostRuntime) -> Result<(), Fail> {
+    let wanted = [
+        ((100, 1001), None),
+        ((1001, 1000), None),
+        ((1000, 1000), Some([0, 0, 1000, 1000])),
+    ];
+    let _ = answers(&rt, size2(1000, 1000), &DEFAULT_OPTIONS, &wanted)?;
+    Ok(())
+}
+
+#[test]
+fn vertical_shelves_are_filled_from_above(rt: HostRuntime) -> Result<(), Fail> {
+    let wanted = [((8, 6), Some([0, 0, 8, 6]))];
+    let _ = answers(&rt, size2(30, 20), &VERTICAL, &wanted)?;
+    Ok(())
+}
+
+#[test]
+fn each_axis_is_rounded_by_its_own_alignment(rt: HostRuntime) -> Result<(), Fail> {
+    let options = AllocatorOptions {
+        num_columns: 2,
+        ..aligned(4, 8)
+    };
+    let wanted = [
+        ((20, 30), Some([0, 0, 20, 32])),
+        ((30, 40), Some([0, 32, 32, 80])),
+        ((20, 30), Some([20, 0, 40, 32])),
+    ];
+    let _ = answers(&rt, size2(2048, 2048), &options, &wanted)?;
+    Ok(())
+}
+
+#[test]
+fn space_is_counted_by_whole_runs(rt: HostRuntime) -> Result<(), Fail> {
+    let wanted = [((100, 100), Some([0, 0, 100, 112]))];
+    let atlas = answers(&rt, size2(1000, 1000), &DEFAULT_OPTIONS, &wanted)?;
+    assert_eq!(rt;
+        (atlas.allocated_space(), atlas.free_space()),
+        (11200, 988800)
+    );
+    let wanted = [((65471, 64), Some([0, 0, 65472, 64]))];
+    let atlas = answers(&rt, size2(65472, 64), &DEFAULT_OPTIONS, &wanted)?;
+    assert_eq!(rt; (atlas.allocated_space(), atlas.free_space()), (4190208, 0));
+    Ok(())
+}
+
+#[test]
+fn bad_options_are_refused_by_number(rt: HostRuntime) -> Result<(), Fail> {
+    let table = [
+        (size2(0, 5), DEFAULT_OPTIONS, 1),
+        (size2(65535, 65535), DEFAULT_OPTIONS, 2),
+        (size2(9, 9), aligned(0, 1), 3),
+        (size2(9, 9), in_columns(0), 4),
+        (size2(4, 4), in_columns(5), 5),
+    ];
+    for (size, options, number) in table {
+        match AtlasAllocator::with_options(rt.alloc(), size, &options) {
+            Ok(_) => return Err(Fail::new("an atlas was made")),
+            Err(fault) => assert_eq!(rt; fault.number(), number),
+        }
+    }
+    Ok(())
+}
+
+#[test]
+fn a_new_atlas_is_empty_and_answers_by_get(rt: HostRuntime) -> Result<(), Fail> {
+    let mut atlas = AtlasAllocator::new(rt.alloc(), size2(1000, 1000))?;
+    assert_eq!(rt; atlas.size(), size2(1000, 1000));
+    assert!(rt; atlas.is_empty());
+    let given = atlas.allocate(size2(100, 100))?.ok_or("refused")?;
+    assert_eq!(rt; given.rectangle.min, point2(0, 0));
+    assert_eq!(rt; atlas.get(given.id), Some(given.rectangle));
+    atlas.deallocate(given.id)?;
+    assert_eq!(rt; atlas.get(given.id), None);
+    assert!(rt; atlas.deallocate(given.id).is_err());
+    Ok(())
+}

@@ -1,0 +1,145 @@
+//! Runs of commands, by the rectangles of their replies.
+
+use etagere::{AllocatorOptions, DEFAULT_OPTIONS, OptionsFault, Size, point2, size2};
+use etagere_run::{AtlasCommand, Reply, RunFault, run_atlas};
+use std::process::Abort;
+use std::test::Fail;
+
+/// A reply without its id and index.
+#[derive(Clone, Copy, Debug, PartialEq, Eq)]
+enum Shape {
+    Placed([i32; 4]),
+    Refused,
+    Returned,
+    At([i32; 4]),
+    NotLive,
+    Cleared,
+    NoMemory,
+}
+
+fn shape_of(reply: Reply) -> Shape {
+    match reply {
+        Reply::Placed(allocation) => {
+            let place = allocation.rectangle;
+            Shape::Placed([place.min.x, place.min.y, place.max.x, place.max.y])
+        }
+        Reply::Refused => Shape::Refused,
+        Reply::Returned => Shape::Returned,
+        Reply::At(place, _) => Shape::At([place.min.x, place.min.y, place.max.x, place.max.y]),
+        Reply::NotLive => Shape::NotLive,
+        Reply::Cleared => Shape::Cleared,
+        Reply::NoMemory => Shape::NoMemory,
+    }
+}
+
+fn allocate(width: i32, height: i32) -> AtlasCommand {
+    AtlasCommand::Allocate(size2(width, height))
+}
+
+/// Runs the commands, and holds each reply to the shape beside it.
+fn replies(
+    rt: &(impl AllocGlobal + Abort),
+    size: Size,
+    table: &[(AtlasCommand, Shape)],
+) -> Result<(), Fail> {
+    let mut commands = Vec::new(rt.alloc());
+    for (command, _) in table {
+        commands.push(*command)?;
+    }
+    let given = run_atlas(rt.alloc(), size, &DEFAULT_OPTIONS, commands.as_slice())?;
+    assert_eq!(rt; given.len(), table.len());
+    for (reply, (_, shape)) in given.iter().zip(table) {
+        assert_eq!(rt; shape_of(*reply), *shape);
+    }
+    Ok(())
+}
+
+#[test]
+fn returned_runs_are_reused(rt: HostRuntime) -> Result<(), Fail> {
+    let table = [
+        (allocate(100, 300), Shape::Placed([0, 0, 100, 320])),
+        (allocate(500, 200), Shape::Placed([100, 0, 600, 320])),
+        (AtlasCommand::Return(0), Shape::Returned),
+        (allocate(300, 200), Shape::Placed([600, 0, 900, 320])),
+    ];
+    replies(&rt, size2(1024, 1024), &table)
+}
+
+#[test]
+fn a_good_fit_goes_before_a_bad_one(rt: HostRuntime) -> Result<(), Fail> {
+    let table = [
+        (allocate(100, 100), Shape::Placed([0, 0, 100, 112])),
+        (allocate(900, 200), Shape::Placed([0, 112, 900, 336])),
+        (AtlasCommand::Return(0), Shape::Returned),
+        (allocate(300, 200), Shape::Placed([0, 336, 300, 560])),
+        (allocate(1000, 200), Shape::Placed([0, 560, 1000, 784])),
+    ];
+    replies(&rt, size2(1000, 1000), &table)
+}
+
+#[test]
+fn returned_shelves_join(rt: HostRuntime) -> Result<(), Fail> {
+    let table = [
+        (allocate(600, 100), Shape::Placed([0, 0, 600, 112])),
+        (AtlasCommand::Look(0), Shape::At([0, 0, 600, 112])),
+        (AtlasCommand::Return(0), Shape::Returned),
+        (AtlasCommand::Return(0), Shape::NotLive),
+        (AtlasCommand::Look(0), Shape::NotLive),
+        (allocate(1000, 1000), Shape::Placed([0, 0, 1000, 1000])),
+        (allocate(1, 1), Shape::Refused),
+    ];
+    replies(&rt, size2(1000, 1000), &table)
+}
+
+#[test]
+fn nothing_is_live_after_a_clear(rt: HostRuntime) -> Result<(), Fail> {
+    let table = [
+        (allocate(64, 64), Shape::Placed([0, 0, 64, 64])),
+        (AtlasCommand::Clear, Shape::Cleared),
+        (AtlasCommand::Return(0), Shape::NotLive),
+        (allocate(64, 64), Shape::Placed([0, 0, 64, 64])),
+    ];
+    replies(&rt, size2(64, 64), &table)
+}
+
+#[test]
+fn a_position_names_an_allocation_alone(rt: HostRuntime) -> Result<(), Fail> {
+    let table = [
+        (AtlasCommand::Return(1), Shape::NotLive),
+        (allocate(8, 8), Shape::Placed([0, 0, 8, 8])),
+        (AtlasCommand::Return(0), Shape::NotLive),
+        (AtlasCommand::Return(2), Shape::NotLive),
+        (AtlasCommand::Look(usize::MAX), Shape::NotLive),
+        (AtlasCommand::Return(1), Shape::Returned),
+    ];
+    replies(&rt, size2(8, 8), &table)
+}
+
+#[test]
+fn bad_options_stop_a_run(rt: HostRuntime) -> Result<(), Fail> {
+    let options = AllocatorOptions {
+        num_columns: 5,
+        ..DEFAULT_OPTIONS
+    };
+    match run_atlas(rt.alloc(), size2(4, 4), &options, &[AtlasCommand::Clear]) {
+        Ok(_) => Err(Fail::new("it was run")),
+        Err(fault) => {
+            assert_eq!(rt; fault, RunFault::Options(OptionsFault::ColumnTooNarrow));
+            Ok(())
+        }
+    }
+}
+
+#[test]
+fn a_look_answers_the_rectangle_of_its_position(rt: HostRuntime) -> Result<(), Fail> {
+    let commands = [allocate(20, 20), allocate(20, 20), AtlasCommand::Look(1)];
+    let given = run_atlas(rt.alloc(), size2(64, 64), &DEFAULT_OPTIONS, &commands)?;
+    match given.as_slice() {
+        [_, Reply::Placed(second), Reply::At(place, _)] => {
+            assert_eq!(rt; *place, second.rectangle);
+            assert_eq!(rt; place.min, point2(20, 0));
+            Ok(())
+        }
+        _ => Err(Fail::new("other replies")),
+    }
+}

@@ -1,0 +1,209 @@
+//! Scripts and the text of their replays.
+
+use etagere_run::{Outcome, replay};
+use std::alloc::{AllocError, Global};
+use std::process::Abort;
+use std::test::Fail;
+
+/// What a replay writes, as text, and how it ends.
+fn replayed(rt: &impl AllocGlobal, script: &[u8]) -> Result<(Outcome, String), Fail> {
+    let mut reader = script;
+    let mut writer = Vec::new(rt.alloc());
+    let outcome = replay(rt.alloc(), &mut reader, &mut writer)?;
+    Ok((outcome, String::from_utf8(writer)?))
+}
+
+fn writes(
+    rt: &(impl AllocGlobal + Abort),
+    script: &[u8],
+    outcome: Outcome,
+    text: &str,
+) -> Result<(), Fail> {
+    let (ended, written) = replayed(rt, script)?;
+    assert_eq!(rt; ended, outcome, "of {script:?}");
+    assert_eq!(rt; written.as_str(), text, "of {script:?}");
+    Ok(())
+}
+
+fn is_bad(rt: &(impl AllocGlobal + Abort), script: &[u8], line: u64) -> Result<(), Fail> {
+    let text = format!(in rt.alloc(); "line {line}: bad\n")?;
+    writes(rt, script, Outcome::BadLine(line), text.as_str())
+}
+
+/// The text without the ids of its placed lines and the indexes of its at lines.
+fn without_ids(alloc: Global, text: &str) -> Result<String, AllocError> {
+    let mut kept = String::new(alloc);
+    for line in text.lines() {
+        match line.split_once(' ') {
+            Some(("placed", words)) => {
+                kept.push_str("placed ")?;
+                kept.push_str(words.split_once(' ').map_or("", |(_, corners)| corners))?;
+            }
+            Some(("at", words)) => {
+                kept.push_str("at ")?;
+                kept.push_str(words.rsplit_once(' ').map_or("", |(corners, _)| corners))?;
+            }
+            _ => kept.push_str(line)?,
+        }
+        kept.push('\n')?;
+    }
+    Ok(kept)
+}
+
+#[test]
+fn the_readme_example_is_replayed(rt: HostRuntime) -> Result<(), Fail> {
+    let script = b"atlas 1000 1000 1 1 1 h\na 100 100\na 900 200\nr 0\na 300 200\nl 3\nr 2\n";
+    let (outcome, text) = replayed(&rt, script)?;
+    let lines =
+        "placed 0 0 100 112\nplaced 0 112 900 336\nreturned\nplaced 0 336 300 560\nat 0 336 300 560\nnot live\n";
+    assert_eq!(rt; outcome, Outcome::Done);
+    assert_eq!(rt; without_ids(rt.alloc(), text.as_str())?.as_str(), lines);
+    Ok(())
+}
+
+#[test]
+fn the_first_line_with_bytes_is_the_header(rt: HostRuntime) -> Result<(), Fail> {
+    is_bad(&rt, b"", 1)?;
+    is_bad(&rt, b"\n\n", 3)?;
+    is_bad(&rt, b"c\natlas 8 8 1 1 1 h\n", 1)?;
+    is_bad(&rt, b"\nc", 2)?;
+    is_bad(&rt, b"atlas 8 8 1 1 1 h\natlas 8 8 1 1 1 h\n", 2)?;
+    writes(&rt, b"atlas 8 8 1 1 1 h\n", Outcome::Done, "")?;
+    writes(&rt, b"\natlas 8 8 1 1 1 h\n\nc", Outcome::Done, "cleared\n")
+}
+
+#[test]
+fn options_are_answered_by_their_fault(rt: HostRuntime) -> Result<(), Fail> {
+    writes(
+        &rt,
+        b"atlas 4 4 1 1 5 h\n",
+        Outcome::Options(5),
+        "options 5\n",
+    )?;
+    writes(
+        &rt,
+        b"atlas -1 4 1 1 5 v\nc",
+        Outcome::Options(1),
+        "options 1\n",
+    )?;
+    is_bad(&rt, b"atlas 4 4 1 1 5 h\nx\n", 2)
+}
+
+#[test]
+fn headers_have_five_numbers_and_a_direction(rt: HostRuntime) -> Result<(), Fail> {
+    for header in [
+        b"atlas 8 8 1 1 1 v".as_slice(),
+        b"atlas 08 000008 1 01 1 h",
+        b"atlas 2 4 1 2 2 h",
+    ] {
+        writes(&rt, header, Outcome::Done, "")?;
+    }
+    for header in [
+        b"atlas 8 8 1 1 1".as_slice(),
+        b"atlas 8 8 1 1 1 ",
+        b"atlas 8 8 1 1 1 x",
+        b"atlas 8 8 1 1 1 hv",
+        b"atlas 8 8 1 1 1 h h",
+        b"atlas 8 8 1 1 h",
+        b"atlas 8 8 1 1 1 1 h",
+        b"atlas  8 8 1 1 1 h",
+        b"Atlas 8 8 1 1 1 h",
+        b"atlas 8 8 1 1 2147483648 h",
+        b"atlas",
+        b"shelf 8 8 1 1 1 h",
+    ] {
+        is_bad(&rt, header, 1)?;
+    }
+    Ok(())
+}
+
+/// The script of an atlas and then this line.
+fn after_header(alloc: Global, line: &[u8]) -> Result<Vec<u8>, AllocError> {
+    let mut script = b"atlas 8 8 1 1 1 h\n".to_vec(alloc)?;
+    script.extend_from_slice(line)?;
+    Ok(script)
+}
+
+#[test]
+fn numbers_fit_and_words_are_parted_by_one_space(rt: HostRuntime) -> Result<(), Fail> {
+    for line in [
+        b"a 2147483647 1".as_slice(),
+        b"a -2147483648 1",
+        b"a -0 1",
+        b"a -000 000",
+        b"a 009 1\n",
+        b"a 9 0000000000000000000000000000000000000000001",
+    ] {
+        let script = after_header(rt.alloc(), line)?;
+        writes(&rt, script.as_slice(), Outcome::Done, "refused\n")?;
+    }
+    for line in [
+        b"r 4294967295".as_slice(),
+        b"r 00",
+        b"l 0\n",
+        b"l 0000000000000004294967295",
+    ] {
+        let script = after_header(rt.alloc(), line)?;
+        writes(&rt, script.as_slice(), Outcome::Done, "not live\n")?;
+    }
+    for line in [
+        b"a 2147483648 1".as_slice(),
+        b"a -2147483649 1",
+        b"a 99999999999999999999 1",
+        b"a - 1",
+        b"a --1 1",
+        b"a +1 1",
+        b"a 1.0 1",
+        b"a 1",
+        b"a 1 ",
+        b"a 1 1 1",
+        b"a 1 1 ",
+        b"a  1 1",
+        b"a 1  1",
+        b" a 1 1",
+        b"a\t1 1",
+        b"a1 1",
+        b"r 4294967296",
+        b"r 18446744073709551616",
+        b"r -0",
+        b"r -1",
+        b"r",
+        b"r ",
+        b"l 0 0",
+        b"l a",
+        b"c ",
+        b" c",
+        b"c c",
+        b"c\r\n",
+        b"c\0",
+        b"\0",
+        b" ",
+        b"C",
+        b"g 9 9",
+        b"x",
+        b"\xff\xfe",
+        b"a \xd9\xa1 1",
+    ] {
+        let script = after_header(rt.alloc(), line)?;
+        is_bad(&rt, script.as_slice(), 2)?;
+    }
+    Ok(())
+}
+
+#[test]
+fn a_line_may_be_long(rt: HostRuntime) -> Result<(), Fail> {
+    let mut line = b"a ".to_vec(rt.alloc())?;
+    for _ in 0..10_000_000 {
+        line.push(b'0')?;
+    }
+    line.extend_from_slice(b"9 1\n")?;
+    let script = after_header(rt.alloc(), line.as_slice())?;
+    let (outcome, text) = replayed(&rt, script.as_slice())?;
+    assert_eq!(rt; outcome, Outcome::Done);
+    assert_eq!(rt; text.as_str(), "refused\n");
+    line.push(b'x')?;
+    let script = after_header(rt.alloc(), line.as_slice())?;
+    let (outcome, _) = replayed(&rt, script.as_slice())?;
+    assert_eq!(rt; outcome, Outcome::BadLine(3));
+    Ok(())
+}

@@ -1,0 +1,245 @@
+//! Longer sequences of calls of one atlas, which end clean: nothing is held and no space counted.
+
+use etagere::{
+    Allocation, AllocatorOptions, AtlasAllocator, DEFAULT_OPTIONS, Rectangle, Size, size2,
+};
+use std::process::Abort;
+use std::test::Fail;
+
+fn placed(atlas: &mut AtlasAllocator, width: i32, height: i32) -> Result<Allocation, Fail> {
+    Ok(atlas.allocate(size2(width, height))?.ok_or("refused")?)
+}
+
+fn ends_clean(rt: &impl Abort, atlas: &AtlasAllocator) {
+    assert!(rt; atlas.is_empty());
+    assert_eq!(rt; atlas.allocated_space(), 0);
+}
+
+/// The area, counted wide.
+fn area(place: Rectangle) -> i64 {
+    let width = i64::from(place.max.x) - i64::from(place.min.x);
+    let height = i64::from(place.max.y) - i64::from(place.min.y);
+    width.wrapping_mul(height)
+}
+
+fn is_as_large(place: Rectangle, width: i32, height: i32) -> bool {
+    i64::from(place.max.x) - i64::from(place.min.x) >= i64::from(width)
+        && i64::from(place.max.y) - i64::from(place.min.y) >= i64::from(height)
+}
+
+#[test]
+fn three_sizes_come_and_go(rt: HostRuntime) -> Result<(), Fail> {
+    let lying = AllocatorOptions {
+        alignment: size2(4, 8),
+        num_columns: 2,
+        ..DEFAULT_OPTIONS
+    };
+    let upright = AllocatorOptions {
+        alignment: size2(8, 16),
+        vertical_shelves: true,
+        ..DEFAULT_OPTIONS
+    };
+    come_and_go(&rt, size2(2048, 2048), &lying)?;
+    come_and_go(&rt, size2(2000, 1000), &upright)
+}
+
+fn come_and_go(
+    rt: &(impl AllocGlobal + Abort),
+    size: Size,
+    options: &AllocatorOptions,
+) -> Result<(), Fail> {
+    let mut atlas = AtlasAllocator::with_options(rt.alloc(), size, options)?;
+    ends_clean(rt, &atlas);
+    let first = placed(&mut atlas, 20, 30)?;
+    let second = placed(&mut atlas, 30, 40)?;
+    let third = placed(&mut atlas, 20, 30)?;
+    assert!(rt; first.id != second.id && first.id != third.id);
+    assert!(rt; !atlas.is_empty());
+    for (given, width, height) in [(first, 20, 30), (second, 30, 40), (third, 20, 30)] {
+        let min = given.rectangle.min;
+        assert!(rt; is_as_large(given.rectangle, width, height));
+        assert_eq!(rt; min.x.checked_rem(options.alignment.width), Some(0));
+        assert_eq!(rt; min.y.checked_rem(options.alignment.height), Some(0));
+        assert_eq!(rt; atlas.get(given.id), Some(given.rectangle));
+    }
+    for id in [first.id, second.id, third.id] {
+        atlas.deallocate(id)?;
+    }
+    ends_clean(rt, &atlas);
+    Ok(())
+}
+
+#[test]
+fn vertical_columns_are_reused(rt: HostRuntime) -> Result<(), Fail> {
+    let options = AllocatorOptions {
+        vertical_shelves: true,
+        num_columns: 2,
+        ..DEFAULT_OPTIONS
+    };
+    let mut atlas = AtlasAllocator::with_options(rt.alloc(), size2(128, 256), &options)?;
+    assert_eq!(rt; atlas.size(), size2(128, 256));
+    let first = placed(&mut atlas, 32, 16)?;
+    let second = placed(&mut atlas, 16, 32)?;
+    assert!(rt; is_as_large(first.rectangle, 32, 16));
+    assert!(rt; is_as_large(second.rectangle, 16, 32));
+    let third = placed(&mut atlas, 128, 128)?;
+    for id in [first.id, second.id, third.id] {
+        atlas.deallocate(id)?;
+    }
+    ends_clean(&rt, &atlas);
+    Ok(())
+}
+
+/// Widths, heights and how often each comes.
+const MIXED_SIZES: [(i32, i32, u32); 47] = [
+    (8, 2, 1),
+    (2, 8, 1),
+    (16, 512, 1),
+    (34, 34, 4),
+    (2, 8, 2),
+    (8, 2, 1),
+    (2, 8, 1),
+    (8, 2, 1),
+    (8, 8, 4),
+    (82, 80, 1),
+    (56, 56, 1),
+    (64, 66, 1),
+    (32, 32, 9),
+    (40, 40, 1),
+    (32, 32, 1),
+    (256, 52, 1),
+    (32, 32, 1),
+    (256, 52, 6),
+    (155, 52, 1),
+    (256, 52, 1),
+    (32, 32, 3),
+    (24, 24, 1),
+    (64, 64, 1),
+    (32, 32, 1),
+    (84, 84, 1),
+    (32, 32, 1),
+    (8, 2, 1),
+    (34, 34, 2),
+    (192, 192, 2),
+    (52, 52, 1),
+    (144, 144, 1),
+    (192, 192, 1),
+    (32, 32, 1),
+    (144, 144, 1),
+    (24, 24, 1),
+    (192, 192, 2),
+    (432, 243, 1),
+    (32, 32, 1),
+    (8, 2, 1),
+    (2, 8, 1),
+    (9, 9, 1),
+    (14, 14, 4),
+    (8, 8, 1),
+    (27, 27, 4),
+    (11, 12, 1),
+    (29, 28, 1),
+    (32, 32, 1),
+];
+
+#[test]
+fn clear_gives_everything_back(rt: HostRuntime) -> Result<(), Fail> {
+    let mut atlas = AtlasAllocator::new(rt.alloc(), size2(2048, 2048))?;
+    for _ in 0..500 {
+        atlas.clear();
+        ends_clean(&rt, &atlas);
+        for (width, height, times) in MIXED_SIZES {
+            for _ in 0..times {
+                let _ = placed(&mut atlas, width, height)?;
+            }
+        }
+    }
+    Ok(())
+}
+
+#[test]
+fn long_thin_atlases_are_filled_whole(rt: HostRuntime) -> Result<(), Fail> {
+    for (long, short) in [(65472, 64), (65535, 64)] {
+        fills_whole(&rt, size2(long, short), size2(long, short))?;
+        fills_whole(&rt, size2(short, long), size2(short, long))?;
+    }
+    fills_whole(&rt, size2(65472, 64), size2(65471, 64))?;
+    fills_whole(&rt, size2(64, 65472), size2(64, 65471))
+}
+
+fn fills_whole(rt: &(impl AllocGlobal + Abort), size: Size, asked: Size) -> Result<(), Fail> {
+    let mut atlas = AtlasAllocator::new(rt.alloc(), size)?;
+    let given = atlas.allocate(asked)?.ok_or("refused")?.rectangle;
+    let corners = [given.min.x, given.min.y, given.max.x, given.max.y];
+    assert_eq!(rt; corners, [0, 0, size.width, size.height]);
+    Ok(())
+}
+
+#[test]
+fn the_space_is_the_sum_of_the_live_areas(rt: HostRuntime) -> Result<(), Fail> {
+    let mut atlas = AtlasAllocator::new(rt.alloc(), size2(1000, 1000))?;
+    let first = placed(&mut atlas, 999, 128)?;
+    let first_area = area(first.rectangle);
+    assert_eq!(rt; i64::from(atlas.allocated_space()), first_area);
+    assert_eq!(rt; atlas.allocate(size2(168492810, 10))?, None);
+    assert_eq!(rt; i64::from(atlas.allocated_space()), first_area);
+    let second = placed(&mut atlas, 45, 96)?;
+    let second_area = area(second.rectangle);
+    assert_eq!(rt;
+        i64::from(atlas.allocated_space()),
+        first_area.wrapping_add(second_area)
+    );
+    assert_eq!(rt; atlas.allocate(size2(-16711926, 0))?, None);
+    atlas.deallocate(first.id)?;
+    assert_eq!(rt; i64::from(atlas.allocated_space()), second_area);
+    atlas.deallocate(second.id)?;
+    ends_clean(&rt, &atlas);
+    Ok(())
+}
+
+#[test]
+fn refusals_and_returns_keep_the_others_in_place(rt: HostRuntime) -> Result<(), Fail> {
+    let mut atlas = AtlasAllocator::new(rt.alloc(), size2(1024, 1024))?;
+    let first = placed(&mut atlas, 100, 300)?;
+    let second = placed(&mut atlas, 500, 200)?;
+    atlas.deallocate(first.id)?;
+    let third = placed(&mut atlas, 300, 200)?;
+    assert_eq!(rt; atlas.allocate(size2(100, 1025))?, None);
+    assert_eq!(rt; atlas.get(second.id), Some(second.rectangle));
+    assert_eq!(rt; atlas.get(third.id), Some(third.rectangle));
+    atlas.deallocate(second.id)?;
+    atlas.deallocate(third.id)?;
+    ends_clean(&rt, &atlas);
+    let whole = placed(&mut atlas, 1024, 1024)?;
+    assert_eq!(rt; atlas.get(whole.id), Some(whole.rectangle));
+    atlas.deallocate(whole.id)?;
+    ends_clean(&rt, &atlas);
+    Ok(())
+}
+
+#[test]
+fn a_bad_fit_goes_to_a_shelf_of_its_own(rt: HostRuntime) -> Result<(), Fail> {
+    let orders = [
+        [300, 100, 30],
+        [300, 30, 100],
+        [100, 300, 30],
+        [100, 30, 300],
+        [30, 300, 100],
+        [30, 100, 300],
+    ];
+    for [first, second, third] in orders {
+        let mut atlas = AtlasAllocator::new(rt.alloc(), size2(1000, 1000))?;
+        let a = placed(&mut atlas, 100, first)?;
+        let b = placed(&mut atlas, 100, second)?;
+        let c = placed(&mut atlas, 100, third)?;
+        let starts = [a.rectangle.min.y, b.rectangle.min.y, c.rectangle.min.y];
+        let ends = [a.rectangle.max.y, b.rectangle.max.y, c.rectangle.max.y];
+        for [x, y, z] in [starts, ends] {
+            assert!(rt; x != y && y != z && x != z, "at {first}, {second}, {third}");
+        }
+        for id in [a.id, b.id, c.id] {
+            atlas.deallocate(id)?;
+        }
+        ends_clean(&rt, &atlas);
+    }
+    Ok(())
+}
