@@ -1,4 +1,4 @@
-ghost use Rattle.std.specs.Prelude.{◌<◌, ◌≤◌, ◌+◌, vec_capacity, vec_len, IfOk, IfErr, OnOk};
+ghost use Rattle.std.specs.Prelude.{ℕ, ◌<◌, ◌≤◌, ◌+◌, vec_capacity, vec_len, IfOk, IfErr, OnOk};
 ghost use Rattle.etagere_base.specs.Frames.{IsAccepted, atlas_frame};
 ghost use Rattle.etagere_run.specs.Runs.{IsOrderlyThroughout, RefusesRun, RunsTo};
 ghost use Rattle.etagere_run.specs.Tied.{AreTied, IsAnswer};
@@ -9,9 +9,12 @@ use crate::ledger::Ledger;
 use etagere::{AllocatorOptions, AtlasAllocator, Size};
 use std::alloc::Global;
 
-/// Runs the commands in order on a new atlas, and gives a reply to each. The room for the replies and
-/// the ledger is taken first, then the atlas is made; after a fault nothing was run. Each command
-/// costs what its call of the atlas does, and a search of what is held.
+/// Runs the commands in order on a new atlas of this size in pixels, and gives a reply to each.
+///
+/// `Options` tells the first fault of the size and options, and want of memory for the atlas only where
+/// they have none; `Memory` comes where there is no room for the replies or for what is live, which is
+/// taken first. After an error nothing was run. Each command costs what its call of the atlas does, and
+/// a search of what is live.
 pub fn run_atlas(
     alloc: Global,
     size: Size,
@@ -49,8 +52,8 @@ fn answer(
 {
     match command {
         AtlasCommand::Allocate(size) => place(atlas, ledger, position, size),
-        AtlasCommand::Return(other) => give_back(atlas, ledger, position, other),
-        AtlasCommand::Look(other) => look(atlas, ledger, position, other),
+        AtlasCommand::Return(other) => give_back(atlas, ledger, other),
+        AtlasCommand::Look(other) => look(atlas, ledger, other),
         AtlasCommand::Clear => {
             atlas.clear();
             ledger.clear();
@@ -77,14 +80,9 @@ fn place(atlas: &mut AtlasAllocator, ledger: &mut Ledger, position: usize, size:
     Reply::Placed(allocation)
 }
 
-fn give_back(
-    atlas: &mut AtlasAllocator,
-    ledger: &mut Ledger,
-    position: usize,
-    other: usize,
-) -> Reply
+fn give_back(atlas: &mut AtlasAllocator, ledger: &mut Ledger, other: usize) -> Reply
     requires { AreTied ledger.old.entries.items atlas.old }
-    ensures answer { IsAnswer position (AtlasCommand.Return other) result
+    ensures answer { (position : ℕ) → IsAnswer position (AtlasCommand.Return other) result
         ledger.old.entries.items ledger.new.entries.items atlas.old atlas.new }
     ensures length { vec_len ledger.new.entries ≤ vec_len ledger.old.entries }
     ensures room { vec_capacity ledger.old.entries ≤ vec_capacity ledger.new.entries }
@@ -98,9 +96,9 @@ fn give_back(
     }
 }
 
-fn look(atlas: &AtlasAllocator, ledger: &Ledger, position: usize, other: usize) -> Reply
+fn look(atlas: &AtlasAllocator, ledger: &Ledger, other: usize) -> Reply
     requires { AreTied ledger.now.entries.items atlas.now }
-    ensures { IsAnswer position (AtlasCommand.Look other) result
+    ensures { (position : ℕ) → IsAnswer position (AtlasCommand.Look other) result
         ledger.now.entries.items ledger.now.entries.items atlas.now atlas.now }
 {
     let Some(allocation) = ledger.find(other) else {

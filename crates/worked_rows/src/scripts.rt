@@ -62,6 +62,18 @@ fn the_readme_example_is_replayed(rt: HostRuntime) -> Result<(), Fail> {
 }
 
 #[test]
+fn columns_of_vertical_shelves_are_replayed(rt: HostRuntime) -> Result<(), Fail> {
+    let script =
+        b"atlas 64 48 4 8 2 v\na 10 20\na 10 20\na 30 8\na 4 9\nr 0\na 10 16\na 60 8\nl 3\nr 0\nc\na 60 8\nl 3\n";
+    let (outcome, text) = replayed(&rt, script)?;
+    let lines =
+        "placed 0 0 16 24\nplaced 16 0 32 24\nplaced 32 0 64 8\nplaced 0 24 8 48\nreturned\nplaced 0 0 16 24\nrefused\nat 0 24 8 48\nnot live\ncleared\nplaced 0 0 64 8\nnot live\n";
+    assert_eq!(rt; outcome, Outcome::Done);
+    assert_eq!(rt; without_ids(rt.alloc(), text.as_str())?.as_str(), lines);
+    Ok(())
+}
+
+#[test]
 fn the_first_line_with_bytes_is_the_header(rt: HostRuntime) -> Result<(), Fail> {
     is_bad(&rt, b"", 1)?;
     is_bad(&rt, b"\n\n", 3)?;

@@ -197,21 +197,39 @@ fn the_space_is_the_sum_of_the_live_areas(rt: HostRuntime) -> Result<(), Fail> {
 }
 
 #[test]
-fn refusals_and_returns_keep_the_others_in_place(rt: HostRuntime) -> Result<(), Fail> {
+fn returns_keep_the_others_in_place(rt: HostRuntime) -> Result<(), Fail> {
     let mut atlas = AtlasAllocator::new(rt.alloc(), size2(1024, 1024))?;
     let first = placed(&mut atlas, 100, 300)?;
     let second = placed(&mut atlas, 500, 200)?;
     atlas.deallocate(first.id)?;
     let third = placed(&mut atlas, 300, 200)?;
-    assert_eq!(rt; atlas.allocate(size2(100, 1025))?, None);
     assert_eq!(rt; atlas.get(second.id), Some(second.rectangle));
     assert_eq!(rt; atlas.get(third.id), Some(third.rectangle));
     atlas.deallocate(second.id)?;
     atlas.deallocate(third.id)?;
     ends_clean(&rt, &atlas);
-    let whole = placed(&mut atlas, 1024, 1024)?;
+    Ok(())
+}
+
+#[test]
+fn what_is_too_large_leaves_the_whole_atlas(rt: HostRuntime) -> Result<(), Fail> {
+    let mut atlas = AtlasAllocator::new(rt.alloc(), size2(1000, 1000))?;
+    assert_eq!(rt; atlas.allocate(size2(100, 1001))?, None);
+    assert_eq!(rt; atlas.allocate(size2(1001, 1000))?, None);
+    let whole = placed(&mut atlas, 1000, 1000)?;
     assert_eq!(rt; atlas.get(whole.id), Some(whole.rectangle));
     atlas.deallocate(whole.id)?;
+    ends_clean(&rt, &atlas);
+    Ok(())
+}
+
+#[test]
+fn a_bad_fit_alone_is_used_and_returned(rt: HostRuntime) -> Result<(), Fail> {
+    let mut atlas = AtlasAllocator::new(rt.alloc(), size2(1000, 1000))?;
+    let narrow = placed(&mut atlas, 100, 1000)?;
+    let wide = placed(&mut atlas, 900, 200)?;
+    atlas.deallocate(narrow.id)?;
+    atlas.deallocate(wide.id)?;
     ends_clean(&rt, &atlas);
     Ok(())
 }
