@@ -1,6 +1,6 @@
 -- What an allocation leaves, from the steps that make it.
-use Rattle.std.specs.Prelude.{max}
 use Rattle.std.proofs.Common.{◌≡◌, ℕ, ◌+◌, Some, List, ◌∷◌, ◌++◌, ap, sym, subst, ◌∙◌, refl}
+use Rattle.std.specs.Prelude.{max}
 use Rattle.etagere_base.specs.declared.geometry.Rectangle.{Rectangle}
 use Rattle.etagere_base.specs.declared.geometry.Size.{Size}
 use Rattle.etagere.specs.Atlas.{Adds, Allocates, IsSound}
@@ -12,10 +12,9 @@ use Rattle.etagere.specs.Rectangles.{IsLarge}
 use Rattle.etagere.specs.State.{AtlasState, Shelf, runs_in_use}
 use Rattle.etagere.specs.Taking.{given, shelf_pieces, taken}
 use Rattle.etagere.specs.Valid.{IsValid}
-use Rattle.etagere.proofs.AtlasSteps.{after-taken}
 use Rattle.etagere.proofs.HeldIds.{times-not_held}
+use Rattle.etagere.proofs.PlacedLarge.{given-is_large}
 use Rattle.etagere.proofs.Sound.{corner-not_held, sound, taken-corners}
-use Rattle.etagere.proofs.GivenLarge.{given-is_large}
 use Rattle.etagere.proofs.TakenHeld.{taken-held}
 use Rattle.etagere.proofs.TakenValid.{taken-runs_in_use, taken-valid}
 
@@ -28,6 +27,21 @@ pub record Allocated (old : AtlasState) (size : Size) (rectangle : Rectangle) (r
   pub corners : AreCorners (held new)
   pub counted : runs ≡ runs_in_use new.shelves
 
+-- the shelves, the count of runs and its greatest value after a placement was taken make up the state that is taken
+after-taken : (state : AtlasState) (placement : Placement) (id : ℕ) (shelves : List Shelf) (runs records : ℕ)
+    → shelves ≡ cut_at placement.shelf (shelf_pieces state.frame placement id) state.shelves
+    → runs ≡ runs_in_use state.shelves + cuts state placement
+    → runs_in_use (taken state placement id).shelves ≡ runs_in_use state.shelves + cuts state placement
+    → records ≡ max state.records runs
+    → record { frame = state.frame; shelves = shelves; records = records } ≡ taken state placement id
+after-taken state placement id shelves runs records cut counted count greatest =
+    let same_records : records ≡ max state.records (runs_in_use (taken state placement id).shelves) =
+    greatest ∙ ap (max state.records) (counted ∙ sym count) in
+    let frame = state.frame in
+    ap (λ (l : List Shelf). record { frame = frame; shelves = l; records = records }) cut
+    ∙ ap (λ (n : ℕ). record { frame = frame; shelves = (taken state placement id).shelves; records = n }) same_records
+
+-- what a taken placement leaves under the id of its corner
 taken-allocated : (old : AtlasState) (size : Size) (placement : Placement) (rectangle : Rectangle) (runs : ℕ)
     → IsValid old → AreCorners (held old) → placement_of old size ≡ Some placement → given old placement ≡ Some rectangle
     → runs ≡ runs_in_use old.shelves + cuts old placement

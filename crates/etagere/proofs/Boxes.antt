@@ -1,13 +1,16 @@
--- Rectangles by their places along and across the shelves: within the atlas, and apart.
-use Rattle.std.proofs.Common.{◌≡◌, ℕ, ◌+◌, ◌≤◌, Bool, true, false, ℤ, pos, arith, subst, sym}
-use Rattle.std.specs.Prelude.{◌≤ℤ◌, ◌<ℤ◌}
+-- Rectangles by their places along and across the shelves, within the atlas and apart, and allocations that lie apart.
+use Rattle.std.proofs.Common.{◌≡◌, ℕ, ◌+◌, ◌≤◌, Bool, true, false, ℤ, pos, arith, subst, sym, List, [], ◌∷◌, ◌++◌}
 use Rattle.std.proofs.lemmas.Int.{ints}
-use Rattle.etagere_base.specs.declared.frames.Frame.{Frame}
-use Rattle.etagere_base.specs.declared.geometry.Rectangle.{Rectangle}
+use Rattle.std.specs.Prelude.{◌≤ℤ◌, ◌<ℤ◌}
 use Rattle.etagere_base.specs.Frames.{along_side, across_side}
 use Rattle.etagere_base.specs.Sides.{turned}
+use Rattle.etagere_base.specs.declared.frames.Frame.{Frame}
+use Rattle.etagere_base.specs.declared.geometry.Rectangle.{Rectangle}
+use Rattle.etagere_base.specs.declared.ids.Allocation.{Allocation}
+use Rattle.etagere.specs.Lists.{Each}
 use Rattle.etagere.specs.Places.{rectangle_at}
-use Rattle.etagere.specs.Rectangles.{Covers, SharesNone, IsInside}
+use Rattle.etagere.specs.Rectangles.{Covers, SharesNone, IsInside, AreApart}
+use Rattle.etagere.proofs.EachLemmas.{Each-append, Each-middle}
 
 -- a rectangle with an area lies between two places along and two places across
 pub record LiesIn (frame : Frame) (left right low high : ℕ) (rectangle : Rectangle) : Type 0 where
@@ -107,3 +110,25 @@ pub inside-from_lies : (frame : Frame) (rectangle : Rectangle)
 inside-from_lies frame rectangle lies =
     subst (λ (r : Rectangle). IsInside frame r) (sym lies.is)
     (box-inside frame.vertical frame _ _ _ _ lies.wide lies.tall lies.to_right lies.to_high)
+
+-- being apart goes both ways
+pub SharesNone-swap : (one other : Rectangle) → SharesNone one other → SharesNone other one
+SharesNone-swap one other apart x y in_other in_one = apart x y in_one in_other
+
+-- an allocation shares no unit square with any of these
+abbrev pub IsApartFrom : List Allocation → Allocation → Type 0
+IsApartFrom others allocation = Each (λ (other : Allocation). SharesNone allocation.rectangle other.rectangle) others
+
+-- of two lists that are apart, none of one touches any of the other
+pub AreApart-append : (xs ys : List Allocation)
+    → AreApart xs → AreApart ys → Each (IsApartFrom ys) xs → AreApart (xs ++ ys)
+AreApart-append [] ys front back across = back
+AreApart-append (x ∷ xs) ys front back across =
+    (Each-append _ xs ys front.0 across.0, AreApart-append xs ys front.1 back across.1)
+
+-- the one in the middle is apart from each of the others
+pub AreApart-middle : (xs : List Allocation) (y : Allocation) (ys : List Allocation)
+    → AreApart (xs ++ y ∷ ys) → IsApartFrom (xs ++ ys) y
+AreApart-middle [] y ys apart = apart.0
+AreApart-middle (x ∷ xs) y ys apart =
+    (SharesNone-swap x.rectangle y.rectangle (Each-middle _ xs y ys apart.0), AreApart-middle xs y ys apart.1)

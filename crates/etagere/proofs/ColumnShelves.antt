@@ -1,12 +1,10 @@
 -- The shelves of the columns before one: their heights and their count.
 use Rattle.std.proofs.Common.{◌≡◌, ℕ, zero, suc, ◌+◌, ◌*◌, ◌<◌, ◌≤◌, Bool, cond, ◌==◌, List, [], ◌∷◌, length, refl, arith}
 use Rattle.std.specs.Prelude.{nat_lt}
-use Rattle.etagere_base.specs.declared.frames.Frame.{Frame}
-use Rattle.etagere_base.specs.Frames.{IsFrame}
 use Rattle.etagere.specs.Places.{heights_in}
-use Rattle.etagere.specs.State.{Run, Shelf, AtlasState, total_width}
-use Rattle.etagere.specs.Valid.{IsShelf, IsValid}
-use Rattle.etagere.proofs.FreshLemmas.{across-positive}
+use Rattle.etagere.specs.State.{Shelf, AtlasState}
+use Rattle.etagere.specs.Valid.{IsValid}
+use Rattle.etagere.proofs.FrameSides.{across-positive}
 
 -- the heights of the shelves of the columns before this one, added up
 abbrev pub heights_before : ℕ → List Shelf → ℕ
@@ -84,14 +82,6 @@ shelves_before-columns (suc n) shelves h =
 -- a valid state has a shelf for each column
 pub columns-le-shelves : (state : AtlasState) → IsValid state → state.frame.columns ≤ length state.shelves
 columns-le-shelves state valid =
-    let high = across-positive state.frame valid.frame in
+    let high = across-positive 65535 state.frame valid.frame in
     let each = shelves_before-columns state.frame.columns state.shelves (λ column below. omega (arith, valid.heights column below)) in
     omega (arith, shelves_before-le state.frame.columns state.shelves)
-
--- a valid shelf has a run
-pub runs-positive : (frame : Frame) (shelf : Shelf) → IsFrame 65535 frame → IsShelf frame shelf → 1 ≤ length shelf.runs
-runs-positive frame shelf is_frame valid = of_runs shelf.runs (omega (arith, is_frame.column_width.0, valid.width))
-  where
-    of_runs : (runs : List Run) → 1 ≤ total_width runs → 1 ≤ length runs
-    of_runs [] h = absurd (omega arith)
-    of_runs (run ∷ runs) h = omega arith

@@ -1,10 +1,12 @@
--- The first element that passes a test, by its number.
+-- The first element that passes a test: its number, and the list with it changed.
 use Rattle.std.proofs.Common.{◌≡◌, ℕ, suc, ◌+◌, Bool, true, false, cond, not, ◌||◌, Option, None, Some, List, [], ◌∷◌, ◌++◌, length, refl, ap, ◌∙◌, sym, arith}
-use Rattle.std.specs.Prelude.{slice_get, slice_set, position, nat_lt, option_map, is_some}
-use Rattle.std.specs.List.{list_any, position_or_len}
 use Rattle.std.proofs.lemmas.Bool.{cond-true, cond-false, or_from, or_parts}
 use Rattle.std.proofs.lemmas.List.{set_at}
+use Rattle.std.proofs.lemmas.List.Folds.{list_any-append}
+use Rattle.std.specs.List.{list_any, position_or_len}
+use Rattle.std.specs.Prelude.{slice_get, slice_set, position, nat_lt, option_map, is_some}
 use Rattle.etagere.specs.Lists.{at_first}
+use Rattle.etagere.proofs.CutLists.{slice_get-append}
 
 -- a number below a length, one further back
 one_back : (k n : ℕ) → nat_lt (1 + k) (suc n) ≡ nat_lt k n
@@ -18,14 +20,6 @@ zero_below n = grind arith
 position_step : (b : Bool) (k n : ℕ) → cond (nat_lt (cond (not b) (1 + k) 0) (suc n)) (Some (cond (not b) (1 + k) 0)) None ≡ cond b (Some 0) (option_map suc (cond (nat_lt k n) (Some k) None))
 position_step true k n = cond-true _ _ _ (zero_below n)
 position_step false k n = grind (arith, one_back k n)
-
--- the element behind a front is found at the front's length
-pub slice_get_at : {X : Type 0} (front : List X) (x : X) (back : List X) (n : ℕ) → length front ≡ n → slice_get (front ++ x ∷ back) n ≡ Some x
-slice_get_at front x back n h = rw (← h) (at_length front x back)
-  where
-    at_length : {X : Type 0} (front : List X) (x : X) (back : List X) → slice_get (front ++ x ∷ back) (length front) ≡ Some x
-    at_length [] x back = refl
-    at_length (y ∷ front) x back = at_length front x back
 
 -- a list with an element that passes a test and none before it that does
 pub record Split {X : Type 0} (test : X → Bool) (xs : List X) (n : ℕ) : Type 0 where
@@ -77,8 +71,23 @@ module _ {X : Type 0} (test : X → Bool) where
   split-first [] n h = absurd (cc)
   split-first (x ∷ xs) n h = split_step x xs (test x) (position test xs) refl refl (split-first xs) n (sym (position-cons x xs) ∙ h)
 
+  -- the first element that passes stands behind those that fail
+  pub position-behind : (front : List X) (x : X) (back : List X) → list_any test front ≡ false → test x ≡ true
+      → position test (front ++ x ∷ back) ≡ Some (length front)
+  position-behind [] x back fails passes = position-cons x back ∙ cond-true _ _ _ passes
+  position-behind (y ∷ front) x back fails passes =
+      let parts = or_parts (test y) (list_any test front) fails in
+      position-cons y (front ++ x ∷ back) ∙ cond-false _ _ _ parts.0 ∙ ap (option_map suc) (position-behind front x back parts.1 passes)
+
+  -- where no element passes, none of a front does, nor the one behind it
+  pub list_any-parts : (front : List X) (x : X) (back : List X) → list_any test (front ++ x ∷ back) ≡ false
+      → (list_any test front ≡ false) × (test x ≡ false)
+  list_any-parts front x back none =
+      let parts = or_parts (list_any test front) (list_any test (x ∷ back)) (sym (list_any-append test front (x ∷ back)) ∙ none) in
+      (parts.0, (or_parts (test x) (list_any test back) parts.1).0)
+
   -- changing the first element that passes a test, where it is known
-  at_first-split : (change : X → X) (front : List X) (x : X) (back : List X) → list_any test front ≡ false → test x ≡ true
+  pub at_first-split : (change : X → X) (front : List X) (x : X) (back : List X) → list_any test front ≡ false → test x ≡ true
       → at_first test change (front ++ x ∷ back) ≡ front ++ change x ∷ back
   at_first-split change [] x back fails passes = cond-true _ _ _ passes
   at_first-split change (y ∷ front) x back fails passes =
@@ -91,7 +100,7 @@ module _ {X : Type 0} (test : X → Bool) where
   at_first-set change xs n x p g =
       let s = split-first xs n p in
       let same : Some s.first ≡ Some x =
-      sym (slice_get_at s.front s.first s.back n s.number) ∙ ap (λ (l : List X). slice_get l n) (sym s.is) ∙ g in
+      sym (slice_get-append s.front s.first s.back n s.number) ∙ ap (λ (l : List X). slice_get l n) (sym s.is) ∙ g in
       ap (at_first test change) s.is
       ∙ at_first-split change s.front s.first s.back s.fails s.passes
       ∙ sym (set_at s.front s.first s.back (change s.first) n s.number)

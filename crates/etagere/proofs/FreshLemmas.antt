@@ -1,16 +1,18 @@
--- A new atlas is as a state must be, and holds nothing.
-use Rattle.std.proofs.Common.{◌≡◌, ℕ, zero, suc, ◌+◌, ◌<◌, ◌≤◌, Bool, true, false, cond, ◌==◌, List, [], ◌∷◌, ◌++◌, refl, ap, ◌∙◌, ⊎_elim, arith}
-use Rattle.std.proofs.Math.Nat.{div-le_self}
-use Rattle.std.proofs.lemmas.Bool.{eq-eqb, ne_eqb, le-ltb, and_left, cases_lt}
+-- A new atlas is as a state must be and holds nothing, and how the program comes to its columns.
+use Rattle.std.proofs.Common.{◌≡◌, ℕ, zero, suc, ◌+◌, ◌<◌, ◌≤◌, true, ◌==◌, List, [], ◌∷◌, ◌++◌, refl, ap, ◌∙◌, ⊎_elim, arith, ◌≢◌, ◌-◌, length, take, append_assoc, sym}
+use Rattle.std.proofs.lemmas.Bool.{ne_eqb, le-ltb, and_left, cases_lt}
+use Rattle.std.proofs.lemmas.List.{append-nil, take_all}
+use Rattle.etagere_base.specs.Frames.{IsFrame, across_side}
 use Rattle.etagere_base.specs.declared.frames.Frame.{Frame}
-use Rattle.etagere_base.specs.Frames.{IsFrame, along_side, across_side}
-use Rattle.etagere_base.specs.Sides.{turned}
 use Rattle.etagere.specs.Fresh.{empty_columns, fresh}
 use Rattle.etagere.specs.Joining.{both_empty}
 use Rattle.etagere.specs.Lists.{Each, times, NoneTouch}
 use Rattle.etagere.specs.Places.{heights_in, held_after, held}
+use Rattle.etagere.specs.Space.{space_in, allocated_space}
 use Rattle.etagere.specs.State.{Shelf, empty_shelf, runs_in_use}
 use Rattle.etagere.specs.Valid.{IsShelf, IsValid, ids, is_out_of_order}
+use Rattle.etagere.proofs.FrameSides.{across-positive, columns-le}
+use Rattle.etagere.proofs.Heights.{heights_in-alone, heights_in-other}
 
 -- empty columns hold nothing
 held_after-empty_columns : (frame : Frame) (before : List Shelf) (column n : ℕ) → held_after frame before (empty_columns frame column n) ≡ []
@@ -22,30 +24,6 @@ held_after-empty_columns frame before column (suc n) =
 pub fresh-held : (frame : Frame) → held (fresh frame) ≡ []
 fresh-held frame = held_after-empty_columns frame [] 0 frame.columns
 
--- either side is at least 1
-across_positive : (longest : ℕ) (vertical : Bool) (width height : ℕ) → (1 ≤ width) × (width ≤ longest) → (1 ≤ height) × (height ≤ longest)
-    → 1 ≤ (turned vertical (record { along = width; across = height })).across
-across_positive longest true width height w h = w.0
-across_positive longest false width height w h = h.0
-
--- neither side is longer than the longest
-along_at_most : (longest : ℕ) (vertical : Bool) (width height : ℕ) → (1 ≤ width) × (width ≤ longest) → (1 ≤ height) × (height ≤ longest)
-    → (turned vertical (record { along = width; across = height })).along ≤ longest
-along_at_most longest true width height w h = h.1
-along_at_most longest false width height w h = w.1
-
--- an atlas has a side across its shelves
-pub across-positive : (frame : Frame) → IsFrame 65535 frame → 1 ≤ across_side frame
-across-positive frame h = across_positive 65535 frame.vertical frame.width frame.height h.width h.height
-
--- an atlas has no more columns than records
-columns-le : (frame : Frame) → IsFrame 65535 frame → frame.columns ≤ 65535
-columns-le frame h =
-    let along = along_at_most 65535 frame.vertical frame.width frame.height h.width h.height in
-    let part = div-le_self (along_side frame) frame.column_width in
-    let is = h.columns in
-    omega arith
-
 module _ (frame : Frame) (is_frame : IsFrame 65535 frame) where
   -- each shelf of empty columns is as a shelf must be
   shelves-empty_columns : (column n : ℕ) → column + n ≤ frame.columns → Each (IsShelf frame) (empty_columns frame column n)
@@ -53,7 +31,7 @@ module _ (frame : Frame) (is_frame : IsFrame 65535 frame) where
   shelves-empty_columns column (suc n) h = (
     record {
       column = omega arith;
-      height = across-positive frame is_frame;
+      height = across-positive 65535 frame is_frame;
       runs = (record { width = is_frame.column_width.0; aligned = is_frame.aligned }, tt);
       width = omega arith;
       apart = tt;
@@ -85,37 +63,21 @@ pub runs_in_use-empty_columns : (frame : Frame) (column n : ℕ) → runs_in_use
 runs_in_use-empty_columns frame column zero = refl
 runs_in_use-empty_columns frame column (suc n) = let rest = runs_in_use-empty_columns frame (suc column) n in omega arith
 
--- no shelf stands in a column before the first
-heights-before : (frame : Frame) (place column n : ℕ) → place < column → heights_in place (empty_columns frame column n) ≡ 0
-heights-before frame place column zero h = refl
-heights-before frame place column (suc n) h =
-    let rest = heights-before frame place (suc column) n (omega arith) in
-    let none : 0 + heights_in place (empty_columns frame (suc column) n) ≡ 0 = omega arith in
-    ap (λ (b : Bool). cond b (across_side frame) 0 + heights_in place (empty_columns frame (suc column) n)) (ne_eqb column place (λ e. omega arith)) ∙ none
-
--- the first shelf adds no height to a column behind its own
-heights-behind : (frame : Frame) (place column n : ℕ) → column < place
-    → heights_in place (empty_columns frame column (suc n)) ≡ heights_in place (empty_columns frame (suc column) n)
-heights-behind frame place column n h =
-    let nothing : 0 + heights_in place (empty_columns frame (suc column) n) ≡ heights_in place (empty_columns frame (suc column) n) = omega arith in
-    ap (λ (b : Bool). cond b (across_side frame) 0 + heights_in place (empty_columns frame (suc column) n)) (ne_eqb column place (λ e. omega arith))
-    ∙ nothing
-
--- the first shelf fills its column
-heights-here : (frame : Frame) (place column n : ℕ) → column ≡ place → heights_in place (empty_columns frame column (suc n)) ≡ across_side frame
-heights-here frame place column n h =
-    let rest = heights-before frame place (suc column) n (omega arith) in
-    let alone : across_side frame + heights_in place (empty_columns frame (suc column) n) ≡ across_side frame = omega arith in
-    ap (λ (b : Bool). cond b (across_side frame) 0 + heights_in place (empty_columns frame (suc column) n)) (eq-eqb column place h) ∙ alone
+-- empty columns after a place are others
+others-empty_columns : (frame : Frame) (place column n : ℕ) → place < column → Each (λ (s : Shelf). s.column ≢ place) (empty_columns frame column n)
+others-empty_columns frame place column zero h = tt
+others-empty_columns frame place column (suc n) h = ((λ e. omega arith), others-empty_columns frame place (suc column) n (omega arith))
 
 -- each of the columns is filled
-heights-within : (frame : Frame) (place column n : ℕ) → column ≤ place → place < column + n
+heights_in-empty_columns : (frame : Frame) (place column n : ℕ) → column ≤ place → place < column + n
     → heights_in place (empty_columns frame column n) ≡ across_side frame
-heights-within frame place column zero l h = absurd (omega arith)
-heights-within frame place column (suc n) l h =
+heights_in-empty_columns frame place column zero l h = absurd (omega arith)
+heights_in-empty_columns frame place column (suc n) l h =
+    let shelf = empty_shelf frame column (across_side frame) in
+    let others = empty_columns frame (suc column) n in
     ⊎_elim
-    (λ (lt : column < place). heights-behind frame place column n lt ∙ heights-within frame place (suc column) n lt (omega arith))
-    (λ (le : place ≤ column). heights-here frame place column n (omega arith))
+    (λ (lt : column < place). heights_in-other place shelf others (λ e. omega arith) ∙ heights_in-empty_columns frame place (suc column) n lt (omega arith))
+    (λ (le : place ≤ column). heights_in-alone place shelf others (omega arith) (others-empty_columns frame place (suc column) n (omega arith)))
     (cases_lt column place)
 
 -- a new atlas is as a state must be
@@ -124,8 +86,34 @@ fresh-valid frame h = record {
   frame = h;
   shelves = shelves-empty_columns frame h 0 frame.columns (omega arith);
   ordered = ordered-empty_columns frame 0 frame.columns;
-  heights = λ column below. heights-within frame column 0 frame.columns (omega arith) (omega arith);
+  heights = λ column below. heights_in-empty_columns frame column 0 frame.columns (omega arith) (omega arith);
   apart = apart-empty_columns frame 0 frame.columns;
   ids = λ id. let none : times id (ids (empty_columns frame 0 frame.columns)) ≡ 0 = ap (times id) (ids-empty_columns frame 0 frame.columns) in omega arith;
   records = (omega (arith, runs_in_use-empty_columns frame 0 frame.columns), columns-le frame h);
 }
+
+-- empty columns hold no space
+space_in-empty_columns : (frame : Frame) (column n : ℕ) → space_in (empty_columns frame column n) ≡ 0
+space_in-empty_columns frame column zero = refl
+space_in-empty_columns frame column (suc n) = omega (arith, space_in-empty_columns frame (suc column) n)
+
+-- a new atlas holds no space
+pub space-fresh : (frame : Frame) → allocated_space (fresh frame) ≡ 0
+space-fresh frame = space_in-empty_columns frame 0 frame.columns
+
+-- the first of so many empty columns
+columns_first : (frame : Frame) (column n m : ℕ) → n ≡ suc m → empty_columns frame column n ≡ empty_shelf frame column (across_side frame) ∷ empty_columns frame (suc column) m
+columns_first frame column n m h = rw h refl
+
+-- one more empty column is at hand
+pub columns-more : (frame : Frame) (column columns : ℕ) (shelves : List Shelf) (shelf : Shelf) → column < columns → shelf ≡ empty_shelf frame column (across_side frame)
+    → (shelves ++ shelf ∷ []) ++ empty_columns frame (suc column) (columns - suc column) ≡ shelves ++ empty_columns frame column (columns - column)
+columns-more frame column columns shelves shelf h s =
+    rw (append_assoc, s, columns_first frame column (columns - column) (columns - suc column) (omega arith)) refl
+
+-- past the last column there are no more
+pub columns-whole : (frame : Frame) (column columns : ℕ) (shelves whole : List Shelf) → columns ≤ column → length shelves ≤ column
+    → take column shelves ++ empty_columns frame column (columns - column) ≡ whole → shelves ≡ whole
+columns-whole frame column columns shelves whole past long made =
+    let none : columns - column ≡ 0 = omega arith in
+    sym (take_all column shelves long) ∙ sym (append-nil (take column shelves)) ∙ rw none at made

@@ -1,9 +1,9 @@
 -- What is held, by the ids of the runs.
-use Rattle.std.proofs.Common.{◌≡◌, ℕ, ◌+◌, Bool, true, false, cond, ◌||◌, ◌==◌, Option, None, Some, List, [], ◌∷◌, ◌++◌, map, refl, ap, ◌∙◌, sym, arith}
-use Rattle.std.specs.Prelude.{nat_lt}
-use Rattle.std.specs.List.{list_any}
+use Rattle.std.proofs.Common.{◌≡◌, ℕ, ◌+◌, Bool, false, ◌||◌, ◌==◌, Option, None, Some, List, [], ◌∷◌, ◌++◌, map, refl, ap, ◌∙◌, sym, true}
 use Rattle.std.proofs.lemmas.List.{map-append}
 use Rattle.std.proofs.lemmas.List.Folds.{list_any-append}
+use Rattle.std.specs.List.{list_any}
+use Rattle.std.specs.Prelude.{position, is_some}
 use Rattle.etagere_base.specs.declared.frames.Frame.{Frame}
 use Rattle.etagere_base.specs.declared.ids.Allocation.{Allocation}
 use Rattle.etagere.specs.Lists.{times}
@@ -12,6 +12,7 @@ use Rattle.etagere.specs.Returning.{is_holder, is_held_in}
 use Rattle.etagere.specs.State.{Run, Shelf, AtlasState}
 use Rattle.etagere.specs.Valid.{holders, ids}
 use Rattle.etagere.proofs.FirstPlace.{is_some-position}
+use Rattle.etagere.proofs.TimesLemmas.{is_among, not_among-times, times-not_among}
 
 -- the id of an allocation
 abbrev pub id_of : Allocation → ℕ
@@ -42,10 +43,6 @@ ids-held_after frame before (shelf ∷ shelves) =
     map-append id_of along (held_after frame (before ++ shelf ∷ []) shelves)
     ∙ ap (λ (l : List ℕ). l ++ map id_of (held_after frame (before ++ shelf ∷ []) shelves)) here
     ∙ ap (λ (l : List ℕ). holders shelf.runs ++ l) rest
-
--- an id stands in a list
-abbrev pub is_among : ℕ → List ℕ → Bool
-is_among id numbers = list_any (λ number. number == id) numbers
 
 -- an id holds an allocation where it stands among the ids
 is_among-ids : (id : ℕ) (allocations : List Allocation)
@@ -80,43 +77,33 @@ is_held_in-ids id (shelf ∷ shelves) =
     ∙ sym (list_any-append (λ number. number == id) (holders shelf.runs) (ids shelves))
 
 -- an id is held where it stands among the ids of the shelves
-pub is_held-ids : (state : AtlasState) (id : ℕ) → is_held state id ≡ is_among id (ids state.shelves)
+is_held-ids : (state : AtlasState) (id : ℕ) → is_held state id ≡ is_among id (ids state.shelves)
 is_held-ids state id = is_among-ids id (held state) ∙ ap (is_among id) (ids-held_after state.frame [] state.shelves)
 
 -- an id is held where it holds a run of a shelf
 pub is_held-shelves : (state : AtlasState) (id : ℕ) → is_held state id ≡ list_any (is_held_in id) state.shelves
 is_held-shelves state id = is_held-ids state id ∙ sym (is_held_in-ids id state.shelves)
 
--- a test or a count behind it as one count
-among_step : (b : Bool) (n : ℕ) → (b || nat_lt 0 n) ≡ nat_lt 0 (cond b 1 0 + n)
-among_step true n = grind arith
-among_step false n = grind arith
-
--- a number stands in a list where it does so at least once
-pub is_among-times : (n : ℕ) (ns : List ℕ) → is_among n ns ≡ nat_lt 0 (times n ns)
-is_among-times n [] = refl
-is_among-times n (m ∷ ms) = ap (λ (b : Bool). (m == n) || b) (is_among-times n ms) ∙ among_step (m == n) (times n ms)
-
--- a test that a count is above 0 fails only at 0
-none_below : (n : ℕ) (b : Bool) → b ≡ nat_lt 0 n → b ≡ false → n ≡ 0
-none_below n b e h = grind arith
-
--- a test that a count is above 0 fails at 0
-below_none : (n : ℕ) (b : Bool) → b ≡ nat_lt 0 n → n ≡ 0 → b ≡ false
-below_none n b e h = grind arith
-
 -- an id that holds no run of a shelf is not among the holders
 pub times-not_held_in : (id : ℕ) (shelf : Shelf) → is_held_in id shelf ≡ false → times id (holders shelf.runs) ≡ 0
-times-not_held_in id shelf h =
-    none_below (times id (holders shelf.runs)) (is_held_in id shelf)
-    (is_held_in-holders id shelf ∙ is_among-times id (holders shelf.runs)) h
+times-not_held_in id shelf h = not_among-times id (holders shelf.runs) (sym (is_held_in-holders id shelf) ∙ h)
 
 -- an id that isn't held is nowhere among the ids
 pub times-not_held : (state : AtlasState) (id : ℕ) → is_held state id ≡ false → times id (ids state.shelves) ≡ 0
-times-not_held state id h =
-    none_below (times id (ids state.shelves)) (is_held state id) (is_held-ids state id ∙ is_among-times id (ids state.shelves)) h
+times-not_held state id h = not_among-times id (ids state.shelves) (sym (is_held-ids state id) ∙ h)
 
--- an id that is nowhere among the ids isn't held
-pub not_held-times : (state : AtlasState) (id : ℕ) → times id (ids state.shelves) ≡ 0 → is_held state id ≡ false
-not_held-times state id h =
-    below_none (times id (ids state.shelves)) (is_held state id) (is_held-ids state id ∙ is_among-times id (ids state.shelves)) h
+-- an id that isn't among the ids of shelves is held in none of them
+pub not_held_in-times : (id : ℕ) (shelves : List Shelf) → times id (ids shelves) ≡ 0 → list_any (is_held_in id) shelves ≡ false
+not_held_in-times id shelves h = is_held_in-ids id shelves ∙ times-not_among id (ids shelves) h
+
+-- an id holds something exactly where a shelf is found that it holds a run of
+held_found : (state : AtlasState) (id : ℕ) → is_some (position (is_held_in id) state.shelves) ≡ is_held state id
+held_found state id = is_some-position (is_held_in id) state.shelves ∙ sym (is_held-shelves state id)
+
+-- an id that is found in no shelf holds nothing
+pub not_found-not_held : (state : AtlasState) (id : ℕ) → position (is_held_in id) state.shelves ≡ None → is_held state id ≡ false
+not_found-not_held state id h = sym (held_found state id) ∙ ap is_some h
+
+-- an id that is found in a shelf holds something
+pub found-held : (state : AtlasState) (id n : ℕ) → position (is_held_in id) state.shelves ≡ Some n → is_held state id ≡ true
+found-held state id n h = sym (held_found state id) ∙ ap is_some h

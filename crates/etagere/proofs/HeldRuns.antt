@@ -1,11 +1,12 @@
--- The run of a shelf that an id holds.
-use Rattle.std.proofs.Common.{◌≡◌, ℕ, true, false, Option, None, Some, List, refl, ap, ◌∙◌}
-use Rattle.std.specs.Prelude.{slice_get, is_some}
+-- The run of a shelf that an id holds, and the shelf with it returned.
+use Rattle.std.proofs.Common.{◌≡◌, ℕ, true, false, Option, None, Some, List, refl, ap, ◌∙◌, zero, suc, [], ◌∷◌, sym}
 use Rattle.std.proofs.lemmas.Bool.{eqb-true}
+use Rattle.std.specs.Prelude.{slice_get, is_some}
 use Rattle.etagere_base.specs.declared.frames.Frame.{Frame}
-use Rattle.etagere.specs.Returning.{is_holder, number_of, freed_shelf, returned_shelf}
+use Rattle.etagere.specs.Returning.{is_holder, number_of, freed_shelf, returned_shelf, is_free_at}
 use Rattle.etagere.specs.State.{Run, Shelf, is_free}
-use Rattle.etagere.proofs.FirstPlace.{split-first, slice_get_at}
+use Rattle.etagere.proofs.CutLists.{slice_get-append}
+use Rattle.etagere.proofs.FirstPlace.{split-first}
 
 -- what is known where an id holds a run of a shelf: the run's number, and the run
 pub record HeldRun (id : ℕ) (runs : List Run) : Type 0 where
@@ -28,13 +29,13 @@ held_run_at id runs n found =
       number = n;
       run = split.first;
       found = found;
-      get = ap (λ (l : List Run). slice_get l n) split.is ∙ slice_get_at split.front split.first split.back n split.number;
+      get = ap (λ (l : List Run). slice_get l n) split.is ∙ slice_get-append split.front split.first split.back n split.number;
       holder = is_holder-true id split.first.holder split.passes;
     }
 
 -- an id that holds a run of some holds the one of its number
-pub held_run : (id : ℕ) (runs : List Run) → is_some (number_of id runs) ≡ true → HeldRun id runs
-held_run id runs h = by_number (number_of id runs) refl h
+pub run_of_holder : (id : ℕ) (runs : List Run) → is_some (number_of id runs) ≡ true → HeldRun id runs
+run_of_holder id runs h = by_number (number_of id runs) refl h
   where
     by_number : (o : Option ℕ) → number_of id runs ≡ o → is_some o ≡ true → HeldRun id runs
     by_number None e h = absurd (cc)
@@ -64,3 +65,18 @@ height-returned_shelf frame id shelf = by_number (number_of id shelf.runs) refl
     by_number : (o : Option ℕ) → number_of id shelf.runs ≡ o → (returned_shelf frame id shelf).height ≡ shelf.height
     by_number None e = rw e refl
     by_number (Some n) e = rw e refl
+
+-- the run of a number is free or not as the run that is read there
+is_free_at-get : (n : ℕ) (runs : List Run) (run : Run) → slice_get runs n ≡ Some run → is_free_at n runs ≡ is_free run
+is_free_at-get n [] run h = absurd (cc)
+is_free_at-get zero (first ∷ runs) run h = let same : first ≡ run = cc in ap is_free same
+is_free_at-get (suc n) (first ∷ runs) run h = is_free_at-get n runs run h
+
+-- the run under the number of an id is held
+pub number_of-held : (id n : ℕ) (runs : List Run) → number_of id runs ≡ Some n → is_free_at n runs ≡ false
+number_of-held id n runs h =
+    let there : is_some (number_of id runs) ≡ true = ap is_some h in
+    let held = run_of_holder id runs there in
+    let number : held.number ≡ n = cc in
+    let get : slice_get runs n ≡ Some held.run = ap (λ m. slice_get runs m) (sym number) ∙ held.get in
+    is_free_at-get n runs held.run get ∙ not_free id held.run held.holder

@@ -1,4 +1,4 @@
--- The ids that hold runs, while runs are freed and runs and shelves are joined.
+-- The ids that hold runs: of a front and a back, and while runs are freed and runs and shelves are joined.
 use Rattle.std.proofs.Common.{◌≡◌, ℕ, zero, suc, ◌+◌, ◌≤◌, true, ◌==◌, ◌&&◌, Option, None, Some, List, [], ◌∷◌, ◌++◌, refl, ap, sym, arith}
 use Rattle.std.proofs.lemmas.Bool.{and_parts}
 use Rattle.etagere.specs.Joining.{both_free, merged_runs, joined_runs, both_empty, merged_shelves, joined_shelves}
@@ -7,11 +7,7 @@ use Rattle.etagere.specs.Returning.{freed}
 use Rattle.etagere.specs.State.{Run, Shelf, is_free, is_empty, is_one_free}
 use Rattle.etagere.specs.Valid.{holders, ids}
 use Rattle.etagere.proofs.JoinedKeeps.{measure-joined}
-
--- how often a number stands in two lists
-pub times-append : (n : ℕ) (xs ys : List ℕ) → times n (xs ++ ys) ≡ times n xs + times n ys
-times-append n [] ys = omega arith
-times-append n (x ∷ xs) ys = let rest = times-append n xs ys in omega arith
+use Rattle.etagere.proofs.TimesLemmas.{times-append}
 
 -- a free run has no holder
 pub no_holder : (run : Run) → is_free run ≡ true → run.holder ≡ None
@@ -57,22 +53,38 @@ ids-joined shelves =
         let second = and_parts (is_empty x) (is_empty y) empty.1 in
         ap (λ (l : List ℕ). holders x.runs ++ (l ++ ids ys)) (sym (holders-empty y second.1))
 
--- the first run's holder and the others'
-pub times-holders : (id : ℕ) (run : Run) (runs : List Run) → times id (holders (run ∷ runs)) ≡ times id (holders (run ∷ [])) + times id (holders runs)
-times-holders id run runs = of_option run.holder
-  where
-    of_option : (holder : Option ℕ)
-        → times id (holders (record { width = run.width; holder = holder } ∷ runs))
-        ≡ times id (holders (record { width = run.width; holder = holder } ∷ [])) + times id (holders runs)
-    of_option None = omega arith
-    of_option (Some holder) = omega arith
+-- how often an id holds a run of a front and a back
+pub times-holders : (k : ℕ) (front back : List Run) → times k (holders (front ++ back)) ≡ times k (holders front) + times k (holders back)
+times-holders k [] back = omega arith
+times-holders k (run ∷ runs) back = simp (times-append, times-holders k runs back) (omega arith)
+
+-- how often an id holds a run of the shelves of a front and a back
+pub times-ids : (k : ℕ) (front back : List Shelf) → times k (ids (front ++ back)) ≡ times k (ids front) + times k (ids back)
+times-ids k [] back = omega arith
+times-ids k (shelf ∷ shelves) back = simp (times-append, times-ids k shelves back) (omega arith)
 
 -- freeing a run makes no id stand more often
 pub times-holders-freed : (id n : ℕ) (runs : List Run) → times id (holders (freed n runs)) ≤ times id (holders runs)
 times-holders-freed id n [] = omega arith
-times-holders-freed id zero (run ∷ runs) = let split = times-holders id run runs in omega arith
+times-holders-freed id zero (run ∷ runs) = let split = times-holders id (run ∷ []) runs in omega arith
 times-holders-freed id (suc n) (run ∷ runs) =
-    let split = times-holders id run runs in
-    let freed_split = times-holders id run (freed n runs) in
+    let split = times-holders id (run ∷ []) runs in
+    let freed_split = times-holders id (run ∷ []) (freed n runs) in
     let rest = times-holders-freed id n runs in
     omega arith
+
+-- without a holder the first run is free, and so are the others
+pub free_first : (run : Run) (runs : List Run) → holders (run ∷ runs) ≡ [] → (run.holder ≡ None) × (holders runs ≡ [])
+free_first run runs h = of_option run.holder h
+  where
+    of_option : (holder : Option ℕ) → holders (record { width = run.width; holder = holder } ∷ runs) ≡ [] → (holder ≡ None) × (holders runs ≡ [])
+    of_option None h = (refl, h)
+    of_option (Some id) h = absurd (cc)
+
+-- shelves that nothing holds are a first one that nothing holds, and others
+pub ids-none : (shelf : Shelf) (shelves : List Shelf) → ids (shelf ∷ shelves) ≡ [] → (holders shelf.runs ≡ []) × (ids shelves ≡ [])
+ids-none shelf shelves h = both (holders shelf.runs) (ids shelves) h
+  where
+    both : (xs ys : List ℕ) → xs ++ ys ≡ [] → (xs ≡ []) × (ys ≡ [])
+    both [] ys h = (refl, h)
+    both (x ∷ xs) ys h = absurd (cc)

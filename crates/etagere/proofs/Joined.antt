@@ -1,33 +1,10 @@
--- Joining neighbours that touch: a list with none stays, and what is joined has none.
-use Rattle.std.proofs.Common.{◌≡◌, ℕ, zero, suc, Bool, true, false, List, [], ◌∷◌, take, drop, refl, ap, ◌∙◌}
+-- Joining neighbours that touch: a list with none stays, what is joined has none, and the pieces of one join to it again.
+use Rattle.std.proofs.Common.{◌≡◌, ℕ, zero, suc, Bool, true, false, List, [], ◌∷◌, take, drop, refl, ap, ◌∙◌, cond, ◌++◌, map}
 use Rattle.std.proofs.lemmas.Bool.{cond_both, cond-false}
 use Rattle.etagere.specs.Joining.{joined_onto, joined_by}
 use Rattle.etagere.specs.Lists.{NoneTouch}
 use Rattle.etagere.specs.Merging.{merged_at, merged_before}
-
-module _ {X : Type 0} (touch : X → X → Bool) where
-  -- a front of a list without touching neighbours has none
-  pub NoneTouch-take : (n : ℕ) (xs : List X) → NoneTouch touch xs → NoneTouch touch (take n xs)
-  NoneTouch-take zero xs h = tt
-  NoneTouch-take (suc n) [] h = tt
-  NoneTouch-take (suc n) (x ∷ []) h = NoneTouch-take-one n x
-    where
-      NoneTouch-take-one : (n : ℕ) (x : X) → NoneTouch touch (x ∷ take n [])
-      NoneTouch-take-one zero x = tt
-      NoneTouch-take-one (suc n) x = tt
-  NoneTouch-take (suc zero) (x ∷ y ∷ ys) h = tt
-  NoneTouch-take (suc (suc n)) (x ∷ y ∷ ys) h = (h.0, NoneTouch-take (suc n) (y ∷ ys) h.1)
-
-  -- the rest behind the first element of such a list has none
-  pub NoneTouch-tail : (x : X) (xs : List X) → NoneTouch touch (x ∷ xs) → NoneTouch touch xs
-  NoneTouch-tail x [] h = tt
-  NoneTouch-tail x (y ∷ ys) h = h.1
-
-  -- a rest of such a list has none
-  pub NoneTouch-drop : (n : ℕ) (xs : List X) → NoneTouch touch xs → NoneTouch touch (drop n xs)
-  NoneTouch-drop zero xs h = h
-  NoneTouch-drop (suc n) [] h = tt
-  NoneTouch-drop (suc n) (x ∷ xs) h = NoneTouch-drop n xs (NoneTouch-tail x xs h)
+use Rattle.etagere.proofs.NoneTouchLemmas.{NoneTouch-back, NoneTouch-first, NoneTouch-tail}
 
 -- what is merged touches its neighbours as its parts did
 pub record Merges {X : Type 0} (touch : X → X → Bool) (merged : X → X → X) : Type 0 where
@@ -35,11 +12,54 @@ pub record Merges {X : Type 0} (touch : X → X → Bool) (merged : X → X → 
   pub before : (w x y : X) → touch x y ≡ true → touch w (merged x y) ≡ touch w x
 
 module _ {X : Type 0} (touch : X → X → Bool) (merged : X → X → X) where
+  -- an element that touches nothing stands in front as it is
+  joined_onto-apart : (x : X) (xs : List X) → NoneTouch touch (x ∷ xs) → joined_onto touch merged x xs ≡ x ∷ xs
+  joined_onto-apart x [] apart = refl
+  joined_onto-apart x (y ∷ ys) apart = cond-false _ _ _ apart.0
+
   -- joining a list without touching neighbours changes nothing
   pub joined-apart : (xs : List X) → NoneTouch touch xs → joined_by touch merged xs ≡ xs
-  joined-apart [] h = refl
-  joined-apart (x ∷ []) h = refl
-  joined-apart (x ∷ y ∷ ys) h = ap (joined_onto touch merged x) (joined-apart (y ∷ ys) h.1) ∙ cond-false _ _ _ h.0
+  joined-apart [] apart = refl
+  joined-apart (x ∷ xs) apart =
+      ap (joined_onto touch merged x) (joined-apart xs (NoneTouch-tail touch x xs apart)) ∙ joined_onto-apart x xs apart
+
+  -- a list is joined where its end is, in front of which nothing touches
+  joined-behind : (front xs ys : List X) → joined_by touch merged xs ≡ ys → NoneTouch touch (front ++ ys)
+      → joined_by touch merged (front ++ xs) ≡ front ++ ys
+  joined-behind [] xs ys e apart = e
+  joined-behind (x ∷ front) xs ys e apart =
+      ap (joined_onto touch merged x) (joined-behind front xs ys e (NoneTouch-tail touch x (front ++ ys) apart))
+      ∙ joined_onto-apart x (front ++ ys) apart
+
+  -- two pieces at the front of a list join to the one that touches nothing
+  joined-two : (one other whole : X) (back : List X) → touch one other ≡ true → merged one other ≡ whole
+      → NoneTouch touch (other ∷ back) → joined_by touch merged (one ∷ other ∷ back) ≡ whole ∷ back
+  joined-two one other whole back touching same apart = rw (joined-apart (other ∷ back) apart, touching, same)
+
+  -- the two pieces of one that touched nothing join to that one again
+  pub joined-pieces : (front : List X) (one other whole : X) (back : List X) → touch one other ≡ true → merged one other ≡ whole
+      → ((x : X) → touch other x ≡ touch whole x) → NoneTouch touch (front ++ whole ∷ back)
+      → joined_by touch merged (front ++ one ∷ other ∷ back) ≡ front ++ whole ∷ back
+  joined-pieces front one other whole back touching same like apart =
+      let rest = NoneTouch-first touch whole other back (λ y h. like y ∙ h) (NoneTouch-back touch front (whole ∷ back) apart) in
+      joined-behind front (one ∷ other ∷ back) (whole ∷ back) (joined-two one other whole back touching same rest) apart
+
+  -- what is joined and then changed is what is changed and then joined
+  pub joined-map : (change : X → X) → ((x y : X) → touch (change x) (change y) ≡ touch x y)
+      → ((x y : X) → change (merged x y) ≡ merged (change x) (change y)) → (xs : List X)
+      → map change (joined_by touch merged xs) ≡ joined_by touch merged (map change xs)
+  joined-map change same_touch same_merged [] = refl
+  joined-map change same_touch same_merged (x ∷ xs) =
+      onto x (joined_by touch merged xs) ∙ ap (joined_onto touch merged (change x)) (joined-map change same_touch same_merged xs)
+    where
+      chosen : (b : Bool) (x y : X) (ys : List X)
+          → map change (cond b (merged x y ∷ ys) (x ∷ y ∷ ys)) ≡ cond b (merged (change x) (change y) ∷ map change ys) (change x ∷ change y ∷ map change ys)
+      chosen true x y ys = ap (λ (z : X). z ∷ map change ys) (same_merged x y)
+      chosen false x y ys = refl
+
+      onto : (x : X) (ys : List X) → map change (joined_onto touch merged x ys) ≡ joined_onto touch merged (change x) (map change ys)
+      onto x [] = refl
+      onto x (y ∷ ys) = rw (same_touch x y) (chosen (touch x y) x y ys)
 
   -- an element in front of a joined list is merged with the first as at number 0
   joined_onto-merged_at : (x : X) (xs : List X) → joined_onto touch merged x xs ≡ merged_at touch merged zero (x ∷ xs)
@@ -47,16 +67,11 @@ module _ {X : Type 0} (touch : X → X → Bool) (merged : X → X → X) where
   joined_onto-merged_at x (y ∷ ys) = refl
 
   module _ (merges : Merges touch merged) where
-    -- a merged element touches the next one no more than its second part did
-    merged-apart : (x y : X) (ys : List X) → touch x y ≡ true → NoneTouch touch (y ∷ ys) → NoneTouch touch (merged x y ∷ ys)
-    merged-apart x y [] t h = tt
-    merged-apart x y (z ∷ zs) t h = (merges.next x y z t ∙ h.0, h.1)
-
     -- no two touch after one more element was joined on
     onto-apart : (x : X) (xs : List X) → NoneTouch touch xs → NoneTouch touch (joined_onto touch merged x xs)
     onto-apart x [] h = tt
     onto-apart x (y ∷ ys) h =
-        cond_both (touch x y) (merged x y ∷ ys) (x ∷ y ∷ ys) (NoneTouch touch) (λ t. merged-apart x y ys t h) (λ f. (f, h))
+        cond_both (touch x y) (merged x y ∷ ys) (x ∷ y ∷ ys) (NoneTouch touch) (λ t. NoneTouch-first touch y (merged x y) ys (λ z f. merges.next x y z t ∙ f) h) (λ f. (f, h))
 
     -- what is joined has no touching neighbours
     pub apart-joined : (xs : List X) → NoneTouch touch (joined_by touch merged xs)

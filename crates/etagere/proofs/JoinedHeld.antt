@@ -1,11 +1,13 @@
 -- Joining free runs and empty shelves changes no held run's rectangle.
-use Rattle.std.proofs.Common.{◌≡◌, ℕ, ◌+◌, true, cond, ◌==◌, ◌&&◌, List, [], ◌∷◌, ◌++◌, refl, ap, ◌∙◌, sym, arith}
-use Rattle.std.proofs.lemmas.Bool.{and_parts, eqb-true, cond_both}
+use Rattle.std.proofs.Common.{◌≡◌, ℕ, ◌+◌, true, ◌==◌, ◌&&◌, List, [], ◌∷◌, ◌++◌, refl, ap, ◌∙◌, sym, arith}
+use Rattle.std.proofs.lemmas.Bool.{and_parts, cond_both}
 use Rattle.etagere_base.specs.declared.frames.Frame.{Frame}
 use Rattle.etagere_base.specs.declared.ids.Allocation.{Allocation}
 use Rattle.etagere.specs.Joining.{joined_onto, both_free, merged_runs, joined_runs, both_empty, merged_shelves, joined_shelves}
 use Rattle.etagere.specs.Places.{column_place, heights_in, rectangle_at, allocation_of, held_along, held_after}
 use Rattle.etagere.specs.State.{Run, Shelf, is_free, is_empty, is_one_free}
+use Rattle.etagere.proofs.Heights.{heights_in-append, heights_in-merged}
+use Rattle.etagere.proofs.HeldLists.{held_after-heights}
 use Rattle.etagere.proofs.Holders.{no_holder}
 
 module _ (frame : Frame) (across height : ℕ) where
@@ -43,42 +45,23 @@ module _ (frame : Frame) (across height : ℕ) where
   held_along-empty here (run ∷ []) h = rw (no_holder run h) refl
   held_along-empty here (run ∷ next ∷ runs) h = absurd (cc)
 
--- the heights of shelves after others
-pub heights_in-append : (column : ℕ) (xs ys : List Shelf) → heights_in column (xs ++ ys) ≡ heights_in column xs + heights_in column ys
-heights_in-append column [] ys = omega arith
-heights_in-append column (x ∷ xs) ys = let rest = heights_in-append column xs ys in omega arith
-
--- the height of a merged shelf is that of its parts
-heights_step : (x y c v w before : ℕ) → x ≡ y → before + (cond (x == c) (v + w) 0 + 0) ≡ before + (cond (x == c) v 0 + 0) + (cond (y == c) w 0 + 0)
-heights_step x y c v w before e = grind arith
-
 module _ (frame : Frame) where
-  -- what shelves allocate depends only on the heights before them
-  pub held_after-before : (before others shelves : List Shelf) → ((column : ℕ) → heights_in column before ≡ heights_in column others)
-      → held_after frame before shelves ≡ held_after frame others shelves
-  held_after-before before others [] h = refl
-  held_after-before before others (shelf ∷ shelves) h =
-      ap (λ (across : ℕ). held_along frame across shelf.height (column_place frame shelf) shelf.runs ++ held_after frame (before ++ shelf ∷ []) shelves)
-      (h shelf.column)
-      ∙ ap (λ (l : List Allocation). held_along frame (heights_in shelf.column others) shelf.height (column_place frame shelf) shelf.runs ++ l)
-      (held_after-before (before ++ shelf ∷ []) (others ++ shelf ∷ []) shelves
-      (λ column. heights_in-append column before (shelf ∷ []) ∙ ap (λ (n : ℕ). n + heights_in column (shelf ∷ [])) (h column)
-      ∙ sym (heights_in-append column others (shelf ∷ []))))
-
   -- merging empty shelves changes no held run's rectangle
   held_after-merged : (before : List Shelf) (x y : Shelf) (ys : List Shelf) → both_empty x y ≡ true
       → held_after frame before (merged_shelves x y ∷ ys) ≡ held_after frame before (x ∷ y ∷ ys)
   held_after-merged before x y ys t =
       let parts = and_parts (x.column == y.column) (is_empty x && is_empty y) t in
       let empty = and_parts (is_empty x) (is_empty y) parts.1 in
-      let column_is = eqb-true x.column y.column parts.0 in
       ap (λ (l : List Allocation). l ++ held_after frame (before ++ merged_shelves x y ∷ []) ys)
       (held_along-empty frame (heights_in x.column before) (x.height + y.height) (column_place frame x) x.runs empty.0)
-      ∙ held_after-before (before ++ merged_shelves x y ∷ []) ((before ++ x ∷ []) ++ y ∷ []) ys
-      (λ column. heights_in-append column before (merged_shelves x y ∷ [])
-      ∙ heights_step x.column y.column column x.height y.height (heights_in column before) column_is
-      ∙ ap (λ (n : ℕ). n + heights_in column (y ∷ [])) (sym (heights_in-append column before (x ∷ [])))
-      ∙ sym (heights_in-append column (before ++ x ∷ []) (y ∷ [])))
+      ∙ held_after-heights frame (before ++ merged_shelves x y ∷ []) ((before ++ x ∷ []) ++ y ∷ []) ys
+      (λ column. omega (
+        arith,
+        heights_in-append column before (merged_shelves x y ∷ []),
+        heights_in-append column (before ++ x ∷ []) (y ∷ []),
+        heights_in-append column before (x ∷ []),
+        heights_in-merged column x y [] t,
+      ))
       ∙ ap (λ (l : List Allocation). l ++ held_after frame ((before ++ x ∷ []) ++ y ∷ []) ys)
       (sym (held_along-empty frame (heights_in y.column (before ++ x ∷ [])) y.height (column_place frame y) y.runs empty.1))
       ∙ ap (λ (l : List Allocation). l ++ held_after frame (before ++ x ∷ []) (y ∷ ys))

@@ -3,6 +3,7 @@ use Rattle.std.proofs.Common.{◌≡◌, ℕ, ◌≤◌, Bool, true, false, List
 use Rattle.std.proofs.lemmas.Bool.{cond_both}
 use Rattle.etagere.specs.Joining.{joined_onto, joined_by}
 use Rattle.etagere.specs.Lists.{Each, NoneTouch}
+use Rattle.etagere.proofs.NoneTouchLemmas.{NoneTouch-first}
 
 module _ {X : Type 0} (touch : X → X → Bool) (merged : X → X → X) where
   -- a measure that doesn't see a merge doesn't see joining
@@ -53,23 +54,18 @@ module _ {X : Type 0} (touch : X → X → Bool) (merged : X → X → X) where
 module _ {X : Type 0} (touch : X → X → Bool) (merged : X → X → X) (other : X → X → Bool)
     (next : (x y z : X) → touch x y ≡ true → other (merged x y) z ≡ other y z)
     (before : (w x y : X) → touch x y ≡ true → other w (merged x y) ≡ other w x) where
-  -- a merged element meets the next one as its second part did
-  NoneTouch-merged : (x y : X) (ys : List X) → touch x y ≡ true → NoneTouch other (y ∷ ys) → NoneTouch other (merged x y ∷ ys)
-  NoneTouch-merged x y [] t h = tt
-  NoneTouch-merged x y (z ∷ zs) t h = (next x y z t ∙ h.0, h.1)
-
   -- a front that is joined on meets the next one as before
   NoneTouch-onto : (x : X) (xs : List X) → NoneTouch other (x ∷ xs) → NoneTouch other (joined_onto touch merged x xs)
   NoneTouch-onto x [] h = tt
   NoneTouch-onto x (y ∷ ys) h =
-      cond_both (touch x y) (merged x y ∷ ys) (x ∷ y ∷ ys) (NoneTouch other) (λ t. NoneTouch-merged x y ys t h.1) (λ _. h)
+      cond_both (touch x y) (merged x y ∷ ys) (x ∷ y ∷ ys) (NoneTouch other) (λ t. NoneTouch-first other y (merged x y) ys (λ z f. next x y z t ∙ f) h.1) (λ _. h)
 
   -- what stands before meets an element that is joined on as before
   NoneTouch-before : (w x : X) (xs : List X) → other w x ≡ false → NoneTouch other (x ∷ xs) → NoneTouch other (w ∷ joined_onto touch merged x xs)
   NoneTouch-before w x [] f h = (f, tt)
   NoneTouch-before w x (y ∷ ys) f h =
       cond_both (touch x y) (merged x y ∷ ys) (x ∷ y ∷ ys) (λ (l : List X). NoneTouch other (w ∷ l))
-      (λ t. (before w x y t ∙ f, NoneTouch-merged x y ys t h.1)) (λ _. (f, h))
+      (λ t. (before w x y t ∙ f, NoneTouch-first other y (merged x y) ys (λ z f. next x y z t ∙ f) h.1)) (λ _. (f, h))
 
   -- an element meets the joined ones behind it as before
   NoneTouch-behind : (x : X) (xs : List X) → NoneTouch other (x ∷ xs) → NoneTouch other (x ∷ joined_by touch merged xs)

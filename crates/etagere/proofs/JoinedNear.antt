@@ -7,7 +7,8 @@ use Rattle.etagere.specs.Lists.{NoneTouch}
 use Rattle.etagere.specs.Merging.{merged_at, merged_before}
 use Rattle.etagere.specs.Returning.{freed}
 use Rattle.etagere.specs.State.{Run, Shelf, is_free, is_empty}
-use Rattle.etagere.proofs.Joined.{NoneTouch-take, NoneTouch-drop, Merges, joined-near}
+use Rattle.etagere.proofs.Joined.{Merges, joined-near}
+use Rattle.etagere.proofs.NoneTouchLemmas.{NoneTouch-take, NoneTouch-drop}
 
 -- next to a free run the test is the other run's alone
 free_next : (a b c : Bool) → (a && b) ≡ true → (true && c) ≡ (b && c)

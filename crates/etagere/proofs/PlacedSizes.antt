@@ -1,29 +1,22 @@
 -- The placement of a size: how large it is, and when there is room for its cuts.
 use Rattle.std.proofs.Common.{◌≡◌, ℕ, ◌+◌, ◌<◌, ◌≤◌, Bool, true, false, cond, None, Some, nat_le, get_or, refl, sym, subst, ◌∙◌, arith}
-use Rattle.std.specs.Prelude.{◌&&◌}
 use Rattle.std.proofs.lemmas.Bool.{and_parts, cond-true, cond-false, leb-true, le-leb, lt-leb}
-use Rattle.std.proofs.lemmas.Option.{get_or_from_slice_get}
+use Rattle.std.proofs.lemmas.Option.{get_or_from_slice_get, cond_some}
+use Rattle.std.specs.Prelude.{◌&&◌}
+use Rattle.etagere_base.specs.Frames.{IsFrame, across_side, asked, fitting, is_side}
+use Rattle.etagere_base.specs.Sides.{side, step, turned, up}
 use Rattle.etagere_base.specs.declared.frames.Frame.{Frame}
 use Rattle.etagere_base.specs.declared.geometry.Size.{Size}
 use Rattle.etagere_base.specs.declared.sides.Sides.{Sides}
-use Rattle.etagere_base.specs.Frames.{IsFrame, along_side, across_side, asked, fitting, is_side}
-use Rattle.etagere_base.specs.Sides.{side, step, turned, up}
 use Rattle.etagere.specs.Choice.{Placement, chosen, cuts_in, placement_of, shelf_height}
 use Rattle.etagere.specs.State.{Shelf, AtlasState, runs_in_use}
-use Rattle.etagere.proofs.TakenPlacement.{IsChosen, chosen-parts, test-both, test-parts}
-
--- no side of an atlas is longer than the longest
-pub sides_low : (longest : ℕ) (frame : Frame) → IsFrame longest frame → (along_side frame ≤ longest) × (across_side frame ≤ longest)
-sides_low longest frame valid = by_turn frame.vertical refl
-  where
-    by_turn : (b : Bool) → frame.vertical ≡ b → (along_side frame ≤ longest) × (across_side frame ≤ longest)
-    by_turn true e = rw e (valid.height.1, valid.width.1)
-    by_turn false e = rw e (valid.width.1, valid.height.1)
+use Rattle.etagere.proofs.FrameSides.{sides_low}
+use Rattle.etagere.proofs.Placed.{IsChosen, chosen-parts, test-both}
 
 -- sides that fit a column are no longer than it
 fitting-fits : (frame : Frame) (tried sides : Sides) → fitting frame tried ≡ Some sides → (sides.along ≤ frame.column_width) × (sides.across ≤ across_side frame)
 fitting-fits frame tried sides h =
-    let parts = test-parts _ tried sides h in
+    let parts = cond_some _ tried sides h in
     let tests = and_parts (nat_le tried.along frame.column_width) _ parts.0 in
     subst (λ (s : Sides). (s.along ≤ frame.column_width) × (s.across ≤ across_side frame)) parts.1 (leb-true tried.along _ tests.0, leb-true tried.across _ tests.1)
 
@@ -36,7 +29,7 @@ asked-fits frame size sides h =
 pub asked-is : (frame : Frame) (size : Size) (sides : Sides) → asked frame size ≡ Some sides
     → turned frame.vertical (record { along = up (side size.width) frame.alignment_width; across = up (side size.height) frame.alignment_height }) ≡ sides
 asked-is frame size sides h =
-    (test-parts _ _ sides (test-both (is_side 65535 size.width && is_side 65535 size.height) _ sides h).1).1
+    (cond_some _ _ sides (test-both (is_side 65535 size.width && is_side 65535 size.height) _ sides h).1).1
 
 -- a shelf that is made for an item is no higher than the longest side
 shelf_height-low : (longest : ℕ) (frame : Frame) (height : ℕ) → across_side frame ≤ longest → height ≤ longest → shelf_height frame height ≤ longest

@@ -1,23 +1,24 @@
 -- Returning an id takes its allocation away and leaves the others.
 use Rattle.std.proofs.Common.{◌≡◌, ℕ, zero, suc, ◌+◌, ◌≤◌, Bool, true, false, cond, ◌==◌, not, Option, None, Some, List, [], ◌∷◌, ◌++◌, map, refl, ap, ◌∙◌, sym, arith}
-use Rattle.std.specs.Prelude.{slice_get, position, is_some}
-use Rattle.std.specs.List.{list_any}
-use Rattle.std.proofs.lemmas.Bool.{eq-eqb, eqb-true, or_parts, cond_both, cond-true, cond-false}
+use Rattle.std.proofs.lemmas.Bool.{eq-eqb, cond_both, cond-true, cond-false}
 use Rattle.std.proofs.lemmas.List.Elements.{filter-append}
+use Rattle.std.specs.Prelude.{slice_get}
 use Rattle.etagere_base.specs.declared.frames.Frame.{Frame}
 use Rattle.etagere_base.specs.declared.geometry.Rectangle.{Rectangle}
 use Rattle.etagere_base.specs.declared.ids.Allocation.{Allocation}
 use Rattle.etagere.specs.Atlas.{without_id}
 use Rattle.etagere.specs.Lists.{times, at_first}
-use Rattle.etagere.specs.Places.{column_place, heights_in, rectangle_at, allocation_of, held_along, held_after, held, is_held}
+use Rattle.etagere.specs.Places.{column_place, heights_in, rectangle_at, allocation_of, held_along, held_after, held}
 use Rattle.etagere.specs.Returning.{freed, is_held_in, returned_shelf, returned}
 use Rattle.etagere.specs.State.{Run, Shelf, AtlasState}
 use Rattle.etagere.specs.Valid.{holders, ids, IsValid}
-use Rattle.etagere.proofs.FirstPlace.{split-first, is_some-position}
-use Rattle.etagere.proofs.HeldIds.{id_of, ids-held_along, ids-held_after, times-not_held_in}
-use Rattle.etagere.proofs.HeldRuns.{held_run, returned_shelf-held, column-returned_shelf, height-returned_shelf}
-use Rattle.etagere.proofs.Holders.{times-append, times-holders}
-use Rattle.etagere.proofs.JoinedHeld.{joined_runs-held_along, joined_shelves-held, held_after-before, heights_in-append}
+use Rattle.etagere.proofs.Heights.{heights_in-append}
+use Rattle.etagere.proofs.HeldIds.{id_of, ids-held_after, ids-held_along, times-not_held_in}
+use Rattle.etagere.proofs.HeldLists.{held_after-heights}
+use Rattle.etagere.proofs.HeldRuns.{column-returned_shelf, height-returned_shelf, returned_shelf-held, run_of_holder}
+use Rattle.etagere.proofs.Holders.{times-holders}
+use Rattle.etagere.proofs.JoinedHeld.{joined_runs-held_along, joined_shelves-held}
+use Rattle.etagere.proofs.TimesLemmas.{times-append}
 
 -- a count of nothing has no part
 zero_parts : (b : Bool) (n : ℕ) → cond b 1 0 + n ≡ 0 → (not b ≡ true) × (n ≡ 0)
@@ -43,7 +44,7 @@ times-held id zero (x ∷ runs) run get holder =
     step b k h = grind arith
 times-held id (suc n) (x ∷ runs) run get holder =
     let rest = times-held id n runs run get holder in
-    let split = times-holders id x runs in
+    let split = times-holders id (x ∷ []) runs in
     omega arith
 
 -- what a run allocates has the id that holds it
@@ -85,7 +86,7 @@ module _ (frame : Frame) (id : ℕ) where
       let rectangle = rectangle_at frame here across x.width height in
       let held : x.holder ≡ Some id = ap (λ (r : Run). r.holder) (let same : x ≡ run = cc in same) ∙ holder in
       let own = times-held id zero (x ∷ []) x refl held in
-      let split = times-holders id x runs in
+      let split = times-holders id (x ∷ []) runs in
       sym (without_id-append id (allocation_of x.holder rectangle) rest
       ∙ ap (λ (l : List Allocation). l ++ without_id id rest) (without_id-own id x.holder rectangle held)
       ∙ without_id-held_along across height (here + x.width) runs (omega arith))
@@ -93,7 +94,7 @@ module _ (frame : Frame) (id : ℕ) where
       let rest = held_along frame across height (here + x.width) runs in
       let rectangle = rectangle_at frame here across x.width height in
       let found = times-held id n runs run get holder in
-      let split = times-holders id x runs in
+      let split = times-holders id (x ∷ []) runs in
       let none : times id (holders (x ∷ [])) ≡ 0 = omega arith in
       ap (λ (l : List Allocation). allocation_of x.holder rectangle ++ l)
       (held_along-freed across height (here + x.width) n runs run get holder (omega arith))
@@ -106,7 +107,7 @@ module _ (frame : Frame) (id : ℕ) where
       → held_along frame across (returned_shelf frame id shelf).height (column_place frame (returned_shelf frame id shelf)) (returned_shelf frame id shelf).runs
       ≡ without_id id (held_along frame across shelf.height (column_place frame shelf) shelf.runs)
   held_along-returned_shelf across shelf h once =
-      let held = held_run id shelf.runs h in
+      let held = run_of_holder id shelf.runs h in
       ap (λ (s : Shelf). held_along frame across s.height (column_place frame s) s.runs) (returned_shelf-held frame id held.number shelf held.found)
       ∙ joined_runs-held_along frame across shelf.height (column_place frame shelf) (freed held.number shelf.runs)
       ∙ held_along-freed across shelf.height (column_place frame shelf) held.number shelf.runs held.run held.get held.holder once
@@ -119,7 +120,7 @@ module _ (frame : Frame) (id : ℕ) where
       let across = heights_in shelf.column before in
       let along = held_along frame across shelf.height (column_place frame shelf) shelf.runs in
       let rest = held_after frame (before ++ shelf ∷ []) shelves in
-      let held = held_run id shelf.runs h in
+      let held = run_of_holder id shelf.runs h in
       let found = times-held id held.number shelf.runs held.run held.get held.holder in
       let split = times-append id (holders shelf.runs) (ids shelves) in
       let none : times id (ids shelves) ≡ 0 = omega arith in
@@ -133,7 +134,7 @@ module _ (frame : Frame) (id : ℕ) where
       ∙ ap (λ (l : List Allocation). l ++ held_after frame (before ++ changed ∷ []) shelves)
       (held_along-returned_shelf across shelf h (omega arith))
       ∙ ap (λ (l : List Allocation). without_id id along ++ l)
-      (held_after-before frame (before ++ changed ∷ []) (before ++ shelf ∷ []) shelves same
+      (held_after-heights frame (before ++ changed ∷ []) (before ++ shelf ∷ []) shelves same
       ∙ sym (without_id-held_after (before ++ shelf ∷ []) shelves none))
       ∙ sym (without_id-append id along rest)
 
@@ -158,52 +159,3 @@ pub returned-held : (state : AtlasState) (id : ℕ) → IsValid state → held (
 returned-held state id valid =
     joined_shelves-held state.frame [] (at_first (is_held_in id) (returned_shelf state.frame id) state.shelves)
     ∙ held_after-returned state.frame id [] state.shelves (valid.ids id)
-
--- an id's allocation between the others
-pub record HeldAmong (state : AtlasState) (id : ℕ) : Type 0 where
-  pub front : List Allocation
-  pub allocation : Allocation
-  pub back : List Allocation
-  pub held_is : held state ≡ front ++ allocation ∷ back
-  pub has_id : allocation.id ≡ id
-  pub returned_is : held (returned state id) ≡ front ++ back
-
--- an id that stands at most once, and stands first, is not among the rest
-first_only : (b : Bool) (n : ℕ) → b ≡ true → cond b 1 0 + n ≤ 1 → n ≡ 0
-first_only b n h k = grind arith
-
--- the others of an id whose allocation stands between them
-without_id-among : (id : ℕ) (front : List Allocation) (allocation : Allocation) (back : List Allocation)
-    → list_any (λ (a : Allocation). a.id == id) front ≡ false → (allocation.id == id) ≡ true
-    → times id (map id_of (front ++ allocation ∷ back)) ≤ 1 → without_id id (front ++ allocation ∷ back) ≡ front ++ back
-without_id-among id [] allocation back fails passes once =
-    cond-false _ _ _ (ap not passes) ∙ without_id-none id back (first_only (allocation.id == id) (times id (map id_of back)) passes once)
-without_id-among id (x ∷ front) allocation back fails passes once =
-    let parts = or_parts (x.id == id) (list_any (λ (a : Allocation). a.id == id) front) fails in
-    cond-true _ _ _ (ap not parts.0)
-    ∙ ap (λ (l : List Allocation). x ∷ l) (without_id-among id front allocation back parts.1 passes (omega arith))
-
--- an id's allocation between the others, by its number
-among : (state : AtlasState) (id : ℕ) → IsValid state → (o : Option ℕ) → position (λ (a : Allocation). a.id == id) (held state) ≡ o
-    → is_some o ≡ true → HeldAmong state id
-among state id valid None e h = absurd (cc)
-among state id valid (Some n) e h =
-    let split = split-first (λ (a : Allocation). a.id == id) (held state) n e in
-    let counted : times id (map id_of (split.front ++ split.first ∷ split.back)) ≡ times id (ids state.shelves) =
-    ap (λ (l : List Allocation). times id (map id_of l)) (sym split.is) ∙ ap (times id) (ids-held_after state.frame [] state.shelves) in
-    let once = valid.ids id in
-    record {
-      front = split.front;
-      allocation = split.first;
-      back = split.back;
-      held_is = split.is;
-      has_id = eqb-true split.first.id id split.passes;
-      returned_is = returned-held state id valid
-          ∙ ap (without_id id) split.is
-          ∙ without_id-among id split.front split.first split.back split.fails split.passes (omega arith);
-    }
-
--- returning a held id takes its one allocation out of what is held
-pub returned-among : (state : AtlasState) (id : ℕ) → IsValid state → is_held state id ≡ true → HeldAmong state id
-returned-among state id valid h =
-    among state id valid _ refl (is_some-position (λ (a : Allocation). a.id == id) (held state) ∙ h)

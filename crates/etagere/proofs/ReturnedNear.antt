@@ -1,8 +1,7 @@
 -- Returning an id in the shelf of its number.
-use Rattle.std.proofs.Common.{◌≡◌, ℕ, ◌+◌, ◌-◌, ◌≤◌, true, Some, List, length, get_or, set, refl, ap, ◌∙◌, arith}
-use Rattle.std.specs.Prelude.{position, slice_get}
+use Rattle.std.proofs.Common.{◌≡◌, ℕ, ◌+◌, ◌-◌, ◌≤◌, true, Some, List, length, get_or, set, ap, ◌∙◌, arith}
 use Rattle.std.proofs.lemmas.List.Quantifiers.{position-Some}
-use Rattle.std.proofs.lemmas.Option.{slice_get_read}
+use Rattle.std.specs.Prelude.{position, slice_get}
 use Rattle.etagere_base.specs.declared.frames.Frame.{Frame}
 use Rattle.etagere.specs.Joining.{both_empty, merged_shelves, joined_shelves}
 use Rattle.etagere.specs.Lists.{NoneTouch, at_first}
@@ -11,10 +10,11 @@ use Rattle.etagere.specs.Returning.{is_held_in, returned_shelf}
 use Rattle.etagere.specs.State.{Shelf, runs_in_use}
 use Rattle.etagere.specs.Steps.{AreLow}
 use Rattle.etagere.proofs.FirstPlace.{at_first-set}
+use Rattle.etagere.proofs.Heights.{heights_in-set}
 use Rattle.etagere.proofs.HeldRuns.{column-returned_shelf, height-returned_shelf}
 use Rattle.etagere.proofs.JoinedNear.{joined_shelves-near}
 use Rattle.etagere.proofs.ReturnedValid.{length-returned_shelf}
-use Rattle.etagere.proofs.ShelfNumbers.{heights_in-set, runs-le-in_use, runs_in_use-set}
+use Rattle.etagere.proofs.ShelfNumbers.{runs-le-in_use, runs_in_use-set, shelf-read}
 
 -- the shelf of an id's number
 pub record IsShelfOf (id n : ℕ) (shelves : List Shelf) (shelf : Shelf) : Type 0 where
@@ -27,7 +27,7 @@ pub shelf_of-read : (id n : ℕ) (shelves : List Shelf) (shelf : Shelf) → posi
 shelf_of-read id n shelves shelf found read =
     let there = position-Some (is_held_in id) shelves n shelf found in
     record {
-      get = slice_get_read shelves (length shelves) n shelf refl there.0 read;
+      get = shelf-read shelves n shelf there.0 read;
       holds = ap (is_held_in id) read ∙ there.1;
     }
 

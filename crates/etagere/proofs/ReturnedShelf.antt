@@ -1,17 +1,18 @@
 -- A shelf with a run returned is as a shelf must be.
 use Rattle.std.proofs.Common.{◌≡◌, ℕ, zero, suc, ◌+◌, ◌%◌, ◌≤◌, true, false, None, Some, List, [], ◌∷◌, length, refl, ap, ◌∙◌, sym, arith}
-use Rattle.std.specs.Prelude.{slice_get}
 use Rattle.std.proofs.Math.Nat.{mod-add-mod}
-use Rattle.etagere_base.specs.declared.frames.Frame.{Frame}
+use Rattle.std.specs.Prelude.{slice_get}
 use Rattle.etagere_base.specs.Frames.{alignment_along}
+use Rattle.etagere_base.specs.declared.frames.Frame.{Frame}
 use Rattle.etagere.specs.Joining.{both_free, merged_runs, joined_runs}
+use Rattle.etagere.specs.Lists.{Each}
 use Rattle.etagere.specs.Places.{column_place}
 use Rattle.etagere.specs.Returning.{freed, freed_shelf}
 use Rattle.etagere.specs.State.{Run, Shelf, is_free, total_width}
-use Rattle.etagere.specs.Lists.{Each}
 use Rattle.etagere.specs.Valid.{IsRun, IsShelf}
+use Rattle.etagere.proofs.EachLemmas.{Each-weaken}
 use Rattle.etagere.proofs.Joined.{apart-joined}
-use Rattle.etagere.proofs.JoinedKeeps.{measure-joined, at_most-joined, Each-joined}
+use Rattle.etagere.proofs.JoinedKeeps.{Each-joined, at_most-joined, measure-joined}
 use Rattle.etagere.proofs.JoinedNear.{runs-merge}
 use Rattle.etagere.proofs.ReturnedTried.{times-returned_tried}
 
@@ -61,11 +62,6 @@ merged-run frame x y t h k = record {
 freed-run : (frame : Frame) (run : Run) → IsRun frame run → IsRun frame (record { width = run.width; holder = None })
 freed-run frame run h = record { width = h.width; aligned = h.aligned }
 
--- each run is at least one pixel wide
-wide : (frame : Frame) (runs : List Run) → Each (IsRun frame) runs → Each (λ (run : Run). 1 ≤ run.width) runs
-wide frame [] h = tt
-wide frame (run ∷ runs) h = (h.0.width, wide frame runs h.1)
-
 -- a shelf with a held run returned is a shelf of the same column, height and width
 pub freed_shelf-valid : (frame : Frame) (n : ℕ) (shelf : Shelf) (run : Run) → IsShelf frame shelf
     → slice_get shelf.runs n ≡ Some run → is_free run ≡ false → IsShelf frame (freed_shelf frame n shelf)
@@ -76,5 +72,5 @@ freed_shelf-valid frame n shelf run valid get held = record {
       (Each-freed (IsRun frame) (freed-run frame) n shelf.runs valid.runs);
   width = total_width-joined (freed n shelf.runs) ∙ total_width-freed n shelf.runs ∙ valid.width;
   apart = apart-joined both_free merged_runs runs-merge (freed n shelf.runs);
-  tried = times-returned_tried (column_place frame shelf) n shelf.runs (wide frame shelf.runs valid.runs) shelf.tried valid.tried run valid.apart get held;
+  tried = times-returned_tried (column_place frame shelf) n shelf.runs (Each-weaken (IsRun frame) _ shelf.runs (λ (r : Run) (h : IsRun frame r). h.width) valid.runs) shelf.tried valid.tried run valid.apart get held;
 }

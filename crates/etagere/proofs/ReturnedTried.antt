@@ -1,7 +1,7 @@
 -- The trying order of a returned shelf has the place of each free run once.
-use Rattle.std.proofs.Common.{◌≡◌, ℕ, zero, suc, ◌+◌, ◌≤◌, Bool, true, false, cond, ◌&&◌, ◌==◌, not, Some, List, [], ◌∷◌, take, refl, ap, ◌∙◌, sym, ⊎_elim, arith}
+use Rattle.std.proofs.Common.{◌≡◌, ℕ, zero, suc, ◌+◌, ◌≤◌, Bool, true, false, cond, ◌&&◌, Some, List, [], ◌∷◌, take, refl, ap, ◌∙◌, arith}
+use Rattle.std.proofs.lemmas.Bool.{cond_both}
 use Rattle.std.specs.Prelude.{slice_get}
-use Rattle.std.proofs.lemmas.Bool.{cond_both, cases_eq, ne_eqb, not-true, not-false, eqb-true}
 use Rattle.etagere.specs.Joining.{both_free, merged_runs, joined_runs}
 use Rattle.etagere.specs.Lists.{Each, times, NoneTouch}
 use Rattle.etagere.specs.Merging.{merged_at, merged_before}
@@ -9,8 +9,9 @@ use Rattle.etagere.specs.Places.{free_places}
 use Rattle.etagere.specs.Returning.{is_free_at, is_free_before, place_at, freed, returned_tried}
 use Rattle.etagere.specs.State.{Run, is_free, total_width}
 use Rattle.etagere.specs.Taking.{without}
-use Rattle.etagere.proofs.FreePlaces.{starts, once, once_same, once_other, starts-free, starts-freed, starts-merged_at}
+use Rattle.etagere.proofs.FreePlaces.{once, starts, starts-free, starts-freed, starts-merged_at}
 use Rattle.etagere.proofs.JoinedNear.{joined_runs-freed, take-freed}
+use Rattle.etagere.proofs.TimesLemmas.{times-without}
 
 -- freeing a run leaves the one before it free or held
 is_free_at-freed_before : (n : ℕ) (runs : List Run) → is_free_at n (freed (suc n) runs) ≡ is_free_at n runs
@@ -72,51 +73,6 @@ starts-merged_before place here (suc n) runs free =
     only_first : (a b : Bool) → b ≡ true → (a && b) ≡ a
     only_first a b h = grind arith
 
--- a number is not in a list without it
-times-without_same : (n : ℕ) (ns : List ℕ) → times n (without n ns) ≡ 0
-times-without_same n [] = refl
-times-without_same n (m ∷ ms) =
-    cond_both (not (m == n)) (m ∷ without n ms) (without n ms) (λ (l : List ℕ). times n l ≡ 0)
-    (λ t. ap (λ (b : Bool). cond b 1 0 + times n (without n ms)) (not-true (m == n) t) ∙ zero_plus (times n (without n ms)) (times-without_same n ms))
-    (λ _. times-without_same n ms)
-  where
-    zero_plus : (k : ℕ) → k ≡ 0 → 0 + k ≡ 0
-    zero_plus k h = omega arith
-
--- another number in front doesn't count
-times_other : (n m : ℕ) (ms : List ℕ) → (m ≡ n → ⊥) → times n (m ∷ ms) ≡ times n ms
-times_other n m ms h = ap (λ (b : Bool). cond b 1 0 + times n ms) (ne_eqb m n h) ∙ zero_plus (times n ms)
-  where
-    zero_plus : (k : ℕ) → 0 + k ≡ k
-    zero_plus k = omega arith
-
--- another number stands as often in a list without one
-times-without_other : (n m : ℕ) (ns : List ℕ) → (n ≡ m → ⊥) → times n (without m ns) ≡ times n ns
-times-without_other n m [] differs = refl
-times-without_other n m (k ∷ ks) differs =
-    let rest = times-without_other n m ks differs in
-    cond_both (not (k == m)) (k ∷ without m ks) (without m ks) (λ (l : List ℕ). times n l ≡ times n (k ∷ ks))
-    (λ _. ap (λ (t : ℕ). cond (k == n) 1 0 + t) rest)
-    (λ f. rest ∙ sym (times_other n k ks (λ e. differs (sym e ∙ eqb-true k m (not-false (k == m) f)))))
-
--- a list without a number
-times-without : (n m : ℕ) (ns : List ℕ) → times m ns ≡ 1 → times n (without m ns) + once true m n ≡ times n ns
-times-without n m ns one = ⊎_elim same other (cases_eq m n)
-  where
-    same : m ≡ n → times n (without m ns) + once true m n ≡ times n ns
-    same e =
-        let gone : times n (without m ns) ≡ times m (without m ns) = ap (λ (k : ℕ). times k (without m ns)) (sym e) in
-        let none = times-without_same m ns in
-        let here = once_same m n e in
-        let counted : times n ns ≡ times m ns = ap (λ (k : ℕ). times k ns) (sym e) in
-        omega arith
-
-    other : (m ≡ n → ⊥) → times n (without m ns) + once true m n ≡ times n ns
-    other d =
-        let rest = times-without_other n m ns (λ e. d (sym e)) in
-        let none = once_other true m n d in
-        omega arith
-
 -- a chosen list
 times-cond : (n : ℕ) (b : Bool) (m : ℕ) (ns : List ℕ) → times n (cond b ns (m ∷ ns)) + once b m n ≡ once true m n + times n ns
 times-cond n true m ns = omega arith
@@ -126,6 +82,7 @@ times-cond n false m ns = omega arith
 once_cong : {b c : Bool} {p q : ℕ} (place : ℕ) → b ≡ c → p ≡ q → once b p place ≡ once c q place
 once_cong place e d = cc
 
+-- a test that passes leaves the other
 and_true : (a b : Bool) → a ≡ true → (a && b) ≡ b
 and_true a b h = grind arith
 

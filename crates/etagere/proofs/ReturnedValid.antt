@@ -1,25 +1,22 @@
 -- The state after an id was returned is as a state must be.
-use Rattle.std.proofs.Common.{◌≡◌, ℕ, ◌+◌, ◌≤◌, true, cond, ◌==◌, ◌&&◌, List, ◌∷◌, length, refl, ap, ◌∙◌, sym, subst, arith}
+use Rattle.std.proofs.Common.{◌≡◌, ℕ, ◌+◌, ◌≤◌, true, cond, ◌==◌, List, ◌∷◌, length, refl, ap, ◌∙◌, sym, subst, arith}
 use Rattle.std.specs.Prelude.{nat_lt}
-use Rattle.std.proofs.lemmas.Bool.{and_parts, eqb-true}
 use Rattle.etagere_base.specs.declared.frames.Frame.{Frame}
 use Rattle.etagere.specs.Joining.{joined_runs, both_empty, merged_shelves, joined_shelves}
 use Rattle.etagere.specs.Lists.{Each, times, at_first, NoneTouch}
 use Rattle.etagere.specs.Places.{heights_in}
 use Rattle.etagere.specs.Returning.{freed, is_held_in, returned_shelf, returned}
-use Rattle.etagere.specs.State.{Run, Shelf, AtlasState, is_empty, runs_in_use}
+use Rattle.etagere.specs.State.{Run, Shelf, AtlasState, runs_in_use}
 use Rattle.etagere.specs.Valid.{IsShelf, IsValid, holders, ids, is_out_of_order}
 use Rattle.etagere.proofs.FirstChanged.{Each-at_first, measure-at_first, at_most-at_first, NoneTouch-at_first}
-use Rattle.etagere.proofs.HeldRuns.{held_run, not_free, returned_shelf-held, column-returned_shelf, height-returned_shelf}
-use Rattle.etagere.proofs.Holders.{times-append, holders-joined, ids-joined, times-holders-freed}
+use Rattle.etagere.proofs.Heights.{same_column, heights_in-joined}
+use Rattle.etagere.proofs.HeldRuns.{not_free, returned_shelf-held, column-returned_shelf, height-returned_shelf, run_of_holder}
+use Rattle.etagere.proofs.Holders.{holders-joined, ids-joined, times-holders-freed}
 use Rattle.etagere.proofs.Joined.{apart-joined}
-use Rattle.etagere.proofs.JoinedKeeps.{measure-joined, at_most-joined, Each-joined, NoneTouch-joined}
+use Rattle.etagere.proofs.JoinedKeeps.{at_most-joined, Each-joined, NoneTouch-joined}
 use Rattle.etagere.proofs.JoinedNear.{shelves-merge}
 use Rattle.etagere.proofs.ReturnedShelf.{length-freed, length-joined-le, freed_shelf-valid}
-
--- empty neighbours that are joined stand in one column
-pub same_column : (x y : Shelf) → both_empty x y ≡ true → x.column ≡ y.column
-same_column x y t = eqb-true x.column y.column (and_parts (x.column == y.column) (is_empty x && is_empty y) t).0
+use Rattle.etagere.proofs.TimesLemmas.{times-append}
 
 -- a merged shelf is as a shelf must be
 merged-shelf : (frame : Frame) (x y : Shelf) → both_empty x y ≡ true → IsShelf frame x → IsShelf frame y → IsShelf frame (merged_shelves x y)
@@ -38,17 +35,6 @@ ordered-joined shelves h =
     NoneTouch-joined both_empty merged_shelves is_out_of_order
     (λ x y z t. ap (λ (column : ℕ). nat_lt z.column column) (same_column x y t)) (λ w x y t. refl) shelves h
 
--- the height of a merged shelf is that of its parts
-pub heights_step : (x y c : ℕ) (v w h : ℕ) → x ≡ y → cond (x == c) (v + w) 0 + h ≡ cond (x == c) v 0 + (cond (y == c) w 0 + h)
-heights_step x y c v w h e = grind arith
-
--- joining shelves changes the height of no column
-heights-joined : (column : ℕ) (shelves : List Shelf) → heights_in column (joined_shelves shelves) ≡ heights_in column shelves
-heights-joined column shelves =
-    measure-joined both_empty merged_shelves (heights_in column)
-    (λ x xs ys h. ap (λ (n : ℕ). cond (x.column == column) x.height 0 + n) h)
-    (λ x y ys t. heights_step x.column y.column column x.height y.height (heights_in column ys) (same_column x y t)) shelves
-
 -- joining shelves uses no more runs
 runs_in_use-joined-le : (shelves : List Shelf) → runs_in_use (joined_shelves shelves) ≤ runs_in_use shelves
 runs_in_use-joined-le shelves =
@@ -58,7 +44,7 @@ module _ (frame : Frame) (id : ℕ) where
   -- a shelf that an id was returned to is as a shelf must be
   returned_shelf-valid : (shelf : Shelf) → is_held_in id shelf ≡ true → IsShelf frame shelf → IsShelf frame (returned_shelf frame id shelf)
   returned_shelf-valid shelf h valid =
-      let held = held_run id shelf.runs h in
+      let held = run_of_holder id shelf.runs h in
       subst (IsShelf frame) (sym (returned_shelf-held frame id held.number shelf held.found))
       (freed_shelf-valid frame held.number shelf held.run valid held.get (not_free id held.run held.holder))
 
@@ -66,7 +52,7 @@ module _ (frame : Frame) (id : ℕ) where
   times-returned_shelf : (k : ℕ) (shelf : Shelf) → is_held_in id shelf ≡ true
       → times k (holders (returned_shelf frame id shelf).runs) ≤ times k (holders shelf.runs)
   times-returned_shelf k shelf h =
-      let held = held_run id shelf.runs h in
+      let held = run_of_holder id shelf.runs h in
       let n = held.number in
       let is : (returned_shelf frame id shelf).runs ≡ joined_runs (freed n shelf.runs) =
       ap (λ (s : Shelf). s.runs) (returned_shelf-held frame id n shelf held.found) in
@@ -78,7 +64,7 @@ module _ (frame : Frame) (id : ℕ) where
   -- returning an id to a shelf makes no runs more
   pub length-returned_shelf : (shelf : Shelf) → is_held_in id shelf ≡ true → length (returned_shelf frame id shelf).runs ≤ length shelf.runs
   length-returned_shelf shelf h =
-      let held = held_run id shelf.runs h in
+      let held = run_of_holder id shelf.runs h in
       let n = held.number in
       let is : length (returned_shelf frame id shelf).runs ≡ length (joined_runs (freed n shelf.runs)) =
       ap (λ (s : Shelf). length s.runs) (returned_shelf-held frame id n shelf held.found) in
@@ -106,7 +92,7 @@ module _ (frame : Frame) (id : ℕ) where
   heights-returned : (column : ℕ) (shelves : List Shelf)
       → heights_in column (joined_shelves (at_first (is_held_in id) (returned_shelf frame id) shelves)) ≡ heights_in column shelves
   heights-returned column shelves =
-      heights-joined column _
+      heights_in-joined column _
       ∙ measure-at_first (is_held_in id) (returned_shelf frame id) (heights_in column)
       (λ x xs ys h. ap (λ (n : ℕ). cond (x.column == column) x.height 0 + n) h)
       (λ x xs. same x (heights_in column xs)) shelves

@@ -1,26 +1,29 @@
--- Runs by their numbers.
-use Rattle.std.specs.Prelude.{◌&&◌, None, Some, insert, remove}
+-- Runs by their numbers: read, given, freed and merged.
 use Rattle.std.proofs.Common.{◌≡◌, ℕ, zero, suc, ◌+◌, ◌-◌, ◌<◌, ◌≤◌, Bool, true, false, cond, ◌==◌, List, [], ◌∷◌, ◌++◌, length, get_or, set, take, refl, ap, sym, arith}
+use Rattle.std.specs.Prelude.{None, Some, insert, remove}
 use Rattle.etagere.specs.Choice.{is_run_cut, width_at}
 use Rattle.etagere.specs.Joining.{both_free, merged_runs}
 use Rattle.etagere.specs.Lists.{cut_at}
 use Rattle.etagere.specs.Merging.{merged_at}
 use Rattle.etagere.specs.Returning.{is_free_at, freed}
 use Rattle.etagere.specs.State.{Run, is_free, total_width}
-use Rattle.etagere.specs.Steps.{number_at, held_count, width_of}
+use Rattle.etagere.specs.Steps.{number_at, width_of}
 use Rattle.etagere.specs.Taking.{run_pieces, taken_runs}
 use Rattle.etagere.proofs.ListEdits.{merged_at-touch}
 
+-- the run of a number is free as the one that is read there
 pub is_free_at-within : (n : ℕ) (runs : List Run) (d : Run) → n < length runs → is_free_at n runs ≡ is_free (get_or runs n d)
 is_free_at-within n [] d h = absurd (omega arith)
 is_free_at-within zero (run ∷ runs) d h = refl
 is_free_at-within (suc n) (run ∷ runs) d h = is_free_at-within n runs d (omega arith)
 
+-- past the last run none is free
 pub is_free_at-past : (n : ℕ) (runs : List Run) → length runs ≤ n → is_free_at n runs ≡ false
 is_free_at-past n [] h = refl
 is_free_at-past zero (run ∷ runs) h = absurd (omega arith)
 is_free_at-past (suc n) (run ∷ runs) h = is_free_at-past n runs (omega arith)
 
+-- the width of the run that is read at a number
 pub width_of-get : (n : ℕ) (runs : List Run) (d : Run) → n < length runs → width_of runs n ≡ (get_or runs n d).width
 width_of-get n [] d h = absurd (omega arith)
 width_of-get zero (run ∷ runs) d h = refl
@@ -33,50 +36,17 @@ widths-le-total zero (run ∷ []) d e h = absurd (omega arith)
 widths-le-total zero (run ∷ next ∷ runs) d e h = omega arith
 widths-le-total (suc n) (run ∷ runs) d e h = omega (arith, widths-le-total n runs d e (omega arith))
 
+-- the first runs are no wider than all
 pub total_width-take-le : (n : ℕ) (runs : List Run) → total_width (take n runs) ≤ total_width runs
 total_width-take-le zero runs = omega arith
 total_width-take-le (suc n) [] = omega arith
 total_width-take-le (suc n) (run ∷ runs) = omega (arith, total_width-take-le n runs)
 
+-- freeing a run is setting it
 pub freed-set : (n : ℕ) (runs : List Run) (d : Run) → n < length runs → freed n runs ≡ set runs n (record { width = (get_or runs n d).width; holder = None })
 freed-set n [] d h = refl
 freed-set zero (run ∷ runs) d h = refl
 freed-set (suc n) (run ∷ runs) d h = ap (λ (rs : List Run). run ∷ rs) (freed-set n runs d (omega arith))
-
--- a held run that is freed counts no more
-freed_count : (b : Bool) (n : ℕ) → b ≡ false → n + 1 ≡ cond b 0 1 + n
-freed_count true n h = cc
-freed_count false n h = omega arith
-
-pub held_count-freed : (n : ℕ) (runs : List Run) → n < length runs → is_free_at n runs ≡ false → held_count (freed n runs) + 1 ≡ held_count runs
-held_count-freed n [] h f = absurd (omega arith)
-held_count-freed zero (run ∷ runs) h f = omega (arith, freed_count (is_free run) (held_count runs) f)
-held_count-freed (suc n) (run ∷ runs) h f = omega (arith, held_count-freed n runs (omega arith) f)
-
--- two free runs count as one free run does
-merged_count : (a b : Bool) (n : ℕ) → (a && b) ≡ true → n ≡ cond a 0 1 + (cond b 0 1 + n)
-merged_count true true n h = omega arith
-merged_count true false n h = cc
-merged_count false b n h = cc
-
-merged_head : (b : Bool) (run next : Run) (runs : List Run) → both_free run next ≡ b → held_count (cond b (merged_runs run next ∷ runs) (run ∷ next ∷ runs)) ≡ held_count (run ∷ next ∷ runs)
-merged_head true run next runs h = omega (arith, merged_count (is_free run) (is_free next) (held_count runs) h)
-merged_head false run next runs h = refl
-
-pub held_count-merged_at : (n : ℕ) (runs : List Run) → held_count (merged_at both_free merged_runs n runs) ≡ held_count runs
-held_count-merged_at n [] = refl
-held_count-merged_at zero (run ∷ []) = refl
-held_count-merged_at zero (run ∷ next ∷ runs) = merged_head (both_free run next) run next runs refl
-held_count-merged_at (suc n) (run ∷ runs) = ap (λ m. cond (is_free run) 0 1 + m) (held_count-merged_at n runs)
-
-given_head : (b : Bool) (width rest id : ℕ) (run : Run) (runs : List Run) → held_count (cond b (record { width = width; holder = Some id } ∷ record { width = rest; holder = None } ∷ []) (record { width = run.width; holder = Some id } ∷ []) ++ runs) ≤ held_count (run ∷ runs) + 1
-given_head true width rest id run runs = omega arith
-given_head false width rest id run runs = omega arith
-
-pub held_count-cut_at : (n width id : ℕ) (runs : List Run) → held_count (cut_at n (run_pieces width id) runs) ≤ held_count runs + 1
-held_count-cut_at n width id [] = omega arith
-held_count-cut_at zero width id (run ∷ runs) = given_head (is_run_cut width run.width) width (run.width - width) id run runs
-held_count-cut_at (suc n) width id (run ∷ runs) = omega (arith, held_count-cut_at n width id runs)
 
 -- giving a whole run is setting it
 pub set-whole : (n : ℕ) (runs : List Run) (width id run_width : ℕ) (d given : Run) → n < length runs → is_run_cut width (width_of runs n) ≡ false → run_width ≡ (get_or runs n d).width → given ≡ record { width = run_width; holder = Some id } → set runs n given ≡ cut_at n (run_pieces width id) runs
@@ -131,8 +101,29 @@ taken_runs-cut_at width id place here (run ∷ runs) = cut_under (here == place)
     cut_under true rest = refl
     cut_under false rest = ap (λ (rs : List Run). run ∷ rs) rest
 
+-- the widths of runs, by a front and a back
+pub total_width-append : (front back : List Run) → total_width (front ++ back) ≡ total_width front + total_width back
+total_width-append [] back = omega arith
+total_width-append (run ∷ runs) back = omega (arith, total_width-append runs back)
+
+-- a run and those before it are no wider than all
+pub width_of-le : (n : ℕ) (runs : List Run) → n < length runs → total_width (take n runs) + width_of runs n ≤ total_width runs
+width_of-le n [] h = absurd (omega arith)
+width_of-le zero (run ∷ runs) h = omega arith
+width_of-le (suc n) (run ∷ runs) h = omega (arith, width_of-le n runs (omega arith))
+
 -- one run is no wider than all
 pub width-le-total : (n : ℕ) (runs : List Run) (d : Run) → n < length runs → (get_or runs n d).width ≤ total_width runs
-width-le-total n [] d h = absurd (omega arith)
-width-le-total zero (run ∷ runs) d h = omega arith
-width-le-total (suc n) (run ∷ runs) d h = omega (arith, width-le-total n runs d (omega arith))
+width-le-total n runs d h = omega (arith, width_of-get n runs d h, width_of-le n runs h)
+
+-- two neighbours, merged or not, are as wide
+merged_width : (b : Bool) (run next : Run) (runs : List Run) → total_width (cond b (merged_runs run next ∷ runs) (run ∷ next ∷ runs)) ≡ total_width (run ∷ next ∷ runs)
+merged_width true run next runs = omega arith
+merged_width false run next runs = refl
+
+-- merging runs changes no width
+pub total_width-merged_at : (n : ℕ) (runs : List Run) → total_width (merged_at both_free merged_runs n runs) ≡ total_width runs
+total_width-merged_at n [] = refl
+total_width-merged_at zero (run ∷ []) = refl
+total_width-merged_at zero (run ∷ next ∷ runs) = merged_width (both_free run next) run next runs
+total_width-merged_at (suc n) (run ∷ runs) = ap (λ m. run.width + m) (total_width-merged_at n runs)

@@ -1,14 +1,17 @@
--- Shelves by their numbers.
-use Rattle.std.proofs.Common.{◌≡◌, ℕ, zero, suc, ◌+◌, ◌<◌, ◌≤◌, true, false, cond, ◌&&◌, ◌==◌, Some, List, [], ◌∷◌, length, get_or, set, take, refl, sym, ◌∙◌, arith}
-use Rattle.std.specs.Prelude.{remove, slice_get}
-use Rattle.std.proofs.lemmas.Bool.{cond_both, and_parts, eqb-true}
+-- Shelves by their numbers: read, written and merged.
+use Rattle.std.proofs.Common.{◌≡◌, ℕ, zero, suc, ◌+◌, ◌<◌, ◌≤◌, true, false, ◌&&◌, ◌==◌, Some, List, [], ◌∷◌, length, get_or, set, refl, sym, ◌∙◌, arith}
+use Rattle.std.proofs.lemmas.Bool.{and_parts}
 use Rattle.std.proofs.lemmas.Option.{get_or_from_slice_get, slice_get_read, slice_get_within}
+use Rattle.std.specs.Prelude.{remove, slice_get}
+use Rattle.etagere_base.specs.declared.frames.Frame.{Frame}
 use Rattle.etagere.specs.Joining.{both_empty, merged_shelves}
+use Rattle.etagere.specs.Lists.{Each}
 use Rattle.etagere.specs.Merging.{merged_at}
-use Rattle.etagere.specs.Places.{heights_in}
 use Rattle.etagere.specs.State.{Run, Shelf, is_empty, is_one_free, runs_in_use}
-use Rattle.etagere.proofs.ListEdits.{merged_at-touch, merged_at-apart}
-use Rattle.etagere.proofs.ReturnedValid.{heights_step, same_column}
+use Rattle.etagere.specs.Steps.{IsNarrow}
+use Rattle.etagere.specs.Taking.{taken}
+use Rattle.etagere.proofs.EachLemmas.{Each-get}
+use Rattle.etagere.proofs.ListEdits.{merged_at-apart, merged_at-touch}
 
 -- an element is still there after one behind it was taken out
 get-removed : {X : Type 0} (n : ℕ) (xs : List X) (x : X) → slice_get xs n ≡ Some x → slice_get (remove xs (suc n)) n ≡ Some x
@@ -23,6 +26,7 @@ pub record IsRead {X : Type 0} (n : ℕ) (xs : List X) (x y kept taken : X) : Ty
   pub same : kept ≡ x
   pub next : taken ≡ y
 
+-- what is read twice at a number and behind it
 pub two_read : {X : Type 0} (n : ℕ) (xs ys : List X) (x y kept taken : X) → n + 1 < length xs → x ≡ get_or xs n x → y ≡ get_or xs (n + 1) y
     → ys ≡ remove xs (n + 1) → kept ≡ get_or ys n kept → taken ≡ get_or xs (n + 1) taken → IsRead n xs x y kept taken
 two_read {X} n xs ys x y kept taken within h k removed m t =
@@ -37,22 +41,6 @@ two_read {X} n xs ys x y kept taken within h k removed m t =
       same = m ∙ get_or_from_slice_get ys n x kept after;
       next = cc;
     }
-
--- two heights of one column are among its heights
-heights_of_two : (a b x y rest : ℕ) → b ≡ a → x + y ≤ cond (a == a) x 0 + (cond (b == a) y 0 + rest)
-heights_of_two a b x y rest h = grind arith
-
--- two neighbours of one column are no higher than it
-pub heights-le : (n : ℕ) (shelves : List Shelf) (shelf next : Shelf) → slice_get shelves n ≡ Some shelf → slice_get shelves (suc n) ≡ Some next
-    → both_empty shelf next ≡ true → shelf.height + next.height ≤ heights_in shelf.column shelves
-heights-le n [] shelf next h k t = absurd (cc)
-heights-le zero (x ∷ []) shelf next h k t = absurd (cc)
-heights-le zero (x ∷ y ∷ ys) shelf next h k t =
-    let first : x ≡ shelf = cc in
-    let second : y ≡ next = cc in
-    let column : next.column ≡ shelf.column = sym (eqb-true shelf.column next.column (and_parts (shelf.column == next.column) (is_empty shelf && is_empty next) t).0) in
-    rw (first, second) (heights_of_two shelf.column next.column shelf.height next.height (heights_in shelf.column ys) column)
-heights-le (suc n) (x ∷ xs) shelf next h k t = omega (arith, heights-le n xs shelf next h k t)
 
 -- an empty shelf has one run
 runs-empty : (runs : List Run) → is_one_free runs ≡ true → length runs ≡ 1
@@ -104,30 +92,11 @@ runs_in_use-set n [] shelf new h = absurd (cc)
 runs_in_use-set zero (x ∷ xs) shelf new h = let same : x ≡ shelf = cc in rw same (omega arith)
 runs_in_use-set (suc n) (x ∷ xs) shelf new h = omega (arith, runs_in_use-set n xs shelf new h)
 
--- writing a shelf of the same column and height changes the height of no column
-pub heights_in-set : (column n : ℕ) (shelves : List Shelf) (shelf new : Shelf) → slice_get shelves n ≡ Some shelf → new.column ≡ shelf.column → new.height ≡ shelf.height
-    → heights_in column (set shelves n new) ≡ heights_in column shelves
-heights_in-set column n [] shelf new h c t = refl
-heights_in-set column zero (x ∷ xs) shelf new h c t = let same : x ≡ shelf = cc in rw (c, t, same) refl
-heights_in-set column (suc n) (x ∷ xs) shelf new h c t = omega (arith, heights_in-set column n xs shelf new h c t)
+-- the shelf that is read at a number is the one of that number
+pub shelf-read : (shelves : List Shelf) (n : ℕ) (shelf : Shelf) → n < length shelves → shelf ≡ get_or shelves n shelf → slice_get shelves n ≡ Some shelf
+shelf-read shelves n shelf h read = slice_get_read shelves (length shelves) n shelf refl h read
 
--- merging two shelves changes the height of no column
-pub heights_in-merged_at : (column n : ℕ) (shelves : List Shelf) → heights_in column (merged_at both_empty merged_shelves n shelves) ≡ heights_in column shelves
-heights_in-merged_at column n [] = refl
-heights_in-merged_at column zero (x ∷ []) = refl
-heights_in-merged_at column zero (x ∷ y ∷ ys) =
-    cond_both (both_empty x y) (merged_shelves x y ∷ ys) (x ∷ y ∷ ys) (λ (l : List Shelf). heights_in column l ≡ heights_in column (x ∷ y ∷ ys))
-    (λ t. heights_step x.column y.column column x.height y.height (heights_in column ys) (same_column x y t)) (λ _. refl)
-heights_in-merged_at column (suc n) (x ∷ xs) = omega (arith, heights_in-merged_at column n xs)
-
--- a first height of a column is among its heights
-height_of_first : (a height rest : ℕ) → 0 + height ≤ cond (a == a) height 0 + rest
-height_of_first a height rest = grind arith
-
--- a shelf and those before it in its column are no higher than the column
-pub heights_in-upto : (n : ℕ) (shelves : List Shelf) (shelf : Shelf) → slice_get shelves n ≡ Some shelf
-    → heights_in shelf.column (take n shelves) + shelf.height ≤ heights_in shelf.column shelves
-heights_in-upto n [] shelf h = absurd (cc)
-heights_in-upto zero (x ∷ xs) shelf h =
-    let same : x ≡ shelf = cc in rw same (height_of_first shelf.column shelf.height (heights_in shelf.column xs))
-heights_in-upto (suc n) (x ∷ xs) shelf h = omega (arith, heights_in-upto n xs shelf h)
+-- the shelf that is read at a number has narrow places
+pub narrow-read : (frame : Frame) (shelves : List Shelf) (n : ℕ) (shelf : Shelf) → n < length shelves → shelf ≡ get_or shelves n shelf
+    → Each (IsNarrow frame) shelves → IsNarrow frame shelf
+narrow-read frame shelves n shelf h read each = Each-get (IsNarrow frame) shelves n shelf (shelf-read shelves n shelf h read) each

@@ -1,8 +1,7 @@
 -- What each state that an atlas comes to keeps.
-use Rattle.std.specs.Prelude.{not, filter}
+use Rattle.std.proofs.Common.{◌≡◌, ℕ, ◌==◌, false, Some, List, [], ap, sym, subst, arith}
 use Rattle.std.specs.List.{list_any}
-use Rattle.std.proofs.Common.{◌≡◌, ℕ, suc, ◌+◌, ◌≤◌, ◌==◌, Bool, true, false, cond, Some, List, [], ◌∷◌, refl, ap, sym, subst, arith}
-use Rattle.std.proofs.lemmas.Bool.{cond_both}
+use Rattle.std.specs.Prelude.{not}
 use Rattle.etagere_base.specs.declared.geometry.Rectangle.{Rectangle}
 use Rattle.etagere_base.specs.declared.geometry.Size.{Size}
 use Rattle.etagere_base.specs.declared.ids.Allocation.{Allocation}
@@ -16,14 +15,15 @@ use Rattle.etagere.specs.Returning.{returned}
 use Rattle.etagere.specs.State.{AtlasState}
 use Rattle.etagere.specs.Taking.{given, taken}
 use Rattle.etagere.specs.Valid.{IsValid, ids}
-use Rattle.etagere.proofs.EachLemmas.{Each-append, Each-front, Each-back, Each-middle}
-use Rattle.etagere.proofs.FreshCorners.{corner-fresh}
+use Rattle.etagere.proofs.CornersApart.{corner-fresh}
+use Rattle.etagere.proofs.EachLemmas.{Each-append, Each-back, Each-filter, Each-front, Each-middle}
 use Rattle.etagere.proofs.HeldIds.{ids-held_after}
-use Rattle.etagere.proofs.NothingHeld.{nothing_held-fresh}
+use Rattle.etagere.proofs.HeldNothing.{nothing_held-fresh}
 use Rattle.etagere.proofs.ReturnedHeld.{returned-held}
 use Rattle.etagere.proofs.TakenHeld.{TakesIn, taken-held}
 use Rattle.etagere.proofs.TakenValid.{taken-valid}
 use Rattle.etagere.proofs.Tiling.{held-apart, held-inside}
+use Rattle.etagere.proofs.TimesLemmas.{times-above, unused}
 
 -- a valid state is sound
 pub sound : (state : AtlasState) → IsValid state → IsSound state
@@ -34,26 +34,6 @@ sound state valid = record {
   apart = held-apart state valid;
   empty = nothing_held-fresh state valid;
 }
-
--- a number above all of a list
-abbrev unused : List ℕ → ℕ
-unused [] = 0
-unused (n ∷ ns) = suc n + unused ns
-
-other_number : (b : Bool) (n m k : ℕ) → (n == m) ≡ b → suc n ≤ m → k ≡ 0 → cond b 1 0 + k ≡ 0
-other_number true n m k e h z = absurd (grind arith)
-other_number false n m k e h z = omega arith
-
-times-above : (m : ℕ) (ns : List ℕ) → unused ns ≤ m → times m ns ≡ 0
-times-above m [] h = refl
-times-above m (n ∷ ns) h = other_number (n == m) n m (times m ns) refl (omega arith) (times-above m ns (omega arith))
-
--- a fact of each stays with those that pass a test
-Each-filter : {X : Type 0} (P : X → Type 0) (test : X → Bool) (xs : List X) → Each P xs → Each P (filter test xs)
-Each-filter P test [] each = tt
-Each-filter P test (x ∷ xs) each =
-    cond_both (test x) (x ∷ filter test xs) (filter test xs) (Each P)
-    (λ _. (each.0, Each-filter P test xs each.1)) (λ _. Each-filter P test xs each.1)
 
 -- what a placement gives lies within the atlas
 pub given-inside : (state : AtlasState) (size : Size) (placement : Placement) (rectangle : Rectangle) → IsValid state

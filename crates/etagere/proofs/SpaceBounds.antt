@@ -1,23 +1,16 @@
 -- What is held is no larger than the atlas.
 use Rattle.std.proofs.Common.{◌≡◌, ℕ, ◌+◌, ◌*◌, ◌<◌, ◌≤◌, Bool, true, false, cond, List, [], ◌∷◌, refl, ap, arith}
-use Rattle.std.specs.Prelude.{nat_lt}
 use Rattle.std.proofs.Math.Nat.{div-mul-le_self, mul-add, mul-le-mul_right, mul_assoc, mul_comm}
-use Rattle.etagere_base.specs.declared.frames.Frame.{Frame}
+use Rattle.std.specs.Prelude.{nat_lt}
 use Rattle.etagere_base.specs.Frames.{IsFrame, along_side, across_side}
 use Rattle.etagere_base.specs.Sides.{turned}
+use Rattle.etagere_base.specs.declared.frames.Frame.{Frame}
 use Rattle.etagere.specs.Lists.{Each}
 use Rattle.etagere.specs.Space.{held_width, space_in, allocated_space}
-use Rattle.etagere.specs.State.{Run, Shelf, AtlasState, is_free, total_width}
+use Rattle.etagere.specs.State.{Shelf, AtlasState}
 use Rattle.etagere.specs.Valid.{IsShelf, IsValid}
 use Rattle.etagere.proofs.ColumnShelves.{heights_before, heights_before-columns}
-
--- the held runs are no wider than all
-held_width-le : (runs : List Run) → held_width runs ≤ total_width runs
-held_width-le [] = omega arith
-held_width-le (run ∷ runs) = step (is_free run) run.width (held_width runs) (total_width runs) (held_width-le runs)
-  where
-    step : (b : Bool) (width n m : ℕ) → n ≤ m → cond b 0 width + n ≤ width + m
-    step b width n m h = grind arith
+use Rattle.etagere.proofs.SpaceLemmas.{held_width-le}
 
 -- shelves hold no more than their heights by the width of a column
 space_in-le : (frame : Frame) (shelves : List Shelf) → Each (IsShelf frame) shelves → space_in shelves ≤ frame.column_width * heights_before frame.columns shelves

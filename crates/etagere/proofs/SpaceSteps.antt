@@ -13,16 +13,17 @@ use Rattle.etagere.specs.Steps.{held_area}
 use Rattle.etagere.specs.Taking.{given_height, given_width, taken}
 use Rattle.etagere.specs.Valid.{IsValid, ids}
 use Rattle.etagere.proofs.EachLemmas.{Each-get}
-use Rattle.etagere.proofs.HeldRuns.{held_run}
+use Rattle.etagere.proofs.Heights.{heights_in-upto}
+use Rattle.etagere.proofs.HeldRuns.{run_of_holder}
 use Rattle.etagere.proofs.Returnable.{within}
 use Rattle.etagere.proofs.ReturnedNear.{shelf_of-read}
 use Rattle.etagere.proofs.ReturnedSpace.{space-returned}
-use Rattle.etagere.proofs.ShelfNumbers.{heights_in-upto}
 use Rattle.etagere.proofs.SpaceBounds.{space-le-area}
 use Rattle.etagere.proofs.TakenSpace.{space-taken}
 use Rattle.etagere.proofs.TakenValid.{taken-valid}
 
-pub small-area : (width height : ℕ) → width ≤ 65535 → height ≤ 65535 → width * height < 2 ^ 32
+-- sides of at most 65535 pixels span fewer than 2 ^ 32
+small-area : (width height : ℕ) → width ≤ 65535 → height ≤ 65535 → width * height < 2 ^ 32
 small-area width height narrow low = omega (arith, mul-le-mul_right height narrow)
 
 -- what is held is less than 2 ^ 31 pixels
@@ -30,7 +31,7 @@ pub space-small : (state : AtlasState) → IsValid state → allocated_space sta
 space-small state valid = omega (arith, space-le-area state valid, valid.frame.area)
 
 -- a shelf has fewer than 2 ^ 32 pixels
-pub shelf-small : (state : AtlasState) (n : ℕ) (shelf : Shelf) → IsValid state → slice_get state.shelves n ≡ Some shelf → total_width shelf.runs * shelf.height < 2 ^ 32
+shelf-small : (state : AtlasState) (n : ℕ) (shelf : Shelf) → IsValid state → slice_get state.shelves n ≡ Some shelf → total_width shelf.runs * shelf.height < 2 ^ 32
 shelf-small state n shelf valid there =
     let bounds = within state valid in
     let right = Each-get (λ (s : Shelf). column_place state.frame s + total_width s.runs ≤ 65535) state.shelves n shelf there bounds.right in
@@ -48,7 +49,7 @@ pub space-freed : (state : AtlasState) (id n : ℕ) (shelf : Shelf) → IsValid 
     → shelf ≡ get_or state.shelves n shelf → allocated_space (returned state id) + held_area id shelf ≡ allocated_space state
 space-freed state id n shelf valid found read =
     let there = shelf_of-read id n state.shelves shelf found read in
-    let run = held_run id shelf.runs there.holds in
+    let run = run_of_holder id shelf.runs there.holds in
     rw run.found (space-returned state id n run.number shelf valid found there.get run.found)
 
 -- the shelf of an id has fewer than 2 ^ 32 pixels

@@ -1,40 +1,20 @@
 -- What taking the placement of a size needs of a valid state.
-use Rattle.std.proofs.Common.{◌≡◌, ℕ, ◌+◌, ◌≤◌, Bool, true, false, cond, Some, List, [], ◌∷◌, ◌++◌, take, refl, subst, ap, arith}
-use Rattle.std.specs.Prelude.{nat_le}
+use Rattle.std.proofs.Common.{◌≡◌, ℕ, ◌≤◌, Bool, true, false, cond, Some, ◌∷◌, take, refl, subst, ap, arith}
 use Rattle.std.proofs.lemmas.Option.{slice_get_within}
-use Rattle.etagere_base.specs.declared.frames.Frame.{Frame}
 use Rattle.etagere_base.specs.declared.geometry.Size.{Size}
-use Rattle.etagere_base.specs.Frames.{IsFrame}
 use Rattle.etagere.specs.Choice.{Placement, is_run_cut, is_shelf_cut, placement_of, width_at}
-use Rattle.etagere.specs.Lists.{Each}
 use Rattle.etagere.specs.Places.{column_place, heights_in}
-use Rattle.etagere.specs.State.{Run, Shelf, AtlasState, total_width}
-use Rattle.etagere.specs.Steps.{CanTake, IsNarrow, IsTakeable}
-use Rattle.etagere.specs.Valid.{IsShelf, IsValid}
-use Rattle.etagere.proofs.EachLemmas.{Each-weaken}
-use Rattle.etagere.proofs.PlacedSizes.{placement-low, sides_low}
-use Rattle.etagere.proofs.RunLemmas.{cut-wide}
-use Rattle.etagere.proofs.TakenLists.{slice_get-at, find-stands}
-use Rattle.etagere.proofs.TakenPlacement.{IsPlaced, placement_of-placed}
+use Rattle.etagere.specs.State.{Shelf, AtlasState, total_width}
+use Rattle.etagere.specs.Steps.{CanTake, IsTakeable}
+use Rattle.etagere.specs.Valid.{IsValid}
+use Rattle.etagere.proofs.CutLists.{split-at}
+use Rattle.etagere.proofs.FrameSides.{sides_low}
+use Rattle.etagere.proofs.Heights.{heights_in-append, heights_in-own}
+use Rattle.etagere.proofs.Placed.{IsPlaced, placement_of-placed, chosen-stands}
+use Rattle.etagere.proofs.PlacedSizes.{placement-low}
+use Rattle.etagere.proofs.Returnable.{shelf-right}
+use Rattle.etagere.proofs.RunLemmas.{cut-wide, total_width-append}
 use Rattle.etagere.proofs.TakenShelves.{taking}
-use Rattle.etagere.proofs.Tiling.{column-within, heights_in-append, heights_in-own}
-
--- a shelf of a valid state ends within the side along the shelves
-shelf-end : (frame : Frame) (shelf : Shelf) → IsFrame 65535 frame → IsShelf frame shelf → column_place frame shelf + total_width shelf.runs ≤ 65535
-shelf-end frame shelf valid ok =
-    let inside = column-within frame shelf.column valid ok.column in
-    let low = (sides_low 65535 frame valid).0 in
-    omega (arith, ok.width)
-
--- the places of each shelf of a valid state fit 32 bits
-pub narrow-valid : (state : AtlasState) → IsValid state → Each (IsNarrow state.frame) state.shelves
-narrow-valid state valid =
-    Each-weaken (IsShelf state.frame) (IsNarrow state.frame) state.shelves (λ (shelf : Shelf) (ok : IsShelf state.frame shelf). omega (arith, shelf-end state.frame shelf valid.frame ok)) valid.shelves
-
--- the widths of a row of runs, by one of them
-total_width-at : (front : List Run) (run : Run) (back : List Run) → total_width front + run.width ≤ total_width (front ++ run ∷ back)
-total_width-at [] run back = omega arith
-total_width-at (first ∷ front) run back = omega (arith, total_width-at front run back)
 
 -- what is given of a run or a shelf is no more than all of it
 given-le : (b : Bool) (part whole : ℕ) → (b ≡ true → part ≤ whole) → cond b part whole ≤ whole
@@ -51,8 +31,8 @@ takeable-placed state size placement valid placed =
     let f = t.found in
     let low = placement-low state size placed.sides placement valid.frame placed.asked placed.chosen in
     let across = (sides_low 65535 state.frame valid.frame).1 in
-    let split = slice_get-at state.shelves placement.shelf shelf placed.chosen.at in
-    let stands = find-stands (λ place. nat_le placed.sides.along (width_at here shelf.runs place)) shelf.tried placement.place placed.chosen.place in
+    let split = split-at state.shelves placement.shelf shelf placed.chosen.at in
+    let stands = chosen-stands state placed.sides placement placed.chosen in
     record {
       tried = stands.1;
       there = omega (arith, f.width, t.room.wide, t.room.fits);
@@ -63,9 +43,9 @@ takeable-placed state size placement valid placed =
         given-le (is_run_cut placement.width (width_at here shelf.runs placement.place)) _ _ (cut-wide placement.width (width_at here shelf.runs placement.place)),
         f.width,
         f.begins,
-        total_width-at f.front f.run f.back,
+        total_width-append f.front (f.run ∷ f.back),
         ap total_width f.whole,
-        shelf-end state.frame shelf valid.frame t.valid,
+        shelf-right state.frame valid.frame shelf t.valid,
       );
       bottom = omega (
         arith,

@@ -1,8 +1,8 @@
 -- The edits by which the program takes a placement among the shelves.
-use Rattle.std.specs.Prelude.{insert}
-use Rattle.std.proofs.Common.{◌≡◌, ℕ, zero, suc, ◌-◌, ◌<◌, true, false, IsTrue, List, [], ◌∷◌, ◌++◌, length, get_or, set, refl, sym, ap, ◌∙◌, arith}
+use Rattle.std.proofs.Common.{◌≡◌, ℕ, suc, ◌-◌, ◌<◌, true, false, IsTrue, List, [], ◌∷◌, length, get_or, set, refl, sym, ap, ◌∙◌, arith}
 use Rattle.std.proofs.lemmas.Bool.{cond-true, cond-false}
 use Rattle.std.proofs.lemmas.Option.{slice_get-get_or}
+use Rattle.std.specs.Prelude.{insert}
 use Rattle.etagere_base.specs.declared.frames.Frame.{Frame}
 use Rattle.etagere.specs.Choice.{Placement, cuts, is_run_cut, is_shelf_cut, width_at}
 use Rattle.etagere.specs.Lists.{cut_at}
@@ -10,18 +10,8 @@ use Rattle.etagere.specs.Places.{column_place}
 use Rattle.etagere.specs.State.{Shelf, empty_shelf}
 use Rattle.etagere.specs.Steps.{is_cut_at, state_of}
 use Rattle.etagere.specs.Taking.{shelf_pieces, taken_shelf}
-
--- an element that becomes one piece is set
-cut_at-set : {X : Type 0} (pieces : X → List X) (n : ℕ) (xs : List X) (d y : X) → n < length xs → pieces (get_or xs n d) ≡ y ∷ [] → cut_at n pieces xs ≡ set xs n y
-cut_at-set pieces n [] d y h p = refl
-cut_at-set pieces zero (x ∷ xs) d y h p = ap (λ (ys : List _). ys ++ xs) p
-cut_at-set pieces (suc n) (x ∷ xs) d y h p = ap (λ (ys : List _). x ∷ ys) (cut_at-set pieces n xs d y (omega arith) p)
-
--- an element that becomes two pieces is set to the first, and the second is inserted after it
-cut_at-insert : {X : Type 0} (pieces : X → List X) (n : ℕ) (xs : List X) (d y z : X) → n < length xs → pieces (get_or xs n d) ≡ y ∷ z ∷ [] → cut_at n pieces xs ≡ insert (set xs n y) (suc n) z
-cut_at-insert pieces n [] d y z h p = absurd (omega arith)
-cut_at-insert pieces zero (x ∷ xs) d y z h p = ap (λ (ys : List _). ys ++ xs) p
-cut_at-insert pieces (suc n) (x ∷ xs) d y z h p = ap (λ (ys : List _). x ∷ ys) (cut_at-insert pieces n xs d y z (omega arith) p)
+use Rattle.etagere.proofs.CutLists.{cut_at-insert, cut_at-set}
+use Rattle.etagere.proofs.ShelfNumbers.{shelf-read}
 
 -- the shelf of a placement is cut where the one that is read there is
 is_cut_at-read : (placement : Placement) (shelves : List Shelf) (shelf : Shelf) → placement.shelf < length shelves → shelf ≡ get_or shelves placement.shelf shelf
@@ -37,19 +27,12 @@ taken-whole frame placement id height shelves shelf taken within whole read same
     ap (shelf_pieces frame placement id) (sym read) ∙ cond-false _ _ _ (sym (is_cut_at-read placement shelves shelf within read) ∙ whole) ∙ ap (λ (s : Shelf). s ∷ []) (rw (is, same) refl) in
     sym (cut_at-set (shelf_pieces frame placement id) placement.shelf shelves shelf taken within pieces)
 
--- an element that is read twice is the same
-same-read : {X : Type 0} (xs : List X) (n : ℕ) (x y : X) → n < length xs → x ≡ get_or xs n x → y ≡ get_or xs n y → x ≡ y
-same-read xs n x y within once again =
-    let first = slice_get-get_or xs n x within in
-    let second = slice_get-get_or xs n y within in
-    cc
-
 -- taking in the lower part of a shelf is setting it and inserting the rest
 pub taken-lower : (frame : Frame) (placement : Placement) (id : ℕ) (shelves : List Shelf) (shelf first taken rest : Shelf) → placement.shelf < length shelves → is_cut_at placement shelves ≡ true
     → first ≡ get_or shelves placement.shelf first → shelf ≡ get_or shelves placement.shelf shelf → taken ≡ taken_shelf frame placement id placement.height shelf → rest ≡ empty_shelf frame first.column (first.height - placement.height)
     → insert (set shelves placement.shelf taken) (suc placement.shelf) rest ≡ cut_at placement.shelf (shelf_pieces frame placement id) shelves
 taken-lower frame placement id shelves shelf first taken rest within lower once read is left =
-    let same : first ≡ shelf = same-read shelves placement.shelf first shelf within once read in
+    let same : first ≡ shelf = cc (shelf-read shelves placement.shelf first within once, shelf-read shelves placement.shelf shelf within read) in
     let pieces : shelf_pieces frame placement id (get_or shelves placement.shelf shelf) ≡ taken ∷ rest ∷ [] =
     ap (shelf_pieces frame placement id) (sym read) ∙ cond-true _ _ _ (sym (is_cut_at-read placement shelves shelf within read) ∙ lower) ∙ rw (is, left, same) refl in
     sym (cut_at-insert (shelf_pieces frame placement id) placement.shelf shelves shelf taken rest within pieces)

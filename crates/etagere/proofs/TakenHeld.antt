@@ -10,20 +10,13 @@ use Rattle.etagere.specs.Places.{column_place, heights_in, rectangle_at, held_al
 use Rattle.etagere.specs.State.{Run, Shelf, AtlasState, is_one_free, total_width}
 use Rattle.etagere.specs.Taking.{run_pieces, taken_shelf, shelf_pieces, given_width, given_in, given, taken}
 use Rattle.etagere.specs.Valid.{IsValid}
-use Rattle.etagere.proofs.TakenLists.{slice_get-at}
+use Rattle.etagere.proofs.CutLists.{split-at}
+use Rattle.etagere.proofs.Heights.{heights_in-append}
+use Rattle.etagere.proofs.HeldLists.{held_along-append, held_after-append, held_after-heights}
+use Rattle.etagere.proofs.Placed.{placement_of-placed}
 use Rattle.etagere.proofs.TakenPieces.{held_run, free_run, pieces-cases}
-use Rattle.etagere.proofs.TakenPlacement.{placement_of-placed}
 use Rattle.etagere.proofs.TakenShelves.{IsTaking, taking, shelf_pieces-cases}
-use Rattle.etagere.proofs.TakenValid.{heights_in-append, pieces-heights}
-
--- what the runs of a front and a back allocate
-held_along-append : (frame : Frame) (across height here : ℕ) (front back : List Run)
-    → held_along frame across height here (front ++ back) ≡ held_along frame across height here front ++ held_along frame across height (here + total_width front) back
-held_along-append frame across height here [] back = ap (λ n. held_along frame across height n back) (omega arith)
-held_along-append frame across height here (run ∷ runs) back =
-    let begin : held_along frame across height ((here + run.width) + total_width runs) back ≡ held_along frame across height (here + (run.width + total_width runs)) back =
-    ap (λ n. held_along frame across height n back) (omega arith) in
-    simp (held_along-append frame across height (here + run.width) runs back, begin, append_assoc) refl
+use Rattle.etagere.proofs.TakenValid.{pieces-heights}
 
 -- what runs allocate, where a free one is in view
 held_along-free : (frame : Frame) (across height here : ℕ) (front : List Run) (run : Run) (back : List Run) → run.holder ≡ None
@@ -49,22 +42,6 @@ alone [] run [] h = (refl, refl)
 alone [] run (next ∷ back) h = cc
 alone (first ∷ []) run back h = cc
 alone (first ∷ next ∷ front) run back h = cc
-
--- what shelves allocate that stand after a front
-pub held_after-append : (frame : Frame) (before front back : List Shelf)
-    → held_after frame before (front ++ back) ≡ held_after frame before front ++ held_after frame (before ++ front) back
-held_after-append frame before [] back = ap (λ shelves. held_after frame shelves back) (sym (append-nil before))
-held_after-append frame before (shelf ∷ shelves) back =
-    simp (held_after-append frame (before ++ shelf ∷ []) shelves back, append_assoc) refl
-
--- of the shelves before it a shelf's allocations depend on the heights alone
-held_after-heights : (frame : Frame) (before other shelves : List Shelf)
-    → ((column : ℕ) → heights_in column before ≡ heights_in column other) → held_after frame before shelves ≡ held_after frame other shelves
-held_after-heights frame before other [] h = refl
-held_after-heights frame before other (shelf ∷ shelves) h =
-    let later = held_after-heights frame (before ++ shelf ∷ []) (other ++ shelf ∷ []) shelves
-    (λ column. omega (arith, h column, heights_in-append column before (shelf ∷ []), heights_in-append column other (shelf ∷ []))) in
-    rw (h shelf.column, later) refl
 
 -- what a shelf allocates in which a placement took a run
 taken_shelf-held : (frame : Frame) (placement : Placement) (id across height : ℕ) (shelf : Shelf) → (t : IsTaking frame placement shelf)
@@ -146,7 +123,7 @@ taken-held state size placement id valid h =
     let at = placed.chosen.at in
     let frame = state.frame in
     let t = taking state size placement valid placed in
-    let split = slice_get-at state.shelves placement.shelf shelf at in
+    let split = split-at state.shelves placement.shelf shelf at in
     let pieces = shelf_pieces frame placement id shelf in
     record {
       front = held_after frame [] split.front ++ held_front frame placement split.front shelf t;

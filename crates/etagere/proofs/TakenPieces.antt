@@ -1,19 +1,23 @@
 -- A free run among others, and the pieces that stand in its place when it is taken.
 use Rattle.std.proofs.Common.{◌≡◌, ℕ, ◌+◌, ◌-◌, ◌*◌, ◌/◌, ◌%◌, ◌<◌, ◌≤◌, Bool, true, false, cond, None, Some, List, [], ◌∷◌, ◌++◌, length, refl, ap, arith}
-use Rattle.std.specs.Prelude.{is_none}
-use Rattle.std.proofs.lemmas.Bool.{and_right, ltb-true}
-use Rattle.std.proofs.lemmas.Nat.{div-add-mod'}
 use Rattle.std.proofs.Math.Nat.{mul-mod_left, mul-sub}
+use Rattle.std.proofs.lemmas.Bool.{and_right, ltb-true}
 use Rattle.std.proofs.lemmas.List.{length-append}
-use Rattle.etagere_base.specs.declared.frames.Frame.{Frame}
+use Rattle.std.proofs.lemmas.Nat.{div-add-mod'}
+use Rattle.std.specs.Prelude.{is_none}
 use Rattle.etagere_base.specs.Frames.{alignment_along}
+use Rattle.etagere_base.specs.declared.frames.Frame.{Frame}
 use Rattle.etagere.specs.Choice.{is_run_cut}
 use Rattle.etagere.specs.Joining.{both_free}
 use Rattle.etagere.specs.Lists.{Each, times, NoneTouch}
 use Rattle.etagere.specs.State.{Run, is_free, is_one_free, total_width}
 use Rattle.etagere.specs.Taking.{run_pieces}
 use Rattle.etagere.specs.Valid.{IsRun, holders}
-use Rattle.etagere.proofs.TakenLists.{hit, Each-append, Each-front, Each-back, NoneTouch-changed, NoneTouch-cut, times-append}
+use Rattle.etagere.proofs.EachLemmas.{Each-append, Each-back, Each-front}
+use Rattle.etagere.proofs.Holders.{times-holders}
+use Rattle.etagere.proofs.NoneTouchLemmas.{NoneTouch-changed, NoneTouch-cut}
+use Rattle.etagere.proofs.RunLemmas.{total_width-append}
+use Rattle.etagere.proofs.TimesLemmas.{hit}
 
 -- a free run that is wide enough for a width that is aligned
 pub record IsRoom (frame : Frame) (run : Run) (width : ℕ) : Type 0 where
@@ -57,11 +61,6 @@ pieces-each frame front run back width id room each =
     (λ cut. (record { width = room.wide; aligned = room.aligned }, (record { width = omega arith; aligned = rest-aligned run.width width (alignment_along frame) old.0.aligned room.aligned (omega arith) }, old.1)))
     (record { width = old.0.width; aligned = old.0.aligned }, old.1))
 
--- the widths of runs, by a front and a back
-total_width-append : (front back : List Run) → total_width (front ++ back) ≡ total_width front + total_width back
-total_width-append [] back = omega arith
-total_width-append (run ∷ runs) back = omega (arith, total_width-append runs back)
-
 -- the runs are as wide together after one was taken
 pub pieces-width : (frame : Frame) (front : List Run) (run : Run) (back : List Run) (width id : ℕ)
     → IsRoom frame run width → total_width (front ++ (run_pieces width id run ++ back)) ≡ total_width (front ++ run ∷ back)
@@ -79,12 +78,12 @@ pieces-length front run back width id =
     (omega (arith, length-append {A = Run}))
 
 -- a held run is next to no free one
-held-apart : (width id : ℕ) (run : Run) → both_free run (held_run width id) ≡ false
-held-apart width id run = and_right _ _ refl
+held_run-apart : (width id : ℕ) (run : Run) → both_free run (held_run width id) ≡ false
+held_run-apart width id run = and_right _ _ refl
 
 -- a free run has the free neighbours of another
-free-apart : (width : ℕ) (run next : Run) → run.holder ≡ None → both_free run next ≡ false → both_free (free_run width) next ≡ false
-free-apart width run next free h =
+free_run-apart : (width : ℕ) (run next : Run) → run.holder ≡ None → both_free run next ≡ false → both_free (free_run width) next ≡ false
+free_run-apart width run next free h =
     let free_run_is_free : is_free run ≡ true = ap is_none free in
     rw free_run_is_free at h
 
@@ -93,21 +92,16 @@ pub pieces-apart : (front : List Run) (run : Run) (back : List Run) (width id : 
     → run.holder ≡ None → NoneTouch both_free (front ++ run ∷ back) → NoneTouch both_free (front ++ (run_pieces width id run ++ back))
 pieces-apart front run back width id free apart =
     pieces-cases (λ _ pieces. NoneTouch both_free (front ++ (pieces ++ back))) width id run
-    (λ cut. NoneTouch-cut both_free front run (held_run width id) (free_run (run.width - width)) back (λ y h. held-apart width id y) refl (λ y h. free-apart (run.width - width) run y free h) apart)
-    (NoneTouch-changed both_free front run (held_run run.width id) back (λ y h. held-apart run.width id y) (λ y h. refl) apart)
-
--- how often an id holds a run, by a front and a back
-holders-append : (k : ℕ) (front back : List Run) → times k (holders (front ++ back)) ≡ times k (holders front) + times k (holders back)
-holders-append k [] back = omega arith
-holders-append k (run ∷ runs) back = simp (times-append, holders-append k runs back) (omega arith)
+    (λ cut. NoneTouch-cut both_free front run (held_run width id) (free_run (run.width - width)) back (λ y h. held_run-apart width id y) refl (λ y h. free_run-apart (run.width - width) run y free h) apart)
+    (NoneTouch-changed both_free front run (held_run run.width id) back (λ y h. held_run-apart run.width id y) (λ y h. refl) apart)
 
 -- the id that took a run holds one more
 pub pieces-holders : (k : ℕ) (front : List Run) (run : Run) (back : List Run) (width id : ℕ)
     → run.holder ≡ None → times k (holders (front ++ (run_pieces width id run ++ back))) ≡ times k (holders (front ++ run ∷ back)) + hit id k
 pieces-holders k front run back width id free =
     pieces-cases (λ _ pieces. times k (holders (front ++ (pieces ++ back))) ≡ times k (holders (front ++ run ∷ back)) + hit id k) width id run
-    (λ cut. rw (holders-append k front (run ∷ back), holders-append k front (held_run width id ∷ free_run (run.width - width) ∷ back), free) (omega arith))
-    (rw (holders-append k front (run ∷ back), holders-append k front (held_run run.width id ∷ back), free) (omega arith))
+    (λ cut. rw (times-holders k front (run ∷ back), times-holders k front (held_run width id ∷ free_run (run.width - width) ∷ back), free) (omega arith))
+    (rw (times-holders k front (run ∷ back), times-holders k front (held_run run.width id ∷ back), free) (omega arith))
 
 -- a held run makes a shelf that is not empty
 held-not_empty : (front : List Run) (width id : ℕ) (back : List Run) → is_one_free (front ++ held_run width id ∷ back) ≡ false

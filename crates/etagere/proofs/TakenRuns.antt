@@ -1,7 +1,7 @@
 -- The runs of a shelf after a free one was taken.
-use Rattle.std.proofs.Common.{◌≡◌, ℕ, ◌+◌, ◌<◌, ◌≤◌, Bool, true, false, cond, Option, None, Some, List, [], ◌∷◌, ◌++◌, refl, subst, ap, ◌∙◌, arith}
-use Rattle.std.specs.Prelude.{is_none, ◌==◌}
+use Rattle.std.proofs.Common.{◌≡◌, ℕ, ◌+◌, ◌<◌, ◌≤◌, Bool, true, false, cond, None, List, [], ◌∷◌, ◌++◌, refl, ap, ◌∙◌, arith}
 use Rattle.std.proofs.lemmas.Bool.{cond-true, cond-false}
+use Rattle.std.specs.Prelude.{◌==◌}
 use Rattle.etagere_base.specs.declared.frames.Frame.{Frame}
 use Rattle.etagere.specs.Choice.{width_at}
 use Rattle.etagere.specs.Lists.{Each, times}
@@ -9,6 +9,8 @@ use Rattle.etagere.specs.Places.{free_places}
 use Rattle.etagere.specs.State.{Run, is_free, total_width}
 use Rattle.etagere.specs.Taking.{run_pieces, taken_runs}
 use Rattle.etagere.specs.Valid.{IsRun}
+use Rattle.etagere.proofs.FreePlaces.{once-other, starts-before, starts-cons}
+use Rattle.etagere.proofs.Holders.{no_holder}
 
 -- the run of a place in a row of runs, the first one here: what stands before it and after it
 pub record IsFreeAt (here : ℕ) (runs : List Run) (place : ℕ) : Type 0 where
@@ -21,43 +23,17 @@ pub record IsFreeAt (here : ℕ) (runs : List Run) (place : ℕ) : Type 0 where
   pub width : width_at here runs place ≡ run.width
   pub taken : (width id : ℕ) → taken_runs width id place here runs ≡ front ++ (run_pieces width id run ++ back)
 
--- an option that is tested to be none is none
-none-from_test : {A : Type 0} (o : Option A) → is_none o ≡ true → o ≡ None
-none-from_test None h = refl
-none-from_test (Some x) h = cc
-
--- a place where no run begins is not counted there
-not_counted : (p here : ℕ) (b : Bool) (others : List ℕ) → (here == p) ≡ false → times p (cond b (here ∷ others) others) ≡ times p others
-not_counted p here true others h = rw h (omega arith)
-not_counted p here false others h = refl
-
--- a place before the first run is no place of a free one
-pub places-after : (here : ℕ) (runs : List Run) (p : ℕ) → p < here → times p (free_places here runs) ≡ 0
-places-after here [] p h = refl
-places-after here (run ∷ runs) p h =
-    not_counted p here (is_free run) _ (grind arith) ∙ places-after (here + run.width) runs p (omega arith)
-
--- a place after the last run is no place of a free one
-pub places-before : (frame : Frame) (here : ℕ) (runs : List Run) (p : ℕ) → Each (IsRun frame) runs → here + total_width runs ≤ p → times p (free_places here runs) ≡ 0
-places-before frame here [] p each h = refl
-places-before frame here (run ∷ runs) p each h =
-    let wide : 1 ≤ run.width = each.0.width in
-    not_counted p here (is_free run) _ (grind arith) ∙ places-before frame (here + run.width) runs p each.1 (omega arith)
-
 -- where a place is counted that is the first run's, that run is free
 counted-free : (here : ℕ) (run : Run) (runs : List Run) (place : ℕ) (b : Bool)
     → place < here + run.width → 1 ≤ times place (cond b (here ∷ free_places (here + run.width) runs) (free_places (here + run.width) runs)) → b ≡ true
 counted-free here run runs place true h k = refl
-counted-free here run runs place false h k = absurd (omega (arith, places-after (here + run.width) runs place h))
+counted-free here run runs place false h k = absurd (omega (arith, starts-before place (here + run.width) runs h))
 
 -- a place of a free run has its run
 pub free_at : (frame : Frame) (here : ℕ) (runs : List Run) (place : ℕ) → Each (IsRun frame) runs → 1 ≤ times place (free_places here runs) → IsFreeAt here runs place
 free_at frame here [] place each h = absurd (omega arith)
 free_at frame here (run ∷ runs) place each h = by_test (here == place) refl (free_at frame (here + run.width) runs place each.1)
   where
-    wide : 1 ≤ run.width
-    wide = each.0.width
-
     by_test : (b : Bool) → (here == place) ≡ b → (1 ≤ times place (free_places (here + run.width) runs) → IsFreeAt (here + run.width) runs place) → IsFreeAt here (run ∷ runs) place
     by_test true e later =
         record {
@@ -66,12 +42,12 @@ free_at frame here (run ∷ runs) place each h = by_test (here == place) refl (f
           back = runs;
           whole = refl;
           begins = grind arith;
-          free = none-from_test run.holder (counted-free here run runs place (is_free run) (grind arith) h);
+          free = no_holder run (counted-free here run runs place (is_free run) (grind arith) h);
           width = cond-true (here == place) _ _ e;
           taken = λ width id. cond-true (here == place) _ _ e;
         }
     by_test false e later =
-        let found = later (subst (λ (n : ℕ). 1 ≤ n) (not_counted place here (is_free run) _ e) h) in
+        let found = later (omega (arith, h, starts-cons place here run runs, once-other (is_free run) here place e)) in
         record {
           front = run ∷ found.front;
           run = found.run;

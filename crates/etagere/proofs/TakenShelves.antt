@@ -1,20 +1,19 @@
 -- A shelf in which a place is taken, and the shelves that stand in its place afterwards.
-use Rattle.std.proofs.Common.{◌≡◌, ℕ, ◌+◌, ◌-◌, ◌<◌, ◌≤◌, Bool, true, false, cond, Some, List, [], ◌∷◌, ◌++◌, refl, sym, subst, ap, ◌∙◌, arith}
-use Rattle.std.specs.Prelude.{slice_get, nat_le}
-use Rattle.std.proofs.lemmas.Bool.{and_parts, ltb-true, leb-true}
+use Rattle.std.proofs.Common.{◌≡◌, ℕ, ◌+◌, ◌-◌, ◌<◌, ◌≤◌, Bool, true, false, cond, List, [], ◌∷◌, ◌++◌, refl, sym, subst, ap, ◌∙◌, arith}
+use Rattle.std.proofs.lemmas.Bool.{and_parts, ltb-true}
+use Rattle.etagere_base.specs.Frames.{IsFrame}
 use Rattle.etagere_base.specs.declared.frames.Frame.{Frame}
 use Rattle.etagere_base.specs.declared.geometry.Size.{Size}
-use Rattle.etagere_base.specs.Frames.{IsFrame}
-use Rattle.etagere.specs.Choice.{Placement, is_shelf_cut, width_at}
+use Rattle.etagere.specs.Choice.{Placement, is_shelf_cut}
 use Rattle.etagere.specs.Joining.{both_free}
 use Rattle.etagere.specs.Lists.{Each, NoneTouch, times}
 use Rattle.etagere.specs.Places.{column_place, free_places}
 use Rattle.etagere.specs.State.{Shelf, AtlasState, is_empty, is_one_free, empty_shelf, total_width}
 use Rattle.etagere.specs.Taking.{taken_shelf, shelf_pieces}
 use Rattle.etagere.specs.Valid.{IsRun, IsShelf, IsValid}
-use Rattle.etagere.proofs.TakenLists.{slice_get-at, Each-back, find-stands}
-use Rattle.etagere.proofs.TakenPieces.{IsRoom, pieces-each, pieces-width, pieces-apart, pieces-not_empty}
-use Rattle.etagere.proofs.TakenPlacement.{IsPlaced, asked-sides, shelf_height-high}
+use Rattle.etagere.proofs.EachLemmas.{Each-get}
+use Rattle.etagere.proofs.Placed.{IsPlaced, asked-sides, chosen-stands, shelf_height-high}
+use Rattle.etagere.proofs.TakenPieces.{IsRoom, pieces-apart, pieces-each, pieces-not_empty, pieces-width}
 use Rattle.etagere.proofs.TakenRuns.{IsFreeAt, free_at}
 use Rattle.etagere.proofs.TakenTried.{pieces-tried}
 
@@ -26,29 +25,22 @@ pub record IsTaking (frame : Frame) (placement : Placement) (shelf : Shelf) : Ty
   pub height : 1 ≤ placement.height
   pub high : placement.height ≤ shelf.height
 
--- an element of a list of valid shelves is valid
-shelf-valid : (frame : Frame) (shelves : List Shelf) (n : ℕ) (shelf : Shelf) → Each (IsShelf frame) shelves → slice_get shelves n ≡ Some shelf → IsShelf frame shelf
-shelf-valid frame shelves n shelf each at =
-    let split = slice_get-at shelves n shelf at in
-    (Each-back (IsShelf frame) split.front (shelf ∷ split.back) (subst (Each (IsShelf frame)) split.whole each)).0
-
 -- in a valid state a placement takes a run of its shelf
 pub taking : (state : AtlasState) (size : Size) (placement : Placement)
     → IsValid state → (placed : IsPlaced state size placement) → IsTaking state.frame placement placed.chosen.shelf
 taking state size placement valid placed =
     let shelf = placed.chosen.shelf in
     let here = column_place state.frame shelf in
-    let ok : IsShelf state.frame shelf = shelf-valid state.frame state.shelves placement.shelf shelf valid.shelves placed.chosen.at in
+    let ok : IsShelf state.frame shelf = Each-get (IsShelf state.frame) state.shelves placement.shelf shelf placed.chosen.at valid.shelves in
     let asks = asked-sides state.frame size placed.sides valid.frame placed.asked in
-    let stands = find-stands (λ place. nat_le placed.sides.along (width_at here shelf.runs place)) shelf.tried placement.place placed.chosen.place in
-    let wide : placed.sides.along ≤ width_at here shelf.runs placement.place = leb-true _ _ stands.0 in
+    let stands = chosen-stands state placed.sides placement placed.chosen in
     let found = free_at state.frame here shelf.runs placement.place ok.runs (omega (arith, stands.1, ok.tried placement.place)) in
     record {
       valid = ok;
       found = found;
       room = record {
         free = found.free;
-        fits = omega (arith, wide, found.width, placed.chosen.width);
+        fits = omega (arith, stands.0, found.width);
         wide = omega (arith, asks.along, placed.chosen.width);
         aligned = rw placed.chosen.width asks.aligned;
       };

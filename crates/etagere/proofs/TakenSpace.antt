@@ -1,7 +1,7 @@
 -- Taking a placement adds the area that it gives to the space that is held.
-use Rattle.std.proofs.Common.{◌≡◌, ℕ, ◌+◌, ◌-◌, ◌*◌, cond, None, Some, List, [], ◌∷◌, ◌++◌, sym, ap, ◌∙◌, arith}
-use Rattle.std.specs.Prelude.{slice_get}
+use Rattle.std.proofs.Common.{◌≡◌, ℕ, ◌+◌, ◌-◌, ◌*◌, cond, None, Some, List, ◌∷◌, ◌++◌, sym, ap, ◌∙◌, arith}
 use Rattle.std.proofs.Math.Nat.{add-mul}
+use Rattle.std.specs.Prelude.{slice_get}
 use Rattle.etagere_base.specs.declared.frames.Frame.{Frame}
 use Rattle.etagere_base.specs.declared.geometry.Size.{Size}
 use Rattle.etagere.specs.Choice.{Placement, is_run_cut, placement_of}
@@ -9,11 +9,11 @@ use Rattle.etagere.specs.Space.{held_width, space_in, allocated_space}
 use Rattle.etagere.specs.State.{Run, Shelf, AtlasState}
 use Rattle.etagere.specs.Taking.{run_pieces, given_width, given_height, taken_shelf, shelf_pieces, taken}
 use Rattle.etagere.specs.Valid.{IsValid}
-use Rattle.etagere.proofs.HeldWidth.{held_width-append, held_width-free, held_width-one_free}
-use Rattle.etagere.proofs.TakenLists.{slice_get-at}
-use Rattle.etagere.proofs.TakenPieces.{held_run, free_run, pieces-cases}
-use Rattle.etagere.proofs.TakenPlacement.{placement_of-placed}
-use Rattle.etagere.proofs.TakenShelves.{IsTaking, taking, shelf_pieces-cases}
+use Rattle.etagere.proofs.CutLists.{split-at}
+use Rattle.etagere.proofs.Placed.{placement_of-placed}
+use Rattle.etagere.proofs.SpaceLemmas.{held_width-append, held_width-free, held_width-one_free, space_in-append}
+use Rattle.etagere.proofs.TakenPieces.{free_run, held_run, pieces-cases}
+use Rattle.etagere.proofs.TakenShelves.{IsTaking, shelf_pieces-cases, taking}
 
 -- runs of which a free one was taken hold the width that was given more
 pieces-held_width : (front : List Run) (run : Run) (back : List Run) (width id : ℕ) → run.holder ≡ None
@@ -51,11 +51,6 @@ pieces-space frame placement id shelf t =
     whole_area : (old new width height : ℕ) → new ≡ old + width → new * height + 0 ≡ old * height + width * height
     whole_area old new width height h = rw h (omega (arith, add-mul old width height))
 
--- the space that shelves hold, by a front and a back
-space_in-append : (front back : List Shelf) → space_in (front ++ back) ≡ space_in front + space_in back
-space_in-append [] back = omega arith
-space_in-append (shelf ∷ shelves) back = omega (arith, space_in-append shelves back)
-
 -- taking a placement adds the area that it gives
 pub space-taken : (state : AtlasState) (size : Size) (placement : Placement) (id : ℕ) (shelf : Shelf) → IsValid state
     → placement_of state size ≡ Some placement → slice_get state.shelves placement.shelf ≡ Some shelf
@@ -63,7 +58,7 @@ pub space-taken : (state : AtlasState) (size : Size) (placement : Placement) (id
 space-taken state size placement id shelf valid h at =
     let placed = placement_of-placed state size placement h in
     let t = taking state size placement valid placed in
-    let split = slice_get-at state.shelves placement.shelf placed.chosen.shelf placed.chosen.at in
+    let split = split-at state.shelves placement.shelf placed.chosen.shelf placed.chosen.at in
     let pieces = shelf_pieces state.frame placement id placed.chosen.shelf in
     let same : placed.chosen.shelf ≡ shelf = cc in
     let taken_space : allocated_space (taken state placement id) ≡ allocated_space state + given_width state.frame placement placed.chosen.shelf * given_height placement placed.chosen.shelf =

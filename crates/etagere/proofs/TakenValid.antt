@@ -1,10 +1,10 @@
 -- A valid state stays valid when a placement is taken by a new id.
 use Rattle.std.proofs.Common.{◌≡◌, ℕ, ◌+◌, ◌-◌, ◌≤◌, Bool, true, false, cond, Some, List, [], ◌∷◌, ◌++◌, length, refl, sym, subst, ap, ◌∙◌, arith}
-use Rattle.std.specs.Prelude.{slice_get, ◌==◌}
 use Rattle.std.proofs.lemmas.Bool.{and_left, and_right}
+use Rattle.std.specs.Prelude.{◌==◌}
+use Rattle.etagere_base.specs.Frames.{IsFrame}
 use Rattle.etagere_base.specs.declared.frames.Frame.{Frame}
 use Rattle.etagere_base.specs.declared.geometry.Size.{Size}
-use Rattle.etagere_base.specs.Frames.{IsFrame}
 use Rattle.etagere.specs.Choice.{Placement, is_run_cut, width_at, cuts, cuts_in, placement_of}
 use Rattle.etagere.specs.Joining.{both_empty}
 use Rattle.etagere.specs.Lists.{Each, NoneTouch, times}
@@ -12,10 +12,15 @@ use Rattle.etagere.specs.Places.{column_place, heights_in}
 use Rattle.etagere.specs.State.{Shelf, AtlasState, is_empty, empty_shelf, runs_in_use}
 use Rattle.etagere.specs.Taking.{taken_shelf, shelf_pieces, taken}
 use Rattle.etagere.specs.Valid.{IsShelf, IsValid, holders, ids, is_out_of_order}
-use Rattle.etagere.proofs.TakenLists.{hit, slice_get-at, Each-append, Each-front, Each-back, NoneTouch-changed, NoneTouch-cut, times-append}
-use Rattle.etagere.proofs.TakenPieces.{pieces-length, pieces-holders}
-use Rattle.etagere.proofs.TakenPlacement.{placement_of-placed}
-use Rattle.etagere.proofs.TakenShelves.{IsTaking, taking, taken_shelf-valid, taken_shelf-not_empty, empty_shelf-valid, shelf_pieces-cases}
+use Rattle.etagere.proofs.CutLists.{split-at}
+use Rattle.etagere.proofs.EachLemmas.{Each-append, Each-back, Each-front}
+use Rattle.etagere.proofs.Heights.{heights_in-append}
+use Rattle.etagere.proofs.Holders.{times-ids}
+use Rattle.etagere.proofs.NoneTouchLemmas.{NoneTouch-changed, NoneTouch-cut}
+use Rattle.etagere.proofs.Placed.{cuts-read, placement_of-placed}
+use Rattle.etagere.proofs.TakenPieces.{pieces-holders, pieces-length}
+use Rattle.etagere.proofs.TakenShelves.{IsTaking, empty_shelf-valid, shelf_pieces-cases, taken_shelf-not_empty, taken_shelf-valid, taking}
+use Rattle.etagere.proofs.TimesLemmas.{hit, times-append}
 
 -- the shelves are valid after a placement took a run in one
 each-shelf : (frame : Frame) (placement : Placement) (id : ℕ) (front : List Shelf) (shelf : Shelf) (back : List Shelf)
@@ -61,11 +66,6 @@ apart-shelves frame placement id front shelf back t apart =
     (λ y h. not_empty-before y (taken_shelf frame placement id shelf.height shelf) (taken_shelf-not_empty frame placement id shelf.height shelf t))
     (λ y h. not_empty-after (taken_shelf frame placement id shelf.height shelf) y (taken_shelf-not_empty frame placement id shelf.height shelf t)) apart)
 
--- the heights of a column, by a front and a back
-pub heights_in-append : (column : ℕ) (front back : List Shelf) → heights_in column (front ++ back) ≡ heights_in column front + heights_in column back
-heights_in-append column [] back = omega arith
-heights_in-append column (shelf ∷ shelves) back = omega (arith, heights_in-append column shelves back)
-
 -- the shelves that stand for a shelf are as high as it was
 pub pieces-heights : (frame : Frame) (placement : Placement) (id : ℕ) (shelf : Shelf) (column : ℕ)
     → heights_in column (shelf_pieces frame placement id shelf) ≡ heights_in column (shelf ∷ [])
@@ -77,11 +77,6 @@ pieces-heights frame placement id shelf column =
     split_height : (b : Bool) (n m : ℕ) → n ≤ m → cond b n 0 + (cond b (m - n) 0 + 0) ≡ cond b m 0 + 0
     split_height true n m h = omega arith
     split_height false n m h = refl
-
--- how often an id holds a run, by a front and a back
-ids-append : (k : ℕ) (front back : List Shelf) → times k (ids (front ++ back)) ≡ times k (ids front) + times k (ids back)
-ids-append k [] back = omega arith
-ids-append k (shelf ∷ shelves) back = simp (times-append, ids-append k shelves back) (omega arith)
 
 -- how many runs shelves have, by a front and a back
 runs_in_use-append : (front back : List Shelf) → runs_in_use (front ++ back) ≡ runs_in_use front + runs_in_use back
@@ -128,11 +123,6 @@ fresh-once count id k fresh once = by_test (id == k) refl
         omega (arith, ap count same)
     by_test false e = omega arith
 
--- the cuts of a placement are those in its shelf
-cuts-at : (state : AtlasState) (placement : Placement) (shelf : Shelf)
-    → slice_get state.shelves placement.shelf ≡ Some shelf → cuts state placement ≡ cuts_in state.frame placement shelf
-cuts-at state placement shelf at = rw at refl
-
 -- taking a placement takes as many more runs as it makes cuts
 pub taken-runs_in_use : (state : AtlasState) (size : Size) (placement : Placement) (id : ℕ) → IsValid state → placement_of state size ≡ Some placement
     → runs_in_use (taken state placement id).shelves ≡ runs_in_use state.shelves + cuts state placement
@@ -140,7 +130,7 @@ taken-runs_in_use state size placement id valid h =
     let placed = placement_of-placed state size placement h in
     let shelf = placed.chosen.shelf in
     let t = taking state size placement valid placed in
-    let split = slice_get-at state.shelves placement.shelf shelf placed.chosen.at in
+    let split = split-at state.shelves placement.shelf shelf placed.chosen.at in
     let pieces = shelf_pieces state.frame placement id shelf in
     omega (
       arith,
@@ -150,11 +140,11 @@ taken-runs_in_use state size placement id valid h =
       runs_in_use-append pieces split.back,
       runs_in_use-append split.front (shelf ∷ split.back),
       pieces-runs_in_use state.frame placement id shelf t,
-      cuts-at state placement shelf placed.chosen.at,
+      cuts-read state placement shelf placed.chosen.at,
     )
 
 -- taking a placement leaves runs enough for the records
-pub taken-room : (state : AtlasState) (size : Size) (placement : Placement) (id : ℕ) → IsValid state → placement_of state size ≡ Some placement
+taken-room : (state : AtlasState) (size : Size) (placement : Placement) (id : ℕ) → IsValid state → placement_of state size ≡ Some placement
     → runs_in_use (taken state placement id).shelves ≤ 65535
 taken-room state size placement id valid h =
     let placed = placement_of-placed state size placement h in
@@ -167,7 +157,7 @@ taken-valid state size placement id valid h fresh =
     let placed = placement_of-placed state size placement h in
     let shelf = placed.chosen.shelf in
     let t = taking state size placement valid placed in
-    let split = slice_get-at state.shelves placement.shelf shelf placed.chosen.at in
+    let split = split-at state.shelves placement.shelf shelf placed.chosen.at in
     let pieces = shelf_pieces state.frame placement id shelf in
     let same = split.cut (shelf_pieces state.frame placement id) in
     record {
@@ -190,10 +180,10 @@ taken-valid state size placement id valid h fresh =
         fresh-once (λ n. times n (ids state.shelves)) id k fresh (valid.ids k),
         ap (λ shelves. times k (ids shelves)) same,
         ap (λ shelves. times k (ids shelves)) split.whole,
-        ids-append k split.front (pieces ++ split.back),
-        ids-append k pieces split.back,
-        ids-append k split.front (shelf ∷ split.back),
-        ids-append k (shelf ∷ []) split.back,
+        times-ids k split.front (pieces ++ split.back),
+        times-ids k pieces split.back,
+        times-ids k split.front (shelf ∷ split.back),
+        times-ids k (shelf ∷ []) split.back,
         pieces-ids k state.frame placement id shelf t,
       );
       records = (omega arith, omega (arith, valid.records, taken-room state size placement id valid h));

@@ -1,28 +1,29 @@
 -- The rectangles of a valid state lie in the atlas, and any two of them apart.
-use Rattle.std.proofs.Common.{◌≡◌, ℕ, suc, ◌+◌, ◌*◌, ◌<◌, ◌≤◌, List, [], ◌∷◌, ◌++◌, Option, Some, None, arith, refl, ap, ⊎_elim}
-use Rattle.std.proofs.Math.Nat.{div-mul-le_self, mul-le-mul_right, suc-mul}
+use Rattle.std.proofs.Common.{◌≡◌, ℕ, ◌+◌, ◌*◌, ◌<◌, ◌≤◌, List, [], ◌∷◌, ◌++◌, Option, Some, None, arith, refl, ⊎_elim}
 use Rattle.std.proofs.lemmas.Bool.{cases_order}
+use Rattle.etagere_base.specs.Frames.{IsFrame, across_side}
 use Rattle.etagere_base.specs.declared.frames.Frame.{Frame}
 use Rattle.etagere_base.specs.declared.geometry.Rectangle.{Rectangle}
 use Rattle.etagere_base.specs.declared.ids.Allocation.{Allocation}
-use Rattle.etagere_base.specs.Frames.{IsFrame, along_side, across_side}
+use Rattle.etagere.specs.Lists.{Each}
 use Rattle.etagere.specs.Places.{column_place, heights_in, rectangle_at, allocation_of, held_along, held_after, held}
 use Rattle.etagere.specs.Rectangles.{AreApart, SharesNone, IsInside}
 use Rattle.etagere.specs.State.{Run, Shelf, AtlasState, total_width}
-use Rattle.etagere.specs.Lists.{Each}
 use Rattle.etagere.specs.Valid.{IsRun, IsShelf, IsValid}
-use Rattle.etagere.proofs.Boxes.{LiesIn, LiesIn-widen, apart-along, apart-across, inside-from_lies}
-use Rattle.etagere.proofs.EachLemmas.{Each-weaken, Each-append, SharesNone-swap, AreApart-append, IsApartFrom}
+use Rattle.etagere.proofs.Boxes.{LiesIn, LiesIn-widen, apart-across, apart-along, inside-from_lies, AreApart-append, IsApartFrom, SharesNone-swap}
+use Rattle.etagere.proofs.EachLemmas.{Each-append, Each-weaken}
+use Rattle.etagere.proofs.FrameSides.{column-within, columns-apart}
+use Rattle.etagere.proofs.Heights.{heights_in-append, heights_in-own}
 
 -- a shelf in a column of the frame, filled by runs that are not empty
-pub record IsFilled (frame : Frame) (shelf : Shelf) : Type 0 where
+record IsFilled (frame : Frame) (shelf : Shelf) : Type 0 where
   pub column : shelf.column < frame.columns
   pub height : 1 ≤ shelf.height
   pub runs : Each (λ (run : Run). 1 ≤ run.width) shelf.runs
   pub width : total_width shelf.runs ≡ frame.column_width
 
 -- shelves that fill the columns of a frame
-pub record IsTiled (frame : Frame) (shelves : List Shelf) : Type 0 where
+record IsTiled (frame : Frame) (shelves : List Shelf) : Type 0 where
   pub is_frame : IsFrame 65535 frame
   pub filled : Each (IsFilled frame) shelves
   pub heights : (column : ℕ) → column < frame.columns → heights_in column shelves ≡ across_side frame
@@ -37,25 +38,14 @@ filled-from-shelf frame shelf is_shelf =
       width = is_shelf.width;
     }
 
--- shelves of a valid state's form whose heights fill each column
-pub tiled-from-shelves : (frame : Frame) (shelves : List Shelf) → IsFrame 65535 frame → Each (IsShelf frame) shelves
-    → ((column : ℕ) → column < frame.columns → heights_in column shelves ≡ across_side frame) → IsTiled frame shelves
-tiled-from-shelves frame shelves is_frame are_shelves heights =
-    record {
-      is_frame = is_frame;
-      filled = Each-weaken (IsShelf frame) (IsFilled frame) shelves (filled-from-shelf frame) are_shelves;
-      heights = heights;
-    }
-
 -- the shelves of a valid state fill the columns
-pub tiled-from-valid : (state : AtlasState) → IsValid state → IsTiled state.frame state.shelves
-tiled-from-valid state valid = tiled-from-shelves state.frame state.shelves valid.frame valid.shelves valid.heights
-
--- the heights of shelves end to end
-pub heights_in-append : (column : ℕ) (xs ys : List Shelf)
-    → heights_in column (xs ++ ys) ≡ heights_in column xs + heights_in column ys
-heights_in-append column [] ys = omega arith
-heights_in-append column (x ∷ xs) ys = omega (arith, heights_in-append column xs ys)
+tiled-from-valid : (state : AtlasState) → IsValid state → IsTiled state.frame state.shelves
+tiled-from-valid state valid =
+    record {
+      is_frame = valid.frame;
+      filled = Each-weaken (IsShelf state.frame) (IsFilled state.frame) state.shelves (filled-from-shelf state.frame) valid.shelves;
+      heights = valid.heights;
+    }
 
 -- an allocation whose rectangle lies between these places
 abbrev HeldIn : Frame → ℕ → ℕ → ℕ → ℕ → Allocation → Type 0
@@ -154,11 +144,6 @@ shelf-lies frame before shelf filled =
     (held_along-lies frame (heights_in shelf.column before) shelf.height (column_place frame shelf) shelf.runs
     filled.height filled.runs)
 
--- the height of a shelf counts in its own column
-pub heights_in-own : (shelf : Shelf) (shelves : List Shelf)
-    → heights_in shelf.column (shelf ∷ shelves) ≡ shelf.height + heights_in shelf.column shelves
-heights_in-own shelf shelves = grind arith
-
 -- the heights before and after a shelf are those before it, and those from it on
 heights_in-moved : (column : ℕ) (before : List Shelf) (shelf : Shelf) (shelves : List Shelf)
     → heights_in column (before ++ shelf ∷ []) + heights_in column shelves ≡ heights_in column before + heights_in column (shelf ∷ shelves)
@@ -205,10 +190,6 @@ heights_in-through : (column : ℕ) (before : List Shelf) (shelf : Shelf) → sh
 heights_in-through column before shelf e =
     rw (← e) (omega (arith, heights_in-append shelf.column before (shelf ∷ []), heights_in-own shelf []))
 
--- an earlier column ends where a later one begins, or before it
-columns-apart : (one other width : ℕ) → one < other → one * width + width ≤ other * width
-columns-apart one other width h = omega (arith, mul-le-mul_right {m = suc one} {n = other} width h, suc-mul one width)
-
 -- what a shelf holds is apart from what lies after it
 shelf-apart : (frame : Frame) (before : List Shelf) (shelf : Shelf) (shelves : List Shelf) (x y : Allocation)
     → InShelf frame before shelf x
@@ -235,17 +216,6 @@ held_after-apart frame before (shelf ∷ shelves) filled =
     (each-apart _ (LiesAfter frame (before ++ shelf ∷ []) shelves) _ _ (shelf-apart frame before shelf shelves)
     (shelf-lies frame before shelf filled.0) (held_after-lies frame (before ++ shelf ∷ []) shelves filled.1))
 
--- a column ends within the atlas
-pub column-within : (frame : Frame) (column : ℕ) → IsFrame 65535 frame → column < frame.columns
-    → column * frame.column_width + frame.column_width ≤ along_side frame
-column-within frame column is_frame below =
-    omega (
-      arith,
-      columns-apart column frame.columns frame.column_width below,
-      ap (λ (n : ℕ). n * frame.column_width) is_frame.columns,
-      div-mul-le_self (along_side frame) frame.column_width,
-    )
-
 -- what lies in a column lies in the atlas
 lies-inside : (frame : Frame) (shelves : List Shelf) → IsTiled frame shelves
     → (a : Allocation) → LiesAfter frame [] shelves a → IsInside frame a.rectangle
@@ -254,20 +224,12 @@ lies-inside frame shelves tiled a after =
     (LiesIn-widen frame _ _ _ _ _ _ _ _ _ (omega arith) (column-within frame after.column tiled.is_frame after.below) (omega arith)
     (omega (arith, tiled.heights after.column after.below)) after.lies)
 
--- everything that tiled shelves hold lies within the atlas
-pub tiled-inside : (frame : Frame) (shelves : List Shelf) → IsTiled frame shelves
-    → Each (λ (a : Allocation). IsInside frame a.rectangle) (held_after frame [] shelves)
-tiled-inside frame shelves tiled =
-    Each-weaken (LiesAfter frame [] shelves) _ _ (lies-inside frame shelves tiled) (held_after-lies frame [] shelves tiled.filled)
-
--- any two that tiled shelves hold share no unit square
-pub tiled-apart : (frame : Frame) (shelves : List Shelf) → IsTiled frame shelves → AreApart (held_after frame [] shelves)
-tiled-apart frame shelves tiled = held_after-apart frame [] shelves tiled.filled
-
 -- everything that is held lies within the atlas
 pub held-inside : (state : AtlasState) → IsValid state → Each (λ (a : Allocation). IsInside state.frame a.rectangle) (held state)
-held-inside state valid = tiled-inside state.frame state.shelves (tiled-from-valid state valid)
+held-inside state valid =
+    let tiled = tiled-from-valid state valid in
+    Each-weaken (LiesAfter state.frame [] state.shelves) _ _ (lies-inside state.frame state.shelves tiled) (held_after-lies state.frame [] state.shelves tiled.filled)
 
 -- any two that are held share no unit square
 pub held-apart : (state : AtlasState) → IsValid state → AreApart (held state)
-held-apart state valid = tiled-apart state.frame state.shelves (tiled-from-valid state valid)
+held-apart state valid = held_after-apart state.frame [] state.shelves (tiled-from-valid state valid).filled

@@ -60,13 +60,12 @@ fn shelf_height(frame: &Frame, height: u32) -> u32
     requires { height ≤ 65535 }
     ensures value { result ≡ choice.shelf_height frame.now height }
 {
-    let across = if frame.vertical {
-        frame.width
-    } else {
-        frame.height
-    };
     let stepped = step(height);
-    if stepped <= across { stepped } else { height }
+    if stepped <= frame.across_side() {
+        stepped
+    } else {
+        height
+    }
 }
 
 /// The number of the first shelf of least rank.

@@ -11,11 +11,7 @@ pub(crate) fn empty_columns(alloc: Global, frame: &Frame) -> Result<Vec<Shelf>, 
     requires { IsFrame 65535 frame.now }
     ensures { IfOk result (λ shelves. shelves.items ≡ starting.empty_columns frame.now 0 frame.now.columns) }
 {
-    let height = if frame.vertical {
-        frame.width
-    } else {
-        frame.height
-    };
+    let height = frame.across_side();
     let mut shelves = Vec::with_capacity(alloc, frame.columns as usize)?;
     for column in 0..frame.columns {
         shelves.push(Shelf::empty(alloc, frame, column, height)?)?;
@@ -29,11 +25,7 @@ pub(crate) fn reset_columns(frame: &Frame, shelves: &mut Vec<Shelf>)
     requires enough { frame.now.columns ≤ vec_len shelves.old }
     ensures { shelves.new.items ≡ starting.empty_columns frame.now 0 frame.now.columns }
 {
-    let height = if frame.vertical {
-        frame.width
-    } else {
-        frame.height
-    };
+    let height = frame.across_side();
     shelves.truncate(frame.columns as usize);
     for column in 0..frame.columns {
         shelves[column as usize].reset(frame, column, height);

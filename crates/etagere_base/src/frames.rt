@@ -20,6 +20,19 @@ pub struct Frame {
     pub columns: u32,
 }
 
+impl Frame {
+    /// The side of the atlas across its shelves, in pixels.
+    pub fn across_side(&self) -> u32
+        ensures { result ≡ spec.across_side self.now }
+    {
+        if self.vertical {
+            self.width
+        } else {
+            self.height
+        }
+    }
+}
+
 /// The first fault of a size and options, want of memory aside, where no side may pass `longest`.
 pub fn options_fault(longest: u16, size: Size, options: &AllocatorOptions) -> Option<OptionsFault>
     ensures { result ≡ spec.options_fault longest size options.now }
@@ -82,12 +95,7 @@ pub fn asked(frame: &Frame, size: Size) -> Option<Sides>
             across: up(side(size.height), frame.alignment_height),
         },
     );
-    let height = if frame.vertical {
-        frame.width
-    } else {
-        frame.height
-    };
-    if sides.along <= frame.column_width && sides.across <= height {
+    if sides.along <= frame.column_width && sides.across <= frame.across_side() {
         Some(sides)
     } else {
         None

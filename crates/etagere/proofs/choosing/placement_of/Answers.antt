@@ -2,8 +2,8 @@ use Rattle.std.proofs.Common.{◌≡◌, ◌+◌, sym, get_or, arith}
 use Rattle.etagere.specs.Choice.{cuts_in}
 use Rattle.etagere.specs.State as state
 use Rattle.etagere.specs.Steps.{state_of}
+use Rattle.etagere.proofs.Placed.{chosen-parts}
 use Rattle.etagere.proofs.PlacedSizes.{placement-low, placement_of-room, placement_of-no_room}
-use Rattle.etagere.proofs.TakenPlacement.{chosen-parts}
 use Rattle.etagere.proofs.choosing.placement_of.Goals as goal
 
 pub cuts-requires-clause-short : goal.cuts-requires-clause-short

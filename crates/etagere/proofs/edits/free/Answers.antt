@@ -1,8 +1,8 @@
 use Rattle.std.proofs.Common.{arith, sym}
+use Rattle.etagere.proofs.HeldCount.{held_count-merged_before, held_count-freed, held_count-merged_at}
 use Rattle.etagere.proofs.JoinedNear.{joined_runs-freed}
 use Rattle.etagere.proofs.ReturnedShelf.{total_width-freed}
-use Rattle.etagere.proofs.RunLemmas.{held_count-freed, held_count-merged_at}
-use Rattle.etagere.proofs.Room.{held_count-merged_before, total_width-merged_at}
+use Rattle.etagere.proofs.RunLemmas.{total_width-merged_at}
 use Rattle.etagere.proofs.edits.free.Goals as goal
 
 pub return_place-requires-clause-room : goal.return_place-requires-clause-room

@@ -2,7 +2,7 @@ use Rattle.std.specs.Prelude.{vec_capacity}
 use Rattle.std.proofs.Common.{◌≡◌, length, ap, arith, ℕ, List}
 use Rattle.etagere.specs.Choice.{width_at}
 use Rattle.etagere.specs.Steps.{held_count}
-use Rattle.etagere.proofs.Room.{take-room}
+use Rattle.etagere.proofs.HeldCount.{take-room}
 use Rattle.etagere.proofs.edits.take.Goals as goal
 
 pub returns-clause-room : goal.returns-clause-room

@@ -3,8 +3,8 @@ use Rattle.etagere.specs.Places.{column_place}
 use Rattle.etagere.specs.State.{Shelf, total_width}
 use Rattle.etagere.specs.Steps.{held_rectangle}
 use Rattle.etagere.proofs.EachLemmas.{Each-get}
-use Rattle.etagere.proofs.LookedUp.{rectangle_of-held, rectangle_of-none}
-use Rattle.etagere.proofs.ShelfNumbers.{heights_in-upto}
+use Rattle.etagere.proofs.Heights.{heights_in-upto}
+use Rattle.etagere.proofs.HeldRectangles.{rectangle_of-held, rectangle_of-none}
 use Rattle.etagere.proofs.ReturnedNear.{shelf_of-read}
 use Rattle.etagere.proofs.looking.rectangle_of.Goals as goal
 

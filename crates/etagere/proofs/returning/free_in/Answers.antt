@@ -1,7 +1,7 @@
 use Rattle.std.proofs.Common.{sym, ap, length, arith}
 use Rattle.etagere.specs.State.{Shelf}
+use Rattle.etagere.proofs.Heights.{heights_in-merged_at}
 use Rattle.etagere.proofs.ReturnedNear.{returned-fewer, returned-few, returned-low, returned-counted, returned-near}
-use Rattle.etagere.proofs.ShelfNumbers.{heights_in-merged_at}
 use Rattle.etagere.proofs.returning.free_in.Goals as goal
 
 pub overflow_sub-joined : goal.overflow_sub-joined

@@ -3,8 +3,9 @@ use Rattle.std.proofs.Common.{◌≡◌, ℕ, suc, ◌+◌, Some, length, refl, 
 use Rattle.std.proofs.lemmas.Option.{slice_get_read}
 use Rattle.etagere.specs.Joining.{both_empty, merged_shelves}
 use Rattle.etagere.specs.State.{Shelf}
+use Rattle.etagere.proofs.Heights.{heights-le}
 use Rattle.etagere.proofs.ListEdits.{merged_at-last}
-use Rattle.etagere.proofs.ShelfNumbers.{heights-le, merged_at-kept, merged_at-raised, runs_in_use-merged_at, two_read}
+use Rattle.etagere.proofs.ShelfNumbers.{merged_at-kept, merged_at-raised, runs_in_use-merged_at, two_read}
 use Rattle.etagere.proofs.returning.merge.Goals.{then-number-len-via-then-number-len, then-number-len-via-else-number-len+then-not-joins}
 use Rattle.etagere.proofs.returning.merge.Goals as goal
 

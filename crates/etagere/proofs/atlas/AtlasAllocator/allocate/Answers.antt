@@ -10,12 +10,14 @@ use Rattle.etagere.specs.Space.{space_in}
 use Rattle.etagere.specs.State.{AtlasState, Shelf}
 use Rattle.etagere.specs.Taking.{given}
 use Rattle.etagere.proofs.Allocated.{Allocated, allocated}
-use Rattle.etagere.proofs.AtlasSteps.{cuts-read, narrow-read, shelf-read}
-use Rattle.etagere.proofs.FreshCorners.{corner-small}
+use Rattle.etagere.proofs.CornersApart.{corner-small}
 use Rattle.etagere.proofs.HeldIds.{times-not_held}
+use Rattle.etagere.proofs.Placed.{cuts-read}
+use Rattle.etagere.proofs.Returnable.{narrow-valid}
+use Rattle.etagere.proofs.ShelfNumbers.{narrow-read, shelf-read}
 use Rattle.etagere.proofs.Sound.{corner-not_held, given-inside, sound}
 use Rattle.etagere.proofs.SpaceSteps.{space-taken-small}
-use Rattle.etagere.proofs.Takeable.{can_take, narrow-valid}
+use Rattle.etagere.proofs.Takeable.{can_take}
 use Rattle.etagere.proofs.TakenSpace.{space-taken}
 use Rattle.etagere.proofs.atlas.AtlasAllocator.allocate.Goals as goal
 

@@ -8,8 +8,7 @@ use Rattle.etagere.specs.Space.{space_in}
 use Rattle.etagere.specs.State.{AtlasState, Shelf, runs_in_use}
 use Rattle.etagere.specs.Valid.{IsValid}
 use Rattle.etagere.proofs.ColumnShelves.{columns-le-shelves}
-use Rattle.etagere.proofs.FreshLemmas.{fresh-held, fresh-valid, runs_in_use-empty_columns}
-use Rattle.etagere.proofs.NoSpace.{space-fresh}
+use Rattle.etagere.proofs.FreshLemmas.{fresh-held, fresh-valid, runs_in_use-empty_columns, space-fresh}
 use Rattle.etagere.proofs.Sound.{sound}
 use Rattle.etagere.proofs.atlas.AtlasAllocator.clear.Goals as goal
 

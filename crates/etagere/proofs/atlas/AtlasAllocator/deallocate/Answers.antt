@@ -7,7 +7,7 @@ use Rattle.etagere.specs.Returning.{returned}
 use Rattle.etagere.specs.Space.{space_in}
 use Rattle.etagere.specs.State.{AtlasState, Shelf}
 use Rattle.etagere.specs.Valid.{IsValid}
-use Rattle.etagere.proofs.AtlasSteps.{found-held, not_found-not_held}
+use Rattle.etagere.proofs.HeldIds.{found-held, not_found-not_held}
 use Rattle.etagere.proofs.Returnable.{returnable}
 use Rattle.etagere.proofs.ReturnedHeld.{returned-held}
 use Rattle.etagere.proofs.ReturnedValid.{returned-valid}

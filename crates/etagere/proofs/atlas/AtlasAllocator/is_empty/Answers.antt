@@ -3,7 +3,7 @@ use Rattle.std.proofs.lemmas.Bool.{eqb-true}
 use Rattle.etagere.specs.Kept.{state_in}
 use Rattle.etagere.specs.Places.{held}
 use Rattle.etagere.specs.State.{AtlasState}
-use Rattle.etagere.proofs.NoSpace.{no_space-nothing_held, nothing_held-no_space}
+use Rattle.etagere.proofs.SpaceNone.{no_space-nothing_held, nothing_held-no_space}
 use Rattle.etagere.proofs.atlas.AtlasAllocator.is_empty.Goals as goal
 
 pub returns : goal.returns

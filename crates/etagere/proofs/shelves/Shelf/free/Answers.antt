@@ -1,5 +1,5 @@
 use Rattle.std.proofs.Common.{sym, ◌∙◌}
-use Rattle.etagere.proofs.HeldNumbers.{number_of-held}
+use Rattle.etagere.proofs.HeldRuns.{number_of-held}
 use Rattle.etagere.proofs.shelves.Shelf.free.Goals as goal
 
 pub free-requires-clause-held : goal.free-requires-clause-held

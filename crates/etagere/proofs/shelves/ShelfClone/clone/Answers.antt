@@ -1,7 +1,7 @@
 use Rattle.std.proofs.Common.{List, ap, arith, length}
 use Rattle.etagere.specs.State.{Run}
 use Rattle.etagere.specs.Steps.{held_count}
-use Rattle.etagere.proofs.Room.{held_count-le}
+use Rattle.etagere.proofs.HeldCount.{held_count-le}
 use Rattle.etagere.proofs.shelves.ShelfClone.clone.Goals as goal
 
 pub invariant_of-result : goal.invariant_of-result

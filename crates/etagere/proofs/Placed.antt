@@ -1,16 +1,20 @@
 -- What it says that a size has a placement.
-use Rattle.std.proofs.Common.{◌≡◌, ℕ, ◌+◌, ◌%◌, ◌≤◌, Bool, true, false, cond, Option, None, Some, List, [], ◌∷◌, map, nat_le, nat_lt, refl, subst, ap, arith}
-use Rattle.std.specs.Prelude.{slice_get, option_map, option_and_then, ◌&&◌}
+use Rattle.std.proofs.Common.{◌≡◌, ℕ, ◌+◌, ◌%◌, ◌≤◌, Bool, true, false, cond, Option, None, Some, List, map, nat_le, nat_lt, refl, subst, ap, arith, length}
 use Rattle.std.proofs.Math.Nat.{mul-mod_left}
 use Rattle.std.proofs.lemmas.Bool.{leb-true}
-use Rattle.std.proofs.lemmas.Option.{slice_get-map}
+use Rattle.std.proofs.lemmas.Option.{slice_get-map, cond_some}
+use Rattle.std.specs.Prelude.{slice_get, option_map, option_and_then, ◌&&◌}
+use Rattle.etagere_base.specs.Frames.{IsFrame, alignment_along, is_side, asked}
+use Rattle.etagere_base.specs.Sides.{side, turned, up, coarseness, step}
 use Rattle.etagere_base.specs.declared.frames.Frame.{Frame}
 use Rattle.etagere_base.specs.declared.geometry.Size.{Size}
 use Rattle.etagere_base.specs.declared.sides.Sides.{Sides}
-use Rattle.etagere_base.specs.Frames.{IsFrame, asked, alignment_along, is_side}
-use Rattle.etagere_base.specs.Sides.{side, turned, up, coarseness, step}
-use Rattle.etagere.specs.Choice.{Found, Placement, one_later, first_or, first_least, shelf_height, fitting_place, rank, chosen, cuts, placement_of}
+use Rattle.etagere.specs.Choice.{Found, Placement, first_least, shelf_height, fitting_place, rank, cuts, placement_of, width_at, cuts_in, chosen}
+use Rattle.etagere.specs.Lists.{times}
+use Rattle.etagere.specs.Places.{column_place}
 use Rattle.etagere.specs.State.{Shelf, AtlasState, runs_in_use}
+use Rattle.etagere.proofs.Least.{first_least-is}
+use Rattle.etagere.proofs.TimesLemmas.{find-stands}
 
 -- what an option gives through a function that may give none
 and_then-parts : {A B : Type 0} (f : A → Option B) (o : Option A) (y : B) → option_and_then f o ≡ Some y → (x : A) × (o ≡ Some x) × (f x ≡ Some y)
@@ -22,36 +26,10 @@ map-parts : {A B : Type 0} (f : A → B) (o : Option A) (y : B) → option_map f
 map-parts f None y h = cc
 map-parts f (Some x) y h = (x, refl, cc)
 
--- what is given where a test passes
-pub test-parts : {A : Type 0} (b : Bool) (x y : A) → cond b (Some x) None ≡ Some y → (b ≡ true) × (x ≡ y)
-test-parts true x y h = (refl, cc)
-test-parts false x y h = cc
-
 -- what is given where a test passes, by what may give none
 pub test-both : {A : Type 0} (b : Bool) (o : Option A) (y : A) → cond b o None ≡ Some y → (b ≡ true) × (o ≡ Some y)
 test-both true o y h = (refl, h)
 test-both false o y h = cc
-
--- a rank that stands first or the one found after it stands where it was found
-first_or-at : (rank : ℕ) (ranks : List (Option ℕ)) (later : Option Found)
-    → ((found : Found) → later ≡ Some found → slice_get ranks found.number ≡ Some (Some found.rank)) → slice_get (Some rank ∷ ranks) (first_or rank later).number ≡ Some (Some (first_or rank later).rank)
-first_or-at rank ranks None h = refl
-first_or-at rank ranks (Some later) h = by_test (nat_le rank later.rank)
-  where
-    by_test : (b : Bool) → slice_get (Some rank ∷ ranks) (cond b (record { number = 0; rank = rank }) (one_later later)).number ≡ Some (Some (cond b (record { number = 0; rank = rank }) (one_later later)).rank)
-    by_test true = refl
-    by_test false = h later refl
-
--- where the first of least rank stands, that rank stands
-first_least-at : (ranks : List (Option ℕ)) (found : Found) → first_least ranks ≡ Some found → slice_get ranks found.number ≡ Some (Some found.rank)
-first_least-at [] found h = cc
-first_least-at (None ∷ ranks) found h =
-    let parts = map-parts one_later (first_least ranks) found h in
-    subst (λ (f : Found). slice_get (None ∷ ranks) f.number ≡ Some (Some f.rank)) parts.2 (first_least-at ranks parts.0 parts.1)
-first_least-at (Some rank ∷ ranks) found h =
-    let same : first_or rank (first_least ranks) ≡ found = cc in
-    subst (λ (f : Found). slice_get (Some rank ∷ ranks) f.number ≡ Some (Some f.rank)) same
-    (first_or-at rank ranks (first_least ranks) (first_least-at ranks))
 
 -- a shelf that has a rank is high enough
 rank-high : (frame : Frame) (width height : ℕ) (shelf : Shelf) (r : ℕ) → rank frame width height shelf ≡ Some r → height ≤ shelf.height
@@ -99,7 +77,7 @@ asked-sides frame size sides valid h =
     let wide = up-multiple (side size.width) frame.alignment_width valid.alignment_width.0 in
     let high = up-multiple (side size.height) frame.alignment_height valid.alignment_height.0 in
     let range = sides_positive (side size.width) (side size.height) tests.0 in
-    subst (λ (s : Sides). IsAsked frame s) (test-parts _ _ sides tests.1).1
+    subst (λ (s : Sides). IsAsked frame s) (cond_some _ _ sides tests.1).1
     (turned-asked frame (up (side size.width) frame.alignment_width) (up (side size.height) frame.alignment_height)
     (omega arith) (omega arith) wide.1 high.1)
 
@@ -116,7 +94,7 @@ pub record IsChosen (state : AtlasState) (sides : Sides) (placement : Placement)
 found-rank : (frame : Frame) (width height : ℕ) (shelves : List Shelf) (found : Found) (shelf : Shelf)
     → first_least (map (rank frame width height) shelves) ≡ Some found → slice_get shelves found.number ≡ Some shelf → rank frame width height shelf ≡ Some found.rank
 found-rank frame width height shelves found shelf h at =
-    let ranked = first_least-at (map (rank frame width height) shelves) found h in
+    let ranked = (first_least-is (map (rank frame width height) shelves) found h).at in
     let mapped = slice_get-map (rank frame width height) shelves found.number in
     let there = ap (option_map (rank frame width height)) at in
     cc
@@ -168,7 +146,7 @@ pub record IsPlaced (state : AtlasState) (size : Size) (placement : Placement) :
 placed_at : (state : AtlasState) (size : Size) (placement : Placement) (sides : Sides) (choice : Placement)
     → asked state.frame size ≡ Some sides → chosen state sides ≡ Some choice → cond (nat_le (runs_in_use state.shelves + cuts state choice) 65535) (Some choice) None ≡ Some placement → IsPlaced state size placement
 placed_at state size placement sides choice asks chooses h =
-    let roomy = test-parts _ choice placement h in
+    let roomy = cond_some _ choice placement h in
     subst (λ (p : Placement). IsPlaced state size p) roomy.1
     (record {
       sides = sides;
@@ -183,3 +161,16 @@ placement_of-placed state size placement h =
     let asks = and_then-parts _ (asked state.frame size) placement h in
     let choice = and_then-parts _ (chosen state asks.0) placement asks.2 in
     placed_at state size placement asks.0 choice.0 asks.1 choice.1 choice.2
+
+-- the chosen place is wide enough, and its shelf tries it
+pub chosen-stands : (state : AtlasState) (sides : Sides) (placement : Placement) → (choice : IsChosen state sides placement)
+    → (placement.width ≤ width_at (column_place state.frame choice.shelf) choice.shelf.runs placement.place) × (1 ≤ times placement.place choice.shelf.tried)
+chosen-stands state sides placement choice =
+    let fits : ℕ → Bool = λ place. nat_le sides.along (width_at (column_place state.frame choice.shelf) choice.shelf.runs place) in
+    let stands = find-stands fits choice.shelf.tried placement.place choice.place in
+    (omega (arith, leb-true _ _ stands.0, choice.width), stands.1)
+
+-- the cuts of a placement are those in its shelf
+pub cuts-read : (state : AtlasState) (placement : Placement) (shelf : Shelf)
+    → slice_get state.shelves placement.shelf ≡ Some shelf → cuts state placement ≡ cuts_in state.frame placement shelf
+cuts-read state placement shelf at = rw at refl

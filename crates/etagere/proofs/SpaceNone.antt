@@ -1,15 +1,14 @@
 -- Where nothing is held, no space is.
-use Rattle.std.proofs.Common.{◌≡◌, ℕ, zero, suc, ◌+◌, ◌*◌, ◌≤◌, Bool, true, false, cond, Option, None, Some, List, [], ◌∷◌, ◌++◌, map, refl, ap, ◌∙◌, sym, arith}
+use Rattle.std.proofs.Common.{◌≡◌, ℕ, zero, suc, ◌+◌, ◌*◌, ◌≤◌, Bool, true, false, cond, List, [], ◌∷◌, map, refl, ap, ◌∙◌, sym, arith}
 use Rattle.etagere_base.specs.declared.frames.Frame.{Frame}
-use Rattle.etagere.specs.Fresh.{empty_columns, fresh}
 use Rattle.etagere.specs.Lists.{Each}
 use Rattle.etagere.specs.Places.{held}
 use Rattle.etagere.specs.Space.{held_width, space_in, allocated_space}
 use Rattle.etagere.specs.State.{Run, Shelf, AtlasState, is_free}
 use Rattle.etagere.specs.Valid.{IsRun, IsShelf, IsValid, holders, ids}
 use Rattle.etagere.proofs.HeldIds.{id_of, ids-held_after}
-use Rattle.etagere.proofs.HeldWidth.{held_width-free}
-use Rattle.etagere.proofs.Holders.{no_holder}
+use Rattle.etagere.proofs.Holders.{free_first, ids-none, no_holder}
+use Rattle.etagere.proofs.SpaceLemmas.{held_width-free}
 
 -- a run at least one pixel wide that adds nothing is free
 no_parts : (b : Bool) (width rest : ℕ) → 1 ≤ width → cond b 0 width + rest ≡ 0 → (b ≡ true) × (rest ≡ 0)
@@ -45,43 +44,21 @@ pub no_space-nothing_held : (state : AtlasState) → IsValid state → allocated
 no_space-nothing_held state valid none =
     map-nothing id_of (held state) (ids-held_after state.frame [] state.shelves ∙ no_space-no_ids state.frame state.shelves valid.shelves none)
 
--- without a holder the first run is free, and so are the others
-first_free : (run : Run) (runs : List Run) → holders (run ∷ runs) ≡ [] → (run.holder ≡ None) × (holders runs ≡ [])
-first_free run runs h = of_option run.holder h
-  where
-    of_option : (holder : Option ℕ) → holders (record { width = run.width; holder = holder } ∷ runs) ≡ [] → (holder ≡ None) × (holders runs ≡ [])
-    of_option None h = (refl, h)
-    of_option (Some id) h = absurd (cc)
-
 -- runs without a holder hold no width
 no_holder-no_width : (runs : List Run) → holders runs ≡ [] → held_width runs ≡ 0
 no_holder-no_width [] h = refl
 no_holder-no_width (run ∷ runs) h =
-    let parts = first_free run runs h in
+    let parts = free_first run runs h in
     held_width-free run runs parts.0 ∙ no_holder-no_width runs parts.1
-
--- two lists that are nothing end to end are nothing
-both_nothing : (xs ys : List ℕ) → xs ++ ys ≡ [] → (xs ≡ []) × (ys ≡ [])
-both_nothing [] ys h = (refl, h)
-both_nothing (x ∷ xs) ys h = absurd (cc)
 
 -- shelves without ids hold no space
 no_ids-no_space : (shelves : List Shelf) → ids shelves ≡ [] → space_in shelves ≡ 0
 no_ids-no_space [] h = refl
 no_ids-no_space (shelf ∷ shelves) h =
-    let parts = both_nothing (holders shelf.runs) (ids shelves) h in
+    let parts = ids-none shelf shelves h in
     rw (no_holder-no_width shelf.runs parts.0) (omega (arith, no_ids-no_space shelves parts.1))
 
 -- where nothing is held, no space is
 pub nothing_held-no_space : (state : AtlasState) → held state ≡ [] → allocated_space state ≡ 0
 nothing_held-no_space state nothing =
     no_ids-no_space state.shelves (sym (ids-held_after state.frame [] state.shelves) ∙ ap (map id_of) nothing)
-
--- empty columns hold no space
-space_in-empty_columns : (frame : Frame) (column n : ℕ) → space_in (empty_columns frame column n) ≡ 0
-space_in-empty_columns frame column zero = refl
-space_in-empty_columns frame column (suc n) = omega (arith, space_in-empty_columns frame (suc column) n)
-
--- a new atlas holds no space
-pub space-fresh : (frame : Frame) → allocated_space (fresh frame) ≡ 0
-space-fresh frame = space_in-empty_columns frame 0 frame.columns

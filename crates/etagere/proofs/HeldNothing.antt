@@ -1,52 +1,22 @@
 -- An atlas that holds nothing has the shelves of a new one.
-use Rattle.std.proofs.Common.{◌≡◌, ℕ, zero, suc, ◌+◌, ◌<◌, ◌≤◌, Bool, true, false, cond, ◌==◌, ◌&&◌, Option, None, Some, List, [], ◌∷◌, ◌++◌, map, refl, ap, ◌∙◌, sym, ⊎_elim, arith}
+use Rattle.std.proofs.Common.{◌≡◌, ℕ, zero, suc, ◌+◌, ◌<◌, ◌≤◌, Bool, true, false, ◌==◌, ◌&&◌, None, List, [], ◌∷◌, map, refl, ap, ◌∙◌, sym, ⊎_elim, arith, ◌≢◌}
+use Rattle.std.proofs.lemmas.Bool.{true≢false, cases_lt}
 use Rattle.std.specs.Prelude.{nat_lt}
-use Rattle.std.proofs.lemmas.Bool.{true≢false, eq-eqb, eqb-true, cases_lt}
-use Rattle.etagere_base.specs.declared.frames.Frame.{Frame}
 use Rattle.etagere_base.specs.Frames.{across_side}
+use Rattle.etagere_base.specs.declared.frames.Frame.{Frame}
 use Rattle.etagere.specs.Fresh.{empty_columns, fresh, without_records}
 use Rattle.etagere.specs.Joining.{both_free, both_empty}
 use Rattle.etagere.specs.Lists.{Each, times, NoneTouch}
 use Rattle.etagere.specs.Places.{column_place, heights_in, free_places, held}
 use Rattle.etagere.specs.State.{Run, Shelf, AtlasState, empty_shelf, is_empty, total_width}
 use Rattle.etagere.specs.Valid.{IsShelf, IsValid, holders, ids, is_out_of_order}
-use Rattle.etagere.proofs.FreshLemmas.{across-positive}
+use Rattle.etagere.proofs.EachLemmas.{Each-both, Each-weaken}
+use Rattle.etagere.proofs.FrameSides.{across-positive}
+use Rattle.etagere.proofs.Heights.{heights_in-alone, heights_in-none, heights_in-other}
 use Rattle.etagere.proofs.HeldIds.{id_of, ids-held_after}
-use Rattle.etagere.proofs.Joined.{NoneTouch-tail}
-
--- a list in which each number stands as often as in a list of one is that list
-times-nil : (ns : List ℕ) → ((n : ℕ) → times n ns ≡ 0) → ns ≡ []
-times-nil [] h = refl
-times-nil (m ∷ ms) h = absurd (some (m == m) (times m ms) (eq-eqb m m refl) (h m))
-  where
-    some : (b : Bool) (k : ℕ) → b ≡ true → cond b 1 0 + k ≡ 0 → ⊥
-    some b k h e = grind arith
-
--- a list in which each number stands as often as in a list of one is that list
-times-one : (c : ℕ) (ns : List ℕ) → ((n : ℕ) → times n ns ≡ times n (c ∷ [])) → ns ≡ c ∷ []
-times-one c [] h = absurd (none (c == c) (eq-eqb c c refl) (h c))
-  where
-    none : (b : Bool) → b ≡ true → 0 ≡ cond b 1 0 + 0 → ⊥
-    none b h e = grind arith
-times-one c (m ∷ ms) h =
-    let first = matched (m == m) (c == m) (times m ms) (eq-eqb m m refl) (h m) in
-    let same : m ≡ c = sym (eqb-true c m first) in
-    let none = times-nil ms (λ n. alike m c n (times n ms) same (h n)) in
-    cc
-  where
-    matched : (a b : Bool) (k : ℕ) → a ≡ true → cond a 1 0 + k ≡ cond b 1 0 + 0 → b ≡ true
-    matched a b k h e = grind arith
-
-    alike : (m c n k : ℕ) → m ≡ c → cond (m == n) 1 0 + k ≡ cond (c == n) 1 0 + 0 → k ≡ 0
-    alike m c n k e h = grind arith
-
--- without a holder the first run is free, and so are the others
-free_run : (run : Run) (runs : List Run) → holders (run ∷ runs) ≡ [] → (run.holder ≡ None) × (holders runs ≡ [])
-free_run run runs h = of_option run.holder h
-  where
-    of_option : (holder : Option ℕ) → holders (record { width = run.width; holder = holder } ∷ runs) ≡ [] → (holder ≡ None) × (holders runs ≡ [])
-    of_option None h = (refl, h)
-    of_option (Some id) h = absurd (cc)
+use Rattle.etagere.proofs.Holders.{free_first, ids-none}
+use Rattle.etagere.proofs.NoneTouchLemmas.{NoneTouch-tail}
+use Rattle.etagere.proofs.TimesLemmas.{times-one}
 
 -- a run by its fields
 run_is : (run : Run) (width : ℕ) → run.width ≡ width → run.holder ≡ None → run ≡ record { width = width; holder = None }
@@ -57,10 +27,10 @@ one_run : (width : ℕ) (runs : List Run) → holders runs ≡ [] → NoneTouch 
     → runs ≡ record { width = width; holder = None } ∷ []
 one_run width [] none apart total wide = absurd (omega arith)
 one_run width (run ∷ []) none apart total wide =
-    ap (λ (r : Run). r ∷ []) (run_is run width (omega arith) (free_run run [] none).0)
+    ap (λ (r : Run). r ∷ []) (run_is run width (omega arith) (free_first run [] none).0)
 one_run width (run ∷ next ∷ runs) none apart total wide =
-    let first = free_run run (next ∷ runs) none in
-    let second = free_run next runs first.1 in
+    let first = free_first run (next ∷ runs) none in
+    let second = free_first next runs first.1 in
     absurd (true≢false (sym (both_free-none run next first.0 second.0) ∙ apart.0))
   where
     both_free-none : (x y : Run) → x.holder ≡ None → y.holder ≡ None → both_free x y ≡ true
@@ -75,50 +45,29 @@ emptied frame shelf wide valid none =
     (λ n. valid.tried n ∙ ap (λ (runs : List Run). times n (free_places (column_place frame shelf) runs)) runs_are) in
     λ i. record { column = shelf.column; height = shelf.height; runs = runs_are i; tried = tried_is i }
 
--- shelves behind a column add no height to it
-heights_in-none : (column : ℕ) (shelves : List Shelf) → Each (λ (s : Shelf). column < s.column) shelves → heights_in column shelves ≡ 0
-heights_in-none column [] later = refl
-heights_in-none column (shelf ∷ shelves) later =
-    other shelf.column column shelf.height (heights_in column shelves) later.0 (heights_in-none column shelves later.1)
-  where
-    other : (c column height rest : ℕ) → column < c → rest ≡ 0 → cond (c == column) height 0 + rest ≡ 0
-    other c column height rest h e = grind arith
-
--- the one shelf of a column fills it
-heights_in-same : (column : ℕ) (shelf : Shelf) (shelves : List Shelf) → shelf.column ≡ column
-    → Each (λ (s : Shelf). column < s.column) shelves → heights_in column (shelf ∷ shelves) ≡ shelf.height
-heights_in-same column shelf shelves here later =
-    same shelf.column column shelf.height (heights_in column shelves) here (heights_in-none column shelves later)
-  where
-    same : (c column height rest : ℕ) → c ≡ column → rest ≡ 0 → cond (c == column) height 0 + rest ≡ height
-    same c column height rest h e = grind arith
-
--- a shelf of another column adds no height to one behind it
-heights_in-further : (column : ℕ) (shelf : Shelf) (shelves : List Shelf) → shelf.column < column
-    → heights_in column (shelf ∷ shelves) ≡ heights_in column shelves
-heights_in-further column shelf shelves h = other shelf.column column shelf.height (heights_in column shelves) h
-  where
-    other : (c column height rest : ℕ) → c < column → cond (c == column) height 0 + rest ≡ rest
-    other c column height rest h = grind arith
-
 -- what stands behind a column stands behind each one before that
 all_after : (a b : ℕ) (shelves : List Shelf) → a ≤ b → Each (λ (s : Shelf). b < s.column) shelves → Each (λ (s : Shelf). a < s.column) shelves
-all_after a b [] le later = tt
-all_after a b (shelf ∷ shelves) le later = (omega (arith, later.0), all_after a b shelves le later.1)
+all_after a b shelves le later = Each-weaken (λ (s : Shelf). b < s.column) _ shelves (λ (s : Shelf) (h : b < s.column). omega arith) later
+
+-- what stands behind a column stands in others
+all_others : (column : ℕ) (shelves : List Shelf) → Each (λ (s : Shelf). column < s.column) shelves → Each (λ (s : Shelf). s.column ≢ column) shelves
+all_others column shelves later = Each-weaken (λ (s : Shelf). column < s.column) _ shelves (λ (s : Shelf) (h : column < s.column) e. omega arith) later
+
+-- shelves stand within columns
+abbrev AreWithin : ℕ → ℕ → List Shelf → Type 0
+AreWithin column end shelves = Each (λ (s : Shelf). (column ≤ s.column) × (s.column < end)) shelves
 
 -- shelves behind the first column stand within the others
 narrowed : (column n : ℕ) (shelves : List Shelf) → Each (λ (s : Shelf). column < s.column) shelves
-    → Each (λ (s : Shelf). (column ≤ s.column) × (s.column < column + suc n)) shelves
-    → Each (λ (s : Shelf). (suc column ≤ s.column) × (s.column < suc column + n)) shelves
-narrowed column n [] later within = tt
-narrowed column n (shelf ∷ shelves) later within =
-    ((later.0, omega (arith, within.0)), narrowed column n shelves later.1 within.1)
+    → AreWithin column (column + suc n) shelves → AreWithin (suc column) (suc column + n) shelves
+narrowed column n shelves later within =
+    Each-weaken (λ (s : Shelf). (column < s.column) × ((column ≤ s.column) × (s.column < column + suc n))) _ shelves
+    (λ (s : Shelf) (h : (column < s.column) × ((column ≤ s.column) × (s.column < column + suc n))). (h.0, omega (arith, h.1.1)))
+    (Each-both _ _ shelves later within)
 
 -- each shelf stands in one of the columns
-all_within : (frame : Frame) (shelves : List Shelf) → Each (IsShelf frame) shelves
-    → Each (λ (s : Shelf). (0 ≤ s.column) × (s.column < 0 + frame.columns)) shelves
-all_within frame [] valid = tt
-all_within frame (shelf ∷ shelves) valid = ((omega arith, omega (arith, valid.0.column)), all_within frame shelves valid.1)
+all_within : (frame : Frame) (shelves : List Shelf) → Each (IsShelf frame) shelves → AreWithin 0 (0 + frame.columns) shelves
+all_within frame shelves valid = Each-weaken (IsShelf frame) _ shelves (λ (s : Shelf) (v : IsShelf frame s). (omega arith, omega (arith, v.column))) valid
 
 -- two empty shelves in order, not in one column, rise
 rise : (a b : ℕ) (p q : Bool) → nat_lt b a ≡ false → (a == b && (p && q)) ≡ false → p ≡ true → q ≡ true → a < b
@@ -133,12 +82,8 @@ module _ (frame : Frame) where
   all_emptied : 1 ≤ frame.column_width → (shelves : List Shelf) → Each (IsShelf frame) shelves → ids shelves ≡ [] → Each IsEmptied shelves
   all_emptied wide [] valid none = tt
   all_emptied wide (shelf ∷ shelves) valid none =
-      let parts = both_nil (holders shelf.runs) (ids shelves) none in
+      let parts = ids-none shelf shelves none in
       (emptied frame shelf wide valid.0 parts.0, all_emptied wide shelves valid.1 parts.1)
-    where
-      both_nil : (xs ys : List ℕ) → xs ++ ys ≡ [] → (xs ≡ []) × (ys ≡ [])
-      both_nil [] ys h = (refl, h)
-      both_nil (x ∷ xs) ys h = absurd (cc)
 
   -- empty shelves that are none side by side stand in columns that rise
   all_rise : (x : Shelf) (shelves : List Shelf) → Each IsEmptied (x ∷ shelves) → NoneTouch is_out_of_order (x ∷ shelves) → NoneTouch both_empty (x ∷ shelves)
@@ -154,14 +99,14 @@ module _ (frame : Frame) where
   first_column column shelf shelves later le height high =
       ⊎_elim
       (λ (lt : column < shelf.column).
-      let none = heights_in-none column (shelf ∷ shelves) (lt, all_after column shelf.column shelves le later) in
+      let none = heights_in-none column (shelf ∷ shelves) (all_others column (shelf ∷ shelves) (lt, all_after column shelf.column shelves le later)) in
       absurd (omega arith))
       (λ (ge : shelf.column ≤ column). omega arith)
       (cases_lt column shelf.column)
 
   -- one empty shelf a column, each of the full height
   all_columns : (column n : ℕ) (shelves : List Shelf) → Each IsEmptied shelves → NoneTouch is_out_of_order shelves → NoneTouch both_empty shelves
-      → Each (λ (s : Shelf). (column ≤ s.column) × (s.column < column + n)) shelves
+      → AreWithin column (column + n) shelves
       → ((c : ℕ) → column ≤ c → c < column + n → heights_in c shelves ≡ across_side frame) → 1 ≤ across_side frame
       → shelves ≡ empty_columns frame column n
   all_columns column zero [] empty ordered apart within heights high = refl
@@ -172,13 +117,13 @@ module _ (frame : Frame) where
       let later = all_rise shelf shelves empty ordered apart in
       let here = first_column column shelf shelves later within.0.0 (heights column (omega arith) (omega arith)) high in
       let behind = all_after column shelf.column shelves within.0.0 later in
-      let height = sym (heights_in-same column shelf shelves here behind) ∙ heights column (omega arith) (omega arith) in
+      let height = sym (heights_in-alone column shelf shelves here (all_others column shelves behind)) ∙ heights column (omega arith) (omega arith) in
       let first : shelf ≡ empty_shelf frame column (across_side frame) =
       empty.0 ∙ (λ i. empty_shelf frame (here i) (height i)) in
       let rest = all_columns (suc column) n shelves empty.1
       (NoneTouch-tail is_out_of_order shelf shelves ordered) (NoneTouch-tail both_empty shelf shelves apart)
       (narrowed column n shelves behind within.1)
-      (λ c l h. sym (heights_in-further c shelf shelves (omega arith)) ∙ heights c (omega arith) (omega arith)) high in
+      (λ c l h. sym (heights_in-other c shelf shelves (λ e. omega arith)) ∙ heights c (omega arith) (omega arith)) high in
       λ i. first i ∷ rest i
 
 -- an atlas that holds nothing is a new one but for its count of records
@@ -187,5 +132,5 @@ nothing_held-fresh state valid nothing =
     let none : ids state.shelves ≡ [] = sym (ids-held_after state.frame [] state.shelves) ∙ ap (map id_of) nothing in
     let empty = all_emptied state.frame valid.frame.column_width.0 state.shelves valid.shelves none in
     let shelves = all_columns state.frame 0 state.frame.columns state.shelves empty valid.ordered valid.apart
-    (all_within state.frame state.shelves valid.shelves) (λ c l h. valid.heights c (omega arith)) (across-positive state.frame valid.frame) in
+    (all_within state.frame state.shelves valid.shelves) (λ c l h. valid.heights c (omega arith)) (across-positive 65535 state.frame valid.frame) in
     λ i. record { frame = state.frame; shelves = shelves i; records = 0 }

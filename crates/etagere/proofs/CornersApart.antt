@@ -12,7 +12,8 @@ use Rattle.etagere_base.specs.Sides.{side}
 use Rattle.etagere.specs.Corners.{corner, AreCorners}
 use Rattle.etagere.specs.Rectangles.{AreApart, Covers, SharesNone, IsInside}
 use Rattle.etagere.specs.Lists.{Each}
-use Rattle.etagere.proofs.EachLemmas.{Each-both, Each-weaken, Each-middle, Each-without, AreApart-middle, list_any-none}
+use Rattle.etagere.proofs.Boxes.{AreApart-middle}
+use Rattle.etagere.proofs.EachLemmas.{Each-both, Each-weaken, Each-middle, Each-without, list_any-none}
 
 -- a place is no later than its number
 side-least : (z : ℤ) → z ≤ℤ pos (side z)
@@ -44,7 +45,7 @@ digits-differ : (x y x' y' : ℕ) → x < 65536 → x' < 65536 → x + 65536 * y
 digits-differ x y x' y' short short' e = (omega arith, omega arith)
 
 -- rectangles within the atlas that share no unit square have different corners
-pub corner-differs : (frame : Frame) (one other : Rectangle) → IsFrame 65535 frame → IsInside frame one → IsInside frame other
+corner-differs : (frame : Frame) (one other : Rectangle) → IsFrame 65535 frame → IsInside frame one → IsInside frame other
     → SharesNone one other → corner one ≡ corner other → ⊥
 corner-differs frame one other is_frame inside inside' apart e =
     let width = is_frame.width.1 in
