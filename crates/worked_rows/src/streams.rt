@@ -4,9 +4,8 @@ use crate::fake_streams::{End, FakeReader, FakeWriter};
 use etagere_run::{Outcome, ReplayFault, replay};
 use std::test::Fail;
 
-const SCRIPT: &[u8] = b"atlas 8 8 1 1 1 h\na 9 9\nr 0\nc\n";
-
-const TEXT: &[u8] = b"refused\nnot live\ncleared\n";
+/// The script of the README's example.
+const SCRIPT: &[u8] = b"atlas 1000 1000 1 1 1 h\na 100 100\na 900 200\nr 0\na 300 200\nl 3\nr 2\n";
 
 fn ends_with<A: AllocGlobal>(rt: &A, at_once: usize, room: usize, end: End) -> FakeWriter {
     FakeWriter {
@@ -17,22 +16,27 @@ fn ends_with<A: AllocGlobal>(rt: &A, at_once: usize, room: usize, end: End) -> F
     }
 }
 
-fn script(at_once: usize, end: End) -> FakeReader<'static> {
-    FakeReader {
-        rest: SCRIPT,
-        at_once,
-        end,
-    }
+/// What a replay of the script writes to a writer that takes everything.
+fn whole_text(rt: &impl AllocGlobal) -> Result<Vec<u8>, Fail> {
+    let mut reader = SCRIPT;
+    let mut writer = Vec::new(rt.alloc());
+    replay(rt.alloc(), &mut reader, &mut writer)?;
+    Ok(writer)
 }
 
 #[test]
 fn a_replay_takes_few_bytes_at_once(rt: HostRuntime) -> Result<(), Fail> {
+    let text = whole_text(&rt)?;
     for at_once in [1, 2, 7, 1000] {
-        let mut reader = script(at_once, End::Nothing);
+        let mut reader = FakeReader {
+            rest: SCRIPT,
+            at_once,
+            end: End::Nothing,
+        };
         let mut writer = ends_with(&rt, at_once, 1000, End::Failure);
         let outcome = replay(rt.alloc(), &mut reader, &mut writer)?;
         assert_eq!(rt; outcome, Outcome::Done);
-        assert_eq!(rt; writer.written.as_slice(), TEXT);
+        assert_eq!(rt; writer.written.as_slice(), text.as_slice());
     }
     Ok(())
 }
@@ -40,24 +44,31 @@ fn a_replay_takes_few_bytes_at_once(rt: HostRuntime) -> Result<(), Fail> {
 #[test]
 fn nothing_is_written_after_a_failed_read(rt: HostRuntime) -> Result<(), Fail> {
     for end in [End::Failure, End::Interruption] {
-        let mut reader = script(7, end);
-        let mut writer = ends_with(&rt, 7, 1000, End::Failure);
-        let fault = replay(rt.alloc(), &mut reader, &mut writer);
-        assert_eq!(rt; fault, Err(ReplayFault::Read));
-        assert!(rt; writer.written.is_empty());
+        for given in 0..SCRIPT.len() {
+            let mut reader = FakeReader {
+                rest: &SCRIPT[..given],
+                at_once: 7,
+                end,
+            };
+            let mut writer = ends_with(&rt, 7, 1000, End::Failure);
+            let fault = replay(rt.alloc(), &mut reader, &mut writer);
+            assert_eq!(rt; fault, Err(ReplayFault::Read), "after {given} bytes");
+            assert!(rt; writer.written.is_empty());
+        }
     }
     Ok(())
 }
 
 #[test]
 fn a_beginning_is_written_before_a_failed_write(rt: HostRuntime) -> Result<(), Fail> {
+    let text = whole_text(&rt)?;
     for end in [End::Nothing, End::Failure, End::Interruption] {
-        for room in 0..TEXT.len() {
-            let mut reader = script(1000, End::Nothing);
+        for room in 0..text.len() {
+            let mut reader = SCRIPT;
             let mut writer = ends_with(&rt, 3, room, end);
             let fault = replay(rt.alloc(), &mut reader, &mut writer);
-            assert_eq!(rt; fault, Err(ReplayFault::Write));
-            assert_eq!(rt; writer.written.as_slice(), &TEXT[..room]);
+            assert_eq!(rt; fault, Err(ReplayFault::Write), "at {room} bytes");
+            assert_eq!(rt; writer.written.as_slice(), &text[..room]);
         }
     }
     Ok(())
