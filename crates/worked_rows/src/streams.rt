@@ -44,7 +44,7 @@ fn a_replay_takes_few_bytes_at_once(rt: HostRuntime) -> Result<(), Fail> {
 #[test]
 fn nothing_is_written_after_a_failed_read(rt: HostRuntime) -> Result<(), Fail> {
     for end in [End::Failure, End::Interruption] {
-        for given in 0..SCRIPT.len() {
+        for given in 0..=SCRIPT.len() {
             let mut reader = FakeReader {
                 rest: &SCRIPT[..given],
                 at_once: 7,
