@@ -1,3 +1,4 @@
+pub mod Aligned
 pub mod Allocated
 pub mod Boxes
 pub mod ColumnShelves

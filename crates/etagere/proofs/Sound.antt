@@ -15,6 +15,7 @@ use Rattle.etagere.specs.Returning.{returned}
 use Rattle.etagere.specs.State.{AtlasState}
 use Rattle.etagere.specs.Taking.{given, taken}
 use Rattle.etagere.specs.Valid.{IsValid, ids}
+use Rattle.etagere.proofs.Aligned.{held-aligned}
 use Rattle.etagere.proofs.CornersApart.{corner-fresh}
 use Rattle.etagere.proofs.EachLemmas.{Each-append, Each-back, Each-filter, Each-front, Each-middle}
 use Rattle.etagere.proofs.HeldIds.{ids-held_after}
@@ -31,6 +32,7 @@ sound state valid = record {
   valid = valid;
   ids = λ id. omega (arith, valid.ids id, ap (times id) (ids-held_after state.frame [] state.shelves));
   inside = held-inside state valid;
+  aligned = held-aligned state valid;
   apart = held-apart state valid;
   empty = nothing_held-fresh state valid;
 }

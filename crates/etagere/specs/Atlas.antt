@@ -5,7 +5,7 @@ use Rattle.etagere.specs.Choice.{Placement, cuts, placement_of}
 use Rattle.etagere.specs.Fresh.{fresh, without_records}
 use Rattle.etagere.specs.Lists.{Each, times}
 use Rattle.etagere.specs.Places.{held, is_held}
-use Rattle.etagere.specs.Rectangles.{AreApart, IsInside}
+use Rattle.etagere.specs.Rectangles.{AreApart, IsAligned, IsInside}
 use Rattle.etagere.specs.State.{AtlasState}
 use Rattle.etagere.specs.Taking.{given, taken}
 use Rattle.etagere.specs.Valid.{IsValid}
@@ -36,11 +36,12 @@ pub record Adds (old : List Allocation) (allocation : Allocation) (new : List Al
 abbrev pub without_id : ℕ → List Allocation → List Allocation
 without_id id allocations = filter (λ allocation. not (allocation.id == id)) allocations
 
--- what each state of an atlas keeps: it is valid, what is held has ids that differ and lies inside and apart, and where
--- nothing is held it is that of a new atlas but for its records
+-- what each state of an atlas keeps: it is valid, what is held has ids that differ and lies inside, aligned and apart, and
+-- where nothing is held it is that of a new atlas but for its records
 pub record IsSound (state : AtlasState) : Type 0 where
   pub valid : IsValid state
   pub ids : (id : ℕ) → times id (map (λ allocation. allocation.id) (held state)) ≤ 1
   pub inside : Each (λ (allocation : Allocation). IsInside state.frame allocation.rectangle) (held state)
+  pub aligned : Each (λ (allocation : Allocation). IsAligned state.frame allocation.rectangle) (held state)
   pub apart : AreApart (held state)
   pub empty : held state ≡ [] → without_records state ≡ without_records (fresh state.frame)

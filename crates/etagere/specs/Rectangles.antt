@@ -1,5 +1,7 @@
-use Rattle.std.specs.Prelude.{ℤ, pos, ◌+ℤ◌, ◌≤ℤ◌, ◌<ℤ◌, List, [], ◌∷◌}
+use Rattle.std.specs.Prelude.{◌≡◌, ℕ, ◌+◌, ◌*◌, Bool, true, false, ℤ, pos, ◌+ℤ◌, ◌≤ℤ◌, ◌<ℤ◌, List, [], ◌∷◌}
+use Rattle.etagere_base.specs.Frames.{alignment_along}
 use Rattle.etagere_base.specs.declared.frames.Frame.{Frame}
+use Rattle.etagere_base.specs.declared.geometry.Point.{Point}
 use Rattle.etagere_base.specs.declared.geometry.Rectangle.{Rectangle}
 use Rattle.etagere_base.specs.declared.geometry.Size.{Size}
 use Rattle.etagere_base.specs.declared.ids.Allocation.{Allocation}
@@ -30,6 +32,18 @@ pub record IsInside (frame : Frame) (rectangle : Rectangle) : Type 0 where
 pub record IsLarge (frame : Frame) (size : Size) (rectangle : Rectangle) : Type 0 where
   pub width : (rectangle.min.x +ℤ pos (up (side size.width) frame.alignment_width)) ≤ℤ rectangle.max.x
   pub height : (rectangle.min.y +ℤ pos (up (side size.height) frame.alignment_height)) ≤ℤ rectangle.max.y
+
+-- of a point's coordinates the one along the shelves, which may be vertical
+abbrev pub place_along : Bool → Point → ℤ
+place_along true point = point.y
+place_along false point = point.x
+
+-- a rectangle's place along the shelves and its extent along them are multiples of the alignment
+pub record IsAligned (frame : Frame) (rectangle : Rectangle) : Type 0 where
+  pub place : ℕ
+  pub extent : ℕ
+  pub begins : place_along frame.vertical rectangle.min ≡ pos (place * alignment_along frame)
+  pub ends : place_along frame.vertical rectangle.max ≡ pos ((place + extent) * alignment_along frame)
 
 -- any two of the allocations share no unit square
 abbrev pub AreApart : List Allocation → Type 0

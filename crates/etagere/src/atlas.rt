@@ -1,4 +1,4 @@
-ghost use Rattle.std.specs.Prelude.{◌≡◌, ◌↔◌, ◌*◌, ◌-◌, [], Some, None, Ok, Err, false, pos, IfOk, IfErr, IfSome, IfNone, OnOk, OnErr, IsErr, IsTrue};
+ghost use Rattle.std.specs.Prelude.{◌≡◌, ◌↔◌, ◌*◌, ◌-◌, ◌+ℤ◌, [], Err, false, pos, IfOk, IfErr, IfSome, IfNone, OnOk, OnErr, IsErr, IsTrue};
 ghost use Rattle.etagere_base.specs.Frames as frames;
 ghost use Rattle.etagere_base.specs.Frames.{IsAccepted, options_fault};
 ghost use Rattle.etagere_base.specs.Options.{default_options};
@@ -29,7 +29,14 @@ use std::marker::Model;
 /// Places rectangles on the shelves of one atlas, and takes them back in any order.
 ///
 /// Each shelf is a strip across a column of the atlas, cut into runs side by side. A size goes to the lowest
-/// shelf that is high enough and not much too high. Neighbours that are free become one again.
+/// shelf that is high enough and not much too high; where there is none, to the first that is high enough.
+/// Neighbours that are free become one again.
+///
+/// ```text
+/// let mut atlas = AtlasAllocator::new(alloc, size2(1000, 1000))?;
+/// let a = atlas.allocate(size2(100, 100))?;     // Some: (0,0)-(100,112)
+/// let b = atlas.allocate(size2(900, 200))?;     // Some: (0,112)-(900,336)
+/// ```
 #[derive(Drop)]
 pub struct AtlasAllocator {
     frame: Frame,
@@ -99,7 +106,7 @@ impl AtlasAllocator {
         })
     }
 
-    /// The size that the atlas was made with.
+    /// The size in pixels that the atlas was made with. Takes the same time always.
     pub fn size(&self) -> Size
         ensures { result ≡ record { width = pos self.now.frame.width; height = pos self.now.frame.height } }
     {
@@ -112,8 +119,9 @@ impl AtlasAllocator {
     /// Gives a rectangle that is at least as large as the size in pixels, or none where there is no place.
     ///
     /// `Err` comes only where the place is to be cut and there was no memory. Nothing changes after an `Err`
-    /// or none. Each cut takes memory for one run or shelf; a size that needs none takes none. The shelves
-    /// are gone through once.
+    /// or none. Each cut takes memory for a run and its place in the trying order, or for a shelf; a size
+    /// that needs none takes none. Goes through all shelves, in each that is high enough through its runs
+    /// once for each free run tried, and again through the shelves before the chosen one.
     pub fn allocate(&mut self, size: Size) -> Result<Option<Allocation>, AllocError>
         ensures placed { IfOk result (λ answer. IfSome answer (λ allocation. Allocates self.old size allocation self.new)) }
         ensures refused { IfOk result (λ answer. IfNone answer (IsRefused self.old size)) }
@@ -141,8 +149,8 @@ impl AtlasAllocator {
 
     /// Takes back the rectangle that an id holds, and joins what is free with its neighbours.
     ///
-    /// `Err` comes exactly where the id holds nothing; then nothing changes. Takes no memory. The shelves are
-    /// gone through once.
+    /// `Err` comes exactly where the id holds nothing; then nothing changes. Takes no memory. Goes through the
+    /// runs of all shelves up to that of the id, and a few times through the runs of that one.
     pub fn deallocate(&mut self, id: AllocId) -> Result<(), UnknownId>
         ensures ok { OnOk result (self.new ≡ returned self.old id) }
         ensures unknown { IsErr result ↔ (is_held self.old id ≡ false) }
@@ -161,13 +169,17 @@ impl AtlasAllocator {
     }
 
     /// The rectangle that an id holds, as it was given; none exactly where it holds nothing.
+    ///
+    /// Takes no memory. Goes through the runs of all shelves up to that of the id.
     pub fn get(&self, id: AllocId) -> Option<Rectangle>
         ensures { result ≡ places.rectangle_of self.now id }
     {
         rectangle_of(&self.frame, &self.shelves, id)
     }
 
-    /// Takes everything back at once: the atlas is as it was when it was new. Takes no memory.
+    /// Takes everything back at once: the atlas is as it was when it was new.
+    ///
+    /// Takes no memory. Goes through the shelves, and frees the memory of all but one in each column.
     pub fn clear(&mut self)
         ensures cleared { self.new ≡ fresh self.old.frame }
         ensures empty { held self.new ≡ [] }
@@ -179,23 +191,24 @@ impl AtlasAllocator {
         self.allocated_space = 0;
     }
 
-    /// Whether nothing is held.
+    /// Whether nothing is held. Takes the same time always.
     pub fn is_empty(&self) -> bool
         ensures { IsTrue result ↔ (held self.now ≡ []) }
     {
         self.allocated_space == 0
     }
 
-    /// The areas of everything that is held, added up, in square pixels.
+    /// The areas of everything that is held, added up, in square pixels. Takes the same time always.
     pub fn allocated_space(&self) -> i32
         ensures { result ≡ pos (space.allocated_space self.now) }
     {
         self.allocated_space as i32
     }
 
-    /// The area of the atlas less what is held, in square pixels.
+    /// The area of the atlas less what is held, in square pixels. Takes the same time always.
     pub fn free_space(&self) -> i32
-        ensures { result ≡ pos (self.now.frame.width * self.now.frame.height - space.allocated_space self.now) }
+        ensures free { result ≡ pos (self.now.frame.width * self.now.frame.height - space.allocated_space self.now) }
+        ensures sum { result +ℤ pos (space.allocated_space self.now) ≡ pos (self.now.frame.width * self.now.frame.height) }
     {
         (self.frame.width * self.frame.height - self.allocated_space) as i32
     }
@@ -205,7 +218,7 @@ impl Clone for AtlasAllocator {
     ghost is_clone = { λ atlas other. other ≡ atlas };
 
     /// An atlas that equals this one, its ids and its later answers too, and shares nothing with it. Takes
-    /// memory for each shelf.
+    /// memory for each shelf, and goes through all runs.
     fn clone(&self) -> Result<AtlasAllocator, AllocError> {
         Ok(AtlasAllocator {
             frame: self.frame,

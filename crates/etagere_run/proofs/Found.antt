@@ -61,15 +61,6 @@ pub list_any-found : {X : Type 0} (test : X → Bool) (xs : List X) (y : X) → 
 list_any-found test [] y found = absurd (cc)
 list_any-found test (x ∷ xs) y found = some_here (test x) (list_any test xs) x y (find test xs) found (list_any-found test xs y)
 
-passes_here : {X : Type 0} (test : X → Bool) (b : Bool) (x y : X) (o : Option X) → test x ≡ b → cond b (Some x) o ≡ Some y → (o ≡ Some y → test y ≡ true) → test y ≡ true
-passes_here test true x y o is found later = let e : x ≡ y = cc in subst (λ (z : _). test z ≡ true) e is
-passes_here test false x y o is found later = later found
-
--- what is found passes
-pub passes-found : {X : Type 0} (test : X → Bool) (xs : List X) (y : X) → find test xs ≡ Some y → test y ≡ true
-passes-found test [] y found = absurd (cc)
-passes-found test (x ∷ xs) y found = passes_here test (test x) x y (find test xs) refl found (passes-found test xs y)
-
 keeps_here : {X : Type 0} (b c : Bool) (x : X) (xs : List X) (test : X → Bool) (o : Option X) → test x ≡ b → (b ≡ true → c ≡ true) → find test xs ≡ o → find test (cond c (x ∷ xs) xs) ≡ cond b (Some x) o
 keeps_here true true x xs test o is keeps later = rw is refl
 keeps_here true false x xs test o is keeps later = absurd (cc (keeps refl))

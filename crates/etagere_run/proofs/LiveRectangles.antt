@@ -1,12 +1,13 @@
--- What is live lies inside the atlas and apart.
+-- What is live is held, and so lies as what is held does.
 use Rattle.std.proofs.Common.{◌≡◌, ℕ, ◌+◌, ◌≤◌, Bool, true, false, cond, ◌==◌, ap, Some, List, [], ◌∷◌, map, refl, subst, arith}
 use Rattle.std.specs.Prelude.{option_map}
 use Rattle.std.specs.List.{find}
 use Rattle.std.proofs.lemmas.Bool.Decides.{nat_tests}
+use Rattle.etagere_base.specs.declared.geometry.Rectangle.{Rectangle}
 use Rattle.etagere_base.specs.declared.ids.Allocation.{Allocation}
 use Rattle.etagere.specs.Lists.{Each, times}
 use Rattle.etagere.specs.Places.{held, rectangle_of}
-use Rattle.etagere.specs.Rectangles.{AreApart, IsInside, SharesNone}
+use Rattle.etagere.specs.Rectangles.{AreApart, SharesNone}
 use Rattle.etagere.specs.State.{AtlasState}
 use Rattle.etagere_run.specs.declared.ledger.Entry.{Entry}
 use Rattle.etagere_run.specs.Live.{allocations}
@@ -86,12 +87,12 @@ pub AreApart-tied : (live : List Entry) (state : AtlasState) → AreTied live st
 AreApart-tied live state tied =
     AreApart-known state live tied.sound.apart tied.known (ids-tied live state tied)
 
--- what is live lies inside
-pub inside-tied : (live : List Entry) (state : AtlasState) → AreTied live state
-    → Each (λ (entry : Entry). IsInside state.frame entry.allocation.rectangle) live
-inside-tied live state tied =
+-- what holds of each rectangle that is held holds of each that is live
+pub rectangles-tied : (P : Rectangle → Type 0) (live : List Entry) (state : AtlasState) → AreTied live state
+    → Each (λ (allocation : Allocation). P allocation.rectangle) (held state) → Each (λ (entry : Entry). P entry.allocation.rectangle) live
+rectangles-tied P live state tied each =
     Each-weaker (λ (entry : Entry). IsKnown state entry.allocation) _ live
-    (λ entry known. Each-find (λ (a : Allocation). IsInside state.frame a.rectangle) (λ (a : Allocation). a.id == entry.allocation.id) (held state) entry.allocation tied.sound.inside known)
+    (λ entry known. Each-find (λ (a : Allocation). P a.rectangle) (λ (a : Allocation). a.id == entry.allocation.id) (held state) entry.allocation each known)
     tied.known
 
 -- the atlas has what is live where it was given

@@ -12,7 +12,7 @@ use Rattle.etagere.specs.Atlas.{IsSound}
 use Rattle.etagere.specs.Fresh.{fresh, without_records}
 use Rattle.etagere.specs.Lists.{Each, times}
 use Rattle.etagere.specs.Places.{held, rectangle_of}
-use Rattle.etagere.specs.Rectangles.{AreApart, IsInside, IsLarge}
+use Rattle.etagere.specs.Rectangles.{AreApart, IsAligned, IsInside, IsLarge}
 use Rattle.etagere.specs.State.{AtlasState}
 use Rattle.etagere_run.specs.declared.commands.AtlasCommand.{AtlasCommand}
 use Rattle.etagere_run.specs.declared.commands.AtlasCommand.TheVariants.{Allocate, Return, Look, Clear}
@@ -24,7 +24,7 @@ use Rattle.etagere_run.specs.Runs.{IsGiven, IsOrderly, IsOrderlyThroughout, Runs
 use Rattle.etagere_run.specs.Tied.{AreTied, IsAnswer}
 use Rattle.etagere_run.proofs.Found.{Each-last, Each-weaker}
 use Rattle.etagere_run.proofs.Ledgers.{AreTied-none, Each-without}
-use Rattle.etagere_run.proofs.LiveRectangles.{AreApart-tied, empty-tied, ids-tied, inside-tied, kept-tied}
+use Rattle.etagere_run.proofs.LiveRectangles.{AreApart-tied, empty-tied, ids-tied, kept-tied, rectangles-tied}
 
 -- what is live after one more command at the end
 live_from-more : (position : ℕ) (entries : List Entry) (commands : List AtlasCommand) (replies : List Reply)
@@ -177,7 +177,10 @@ IsOrderly-now frame commands replies entries state way =
       given = subst (Each (IsGiven frame commands replies)) way.live_is way.given;
       inside = subst (Each (λ (entry : Entry). IsInside frame entry.allocation.rectangle)) way.live_is
           (subst (λ (f : Frame). Each (λ (entry : Entry). IsInside f entry.allocation.rectangle) entries) way.frame_is
-          (inside-tied entries state way.tied));
+          (rectangles-tied (IsInside state.frame) entries state way.tied way.tied.sound.inside));
+      aligned = subst (Each (λ (entry : Entry). IsAligned frame entry.allocation.rectangle)) way.live_is
+          (subst (λ (f : Frame). Each (λ (entry : Entry). IsAligned f entry.allocation.rectangle) entries) way.frame_is
+          (rectangles-tied (IsAligned state.frame) entries state way.tied way.tied.sound.aligned));
       apart = subst (λ (l : List Entry). AreApart (allocations l)) way.live_is (AreApart-tied entries state way.tied);
       ids = subst (λ (l : List Entry). (id : ℕ) → times id (map (λ entry. entry.allocation.id) l) ≤ 1) way.live_is
           (ids-tied entries state way.tied);

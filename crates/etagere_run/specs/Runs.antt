@@ -11,7 +11,7 @@ use Rattle.etagere.specs.Choice.{IsRefused}
 use Rattle.etagere.specs.Fresh.{fresh, without_records}
 use Rattle.etagere.specs.Lists.{Each, times}
 use Rattle.etagere.specs.Places.{rectangle_of}
-use Rattle.etagere.specs.Rectangles.{AreApart, IsInside, IsLarge}
+use Rattle.etagere.specs.Rectangles.{AreApart, IsAligned, IsInside, IsLarge}
 use Rattle.etagere.specs.Returning.{returned}
 use Rattle.etagere.specs.State.{AtlasState}
 use Rattle.etagere.specs.Valid.{IsValid}
@@ -37,7 +37,7 @@ pub record GivesBack (entries : List Entry) (old : AtlasState) (position : ℕ) 
   pub live_is : allocation_at position entries ≡ Some allocation
   pub after : new ≡ returned old allocation.id
 
--- an allocation that is live is shown: its rectangle, as it was given, and the number of its record
+-- an allocation that is live is shown: its rectangle, as it was given, and its id modulo 65536
 pub record Shows (entries : List Entry) (position : ℕ) (rectangle : Rectangle) (index : ℕ) : Type 0 where
   pub allocation : Allocation
   pub live_is : allocation_at position entries ≡ Some allocation
@@ -100,13 +100,14 @@ pub record IsGiven (frame : Frame) (commands : List AtlasCommand) (replies : Lis
   pub large : IsLarge frame size entry.allocation.rectangle
 
 -- what holds after each run of a new atlas, of the rectangles that are live, as they were first given: they are large
--- enough, lie inside and share no unit square, their ids differ, and the atlas still has them there; and where none is
--- live, the atlas is as new but for its records
+-- enough, lie inside, aligned, and share no unit square, their ids differ, and the atlas still has them there; and where
+-- none is live, the atlas is as new but for its records
 pub record IsOrderly (frame : Frame) (commands : List AtlasCommand) (replies : List Reply) : Type 0 where
   pub state : AtlasState
   pub run : Runs 0 [] (fresh frame) commands replies state
   pub given : Each (IsGiven frame commands replies) (live commands replies)
   pub inside : Each (λ (entry : Entry). IsInside frame entry.allocation.rectangle) (live commands replies)
+  pub aligned : Each (λ (entry : Entry). IsAligned frame entry.allocation.rectangle) (live commands replies)
   pub apart : AreApart (allocations (live commands replies))
   pub ids : (id : ℕ) → times id (map (λ entry. entry.allocation.id) (live commands replies)) ≤ 1
   pub kept : Each (λ (entry : Entry). rectangle_of state entry.allocation.id ≡ Some entry.allocation.rectangle) (live commands replies)
