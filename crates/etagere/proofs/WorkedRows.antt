@@ -60,7 +60,7 @@ readme_example-third = refl
 pub readme_example-fourth : rectangle_of readme_four 4 ≡ Some (rectangle 0 560 1000 784)
 readme_example-fourth = refl
 
--- a returned run at a shelf's end is not needed where a later place is wide enough
+-- a returned run is tried first: passed over where it is too narrow, used where it is wide enough
 abbrev reused_one : AtlasState
 reused_one = allocated (plain_atlas 1024 1024) (size 100 300) 1
 
@@ -78,6 +78,12 @@ returned_runs_are_tried_first-second = refl
 
 pub returned_runs_are_tried_first-third : rectangle_of reused_three 3 ≡ Some (rectangle 600 0 900 320)
 returned_runs_are_tried_first-third = refl
+
+abbrev reused_four : AtlasState
+reused_four = allocated reused_three (size 100 200) 4
+
+pub returned_runs_are_tried_first-fourth : rectangle_of reused_four 4 ≡ Some (rectangle 0 0 100 320)
+returned_runs_are_tried_first-fourth = refl
 
 -- a bad fit is used where there is no other
 abbrev bad_fit_one : AtlasState

@@ -35,7 +35,7 @@ pub(crate) fn take(
     ensures cut { OnErr result (IsTrue (is_run_cut placement.now.width (width_at here runs.old.items placement.now.place))) }
 {
     let run_width = runs::width_at(runs, here, placement.place);
-    make_room(runs, tried, placement.width + 8 < run_width)?;
+    make_room(runs, tried, runs::is_run_cut(placement.width, run_width))?;
     runs::take(runs, here, placement.place, placement.width, id);
     trying::take_place(tried, placement.place, placement.width, run_width);
     Ok(())

@@ -1,4 +1,4 @@
-ghost use Rattle.std.specs.Prelude.{◌≡◌, None, Some};
+ghost use Rattle.std.specs.Prelude.{◌≡◌};
 ghost use Rattle.etagere.specs.Places as places;
 ghost use Rattle.etagere.specs.Steps.{AreWithin, state_of};
 

@@ -1,8 +1,7 @@
-ghost use Rattle.std.specs.Prelude.{◌≡◌, ◌+◌, ◌<◌, ◌^◌, Some, position, length, vec_len};
-ghost use Rattle.etagere.specs.Joining.{both_empty, both_free, joined_shelves, merged_shelves};
-ghost use Rattle.etagere.specs.Lists.{NoneTouch, at_first};
+ghost use Rattle.std.specs.Prelude.{◌≡◌, ◌+◌, ◌<◌, Some, position, vec_len};
+ghost use Rattle.etagere.specs.Joining.{both_empty, joined_shelves, merged_shelves};
+ghost use Rattle.etagere.specs.Lists.{at_first};
 ghost use Rattle.etagere.specs.Merging.{merged_at, merged_before};
-ghost use Rattle.etagere.specs.Places.{heights_in};
 ghost use Rattle.etagere.specs.Returning.{is_held_in, returned_shelf};
 ghost use Rattle.etagere.specs.State.{runs_in_use};
 ghost use Rattle.etagere.specs.Steps.{AreLow, AreReturnable};

@@ -171,6 +171,14 @@ pub(crate) fn give_whole(runs: &mut Vec<Run>, number: usize, width: u32, id: All
     runs[number] = Run::held(run.width(), id);
 }
 
+/// Whether a run is cut for a width, since more than 8 would be left of it.
+pub(crate) fn is_run_cut(width: u32, run_width: u32) -> bool
+    requires { width ≤ 65535 }
+    ensures { result ≡ choice.is_run_cut width run_width }
+{
+    width + 8 < run_width
+}
+
 /// Takes the run that begins at `place`, or its front where more than 8 would be left of it.
 pub(crate) fn take(runs: &mut Vec<Run>, here: u32, place: u32, width: u32, id: AllocId)
     requires narrow { here + total_width runs.old.items < 2 ^ 32 }
@@ -182,7 +190,7 @@ pub(crate) fn take(runs: &mut Vec<Run>, here: u32, place: u32, width: u32, id: A
 {
     let run_width = width_at(runs, here, place);
     let number = number_at(runs, here, place);
-    if width + 8 < run_width {
+    if is_run_cut(width, run_width) {
         give_front(runs, number, width, id);
     } else {
         give_whole(runs, number, width, id);

@@ -1,5 +1,4 @@
-ghost use Rattle.std.specs.Prelude.{◌≡◌, ◌+◌, ◌*◌, ◌<◌, ◌≤◌, ◌^◌, IfOk, OnErr, MatchResult, IsTrue, length, vec_len, vec_capacity};
-ghost use Rattle.etagere_base.specs.Frames.{IsFrame};
+ghost use Rattle.std.specs.Prelude.{◌≡◌, ◌+◌, ◌*◌, ◌<◌, ◌≤◌, ◌^◌, IfOk, OnErr, IsTrue, length};
 ghost use Rattle.etagere.specs.Choice as choice;
 ghost use Rattle.etagere.specs.Choice.{is_run_cut, width_at};
 ghost use Rattle.etagere.specs.Joining.{both_empty, both_free};
@@ -140,7 +139,7 @@ impl Shelf {
         ensures { result ≡ given_width frame.now placement.now self.now }
     {
         let width = runs::width_at(&self.runs, self.place(frame), placement.place);
-        if placement.width + 8 < width {
+        if runs::is_run_cut(placement.width, width) {
             placement.width
         } else {
             width
@@ -166,7 +165,8 @@ impl Shelf {
         ensures { result ≡ choice.cuts_in frame.now placement.now self.now }
     {
         let width = runs::width_at(&self.runs, self.place(frame), placement.place);
-        u32::from(self.is_cut(placement.height)) + u32::from(placement.width + 8 < width)
+        u32::from(self.is_cut(placement.height))
+            + u32::from(runs::is_run_cut(placement.width, width))
     }
 
     /// Takes a place, and gives the shelf this height. An `Err`, which comes only where the run is cut,

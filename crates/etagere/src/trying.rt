@@ -4,7 +4,7 @@ ghost use Rattle.etagere.specs.Returning.{returned_tried};
 ghost use Rattle.etagere.specs.State.{total_width};
 ghost use Rattle.etagere.specs.Taking.{replaced, taken_tried, without};
 
-use crate::runs::{Run, is_free_at, place_at, width_at};
+use crate::runs::{Run, is_free_at, is_run_cut, place_at, width_at};
 use crate::vectors::insert_reserved;
 
 /// The first of the places whose run is wide enough.
@@ -44,7 +44,7 @@ pub(crate) fn take_place(tried: &mut Vec<u32>, place: u32, width: u32, run_width
     ensures places { tried.new.items ≡ taken_tried width place run_width tried.old.items }
     ensures capacity { vec_capacity tried.new ≡ vec_capacity tried.old }
 {
-    if width + 8 < run_width {
+    if is_run_cut(width, run_width) {
         replace_place(tried, place, place + width);
     } else {
         remove_place(tried, place);

@@ -27,10 +27,10 @@ give_whole-requires-clause-whole c =
     ap (λ n. width_of c.args.runs.now.items n) number_is ∙ width_of-number_at c.args.here c.args.place c.args.runs.now.items ∙ sym (rw c.deref.ensures.value at c.width_at-run_width.ensures) in
     rw width (grind arith)
 
-pub returns-then-width-run_width-clause-runs : goal.returns-then-width-run_width-clause-runs
-returns-then-width-run_width-clause-runs c =
+pub returns-then-is_run_cut-clause-runs : goal.returns-then-is_run_cut-clause-runs
+returns-then-is_run_cut-clause-runs c =
     rw (c.give_front.ensures.runs, c.number_at-number.ensures, c.deref-2.ensures.value) (sym (taken_runs-cut_at c.args.width c.args.id c.args.place c.args.here c.args.runs.now.items))
 
-pub returns-else-width-run_width-clause-runs : goal.returns-else-width-run_width-clause-runs
-returns-else-width-run_width-clause-runs c =
+pub returns-else-is_run_cut-clause-runs : goal.returns-else-is_run_cut-clause-runs
+returns-else-is_run_cut-clause-runs c =
     rw (c.give_whole.ensures.runs, c.number_at-number.ensures, c.deref-2.ensures.value) (sym (taken_runs-cut_at c.args.width c.args.id c.args.place c.args.here c.args.runs.now.items))
