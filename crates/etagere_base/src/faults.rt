@@ -6,19 +6,19 @@ use thiserror::Error;
 /// Why an atlas can't be made. The first that holds is answered, in this order.
 #[derive(Clone, Copy, Debug, PartialEq, Eq, Error)]
 pub enum OptionsFault {
-    /// A side of the atlas is out of range.
+    /// A side of the atlas is below 1 or above 65535.
     #[error("Size")]
     Size,
-    /// The area doesn't fit an `i32`.
+    /// Width times height is above 2147483647.
     #[error("Area")]
     Area,
     /// An alignment is below 1.
     #[error("Alignment")]
     Alignment,
-    /// There is no column.
+    /// The number of columns is below 1.
     #[error("Columns")]
     Columns,
-    /// A column is narrower than the alignment.
+    /// The width of a column, an equal share cut down to the alignment, comes out as 0.
     #[error("ColumnTooNarrow")]
     ColumnTooNarrow,
     /// There was no memory.

@@ -8,7 +8,8 @@ use crate::geometry::Size;
 use crate::options::AllocatorOptions;
 use crate::sides::{Sides, side, turned, up};
 
-/// What an atlas keeps of its size and options, in pixels.
+/// What an atlas keeps of its size and options: lengths in pixels, the direction of its shelves, and the
+/// number of its columns.
 #[derive(Clone, Copy, Debug, PartialEq, Eq)]
 pub struct Frame {
     pub width: u32,

@@ -1,4 +1,4 @@
-//! What both shelf allocators stand on: geometry, options, faults, and the arithmetic of sides.
+//! What a shelf allocator stands on: geometry, options, faults, and the arithmetic of sides.
 #![tactic(auto)]
 
 mod faults;

@@ -12,7 +12,8 @@ pub struct AllocatorOptions {
     pub alignment: Size,
     /// Whether the shelves stand upright, side by side, in place of lying one above another.
     pub vertical_shelves: bool,
-    /// Into how many columns the atlas is divided, each with shelves of its own.
+    /// How many columns are asked for, at least 1, each with shelves of its own. As many are made as fit,
+    /// which can be more.
     pub num_columns: i32,
 }
 

@@ -30,7 +30,8 @@ pub fn turned(vertical: bool, sides: Sides) -> Sides
     }
 }
 
-/// The least multiple of `alignment` that is not below `length`.
+/// The least multiple of `alignment` that is not below `length`. The alignment is at least 1, and the two
+/// add up to at most 2^32.
 pub fn up(length: u32, alignment: u32) -> u32
     requires positive { 0 < alignment }
     requires fits { length + alignment ≤ 2 ^ 32 }
@@ -39,7 +40,8 @@ pub fn up(length: u32, alignment: u32) -> u32
     (length + (alignment - 1)) / alignment * alignment
 }
 
-/// The height of a shelf that is made for items of this height: the larger they are, the coarser.
+/// The height of a shelf that is made for items of this height, which is below 2^31: up to a multiple of 8
+/// below 32, of 16 below 128, of 32 below 512, and else of 64.
 pub fn step(height: u32) -> u32
     requires { height < 2 ^ 31 }
     ensures { result ≡ spec.step height }

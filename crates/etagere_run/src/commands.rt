@@ -22,7 +22,7 @@ pub enum Reply {
     Refused,
     /// The allocation was given back.
     Returned,
-    /// The allocation is at this rectangle, and has this index.
+    /// The allocation is at this rectangle, as it was first given; the number is its id modulo 65536.
     At(Rectangle, u32),
     /// The position names nothing that is held now.
     NotLive,

@@ -7,7 +7,7 @@ use thiserror::Error;
 /// Why a run didn't start.
 #[derive(Clone, Copy, Debug, PartialEq, Eq, Error)]
 pub enum RunFault {
-    /// The size and options make no atlas.
+    /// The size and options have this fault, or the atlas got no memory (`OptionsFault::Memory`).
     #[error("Options")]
     Options(OptionsFault),
     /// There was no memory for the replies or the ledger.

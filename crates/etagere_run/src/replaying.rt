@@ -17,7 +17,7 @@ use std::io::{Read, Write};
 ///
 /// Where a line isn't good, `line N: bad` is written and nothing runs, and where the options have a
 /// fault, `options N`. After `Read` and `Memory` nothing was written, after `Write` a beginning of the
-/// text. Takes memory for the script, its commands and their text.
+/// text. Takes memory for the script, its commands, what `run_atlas` takes, and the text of the replies.
 pub fn replay<R: Read, W: Write>(
     alloc: Global,
     reader: &mut R,

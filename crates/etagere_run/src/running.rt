@@ -13,8 +13,9 @@ use std::alloc::Global;
 ///
 /// `Options` tells the first fault of the size and options, and want of memory for the atlas only where
 /// they have none; `Memory` comes where there is no room for the replies or for what is live, which is
-/// taken first. After an error nothing was run. Each command costs what its call of the atlas does, and
-/// a search of what is live.
+/// taken first. After an error nothing was run. Takes memory for a reply and a ledger entry for each
+/// command, beside what the atlas takes. Each command costs what its call of the atlas does, and a search
+/// of what is live.
 pub fn run_atlas(
     alloc: Global,
     size: Size,

@@ -61,6 +61,7 @@ fn returned_runs_are_reused(rt: HostRuntime) -> Result<(), Fail> {
         (allocate(500, 200), Shape::Placed([100, 0, 600, 320])),
         (AtlasCommand::Return(0), Shape::Returned),
         (allocate(300, 200), Shape::Placed([600, 0, 900, 320])),
+        (allocate(100, 200), Shape::Placed([0, 0, 100, 320])),
     ];
     replies(&rt, size2(1024, 1024), &table)
 }
