@@ -1,21 +1,21 @@
--- What is held in a valid state begins and ends along the shelves at multiples of the alignment.
+-- What is allocated in a valid state begins and ends along the shelves at multiples of the alignment.
 use Rattle.std.proofs.Common.{◌≡◌, ℕ, ◌+◌, ◌*◌, ◌/◌, ◌%◌, Bool, true, false, pos, Option, None, Some, List, [], ◌∷◌, ◌++◌, refl, ap, sym, ◌∙◌, arith}
 use Rattle.std.proofs.Math.Nat.{add-mul, mul_assoc}
 use Rattle.std.proofs.lemmas.Nat.{div-add-mod'}
 use Rattle.etagere_base.specs.Frames.{IsFrame, alignment_along}
-use Rattle.etagere_base.specs.Sides.{turned}
+use Rattle.etagere_base.specs.Sides.{swapped_axes}
 use Rattle.etagere_base.specs.declared.frames.Frame.{Frame}
 use Rattle.etagere_base.specs.declared.ids.Allocation.{Allocation}
 use Rattle.etagere.specs.Lists.{Each}
-use Rattle.etagere.specs.Places.{allocation_of, column_place, heights_in, held, held_after, held_along, rectangle_at}
+use Rattle.etagere.specs.Places.{allocation_of, column_place, column_height, allocations, allocations_after, allocations_along, rectangle_at}
 use Rattle.etagere.specs.Rectangles.{IsAligned, place_along}
-use Rattle.etagere.specs.State.{AtlasState, Run, Shelf}
-use Rattle.etagere.specs.Valid.{IsRun, IsShelf, IsValid}
+use Rattle.etagere.specs.State.{AtlasState, Item, Shelf}
+use Rattle.etagere.specs.Valid.{IsItem, IsShelf, IsValid}
 use Rattle.etagere.proofs.EachLemmas.{Each-append}
 
 -- the point at a place along lies there
 point-along : (vertical : Bool) (along across : ℕ)
-    → let place = turned vertical (record { along = along; across = across }) in
+    → let place = swapped_axes vertical (record { along = along; across = across }) in
     place_along vertical (record { x = pos place.along; y = pos place.across }) ≡ pos along
 point-along true along across = refl
 point-along false along across = refl
@@ -37,41 +37,41 @@ rectangle-aligned frame along across width height place extent begins wide =
           ∙ ap pos (omega (arith, begins, wide, add-mul place extent (alignment_along frame)));
     }
 
--- what a run allocates is aligned
-allocation-aligned : (holder : Option ℕ) (frame : Frame) (along across width height place extent : ℕ)
+-- what an item allocates is aligned
+allocation-aligned : (owner : Option ℕ) (frame : Frame) (along across width height place extent : ℕ)
     → along ≡ place * alignment_along frame → width ≡ extent * alignment_along frame
-    → Each (λ (a : Allocation). IsAligned frame a.rectangle) (allocation_of holder (rectangle_at frame along across width height))
+    → Each (λ (a : Allocation). IsAligned frame a.rectangle) (allocation_of owner (rectangle_at frame along across width height))
 allocation-aligned None frame along across width height place extent begins wide = tt
 allocation-aligned (Some id) frame along across width height place extent begins wide =
     (rectangle-aligned frame along across width height place extent begins wide, tt)
 
--- what runs hold is aligned where the first one begins so
-held_along-aligned : (frame : Frame) (across height here place : ℕ) (runs : List Run)
-    → here ≡ place * alignment_along frame → Each (IsRun frame) runs
-    → Each (λ (a : Allocation). IsAligned frame a.rectangle) (held_along frame across height here runs)
-held_along-aligned frame across height here place [] begins runs = tt
-held_along-aligned frame across height here place (run ∷ runs) begins each =
-    let extent = run.width / alignment_along frame in
-    let wide = multiple run.width (alignment_along frame) each.0.aligned in
-    Each-append _ (allocation_of run.holder (rectangle_at frame here across run.width height)) _
-    (allocation-aligned run.holder frame here across run.width height place extent begins wide)
-    (held_along-aligned frame across height (here + run.width) (place + extent) runs
+-- what items hold is aligned where the first one begins so
+allocations_along-aligned : (frame : Frame) (across height here place : ℕ) (items : List Item)
+    → here ≡ place * alignment_along frame → Each (IsItem frame) items
+    → Each (λ (a : Allocation). IsAligned frame a.rectangle) (allocations_along frame across height here items)
+allocations_along-aligned frame across height here place [] begins items = tt
+allocations_along-aligned frame across height here place (item ∷ items) begins each =
+    let extent = item.width / alignment_along frame in
+    let wide = multiple item.width (alignment_along frame) each.0.aligned in
+    Each-append _ (allocation_of item.id (rectangle_at frame here across item.width height)) _
+    (allocation-aligned item.id frame here across item.width height place extent begins wide)
+    (allocations_along-aligned frame across height (here + item.width) (place + extent) items
     (omega (arith, begins, wide, add-mul place extent (alignment_along frame))) each.1)
 
 -- what shelves hold that stand after others is aligned
-held_after-aligned : (frame : Frame) (before shelves : List Shelf) → IsFrame 65535 frame → Each (IsShelf frame) shelves
-    → Each (λ (a : Allocation). IsAligned frame a.rectangle) (held_after frame before shelves)
-held_after-aligned frame before [] is_frame valid = tt
-held_after-aligned frame before (shelf ∷ shelves) is_frame valid =
+allocations_after-aligned : (frame : Frame) (before shelves : List Shelf) → IsFrame 65535 frame → Each (IsShelf frame) shelves
+    → Each (λ (a : Allocation). IsAligned frame a.rectangle) (allocations_after frame before shelves)
+allocations_after-aligned frame before [] is_frame valid = tt
+allocations_after-aligned frame before (shelf ∷ shelves) is_frame valid =
     let columns = frame.column_width / alignment_along frame in
     let begins : column_place frame shelf ≡ shelf.column * columns * alignment_along frame =
     ap (λ (n : ℕ). shelf.column * n) (multiple frame.column_width (alignment_along frame) is_frame.aligned)
     ∙ sym (mul_assoc shelf.column columns (alignment_along frame)) in
-    Each-append _ (held_along frame (heights_in shelf.column before) shelf.height (column_place frame shelf) shelf.runs) _
-    (held_along-aligned frame (heights_in shelf.column before) shelf.height (column_place frame shelf) (shelf.column * columns) shelf.runs
-    begins valid.0.runs)
-    (held_after-aligned frame (before ++ shelf ∷ []) shelves is_frame valid.1)
+    Each-append _ (allocations_along frame (column_height shelf.column before) shelf.height (column_place frame shelf) shelf.items) _
+    (allocations_along-aligned frame (column_height shelf.column before) shelf.height (column_place frame shelf) (shelf.column * columns) shelf.items
+    begins valid.0.items)
+    (allocations_after-aligned frame (before ++ shelf ∷ []) shelves is_frame valid.1)
 
--- everything that is held is aligned along the shelves
-pub held-aligned : (state : AtlasState) → IsValid state → Each (λ (a : Allocation). IsAligned state.frame a.rectangle) (held state)
-held-aligned state valid = held_after-aligned state.frame [] state.shelves valid.frame valid.shelves
+-- everything that is allocated is aligned along the shelves
+pub allocated-aligned : (state : AtlasState) → IsValid state → Each (λ (a : Allocation). IsAligned state.frame a.rectangle) (allocations state)
+allocated-aligned state valid = allocations_after-aligned state.frame [] state.shelves valid.frame valid.shelves

@@ -3,56 +3,56 @@ use Rattle.std.proofs.Common.{◌≡◌, ℕ, ◌+◌, Some, List, ◌∷◌, �
 use Rattle.std.specs.Prelude.{max}
 use Rattle.etagere_base.specs.declared.geometry.Rectangle.{Rectangle}
 use Rattle.etagere_base.specs.declared.geometry.Size.{Size}
-use Rattle.etagere.specs.Atlas.{Adds, Allocates, IsSound}
-use Rattle.etagere.specs.Choice.{Placement, cuts, placement_of}
+use Rattle.etagere.specs.Atlas.{Adds, Allocates, KeepsPromises}
+use Rattle.etagere.specs.Choice.{Placement, splits, placement_of}
 use Rattle.etagere.specs.Corners.{AreCorners, corner}
-use Rattle.etagere.specs.Lists.{cut_at}
-use Rattle.etagere.specs.Places.{held}
+use Rattle.etagere.specs.Lists.{replaced_at}
+use Rattle.etagere.specs.Places.{allocations}
 use Rattle.etagere.specs.Rectangles.{IsLarge}
-use Rattle.etagere.specs.State.{AtlasState, Shelf, runs_in_use}
+use Rattle.etagere.specs.State.{AtlasState, Shelf, items_in_use}
 use Rattle.etagere.specs.Taking.{given, shelf_pieces, taken}
 use Rattle.etagere.specs.Valid.{IsValid}
-use Rattle.etagere.proofs.HeldIds.{times-not_held}
+use Rattle.etagere.proofs.AllocatedIds.{times-not_allocated}
 use Rattle.etagere.proofs.PlacedLarge.{given-is_large}
-use Rattle.etagere.proofs.Sound.{corner-not_held, sound, taken-corners}
-use Rattle.etagere.proofs.TakenHeld.{taken-held}
-use Rattle.etagere.proofs.TakenValid.{taken-runs_in_use, taken-valid}
+use Rattle.etagere.proofs.Promises.{corner-not_allocated, promises, taken-corners}
+use Rattle.etagere.proofs.TakenAllocated.{taken-allocations}
+use Rattle.etagere.proofs.TakenValid.{taken-items_in_use, taken-valid}
 
 -- what is owed after an allocation
-pub record Allocated (old : AtlasState) (size : Size) (rectangle : Rectangle) (runs : ℕ) (new : AtlasState) : Type 0 where
+pub record Allocated (old : AtlasState) (size : Size) (rectangle : Rectangle) (items : ℕ) (new : AtlasState) : Type 0 where
   pub allocates : Allocates old size (record { id = corner rectangle; rectangle = rectangle }) new
-  pub adds : Adds (held old) (record { id = corner rectangle; rectangle = rectangle }) (held new)
+  pub adds : Adds (allocations old) (record { id = corner rectangle; rectangle = rectangle }) (allocations new)
   pub large : IsLarge old.frame size rectangle
-  pub sound_after : IsSound new
-  pub corners : AreCorners (held new)
-  pub counted : runs ≡ runs_in_use new.shelves
+  pub promises_after : KeepsPromises new
+  pub corners : AreCorners (allocations new)
+  pub counted : items ≡ items_in_use new.shelves
 
--- the shelves, the count of runs and its greatest value after a placement was taken make up the state that is taken
-after-taken : (state : AtlasState) (placement : Placement) (id : ℕ) (shelves : List Shelf) (runs records : ℕ)
-    → shelves ≡ cut_at placement.shelf (shelf_pieces state.frame placement id) state.shelves
-    → runs ≡ runs_in_use state.shelves + cuts state placement
-    → runs_in_use (taken state placement id).shelves ≡ runs_in_use state.shelves + cuts state placement
-    → records ≡ max state.records runs
+-- the shelves, the count of items and its greatest value after a placement was taken make up the state that is taken
+after-taken : (state : AtlasState) (placement : Placement) (id : ℕ) (shelves : List Shelf) (items records : ℕ)
+    → shelves ≡ replaced_at placement.shelf (shelf_pieces state.frame placement id) state.shelves
+    → items ≡ items_in_use state.shelves + splits state placement
+    → items_in_use (taken state placement id).shelves ≡ items_in_use state.shelves + splits state placement
+    → records ≡ max state.records items
     → record { frame = state.frame; shelves = shelves; records = records } ≡ taken state placement id
-after-taken state placement id shelves runs records cut counted count greatest =
-    let same_records : records ≡ max state.records (runs_in_use (taken state placement id).shelves) =
+after-taken state placement id shelves items records split counted count greatest =
+    let same_records : records ≡ max state.records (items_in_use (taken state placement id).shelves) =
     greatest ∙ ap (max state.records) (counted ∙ sym count) in
     let frame = state.frame in
-    ap (λ (l : List Shelf). record { frame = frame; shelves = l; records = records }) cut
+    ap (λ (l : List Shelf). record { frame = frame; shelves = l; records = records }) split
     ∙ ap (λ (n : ℕ). record { frame = frame; shelves = (taken state placement id).shelves; records = n }) same_records
 
 -- what a taken placement leaves under the id of its corner
-taken-allocated : (old : AtlasState) (size : Size) (placement : Placement) (rectangle : Rectangle) (runs : ℕ)
-    → IsValid old → AreCorners (held old) → placement_of old size ≡ Some placement → given old placement ≡ Some rectangle
-    → runs ≡ runs_in_use old.shelves + cuts old placement
-    → Allocated old size rectangle runs (taken old placement (corner rectangle))
-taken-allocated old size placement rectangle runs valid corners placed gives counted =
+taken-allocated : (old : AtlasState) (size : Size) (placement : Placement) (rectangle : Rectangle) (items : ℕ)
+    → IsValid old → AreCorners (allocations old) → placement_of old size ≡ Some placement → given old placement ≡ Some rectangle
+    → items ≡ items_in_use old.shelves + splits old placement
+    → Allocated old size rectangle items (taken old placement (corner rectangle))
+taken-allocated old size placement rectangle items valid corners placed gives counted =
     let id = corner rectangle in
-    let not_held = corner-not_held old size placement rectangle valid placed gives corners in
-    let takes = taken-held old size placement id valid placed in
+    let not_allocated = corner-not_allocated old size placement rectangle valid placed gives corners in
+    let takes = taken-allocations old size placement id valid placed in
     let same : takes.rectangle ≡ rectangle = cc in
     record {
-      allocates = record { placement = placement; placed = placed; rectangle = gives; fresh_id = not_held; after = refl };
+      allocates = record { placement = placement; placed = placed; rectangle = gives; fresh_id = not_allocated; after = refl };
       adds = record {
         front = takes.front;
         back = takes.back;
@@ -60,17 +60,17 @@ taken-allocated old size placement rectangle runs valid corners placed gives cou
         after = takes.after ∙ ap (λ (r : Rectangle). takes.front ++ record { id = corner rectangle; rectangle = r } ∷ takes.back) same;
       };
       large = given-is_large old size placement rectangle placed gives;
-      sound_after = sound (taken old placement id) (taken-valid old size placement id valid placed (times-not_held old id not_held));
+      promises_after = promises (taken old placement id) (taken-valid old size placement id valid placed (times-not_allocated old id not_allocated));
       corners = taken-corners old placement rectangle takes gives corners;
-      counted = counted ∙ sym (taken-runs_in_use old size placement id valid placed);
+      counted = counted ∙ sym (taken-items_in_use old size placement id valid placed);
     }
 
--- the shelves with the placement cut out of them, the count of runs and its greatest value are an allocation's
-pub allocated : (old : AtlasState) (size : Size) (placement : Placement) (rectangle : Rectangle) (shelves : List Shelf) (runs records : ℕ)
-    → IsValid old → AreCorners (held old) → placement_of old size ≡ Some placement → given old placement ≡ Some rectangle
-    → shelves ≡ cut_at placement.shelf (shelf_pieces old.frame placement (corner rectangle)) old.shelves
-    → runs ≡ runs_in_use old.shelves + cuts old placement → records ≡ max old.records runs
-    → Allocated old size rectangle runs (record { frame = old.frame; shelves = shelves; records = records })
-allocated old size placement rectangle shelves runs records valid corners placed gives cut counted greatest =
-    let after = after-taken old placement (corner rectangle) shelves runs records cut counted (taken-runs_in_use old size placement (corner rectangle) valid placed) greatest in
-    subst (Allocated old size rectangle runs) (sym after) (taken-allocated old size placement rectangle runs valid corners placed gives counted)
+-- the shelves with the placement split out of them, the count of items and its greatest value are an allocation's
+pub allocated : (old : AtlasState) (size : Size) (placement : Placement) (rectangle : Rectangle) (shelves : List Shelf) (items records : ℕ)
+    → IsValid old → AreCorners (allocations old) → placement_of old size ≡ Some placement → given old placement ≡ Some rectangle
+    → shelves ≡ replaced_at placement.shelf (shelf_pieces old.frame placement (corner rectangle)) old.shelves
+    → items ≡ items_in_use old.shelves + splits old placement → records ≡ max old.records items
+    → Allocated old size rectangle items (record { frame = old.frame; shelves = shelves; records = records })
+allocated old size placement rectangle shelves items records valid corners placed gives split counted greatest =
+    let after = after-taken old placement (corner rectangle) shelves items records split counted (taken-items_in_use old size placement (corner rectangle) valid placed) greatest in
+    subst (Allocated old size rectangle items) (sym after) (taken-allocated old size placement rectangle items valid corners placed gives counted)

@@ -3,7 +3,7 @@ use Rattle.std.proofs.Common.{◌≡◌, ℕ, ◌+◌, ◌≤◌, Bool, true, fa
 use Rattle.std.proofs.lemmas.Int.{ints}
 use Rattle.std.specs.Prelude.{◌≤ℤ◌, ◌<ℤ◌}
 use Rattle.etagere_base.specs.Frames.{along_side, across_side}
-use Rattle.etagere_base.specs.Sides.{turned}
+use Rattle.etagere_base.specs.Sides.{swapped_axes}
 use Rattle.etagere_base.specs.declared.frames.Frame.{Frame}
 use Rattle.etagere_base.specs.declared.geometry.Rectangle.{Rectangle}
 use Rattle.etagere_base.specs.declared.ids.Allocation.{Allocation}
@@ -13,7 +13,7 @@ use Rattle.etagere.specs.Rectangles.{Covers, SharesNone, IsInside, AreApart}
 use Rattle.etagere.proofs.EachLemmas.{Each-append, Each-middle}
 
 -- a rectangle with an area lies between two places along and two places across
-pub record LiesIn (frame : Frame) (left right low high : ℕ) (rectangle : Rectangle) : Type 0 where
+pub record LiesIn (frame : Frame) (left right top bottom : ℕ) (rectangle : Rectangle) : Type 0 where
   pub along : ℕ
   pub across : ℕ
   pub width : ℕ
@@ -23,14 +23,14 @@ pub record LiesIn (frame : Frame) (left right low high : ℕ) (rectangle : Recta
   pub tall : 1 ≤ height
   pub from_left : left ≤ along
   pub to_right : along + width ≤ right
-  pub from_low : low ≤ across
-  pub to_high : across + height ≤ high
+  pub from_top : top ≤ across
+  pub to_bottom : across + height ≤ bottom
 
 -- what lies in a part lies in the whole
-pub LiesIn-widen : (frame : Frame) (left right low high left' right' low' high' : ℕ) (rectangle : Rectangle)
-    → left' ≤ left → right ≤ right' → low' ≤ low → high ≤ high'
-    → LiesIn frame left right low high rectangle → LiesIn frame left' right' low' high' rectangle
-LiesIn-widen frame left right low high left' right' low' high' rectangle l r b t lies =
+pub LiesIn-widen : (frame : Frame) (left right top bottom left' right' top' bottom' : ℕ) (rectangle : Rectangle)
+    → left' ≤ left → right ≤ right' → top' ≤ top → bottom ≤ bottom'
+    → LiesIn frame left right top bottom rectangle → LiesIn frame left' right' top' bottom' rectangle
+LiesIn-widen frame left right top bottom left' right' top' bottom' rectangle l r b t lies =
     record {
       along = lies.along;
       across = lies.across;
@@ -41,15 +41,15 @@ LiesIn-widen frame left right low high left' right' low' high' rectangle l r b t
       tall = lies.tall;
       from_left = omega arith;
       to_right = omega arith;
-      from_low = omega arith;
-      to_high = omega arith;
+      from_top = omega arith;
+      to_bottom = omega arith;
     }
 
 -- the rectangle at these places, by the direction of the shelves
 abbrev box : Bool → ℕ → ℕ → ℕ → ℕ → Rectangle
 box vertical along across width height =
-    let min = turned vertical (record { along = along; across = across }) in
-    let max = turned vertical (record { along = along + width; across = across + height }) in
+    let min = swapped_axes vertical (record { along = along; across = across }) in
+    let max = swapped_axes vertical (record { along = along + width; across = across + height }) in
     record { min = record { x = pos min.along; y = pos min.across }; max = record { x = pos max.along; y = pos max.across } }
 
 -- of a place's x and y the one along the shelves
@@ -65,41 +65,41 @@ covered true along across width height x y covers = (covers.from_top, covers.to_
 covered false along across width height x y covers = (covers.from_left, covers.to_right, covers.from_top, covers.to_bottom)
 
 -- rectangles with a line between them along the shelves are apart
-pub apart-along : (frame : Frame) (left right low high left' right' low' high' : ℕ) (one other : Rectangle)
-    → right ≤ left' → LiesIn frame left right low high one → LiesIn frame left' right' low' high' other → SharesNone one other
-apart-along frame left right low high left' right' low' high' one other line lies lies' x y in_one in_other =
+pub apart-along : (frame : Frame) (left right top bottom left' right' top' bottom' : ℕ) (one other : Rectangle)
+    → right ≤ left' → LiesIn frame left right top bottom one → LiesIn frame left' right' top' bottom' other → SharesNone one other
+apart-along frame left right top bottom left' right' top' bottom' one other line lies lies' x y in_one in_other =
     let p = covered frame.vertical _ _ _ _ x y (subst (λ (r : Rectangle). Covers r x y) lies.is in_one) in
     let q = covered frame.vertical _ _ _ _ x y (subst (λ (r : Rectangle). Covers r x y) lies'.is in_other) in
     omega (arith, ints)
 
 -- rectangles with a line between them across the shelves are apart
-pub apart-across : (frame : Frame) (left right low high left' right' low' high' : ℕ) (one other : Rectangle)
-    → high ≤ low' → LiesIn frame left right low high one → LiesIn frame left' right' low' high' other → SharesNone one other
-apart-across frame left right low high left' right' low' high' one other line lies lies' x y in_one in_other =
+pub apart-across : (frame : Frame) (left right top bottom left' right' top' bottom' : ℕ) (one other : Rectangle)
+    → bottom ≤ top' → LiesIn frame left right top bottom one → LiesIn frame left' right' top' bottom' other → SharesNone one other
+apart-across frame left right top bottom left' right' top' bottom' one other line lies lies' x y in_one in_other =
     let p = covered frame.vertical _ _ _ _ x y (subst (λ (r : Rectangle). Covers r x y) lies.is in_one) in
     let q = covered frame.vertical _ _ _ _ x y (subst (λ (r : Rectangle). Covers r x y) lies'.is in_other) in
     omega (arith, ints)
 
 -- a box that keeps to the sides is inside, either way the shelves run
 box-inside : (vertical : Bool) (frame : Frame) (along across width height : ℕ) → 1 ≤ width → 1 ≤ height
-    → along + width ≤ (turned vertical (record { along = frame.width; across = frame.height })).along
-    → across + height ≤ (turned vertical (record { along = frame.width; across = frame.height })).across
+    → along + width ≤ (swapped_axes vertical (record { along = frame.width; across = frame.height })).along
+    → across + height ≤ (swapped_axes vertical (record { along = frame.width; across = frame.height })).across
     → IsInside frame (box vertical along across width height)
-box-inside true frame along across width height wide tall right high =
+box-inside true frame along across width height wide above right below =
     record {
       left = omega (arith, ints);
       top = omega (arith, ints);
       wide = omega (arith, ints);
-      high = omega (arith, ints);
+      tall = omega (arith, ints);
       right = omega (arith, ints);
       bottom = omega (arith, ints);
     }
-box-inside false frame along across width height wide tall right high =
+box-inside false frame along across width height wide above right below =
     record {
       left = omega (arith, ints);
       top = omega (arith, ints);
       wide = omega (arith, ints);
-      high = omega (arith, ints);
+      tall = omega (arith, ints);
       right = omega (arith, ints);
       bottom = omega (arith, ints);
     }
@@ -109,7 +109,7 @@ pub inside-from_lies : (frame : Frame) (rectangle : Rectangle)
     → LiesIn frame 0 (along_side frame) 0 (across_side frame) rectangle → IsInside frame rectangle
 inside-from_lies frame rectangle lies =
     subst (λ (r : Rectangle). IsInside frame r) (sym lies.is)
-    (box-inside frame.vertical frame _ _ _ _ lies.wide lies.tall lies.to_right lies.to_high)
+    (box-inside frame.vertical frame _ _ _ _ lies.wide lies.tall lies.to_right lies.to_bottom)
 
 -- being apart goes both ways
 pub SharesNone-swap : (one other : Rectangle) → SharesNone one other → SharesNone other one

@@ -1,7 +1,7 @@
 -- The shelves of the columns before one: their heights and their count.
 use Rattle.std.proofs.Common.{◌≡◌, ℕ, zero, suc, ◌+◌, ◌*◌, ◌<◌, ◌≤◌, Bool, cond, ◌==◌, List, [], ◌∷◌, length, refl, arith}
 use Rattle.std.specs.Prelude.{nat_lt}
-use Rattle.etagere.specs.Places.{heights_in}
+use Rattle.etagere.specs.Places.{column_height}
 use Rattle.etagere.specs.State.{Shelf, AtlasState}
 use Rattle.etagere.specs.Valid.{IsValid}
 use Rattle.etagere.proofs.FrameSides.{across-positive}
@@ -25,17 +25,17 @@ heights_before-zero (shelf ∷ shelves) = step shelf.column shelf.height (height
     step c height rest h = grind arith
 
 -- one column further its heights come in
-heights_before-suc : (column : ℕ) (shelves : List Shelf) → heights_before (suc column) shelves ≡ heights_before column shelves + heights_in column shelves
+heights_before-suc : (column : ℕ) (shelves : List Shelf) → heights_before (suc column) shelves ≡ heights_before column shelves + column_height column shelves
 heights_before-suc column [] = refl
 heights_before-suc column (shelf ∷ shelves) =
-    step shelf.column column shelf.height (heights_before (suc column) shelves) (heights_before column shelves) (heights_in column shelves) (heights_before-suc column shelves)
+    step shelf.column column shelf.height (heights_before (suc column) shelves) (heights_before column shelves) (column_height column shelves) (heights_before-suc column shelves)
   where
     step : (c column height further before here : ℕ) → further ≡ before + here
         → cond (nat_lt c (suc column)) height 0 + further ≡ (cond (nat_lt c column) height 0 + before) + (cond (c == column) height 0 + here)
     step c column height further before here h = grind arith
 
--- columns of one height are that high together
-pub heights_before-columns : (height n : ℕ) (shelves : List Shelf) → ((column : ℕ) → column < n → heights_in column shelves ≡ height)
+-- columns of one height are that tall together
+pub heights_before-columns : (height n : ℕ) (shelves : List Shelf) → ((column : ℕ) → column < n → column_height column shelves ≡ height)
     → heights_before n shelves ≡ n * height
 heights_before-columns height zero shelves h = omega (arith, heights_before-zero shelves)
 heights_before-columns height (suc n) shelves h =
@@ -61,11 +61,11 @@ shelves_before-more column (shelf ∷ shelves) =
     step c column n m h = grind arith
 
 -- a column that has a height has a shelf
-shelves_before-suc : (column : ℕ) (shelves : List Shelf) → 1 ≤ heights_in column shelves
+shelves_before-suc : (column : ℕ) (shelves : List Shelf) → 1 ≤ column_height column shelves
     → suc (shelves_before column shelves) ≤ shelves_before (suc column) shelves
 shelves_before-suc column [] h = absurd (omega arith)
 shelves_before-suc column (shelf ∷ shelves) h =
-    step shelf.column column shelf.height (heights_in column shelves) (shelves_before column shelves) (shelves_before (suc column) shelves)
+    step shelf.column column shelf.height (column_height column shelves) (shelves_before column shelves) (shelves_before (suc column) shelves)
     h (shelves_before-suc column shelves) (shelves_before-more column shelves)
   where
     step : (c column height here n m : ℕ) → 1 ≤ cond (c == column) height 0 + here → (1 ≤ here → suc n ≤ m) → n ≤ m
@@ -73,7 +73,7 @@ shelves_before-suc column (shelf ∷ shelves) h =
     step c column height here n m h later more = grind arith
 
 -- where each column before one has a height, there are at least as many shelves
-shelves_before-columns : (n : ℕ) (shelves : List Shelf) → ((column : ℕ) → column < n → 1 ≤ heights_in column shelves) → n ≤ shelves_before n shelves
+shelves_before-columns : (n : ℕ) (shelves : List Shelf) → ((column : ℕ) → column < n → 1 ≤ column_height column shelves) → n ≤ shelves_before n shelves
 shelves_before-columns zero shelves h = omega arith
 shelves_before-columns (suc n) shelves h =
     let rest = shelves_before-columns n shelves (λ column below. h column (omega arith)) in
@@ -82,6 +82,6 @@ shelves_before-columns (suc n) shelves h =
 -- a valid state has a shelf for each column
 pub columns-le-shelves : (state : AtlasState) → IsValid state → state.frame.columns ≤ length state.shelves
 columns-le-shelves state valid =
-    let high = across-positive 65535 state.frame valid.frame in
+    let tall = across-positive 65535 state.frame valid.frame in
     let each = shelves_before-columns state.frame.columns state.shelves (λ column below. omega (arith, valid.heights column below)) in
     omega (arith, shelves_before-le state.frame.columns state.shelves)

@@ -13,7 +13,7 @@ use Rattle.etagere.specs.Corners.{corner, AreCorners}
 use Rattle.etagere.specs.Rectangles.{AreApart, Covers, SharesNone, IsInside}
 use Rattle.etagere.specs.Lists.{Each}
 use Rattle.etagere.proofs.Boxes.{AreApart-middle}
-use Rattle.etagere.proofs.EachLemmas.{Each-both, Each-weaken, Each-middle, Each-without, list_any-none}
+use Rattle.etagere.proofs.EachLemmas.{Each-both, Each-weaken, Each-middle, Each-remove_place, list_any-none}
 
 -- a place is no later than its number
 side-least : (z : ℤ) → z ≤ℤ pos (side z)
@@ -26,8 +26,8 @@ side-below (pos n) end not_negative below = below
 side-below (negsuc n) end not_negative below = omega (arith, ints)
 
 -- a place before the end of the atlas has a number below its side
-side-short : (z end : ℤ) (longest : ℕ) → pos 0 ≤ℤ z → z <ℤ end → end ≤ℤ pos longest → side z < longest
-side-short z end longest not_negative below short = omega (arith, ints, side-below z end not_negative below)
+side-bounded : (z end : ℤ) (longest : ℕ) → pos 0 ≤ℤ z → z <ℤ end → end ≤ℤ pos longest → side z < longest
+side-bounded z end longest not_negative below bounded = omega (arith, ints, side-below z end not_negative below)
 
 -- the unit square at the least corner is in the rectangle
 corner-covered : (frame : Frame) (rectangle : Rectangle) → IsInside frame rectangle
@@ -37,20 +37,20 @@ corner-covered frame rectangle inside =
       from_left = side-least rectangle.min.x;
       to_right = side-below rectangle.min.x rectangle.max.x inside.left inside.wide;
       from_top = side-least rectangle.min.y;
-      to_bottom = side-below rectangle.min.y rectangle.max.y inside.top inside.high;
+      to_bottom = side-below rectangle.min.y rectangle.max.y inside.top inside.tall;
     }
 
 -- a number of two digits tells each
 digits-differ : (x y x' y' : ℕ) → x < 65536 → x' < 65536 → x + 65536 * y ≡ x' + 65536 * y' → (x ≡ x') × (y ≡ y')
-digits-differ x y x' y' short short' e = (omega arith, omega arith)
+digits-differ x y x' y' bounded short' e = (omega arith, omega arith)
 
 -- rectangles within the atlas that share no unit square have different corners
 corner-differs : (frame : Frame) (one other : Rectangle) → IsFrame 65535 frame → IsInside frame one → IsInside frame other
     → SharesNone one other → corner one ≡ corner other → ⊥
 corner-differs frame one other is_frame inside inside' apart e =
     let width = is_frame.width.1 in
-    let short = side-short one.min.x one.max.x frame.width inside.left inside.wide inside.right in
-    let short' = side-short other.min.x other.max.x frame.width inside'.left inside'.wide inside'.right in
+    let bounded = side-bounded one.min.x one.max.x frame.width inside.left inside.wide inside.right in
+    let short' = side-bounded other.min.x other.max.x frame.width inside'.left inside'.wide inside'.right in
     let same = digits-differ _ _ _ _ (omega arith) (omega arith) e in
     apart _ _ (rw (same.0, same.1) at (corner-covered frame one inside)) (corner-covered frame other inside')
 
@@ -69,12 +69,12 @@ corner-fresh front back new frame is_frame apart inside corners =
     list_any-none _ (front ++ back)
     (Each-weaken _ _ (front ++ back) (id-differs frame new.rectangle is_frame (Each-middle _ front new back inside))
     (Each-both _ _ (front ++ back) corners
-    (Each-both _ _ (front ++ back) (Each-without _ front new back inside) (AreApart-middle front new back apart))))
+    (Each-both _ _ (front ++ back) (Each-remove_place _ front new back inside) (AreApart-middle front new back apart))))
 
 -- the corner of a rectangle within the atlas has places below 65536
 pub corner-small : (frame : Frame) (rectangle : Rectangle) → IsFrame 65535 frame → IsInside frame rectangle
     → (side rectangle.min.x < 65536) × (side rectangle.min.y < 65536)
 corner-small frame rectangle is_frame inside = (
-  omega (arith, is_frame.width.1, side-short rectangle.min.x rectangle.max.x frame.width inside.left inside.wide inside.right),
-  omega (arith, is_frame.height.1, side-short rectangle.min.y rectangle.max.y frame.height inside.top inside.high inside.bottom),
+  omega (arith, is_frame.width.1, side-bounded rectangle.min.x rectangle.max.x frame.width inside.left inside.wide inside.right),
+  omega (arith, is_frame.height.1, side-bounded rectangle.min.y rectangle.max.y frame.height inside.top inside.tall inside.bottom),
 )

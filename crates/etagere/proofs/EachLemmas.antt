@@ -47,9 +47,9 @@ pub Each-middle : {X : Type 0} (P : X → Type 0) (xs : List X) (y : X) (ys : Li
 Each-middle P xs y ys each = (Each-back P xs (y ∷ ys) each).0
 
 -- the facts of the others, without the element in the middle
-pub Each-without : {X : Type 0} (P : X → Type 0) (xs : List X) (y : X) (ys : List X)
+pub Each-remove_place : {X : Type 0} (P : X → Type 0) (xs : List X) (y : X) (ys : List X)
     → Each P (xs ++ y ∷ ys) → Each P (xs ++ ys)
-Each-without P xs y ys each =
+Each-remove_place P xs y ys each =
     Each-append P xs ys (Each-front P xs (y ∷ ys) each) (Each-back P xs (y ∷ ys) each).1
 
 -- a fact of each stays with those that pass a test

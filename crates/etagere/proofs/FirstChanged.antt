@@ -1,8 +1,8 @@
 -- What changing the first element that passes a test keeps of a list.
 use Rattle.std.proofs.Common.{◌≡◌, ℕ, ◌≤◌, Bool, true, List, [], ◌∷◌, refl, ◌∙◌, arith}
 use Rattle.std.proofs.lemmas.Bool.{cond_both}
-use Rattle.etagere.specs.Lists.{Each, at_first, NoneTouch}
-use Rattle.etagere.proofs.NoneTouchLemmas.{NoneTouch-first}
+use Rattle.etagere.specs.Lists.{Each, at_first, NoNeighbours}
+use Rattle.etagere.proofs.NoNeighboursLemmas.{NoNeighbours-first}
 
 module _ {X : Type 0} (test : X → Bool) (change : X → X) where
   -- a fact of each element that the change keeps
@@ -36,15 +36,15 @@ module _ {X : Type 0} (test : X → Bool) (change : X → X) where
   module _ (touch : X → X → Bool) (next : (x y : X) → touch (change x) y ≡ touch x y)
       (before : (w x : X) → touch w (change x) ≡ touch w x) where
     -- no two touch behind an element where one behind it is changed
-    NoneTouch-behind : (w : X) (xs : List X) → NoneTouch touch (w ∷ xs) → NoneTouch touch (w ∷ at_first test change xs)
-    NoneTouch-behind w [] h = tt
-    NoneTouch-behind w (x ∷ xs) h =
-        cond_both (test x) (change x ∷ xs) (x ∷ at_first test change xs) (λ (l : List X). NoneTouch touch (w ∷ l))
-        (λ _. (before w x ∙ h.0, NoneTouch-first touch x (change x) xs (λ y f. next x y ∙ f) h.1)) (λ _. (h.0, NoneTouch-behind x xs h.1))
+    NoNeighbours-behind : (w : X) (xs : List X) → NoNeighbours touch (w ∷ xs) → NoNeighbours touch (w ∷ at_first test change xs)
+    NoNeighbours-behind w [] h = tt
+    NoNeighbours-behind w (x ∷ xs) h =
+        cond_both (test x) (change x ∷ xs) (x ∷ at_first test change xs) (λ (l : List X). NoNeighbours touch (w ∷ l))
+        (λ _. (before w x ∙ h.0, NoNeighbours-first touch x (change x) xs (λ y f. next x y ∙ f) h.1)) (λ _. (h.0, NoNeighbours-behind x xs h.1))
 
     -- what no two neighbours do, where the change keeps what touches
-    pub NoneTouch-at_first : (xs : List X) → NoneTouch touch xs → NoneTouch touch (at_first test change xs)
-    NoneTouch-at_first [] h = tt
-    NoneTouch-at_first (x ∷ xs) h =
-        cond_both (test x) (change x ∷ xs) (x ∷ at_first test change xs) (NoneTouch touch)
-        (λ _. NoneTouch-first touch x (change x) xs (λ y f. next x y ∙ f) h) (λ _. NoneTouch-behind x xs h)
+    pub NoNeighbours-at_first : (xs : List X) → NoNeighbours touch xs → NoNeighbours touch (at_first test change xs)
+    NoNeighbours-at_first [] h = tt
+    NoNeighbours-at_first (x ∷ xs) h =
+        cond_both (test x) (change x ∷ xs) (x ∷ at_first test change xs) (NoNeighbours touch)
+        (λ _. NoNeighbours-first touch x (change x) xs (λ y f. next x y ∙ f) h) (λ _. NoNeighbours-behind x xs h)

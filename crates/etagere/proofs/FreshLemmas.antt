@@ -5,24 +5,24 @@ use Rattle.std.proofs.lemmas.List.{append-nil, take_all}
 use Rattle.etagere_base.specs.Frames.{IsFrame, across_side}
 use Rattle.etagere_base.specs.declared.frames.Frame.{Frame}
 use Rattle.etagere.specs.Fresh.{empty_columns, fresh}
-use Rattle.etagere.specs.Joining.{both_empty}
-use Rattle.etagere.specs.Lists.{Each, times, NoneTouch}
-use Rattle.etagere.specs.Places.{heights_in, held_after, held}
+use Rattle.etagere.specs.Merging.{both_empty}
+use Rattle.etagere.specs.Lists.{Each, times, NoNeighbours}
+use Rattle.etagere.specs.Places.{column_height, allocations_after, allocations}
 use Rattle.etagere.specs.Space.{space_in, allocated_space}
-use Rattle.etagere.specs.State.{Shelf, empty_shelf, runs_in_use}
+use Rattle.etagere.specs.State.{Shelf, empty_shelf, items_in_use}
 use Rattle.etagere.specs.Valid.{IsShelf, IsValid, ids, is_out_of_order}
 use Rattle.etagere.proofs.FrameSides.{across-positive, columns-le}
-use Rattle.etagere.proofs.Heights.{heights_in-alone, heights_in-other}
+use Rattle.etagere.proofs.Heights.{column_height-alone, column_height-other}
 
 -- empty columns hold nothing
-held_after-empty_columns : (frame : Frame) (before : List Shelf) (column n : ℕ) → held_after frame before (empty_columns frame column n) ≡ []
-held_after-empty_columns frame before column zero = refl
-held_after-empty_columns frame before column (suc n) =
-    held_after-empty_columns frame (before ++ empty_shelf frame column (across_side frame) ∷ []) (suc column) n
+allocations_after-empty_columns : (frame : Frame) (before : List Shelf) (column n : ℕ) → allocations_after frame before (empty_columns frame column n) ≡ []
+allocations_after-empty_columns frame before column zero = refl
+allocations_after-empty_columns frame before column (suc n) =
+    allocations_after-empty_columns frame (before ++ empty_shelf frame column (across_side frame) ∷ []) (suc column) n
 
 -- a new atlas holds nothing
-pub fresh-held : (frame : Frame) → held (fresh frame) ≡ []
-fresh-held frame = held_after-empty_columns frame [] 0 frame.columns
+pub fresh-allocated : (frame : Frame) → allocations (fresh frame) ≡ []
+fresh-allocated frame = allocations_after-empty_columns frame [] 0 frame.columns
 
 module _ (frame : Frame) (is_frame : IsFrame 65535 frame) where
   -- each shelf of empty columns is as a shelf must be
@@ -32,36 +32,36 @@ module _ (frame : Frame) (is_frame : IsFrame 65535 frame) where
     record {
       column = omega arith;
       height = across-positive 65535 frame is_frame;
-      runs = (record { width = is_frame.column_width.0; aligned = is_frame.aligned }, tt);
+      items = (record { width = is_frame.column_width.0; aligned = is_frame.aligned }, tt);
       width = omega arith;
       apart = tt;
-      tried = λ place. refl;
+      free_list = λ place. refl;
     },
     shelves-empty_columns (suc column) n (omega arith),
   )
 
 -- empty columns stand in order
-ordered-empty_columns : (frame : Frame) (column n : ℕ) → NoneTouch is_out_of_order (empty_columns frame column n)
+ordered-empty_columns : (frame : Frame) (column n : ℕ) → NoNeighbours is_out_of_order (empty_columns frame column n)
 ordered-empty_columns frame column zero = tt
 ordered-empty_columns frame column (suc zero) = tt
 ordered-empty_columns frame column (suc (suc n)) = (le-ltb (suc column) column (omega arith), ordered-empty_columns frame (suc column) (suc n))
 
 -- empty columns have no two shelves in one column
-apart-empty_columns : (frame : Frame) (column n : ℕ) → NoneTouch both_empty (empty_columns frame column n)
+apart-empty_columns : (frame : Frame) (column n : ℕ) → NoNeighbours both_empty (empty_columns frame column n)
 apart-empty_columns frame column zero = tt
 apart-empty_columns frame column (suc zero) = tt
 apart-empty_columns frame column (suc (suc n)) =
     (and_left (column == suc column) true (ne_eqb column (suc column) (λ e. omega arith)), apart-empty_columns frame (suc column) (suc n))
 
--- no id holds a run of empty columns
+-- no id holds an item of empty columns
 ids-empty_columns : (frame : Frame) (column n : ℕ) → ids (empty_columns frame column n) ≡ []
 ids-empty_columns frame column zero = refl
 ids-empty_columns frame column (suc n) = ids-empty_columns frame (suc column) n
 
--- empty columns have one run each
-pub runs_in_use-empty_columns : (frame : Frame) (column n : ℕ) → runs_in_use (empty_columns frame column n) ≡ n
-runs_in_use-empty_columns frame column zero = refl
-runs_in_use-empty_columns frame column (suc n) = let rest = runs_in_use-empty_columns frame (suc column) n in omega arith
+-- empty columns have one item each
+pub items_in_use-empty_columns : (frame : Frame) (column n : ℕ) → items_in_use (empty_columns frame column n) ≡ n
+items_in_use-empty_columns frame column zero = refl
+items_in_use-empty_columns frame column (suc n) = let rest = items_in_use-empty_columns frame (suc column) n in omega arith
 
 -- empty columns after a place are others
 others-empty_columns : (frame : Frame) (place column n : ℕ) → place < column → Each (λ (s : Shelf). s.column ≢ place) (empty_columns frame column n)
@@ -69,15 +69,15 @@ others-empty_columns frame place column zero h = tt
 others-empty_columns frame place column (suc n) h = ((λ e. omega arith), others-empty_columns frame place (suc column) n (omega arith))
 
 -- each of the columns is filled
-heights_in-empty_columns : (frame : Frame) (place column n : ℕ) → column ≤ place → place < column + n
-    → heights_in place (empty_columns frame column n) ≡ across_side frame
-heights_in-empty_columns frame place column zero l h = absurd (omega arith)
-heights_in-empty_columns frame place column (suc n) l h =
+column_height-empty_columns : (frame : Frame) (place column n : ℕ) → column ≤ place → place < column + n
+    → column_height place (empty_columns frame column n) ≡ across_side frame
+column_height-empty_columns frame place column zero l h = absurd (omega arith)
+column_height-empty_columns frame place column (suc n) l h =
     let shelf = empty_shelf frame column (across_side frame) in
     let others = empty_columns frame (suc column) n in
     ⊎_elim
-    (λ (lt : column < place). heights_in-other place shelf others (λ e. omega arith) ∙ heights_in-empty_columns frame place (suc column) n lt (omega arith))
-    (λ (le : place ≤ column). heights_in-alone place shelf others (omega arith) (others-empty_columns frame place (suc column) n (omega arith)))
+    (λ (lt : column < place). column_height-other place shelf others (λ e. omega arith) ∙ column_height-empty_columns frame place (suc column) n lt (omega arith))
+    (λ (le : place ≤ column). column_height-alone place shelf others (omega arith) (others-empty_columns frame place (suc column) n (omega arith)))
     (cases_lt column place)
 
 -- a new atlas is as a state must be
@@ -86,10 +86,10 @@ fresh-valid frame h = record {
   frame = h;
   shelves = shelves-empty_columns frame h 0 frame.columns (omega arith);
   ordered = ordered-empty_columns frame 0 frame.columns;
-  heights = λ column below. heights_in-empty_columns frame column 0 frame.columns (omega arith) (omega arith);
+  heights = λ column below. column_height-empty_columns frame column 0 frame.columns (omega arith) (omega arith);
   apart = apart-empty_columns frame 0 frame.columns;
   ids = λ id. let none : times id (ids (empty_columns frame 0 frame.columns)) ≡ 0 = ap (times id) (ids-empty_columns frame 0 frame.columns) in omega arith;
-  records = (omega (arith, runs_in_use-empty_columns frame 0 frame.columns), columns-le frame h);
+  records = (omega (arith, items_in_use-empty_columns frame 0 frame.columns), columns-le frame h);
 }
 
 -- empty columns hold no space

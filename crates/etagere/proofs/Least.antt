@@ -7,7 +7,7 @@ use Rattle.std.proofs.lemmas.List.{map-append, length-map, length-take-le}
 use Rattle.std.proofs.lemmas.Option.{slice_get_within}
 use Rattle.std.specs.Prelude.{IfSome}
 use Rattle.etagere.specs.Choice.{Found, first_least, first_or, one_later}
-use Rattle.etagere.specs.Least.{IsFirstLeast, first_of}
+use Rattle.etagere.specs.Least.{IsFirstLeast, better}
 
 -- what is the first least of the rest stays so behind an element without a rank
 is_first_least-skip : (ranks : List (Option ℕ)) (found : Found) → IsFirstLeast ranks found
@@ -32,7 +32,7 @@ is_first_least-here rank ranks above = record { at = refl; least = least; first 
     least zero r e = let same : rank ≡ r = cc in omega arith
     least (suc n) r e = above n r e
 
--- what is the first least of the rest stays so behind a higher rank
+-- what is the first least of the rest stays so behind a taller rank
 is_first_least-later : (rank : ℕ) (ranks : List (Option ℕ)) (found : Found) → found.rank < rank
     → IsFirstLeast ranks found → IsFirstLeast (Some rank ∷ ranks) (one_later found)
 is_first_least-later rank ranks found lower p = record { at = p.at; least = least; first = first }
@@ -114,20 +114,20 @@ later_if true x y = refl
 later_if false x y = refl
 
 -- one place further to the left, the first of two is the first of the two seen from there
-first_of-later : (a b : Option Found)
-    → option_map one_later (first_of a b) ≡ first_of (option_map one_later a) (option_map one_later b)
-first_of-later None b = refl
-first_of-later (Some x) None = refl
-first_of-later (Some x) (Some y) = later_if (ltb y.rank x.rank) x y
+better-later : (a b : Option Found)
+    → option_map one_later (better a b) ≡ better (option_map one_later a) (option_map one_later b)
+better-later None b = refl
+better-later (Some x) None = refl
+better-later (Some x) (Some y) = later_if (ltb y.rank x.rank) x y
 
 -- a rank against the first of two is the first of the rank against the one and the other
 first_or-one : (rank : ℕ) (y : Found)
-    → Some (first_or rank (Some y)) ≡ first_of (Some (first_or rank None)) (Some (one_later y))
+    → Some (first_or rank (Some y)) ≡ better (Some (first_or rank None)) (Some (one_later y))
 first_or-one rank y = grind (arith, nat_tests)
 
 -- a rank against the first of two, by the tests that decide it
 first_or-two : (rank : ℕ) (x y : Found) (b c : Bool) → ltb y.rank x.rank ≡ b → leb rank x.rank ≡ c
-    → Some (first_or rank (cond b (Some y) (Some x))) ≡ first_of (Some (cond c (record { number = 0; rank = rank }) (one_later x))) (Some (one_later y))
+    → Some (first_or rank (cond b (Some y) (Some x))) ≡ better (Some (cond c (record { number = 0; rank = rank }) (one_later x))) (Some (one_later y))
 first_or-two rank x y true true p q = first_or-one rank y
 first_or-two rank x y true false p q = grind (arith, nat_tests)
 first_or-two rank x y false true p q = grind (arith, nat_tests)
@@ -135,7 +135,7 @@ first_or-two rank x y false false p q = grind (arith, nat_tests)
 
 -- a rank against the first of two, which may be missing
 first_or-of : (rank : ℕ) (a b : Option Found)
-    → Some (first_or rank (first_of a b)) ≡ first_of (Some (first_or rank a)) (option_map one_later b)
+    → Some (first_or rank (better a b)) ≡ better (Some (first_or rank a)) (option_map one_later b)
 first_or-of rank None None = refl
 first_or-of rank None (Some y) = first_or-one rank y
 first_or-of rank (Some x) None = refl
@@ -143,22 +143,22 @@ first_or-of rank (Some x) (Some y) = first_or-two rank x y (ltb y.rank x.rank) (
 
 -- one more rank at the end of a list stands against what was found before it
 first_least-more : (ranks : List (Option ℕ)) (rank : Option ℕ)
-    → first_least (ranks ++ rank ∷ []) ≡ first_of (first_least ranks) (option_map (λ r. record { number = length ranks; rank = r }) rank)
+    → first_least (ranks ++ rank ∷ []) ≡ better (first_least ranks) (option_map (λ r. record { number = length ranks; rank = r }) rank)
 unfolding found_at
 first_least-more [] None = refl
 first_least-more [] (Some r) = refl
 first_least-more (None ∷ ranks) rank =
     ap (option_map one_later) (first_least-more ranks rank)
-    ∙ (first_of-later (first_least ranks) (found_at (length ranks) rank)
-    ∙ ap (first_of (option_map one_later (first_least ranks))) (found_at-later (length ranks) rank))
+    ∙ (better-later (first_least ranks) (found_at (length ranks) rank)
+    ∙ ap (better (option_map one_later (first_least ranks))) (found_at-later (length ranks) rank))
 first_least-more (Some q ∷ ranks) rank =
     ap (λ (o : Option Found). Some (first_or q o)) (first_least-more ranks rank)
     ∙ (first_or-of q (first_least ranks) (found_at (length ranks) rank)
-    ∙ ap (first_of (Some (first_or q (first_least ranks)))) (found_at-later (length ranks) rank))
+    ∙ ap (better (Some (first_or q (first_least ranks)))) (found_at-later (length ranks) rank))
 
 -- one more element stands against the best of those before it
 pub best-more : {X : Type 0} (rank : X → Option ℕ) (xs : List X) (n : ℕ) (d : X) → n < length xs
-    → first_least (map rank (take (suc n) xs)) ≡ first_of (first_least (map rank (take n xs))) (option_map (λ r. record { number = n; rank = r }) (rank (get_or xs n d)))
+    → first_least (map rank (take (suc n) xs)) ≡ better (first_least (map rank (take n xs))) (option_map (λ r. record { number = n; rank = r }) (rank (get_or xs n d)))
 best-more rank xs n d h =
     let ranks : map rank (take (suc n) xs) ≡ map rank (take n xs) ++ rank (get_or xs n d) ∷ [] = ap (map rank) (take-suc xs n d h) ∙ map-append rank (take n xs) (get_or xs n d ∷ []) in
     let count : length (map rank (take n xs)) ≡ n = length-map (take n xs) rank ∙ length-take-le n xs (omega arith) in

@@ -5,14 +5,14 @@ use Rattle.std.proofs.lemmas.Bool.{leb-true}
 use Rattle.std.proofs.lemmas.Option.{slice_get-map, cond_some}
 use Rattle.std.specs.Prelude.{slice_get, option_map, option_and_then, ◌&&◌}
 use Rattle.etagere_base.specs.Frames.{IsFrame, alignment_along, is_side, asked}
-use Rattle.etagere_base.specs.Sides.{side, turned, up, coarseness, step}
+use Rattle.etagere_base.specs.Sides.{side, swapped_axes, up, coarseness, step}
 use Rattle.etagere_base.specs.declared.frames.Frame.{Frame}
 use Rattle.etagere_base.specs.declared.geometry.Size.{Size}
 use Rattle.etagere_base.specs.declared.sides.Sides.{Sides}
-use Rattle.etagere.specs.Choice.{Found, Placement, first_least, shelf_height, fitting_place, rank, cuts, placement_of, width_at, cuts_in, chosen}
+use Rattle.etagere.specs.Choice.{Found, Placement, first_least, shelf_height, fitting_place, rank, splits, placement_of, width_at, splits_in, chosen}
 use Rattle.etagere.specs.Lists.{times}
 use Rattle.etagere.specs.Places.{column_place}
-use Rattle.etagere.specs.State.{Shelf, AtlasState, runs_in_use}
+use Rattle.etagere.specs.State.{Shelf, AtlasState, items_in_use}
 use Rattle.etagere.proofs.Least.{first_least-is}
 use Rattle.etagere.proofs.TimesLemmas.{find-stands}
 
@@ -31,9 +31,9 @@ pub test-both : {A : Type 0} (b : Bool) (o : Option A) (y : A) → cond b o None
 test-both true o y h = (refl, h)
 test-both false o y h = cc
 
--- a shelf that has a rank is high enough
-rank-high : (frame : Frame) (width height : ℕ) (shelf : Shelf) (r : ℕ) → rank frame width height shelf ≡ Some r → height ≤ shelf.height
-rank-high frame width height shelf r h = by_test (nat_le height shelf.height) _ refl h
+-- a shelf that has a rank is tall enough
+rank-tall : (frame : Frame) (width height : ℕ) (shelf : Shelf) (r : ℕ) → rank frame width height shelf ≡ Some r → height ≤ shelf.height
+rank-tall frame width height shelf r h = by_test (nat_le height shelf.height) _ refl h
   where
     by_test : (b : Bool) (o : Option ℕ) → nat_le height shelf.height ≡ b → cond b o None ≡ Some r → height ≤ shelf.height
     by_test true o e k = grind arith
@@ -44,12 +44,12 @@ up-multiple : (length alignment : ℕ) → 1 ≤ alignment → (length ≤ up le
 up-multiple length alignment h = (omega arith, mul-mod_left _ _)
 
 -- a height is at most what it is stepped to
-step-high : (height : ℕ) → height ≤ step height
-step-high height = (up-multiple height (coarseness height) (grind arith)).0
+step-tall : (height : ℕ) → height ≤ step height
+step-tall height = (up-multiple height (coarseness height) (grind arith)).0
 
--- an item is at most as high as the shelf that is made for it
-pub shelf_height-high : (frame : Frame) (height : ℕ) → height ≤ shelf_height frame height
-shelf_height-high frame height = grind (arith, step-high height)
+-- an item is at most as tall as the shelf that is made for it
+pub shelf_height-tall : (frame : Frame) (height : ℕ) → height ≤ shelf_height frame height
+shelf_height-tall frame height = grind (arith, step-tall height)
 
 -- what is asked of the shelves has both sides, and is aligned
 pub record IsAsked (frame : Frame) (sides : Sides) : Type 0 where
@@ -58,13 +58,13 @@ pub record IsAsked (frame : Frame) (sides : Sides) : Type 0 where
   pub aligned : sides.along % alignment_along frame ≡ 0
 
 -- a width and a height that are aligned are aligned along the shelves, whichever lies along them
-turned-asked : (frame : Frame) (width height : ℕ)
-    → 1 ≤ width → 1 ≤ height → width % frame.alignment_width ≡ 0 → height % frame.alignment_height ≡ 0 → IsAsked frame (turned frame.vertical (record { along = width; across = height }))
-turned-asked frame width height wide high aligned_width aligned_height = by_turn frame.vertical refl
+swapped_axes-asked : (frame : Frame) (width height : ℕ)
+    → 1 ≤ width → 1 ≤ height → width % frame.alignment_width ≡ 0 → height % frame.alignment_height ≡ 0 → IsAsked frame (swapped_axes frame.vertical (record { along = width; across = height }))
+swapped_axes-asked frame width height wide tall aligned_width aligned_height = by_turn frame.vertical refl
   where
-    by_turn : (b : Bool) → frame.vertical ≡ b → IsAsked frame (turned b (record { along = width; across = height }))
-    by_turn true e = record { along = high; across = wide; aligned = rw e aligned_height }
-    by_turn false e = record { along = wide; across = high; aligned = rw e aligned_width }
+    by_turn : (b : Bool) → frame.vertical ≡ b → IsAsked frame (swapped_axes b (record { along = width; across = height }))
+    by_turn true e = record { along = tall; across = wide; aligned = rw e aligned_height }
+    by_turn false e = record { along = wide; across = tall; aligned = rw e aligned_width }
 
 -- the tests of a size show that it has both sides
 sides_positive : (n m : ℕ) → ((nat_lt 0 n && nat_le n 65535) && (nat_lt 0 m && nat_le m 65535)) ≡ true → (1 ≤ n) × (1 ≤ m)
@@ -75,20 +75,20 @@ pub asked-sides : (frame : Frame) (size : Size) (sides : Sides) → IsFrame 6553
 asked-sides frame size sides valid h =
     let tests = test-both (is_side 65535 size.width && is_side 65535 size.height) _ sides h in
     let wide = up-multiple (side size.width) frame.alignment_width valid.alignment_width.0 in
-    let high = up-multiple (side size.height) frame.alignment_height valid.alignment_height.0 in
+    let tall = up-multiple (side size.height) frame.alignment_height valid.alignment_height.0 in
     let range = sides_positive (side size.width) (side size.height) tests.0 in
     subst (λ (s : Sides). IsAsked frame s) (cond_some _ _ sides tests.1).1
-    (turned-asked frame (up (side size.width) frame.alignment_width) (up (side size.height) frame.alignment_height)
-    (omega arith) (omega arith) wide.1 high.1)
+    (swapped_axes-asked frame (up (side size.width) frame.alignment_width) (up (side size.height) frame.alignment_height)
+    (omega arith) (omega arith) wide.1 tall.1)
 
--- what is chosen for sides: a shelf that is high enough, and in it a place that is wide enough
+-- what is chosen for sides: a shelf that is tall enough, and in it a place that is wide enough
 pub record IsChosen (state : AtlasState) (sides : Sides) (placement : Placement) : Type 0 where
   pub shelf : Shelf
   pub at : slice_get state.shelves placement.shelf ≡ Some shelf
   pub place : fitting_place state.frame sides.along shelf ≡ Some placement.place
   pub width : placement.width ≡ sides.along
   pub height : placement.height ≡ shelf_height state.frame sides.across
-  pub high : placement.height ≤ shelf.height
+  pub tall : placement.height ≤ shelf.height
 
 -- the shelf where a rank was found has that rank
 found-rank : (frame : Frame) (width height : ℕ) (shelves : List Shelf) (found : Found) (shelf : Shelf)
@@ -114,7 +114,7 @@ chosen_in state sides placement found shelf place least at fits same =
       place = fits;
       width = refl;
       height = refl;
-      high = rank-high state.frame sides.along (shelf_height state.frame sides.across) shelf found.rank
+      tall = rank-tall state.frame sides.along (shelf_height state.frame sides.across) shelf found.rank
           (found-rank state.frame sides.along (shelf_height state.frame sides.across) state.shelves found shelf least at);
     })
 
@@ -135,24 +135,24 @@ chosen-parts state sides placement h =
     let stand = and_then-parts _ (slice_get state.shelves find.0.number) placement find.2 in
     chosen_at state sides placement find.0 stand.0 find.1 stand.1 stand.2
 
--- a placement of a size: what is asked for has a chosen place, and there are records enough for its cuts
+-- a placement of a size: what is asked for has a chosen place, and there are records enough for its splits
 pub record IsPlaced (state : AtlasState) (size : Size) (placement : Placement) : Type 0 where
   pub sides : Sides
   pub asked : asked state.frame size ≡ Some sides
   pub chosen : IsChosen state sides placement
-  pub room : runs_in_use state.shelves + cuts state placement ≤ 65535
+  pub room : items_in_use state.shelves + splits state placement ≤ 65535
 
 -- a placement is a choice with records enough, from the choice
 placed_at : (state : AtlasState) (size : Size) (placement : Placement) (sides : Sides) (choice : Placement)
-    → asked state.frame size ≡ Some sides → chosen state sides ≡ Some choice → cond (nat_le (runs_in_use state.shelves + cuts state choice) 65535) (Some choice) None ≡ Some placement → IsPlaced state size placement
+    → asked state.frame size ≡ Some sides → chosen state sides ≡ Some choice → cond (nat_le (items_in_use state.shelves + splits state choice) 65535) (Some choice) None ≡ Some placement → IsPlaced state size placement
 placed_at state size placement sides choice asks chooses h =
-    let roomy = cond_some _ choice placement h in
-    subst (λ (p : Placement). IsPlaced state size p) roomy.1
+    let consistent = cond_some _ choice placement h in
+    subst (λ (p : Placement). IsPlaced state size p) consistent.1
     (record {
       sides = sides;
       asked = asks;
       chosen = chosen-parts state sides choice chooses;
-      room = leb-true _ _ roomy.0;
+      room = leb-true _ _ consistent.0;
     })
 
 -- what it says that a size has a placement
@@ -164,13 +164,13 @@ placement_of-placed state size placement h =
 
 -- the chosen place is wide enough, and its shelf tries it
 pub chosen-stands : (state : AtlasState) (sides : Sides) (placement : Placement) → (choice : IsChosen state sides placement)
-    → (placement.width ≤ width_at (column_place state.frame choice.shelf) choice.shelf.runs placement.place) × (1 ≤ times placement.place choice.shelf.tried)
+    → (placement.width ≤ width_at (column_place state.frame choice.shelf) choice.shelf.items placement.place) × (1 ≤ times placement.place choice.shelf.free_list)
 chosen-stands state sides placement choice =
-    let fits : ℕ → Bool = λ place. nat_le sides.along (width_at (column_place state.frame choice.shelf) choice.shelf.runs place) in
-    let stands = find-stands fits choice.shelf.tried placement.place choice.place in
+    let fits : ℕ → Bool = λ place. nat_le sides.along (width_at (column_place state.frame choice.shelf) choice.shelf.items place) in
+    let stands = find-stands fits choice.shelf.free_list placement.place choice.place in
     (omega (arith, leb-true _ _ stands.0, choice.width), stands.1)
 
--- the cuts of a placement are those in its shelf
-pub cuts-read : (state : AtlasState) (placement : Placement) (shelf : Shelf)
-    → slice_get state.shelves placement.shelf ≡ Some shelf → cuts state placement ≡ cuts_in state.frame placement shelf
-cuts-read state placement shelf at = rw at refl
+-- the splits of a placement are those in its shelf
+pub splits-read : (state : AtlasState) (placement : Placement) (shelf : Shelf)
+    → slice_get state.shelves placement.shelf ≡ Some shelf → splits state placement ≡ splits_in state.frame placement shelf
+splits-read state placement shelf at = rw at refl

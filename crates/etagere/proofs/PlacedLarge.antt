@@ -1,33 +1,33 @@
 -- The rectangle that a size is given is as large as the size, each side rounded up.
 use Rattle.std.proofs.Common.{◌≡◌, ℕ, ◌≤◌, Bool, true, false, Some, refl, subst, ap, arith, cond, take}
 use Rattle.std.proofs.lemmas.Int.{ints}
-use Rattle.etagere_base.specs.Sides.{side, turned, up}
+use Rattle.etagere_base.specs.Sides.{side, swapped_axes, up}
 use Rattle.etagere_base.specs.declared.frames.Frame.{Frame}
 use Rattle.etagere_base.specs.declared.geometry.Rectangle.{Rectangle}
 use Rattle.etagere_base.specs.declared.geometry.Size.{Size}
 use Rattle.etagere_base.specs.declared.sides.Sides.{Sides}
 use Rattle.etagere.specs.Choice.{Placement, placement_of}
-use Rattle.etagere.specs.Places.{rectangle_at, heights_in}
+use Rattle.etagere.specs.Places.{rectangle_at, column_height}
 use Rattle.etagere.specs.Rectangles.{IsLarge}
 use Rattle.etagere.specs.State.{AtlasState}
 use Rattle.etagere.specs.Taking.{given, given_width, given_height, given_in}
-use Rattle.etagere.proofs.Placed.{chosen-stands, placement_of-placed, shelf_height-high}
+use Rattle.etagere.proofs.Placed.{chosen-stands, placement_of-placed, shelf_height-tall}
 use Rattle.etagere.proofs.PlacedSizes.{asked-is}
 
--- what lies at a place is large where it is as wide along and as high across as the size, rounded up
+-- what lies at a place is large where it is as wide along and as tall across as the size, rounded up
 large-at : (frame : Frame) (size : Size) (along across width height : ℕ)
-    → (turned frame.vertical (record { along = up (side size.width) frame.alignment_width; across = up (side size.height) frame.alignment_height })).along ≤ width
-    → (turned frame.vertical (record { along = up (side size.width) frame.alignment_width; across = up (side size.height) frame.alignment_height })).across ≤ height
+    → (swapped_axes frame.vertical (record { along = up (side size.width) frame.alignment_width; across = up (side size.height) frame.alignment_height })).along ≤ width
+    → (swapped_axes frame.vertical (record { along = up (side size.width) frame.alignment_width; across = up (side size.height) frame.alignment_height })).across ≤ height
     → IsLarge frame size (rectangle_at frame along across width height)
 large-at frame size along across width height = by_turn frame.vertical refl
   where
     wide : ℕ
     wide = up (side size.width) frame.alignment_width
 
-    high : ℕ
-    high = up (side size.height) frame.alignment_height
+    tall : ℕ
+    tall = up (side size.height) frame.alignment_height
 
-    by_turn : (b : Bool) → frame.vertical ≡ b → (turned b (record { along = wide; across = high })).along ≤ width → (turned b (record { along = wide; across = high })).across ≤ height
+    by_turn : (b : Bool) → frame.vertical ≡ b → (swapped_axes b (record { along = wide; across = tall })).along ≤ width → (swapped_axes b (record { along = wide; across = tall })).across ≤ height
         → IsLarge frame size (rectangle_at frame along across width height)
     by_turn true e w h = record { width = rw e (omega (arith, ints)); height = rw e (omega (arith, ints)) }
     by_turn false e w h = record { width = rw e (omega (arith, ints)); height = rw e (omega (arith, ints)) }
@@ -44,13 +44,13 @@ given-is_large state size placement rectangle h gives =
     let placed = placement_of-placed state size placement h in
     let choice = placed.chosen in
     let shelf = choice.shelf in
-    let across = heights_in shelf.column (take placement.shelf state.shelves) in
+    let across = column_height shelf.column (take placement.shelf state.shelves) in
     let is = asked-is state.frame size placed.sides placed.asked in
     let lies : given state placement ≡ Some (given_in state.frame placement across shelf) = rw (choice.at) refl in
     let same : given_in state.frame placement across shelf ≡ rectangle = cc in
     let wide : placement.width ≤ given_width state.frame placement shelf = either-le _ _ _ (chosen-stands state placed.sides placement choice).0 in
-    let high : placement.height ≤ given_height placement shelf = either-le _ _ _ choice.high in
+    let tall : placement.height ≤ given_height placement shelf = either-le _ _ _ choice.tall in
     subst (λ (r : Rectangle). IsLarge state.frame size r) same
     (large-at state.frame size placement.place across (given_width state.frame placement shelf) (given_height placement shelf)
     (omega (arith, ap (λ (s : Sides). s.along) is, choice.width, wide))
-    (omega (arith, ap (λ (s : Sides). s.across) is, choice.height, shelf_height-high state.frame placed.sides.across, high)))
+    (omega (arith, ap (λ (s : Sides). s.across) is, choice.height, shelf_height-tall state.frame placed.sides.across, tall)))

@@ -3,31 +3,31 @@ use Rattle.std.proofs.Common.{◌≡◌, ℕ, ◌+◌, ◌≤◌, Bool, true, fa
 use Rattle.std.specs.Prelude.{nat_lt}
 use Rattle.etagere_base.specs.Frames.{IsFrame}
 use Rattle.etagere_base.specs.declared.frames.Frame.{Frame}
-use Rattle.etagere.specs.Joining.{both_free}
-use Rattle.etagere.specs.Lists.{NoneTouch, Each}
-use Rattle.etagere.specs.Places.{column_place, heights_in}
+use Rattle.etagere.specs.Merging.{both_free}
+use Rattle.etagere.specs.Lists.{NoNeighbours, Each}
+use Rattle.etagere.specs.Places.{column_place, column_height}
 use Rattle.etagere.specs.State.{Shelf, AtlasState, total_width}
 use Rattle.etagere.specs.Steps.{AreReturnable, AreWithin, IsNarrow}
 use Rattle.etagere.specs.Valid.{IsShelf, IsValid}
 use Rattle.etagere.proofs.EachLemmas.{Each-weaken}
 use Rattle.etagere.proofs.FrameSides.{column-within, sides_low}
-use Rattle.etagere.proofs.Heights.{heights_in-none}
+use Rattle.etagere.proofs.Heights.{column_height-none}
 
 -- a shelf ends where the atlas does or before
-pub shelf-right : (frame : Frame) → IsFrame 65535 frame → (shelf : Shelf) → IsShelf frame shelf → column_place frame shelf + total_width shelf.runs ≤ 65535
+pub shelf-right : (frame : Frame) → IsFrame 65535 frame → (shelf : Shelf) → IsShelf frame shelf → column_place frame shelf + total_width shelf.items ≤ 65535
 shelf-right frame is_frame shelf valid =
     omega (arith, column-within frame shelf.column is_frame valid.column, valid.width, (sides_low 65535 frame is_frame).0)
 
--- no column is higher than the longest side
-column-bottom : (state : AtlasState) → IsValid state → (column : ℕ) → heights_in column state.shelves ≤ 65535
+-- no column is taller than the longest side
+column-bottom : (state : AtlasState) → IsValid state → (column : ℕ) → column_height column state.shelves ≤ 65535
 column-bottom state valid column = of_test (nat_lt column state.frame.columns) refl
   where
-    of_test : (b : Bool) → b ≡ nat_lt column state.frame.columns → heights_in column state.shelves ≤ 65535
+    of_test : (b : Bool) → b ≡ nat_lt column state.frame.columns → column_height column state.shelves ≤ 65535
     of_test true h =
         omega (arith, valid.heights column (grind arith), (sides_low 65535 state.frame valid.frame).1)
     of_test false h =
         let past : state.frame.columns ≤ column = grind arith in
-        let none = heights_in-none column state.shelves (Each-weaken (IsShelf state.frame) _ state.shelves (λ (s : Shelf) (v : IsShelf state.frame s) e. omega (arith, v.column)) valid.shelves) in
+        let none = column_height-none column state.shelves (Each-weaken (IsShelf state.frame) _ state.shelves (λ (s : Shelf) (v : IsShelf state.frame s) e. omega (arith, v.column)) valid.shelves) in
         omega (arith, none)
 
 -- the places of each shelf of a valid state fit 32 bits
@@ -47,9 +47,9 @@ within state valid = record {
 pub returnable : (state : AtlasState) → IsValid state → AreReturnable state.frame state.shelves
 returnable state valid = record {
   narrow = narrow-valid state valid;
-  apart_in = Each-weaken (IsShelf state.frame) (λ (shelf : Shelf). NoneTouch both_free shelf.runs) state.shelves
+  apart_in = Each-weaken (IsShelf state.frame) (λ (shelf : Shelf). NoNeighbours both_free shelf.items) state.shelves
       (λ (shelf : Shelf) (h : IsShelf state.frame shelf). h.apart) valid.shelves;
   apart = valid.apart;
-  low = λ column. omega (arith, column-bottom state valid column);
+  short = λ column. omega (arith, column-bottom state valid column);
   few = omega (arith, valid.records.0, valid.records.1);
 }

@@ -1,49 +1,49 @@
--- A shelf with a run returned is as a shelf must be.
+-- A shelf with an item returned is as a shelf must be.
 use Rattle.std.proofs.Common.{◌≡◌, ℕ, zero, suc, ◌+◌, ◌%◌, ◌≤◌, true, false, None, Some, List, [], ◌∷◌, length, refl, ap, ◌∙◌, sym, arith}
 use Rattle.std.proofs.Math.Nat.{mod-add-mod}
 use Rattle.std.specs.Prelude.{slice_get}
 use Rattle.etagere_base.specs.Frames.{alignment_along}
 use Rattle.etagere_base.specs.declared.frames.Frame.{Frame}
-use Rattle.etagere.specs.Joining.{both_free, merged_runs, joined_runs}
+use Rattle.etagere.specs.Merging.{both_free, combined_items, merged_items}
 use Rattle.etagere.specs.Lists.{Each}
 use Rattle.etagere.specs.Places.{column_place}
 use Rattle.etagere.specs.Returning.{freed, freed_shelf}
-use Rattle.etagere.specs.State.{Run, Shelf, is_free, total_width}
-use Rattle.etagere.specs.Valid.{IsRun, IsShelf}
+use Rattle.etagere.specs.State.{Item, Shelf, is_free, total_width}
+use Rattle.etagere.specs.Valid.{IsItem, IsShelf}
 use Rattle.etagere.proofs.EachLemmas.{Each-weaken}
-use Rattle.etagere.proofs.Joined.{apart-joined}
-use Rattle.etagere.proofs.JoinedKeeps.{Each-joined, at_most-joined, measure-joined}
-use Rattle.etagere.proofs.JoinedNear.{runs-merge}
-use Rattle.etagere.proofs.ReturnedTried.{times-returned_tried}
+use Rattle.etagere.proofs.Merged.{apart-merged}
+use Rattle.etagere.proofs.MergedKeeps.{Each-merged, at_most-merged, measure-merged}
+use Rattle.etagere.proofs.MergedNear.{items-merge}
+use Rattle.etagere.proofs.ReturnedFreeList.{times-returned_free_list}
 
--- a fact of each run that doesn't speak of holders stays when one is freed
-Each-freed : (P : Run → Type 0) → ((run : Run) → P run → P (record { width = run.width; holder = None }))
-    → (n : ℕ) (runs : List Run) → Each P runs → Each P (freed n runs)
+-- a fact of each item that doesn't speak of ids stays when one is freed
+Each-freed : (P : Item → Type 0) → ((item : Item) → P item → P (record { width = item.width; id = None }))
+    → (n : ℕ) (items : List Item) → Each P items → Each P (freed n items)
 Each-freed P keeps n [] h = tt
-Each-freed P keeps zero (run ∷ runs) h = (keeps run h.0, h.1)
-Each-freed P keeps (suc n) (run ∷ runs) h = (h.0, Each-freed P keeps n runs h.1)
+Each-freed P keeps zero (item ∷ items) h = (keeps item h.0, h.1)
+Each-freed P keeps (suc n) (item ∷ items) h = (h.0, Each-freed P keeps n items h.1)
 
--- freeing a run changes no width
-pub total_width-freed : (n : ℕ) (runs : List Run) → total_width (freed n runs) ≡ total_width runs
+-- freeing an item changes no width
+pub total_width-freed : (n : ℕ) (items : List Item) → total_width (freed n items) ≡ total_width items
 total_width-freed n [] = refl
-total_width-freed zero (run ∷ runs) = refl
-total_width-freed (suc n) (run ∷ runs) = ap (λ (w : ℕ). run.width + w) (total_width-freed n runs)
+total_width-freed zero (item ∷ items) = refl
+total_width-freed (suc n) (item ∷ items) = ap (λ (w : ℕ). item.width + w) (total_width-freed n items)
 
--- freeing a run changes no count
-pub length-freed : (n : ℕ) (runs : List Run) → length (freed n runs) ≡ length runs
+-- freeing an item changes no count
+pub length-freed : (n : ℕ) (items : List Item) → length (freed n items) ≡ length items
 length-freed n [] = refl
-length-freed zero (run ∷ runs) = refl
-length-freed (suc n) (run ∷ runs) = ap suc (length-freed n runs)
+length-freed zero (item ∷ items) = refl
+length-freed (suc n) (item ∷ items) = ap suc (length-freed n items)
 
--- joining runs changes no width
-total_width-joined : (runs : List Run) → total_width (joined_runs runs) ≡ total_width runs
-total_width-joined runs =
-    measure-joined both_free merged_runs total_width (λ x xs ys h. ap (λ (w : ℕ). x.width + w) h) (λ x y ys t. omega arith) runs
+-- merging items changes no width
+total_width-merged : (items : List Item) → total_width (merged_items items) ≡ total_width items
+total_width-merged items =
+    measure-merged both_free combined_items total_width (λ x xs ys h. ap (λ (w : ℕ). x.width + w) h) (λ x y ys t. omega arith) items
 
--- joining makes no runs more
-pub length-joined-le : (runs : List Run) → length (joined_runs runs) ≤ length runs
-length-joined-le runs =
-    at_most-joined both_free merged_runs length (λ x xs ys h. omega arith) (λ x y ys. omega arith) runs
+-- merging makes no items more
+pub length-merged-le : (items : List Item) → length (merged_items items) ≤ length items
+length-merged-le items =
+    at_most-merged both_free combined_items length (λ x xs ys h. omega arith) (λ x y ys. omega arith) items
 
 -- the sum of two multiples is a multiple
 sum_aligned : (a b m : ℕ) → a % m ≡ 0 → b % m ≡ 0 → (a + b) % m ≡ 0
@@ -51,26 +51,26 @@ sum_aligned a b m h k =
     let nothing : 0 + b ≡ b = omega arith in
     sym (mod-add-mod a m b) ∙ ap (λ (c : ℕ). (c + b) % m) h ∙ ap (λ (c : ℕ). c % m) nothing ∙ k
 
--- a merged run is as a run must be
-merged-run : (frame : Frame) (x y : Run) → both_free x y ≡ true → IsRun frame x → IsRun frame y → IsRun frame (merged_runs x y)
-merged-run frame x y t h k = record {
+-- a merged item is as an item must be
+combined-item : (frame : Frame) (x y : Item) → both_free x y ≡ true → IsItem frame x → IsItem frame y → IsItem frame (combined_items x y)
+combined-item frame x y t h k = record {
   width = omega (arith, h.width);
   aligned = sum_aligned x.width y.width (alignment_along frame) h.aligned k.aligned;
 }
 
--- a freed run is as a run must be
-freed-run : (frame : Frame) (run : Run) → IsRun frame run → IsRun frame (record { width = run.width; holder = None })
-freed-run frame run h = record { width = h.width; aligned = h.aligned }
+-- a freed item is as an item must be
+freed-item : (frame : Frame) (item : Item) → IsItem frame item → IsItem frame (record { width = item.width; id = None })
+freed-item frame item h = record { width = h.width; aligned = h.aligned }
 
--- a shelf with a held run returned is a shelf of the same column, height and width
-pub freed_shelf-valid : (frame : Frame) (n : ℕ) (shelf : Shelf) (run : Run) → IsShelf frame shelf
-    → slice_get shelf.runs n ≡ Some run → is_free run ≡ false → IsShelf frame (freed_shelf frame n shelf)
-freed_shelf-valid frame n shelf run valid get held = record {
+-- a shelf with an allocated item returned is a shelf of the same column, height and width
+pub freed_shelf-valid : (frame : Frame) (n : ℕ) (shelf : Shelf) (item : Item) → IsShelf frame shelf
+    → slice_get shelf.items n ≡ Some item → is_free item ≡ false → IsShelf frame (freed_shelf frame n shelf)
+freed_shelf-valid frame n shelf item valid get allocations = record {
   column = valid.column;
   height = valid.height;
-  runs = Each-joined both_free merged_runs (IsRun frame) (merged-run frame) (freed n shelf.runs)
-      (Each-freed (IsRun frame) (freed-run frame) n shelf.runs valid.runs);
-  width = total_width-joined (freed n shelf.runs) ∙ total_width-freed n shelf.runs ∙ valid.width;
-  apart = apart-joined both_free merged_runs runs-merge (freed n shelf.runs);
-  tried = times-returned_tried (column_place frame shelf) n shelf.runs (Each-weaken (IsRun frame) _ shelf.runs (λ (r : Run) (h : IsRun frame r). h.width) valid.runs) shelf.tried valid.tried run valid.apart get held;
+  items = Each-merged both_free combined_items (IsItem frame) (combined-item frame) (freed n shelf.items)
+      (Each-freed (IsItem frame) (freed-item frame) n shelf.items valid.items);
+  width = total_width-merged (freed n shelf.items) ∙ total_width-freed n shelf.items ∙ valid.width;
+  apart = apart-merged both_free combined_items items-merge (freed n shelf.items);
+  free_list = times-returned_free_list (column_place frame shelf) n shelf.items (Each-weaken (IsItem frame) _ shelf.items (λ (r : Item) (h : IsItem frame r). h.width) valid.items) shelf.free_list valid.free_list item valid.apart get allocations;
 }

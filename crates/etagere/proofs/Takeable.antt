@@ -2,21 +2,21 @@
 use Rattle.std.proofs.Common.{◌≡◌, ℕ, ◌≤◌, Bool, true, false, cond, Some, ◌∷◌, take, refl, subst, ap, arith}
 use Rattle.std.proofs.lemmas.Option.{slice_get_within}
 use Rattle.etagere_base.specs.declared.geometry.Size.{Size}
-use Rattle.etagere.specs.Choice.{Placement, is_run_cut, is_shelf_cut, placement_of, width_at}
-use Rattle.etagere.specs.Places.{column_place, heights_in}
+use Rattle.etagere.specs.Choice.{Placement, is_item_split, is_shelf_split, placement_of, width_at}
+use Rattle.etagere.specs.Places.{column_place, column_height}
 use Rattle.etagere.specs.State.{Shelf, AtlasState, total_width}
 use Rattle.etagere.specs.Steps.{CanTake, IsTakeable}
 use Rattle.etagere.specs.Valid.{IsValid}
-use Rattle.etagere.proofs.CutLists.{split-at}
+use Rattle.etagere.proofs.ReplacedLists.{split-at}
 use Rattle.etagere.proofs.FrameSides.{sides_low}
-use Rattle.etagere.proofs.Heights.{heights_in-append, heights_in-own}
+use Rattle.etagere.proofs.Heights.{column_height-append, column_height-own}
 use Rattle.etagere.proofs.Placed.{IsPlaced, placement_of-placed, chosen-stands}
-use Rattle.etagere.proofs.PlacedSizes.{placement-low}
+use Rattle.etagere.proofs.PlacedSizes.{placement-short}
 use Rattle.etagere.proofs.Returnable.{shelf-right}
-use Rattle.etagere.proofs.RunLemmas.{cut-wide, total_width-append}
+use Rattle.etagere.proofs.ItemLemmas.{split-wide, total_width-append}
 use Rattle.etagere.proofs.TakenShelves.{taking}
 
--- what is given of a run or a shelf is no more than all of it
+-- what is given of an item or a shelf is no more than all of it
 given-le : (b : Bool) (part whole : ℕ) → (b ≡ true → part ≤ whole) → cond b part whole ≤ whole
 given-le true part whole h = h refl
 given-le false part whole h = omega arith
@@ -29,31 +29,31 @@ takeable-placed state size placement valid placed =
     let here = column_place state.frame shelf in
     let t = taking state size placement valid placed in
     let f = t.found in
-    let low = placement-low state size placed.sides placement valid.frame placed.asked placed.chosen in
+    let short = placement-short state size placed.sides placement valid.frame placed.asked placed.chosen in
     let across = (sides_low 65535 state.frame valid.frame).1 in
     let split = split-at state.shelves placement.shelf shelf placed.chosen.at in
     let stands = chosen-stands state placed.sides placement placed.chosen in
     record {
-      tried = stands.1;
+      free_list = stands.1;
       there = omega (arith, f.width, t.room.wide, t.room.fits);
-      width = low.0;
-      height = low.1;
+      width = short.0;
+      height = short.1;
       right = omega (
         arith,
-        given-le (is_run_cut placement.width (width_at here shelf.runs placement.place)) _ _ (cut-wide placement.width (width_at here shelf.runs placement.place)),
+        given-le (is_item_split placement.width (width_at here shelf.items placement.place)) _ _ (split-wide placement.width (width_at here shelf.items placement.place)),
         f.width,
         f.begins,
-        total_width-append f.front (f.run ∷ f.back),
+        total_width-append f.front (f.item ∷ f.back),
         ap total_width f.whole,
         shelf-right state.frame valid.frame shelf t.valid,
       );
       bottom = omega (
         arith,
-        given-le (is_shelf_cut placement.height shelf) _ _ (λ _. t.high),
-        ap (heights_in shelf.column) split.before,
-        ap (heights_in shelf.column) split.whole,
-        heights_in-append shelf.column split.front (shelf ∷ split.back),
-        heights_in-own shelf split.back,
+        given-le (is_shelf_split placement.height shelf) _ _ (λ _. t.tall),
+        ap (column_height shelf.column) split.before,
+        ap (column_height shelf.column) split.whole,
+        column_height-append shelf.column split.front (shelf ∷ split.back),
+        column_height-own shelf split.back,
         valid.heights shelf.column t.valid.column,
       );
     }

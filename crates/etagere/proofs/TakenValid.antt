@@ -5,40 +5,40 @@ use Rattle.std.specs.Prelude.{◌==◌}
 use Rattle.etagere_base.specs.Frames.{IsFrame}
 use Rattle.etagere_base.specs.declared.frames.Frame.{Frame}
 use Rattle.etagere_base.specs.declared.geometry.Size.{Size}
-use Rattle.etagere.specs.Choice.{Placement, is_run_cut, width_at, cuts, cuts_in, placement_of}
-use Rattle.etagere.specs.Joining.{both_empty}
-use Rattle.etagere.specs.Lists.{Each, NoneTouch, times}
-use Rattle.etagere.specs.Places.{column_place, heights_in}
-use Rattle.etagere.specs.State.{Shelf, AtlasState, is_empty, empty_shelf, runs_in_use}
+use Rattle.etagere.specs.Choice.{Placement, is_item_split, width_at, splits, splits_in, placement_of}
+use Rattle.etagere.specs.Merging.{both_empty}
+use Rattle.etagere.specs.Lists.{Each, NoNeighbours, times}
+use Rattle.etagere.specs.Places.{column_place, column_height}
+use Rattle.etagere.specs.State.{Shelf, AtlasState, is_empty, empty_shelf, items_in_use}
 use Rattle.etagere.specs.Taking.{taken_shelf, shelf_pieces, taken}
-use Rattle.etagere.specs.Valid.{IsShelf, IsValid, holders, ids, is_out_of_order}
-use Rattle.etagere.proofs.CutLists.{split-at}
+use Rattle.etagere.specs.Valid.{IsShelf, IsValid, item_ids, ids, is_out_of_order}
+use Rattle.etagere.proofs.ReplacedLists.{split-at}
 use Rattle.etagere.proofs.EachLemmas.{Each-append, Each-back, Each-front}
-use Rattle.etagere.proofs.Heights.{heights_in-append}
-use Rattle.etagere.proofs.Holders.{times-ids}
-use Rattle.etagere.proofs.NoneTouchLemmas.{NoneTouch-changed, NoneTouch-cut}
-use Rattle.etagere.proofs.Placed.{cuts-read, placement_of-placed}
-use Rattle.etagere.proofs.TakenPieces.{pieces-holders, pieces-length}
+use Rattle.etagere.proofs.Heights.{column_height-append}
+use Rattle.etagere.proofs.ItemIds.{times-ids}
+use Rattle.etagere.proofs.NoNeighboursLemmas.{NoNeighbours-changed, NoNeighbours-split}
+use Rattle.etagere.proofs.Placed.{splits-read, placement_of-placed}
+use Rattle.etagere.proofs.TakenPieces.{pieces-item_ids, pieces-length}
 use Rattle.etagere.proofs.TakenShelves.{IsTaking, empty_shelf-valid, shelf_pieces-cases, taken_shelf-not_empty, taken_shelf-valid, taking}
 use Rattle.etagere.proofs.TimesLemmas.{hit, times-append}
 
--- the shelves are valid after a placement took a run in one
+-- the shelves are valid after a placement took an item in one
 each-shelf : (frame : Frame) (placement : Placement) (id : ℕ) (front : List Shelf) (shelf : Shelf) (back : List Shelf)
     → IsFrame 65535 frame → IsTaking frame placement shelf → Each (IsShelf frame) (front ++ shelf ∷ back) → Each (IsShelf frame) (front ++ (shelf_pieces frame placement id shelf ++ back))
 each-shelf frame placement id front shelf back valid t each =
     let old = Each-back (IsShelf frame) front (shelf ∷ back) each in
     Each-append (IsShelf frame) front _ (Each-front (IsShelf frame) front (shelf ∷ back) each)
     (shelf_pieces-cases (λ _ pieces. Each (IsShelf frame) (pieces ++ back)) frame placement id shelf
-    (λ empty cut. (taken_shelf-valid frame placement id placement.height shelf t t.height, (empty_shelf-valid frame shelf.column (shelf.height - placement.height) valid t.valid.column (omega arith), old.1)))
+    (λ empty split. (taken_shelf-valid frame placement id placement.height shelf t t.height, (empty_shelf-valid frame shelf.column (shelf.height - placement.height) valid t.valid.column (omega arith), old.1)))
     (taken_shelf-valid frame placement id shelf.height shelf t t.valid.height, old.1))
 
--- the shelves stand column after column after a placement took a run in one
+-- the shelves stand column after column after a placement took an item in one
 ordered-shelves : (frame : Frame) (placement : Placement) (id : ℕ) (front : List Shelf) (shelf : Shelf) (back : List Shelf)
-    → NoneTouch is_out_of_order (front ++ shelf ∷ back) → NoneTouch is_out_of_order (front ++ (shelf_pieces frame placement id shelf ++ back))
+    → NoNeighbours is_out_of_order (front ++ shelf ∷ back) → NoNeighbours is_out_of_order (front ++ (shelf_pieces frame placement id shelf ++ back))
 ordered-shelves frame placement id front shelf back ordered =
-    shelf_pieces-cases (λ _ pieces. NoneTouch is_out_of_order (front ++ (pieces ++ back))) frame placement id shelf
-    (λ empty cut. NoneTouch-cut is_out_of_order front shelf (taken_shelf frame placement id placement.height shelf) (empty_shelf frame shelf.column (shelf.height - placement.height)) back (λ y h. h) (grind arith) (λ y h. h) ordered)
-    (NoneTouch-changed is_out_of_order front shelf (taken_shelf frame placement id shelf.height shelf) back (λ y h. h) (λ y h. h) ordered)
+    shelf_pieces-cases (λ _ pieces. NoNeighbours is_out_of_order (front ++ (pieces ++ back))) frame placement id shelf
+    (λ empty split. NoNeighbours-split is_out_of_order front shelf (taken_shelf frame placement id placement.height shelf) (empty_shelf frame shelf.column (shelf.height - placement.height)) back (λ y h. h) (grind arith) (λ y h. h) ordered)
+    (NoNeighbours-changed is_out_of_order front shelf (taken_shelf frame placement id shelf.height shelf) back (λ y h. h) (λ y h. h) ordered)
 
 -- a shelf that is not empty is next to no empty one before it
 not_empty-before : (y shelf : Shelf) → is_empty shelf ≡ false → both_empty y shelf ≡ false
@@ -53,64 +53,64 @@ empty-after : (frame : Frame) (shelf : Shelf) (height : ℕ) (y : Shelf)
     → is_empty shelf ≡ true → both_empty shelf y ≡ false → both_empty (empty_shelf frame shelf.column height) y ≡ false
 empty-after frame shelf height y empty h = rw empty at h
 
--- no two empty shelves stand side by side after a placement took a run in one
+-- no two empty shelves stand side by side after a placement took an item in one
 apart-shelves : (frame : Frame) (placement : Placement) (id : ℕ) (front : List Shelf) (shelf : Shelf) (back : List Shelf)
-    → IsTaking frame placement shelf → NoneTouch both_empty (front ++ shelf ∷ back) → NoneTouch both_empty (front ++ (shelf_pieces frame placement id shelf ++ back))
+    → IsTaking frame placement shelf → NoNeighbours both_empty (front ++ shelf ∷ back) → NoNeighbours both_empty (front ++ (shelf_pieces frame placement id shelf ++ back))
 apart-shelves frame placement id front shelf back t apart =
-    shelf_pieces-cases (λ _ pieces. NoneTouch both_empty (front ++ (pieces ++ back))) frame placement id shelf
-    (λ empty cut. NoneTouch-cut both_empty front shelf (taken_shelf frame placement id placement.height shelf) (empty_shelf frame shelf.column (shelf.height - placement.height)) back
+    shelf_pieces-cases (λ _ pieces. NoNeighbours both_empty (front ++ (pieces ++ back))) frame placement id shelf
+    (λ empty split. NoNeighbours-split both_empty front shelf (taken_shelf frame placement id placement.height shelf) (empty_shelf frame shelf.column (shelf.height - placement.height)) back
     (λ y h. not_empty-before y (taken_shelf frame placement id placement.height shelf) (taken_shelf-not_empty frame placement id placement.height shelf t))
     (not_empty-after (taken_shelf frame placement id placement.height shelf) (empty_shelf frame shelf.column (shelf.height - placement.height)) (taken_shelf-not_empty frame placement id placement.height shelf t))
     (λ y h. empty-after frame shelf (shelf.height - placement.height) y empty h) apart)
-    (NoneTouch-changed both_empty front shelf (taken_shelf frame placement id shelf.height shelf) back
+    (NoNeighbours-changed both_empty front shelf (taken_shelf frame placement id shelf.height shelf) back
     (λ y h. not_empty-before y (taken_shelf frame placement id shelf.height shelf) (taken_shelf-not_empty frame placement id shelf.height shelf t))
     (λ y h. not_empty-after (taken_shelf frame placement id shelf.height shelf) y (taken_shelf-not_empty frame placement id shelf.height shelf t)) apart)
 
--- the shelves that stand for a shelf are as high as it was
+-- the shelves that stand for a shelf are as tall as it was
 pub pieces-heights : (frame : Frame) (placement : Placement) (id : ℕ) (shelf : Shelf) (column : ℕ)
-    → heights_in column (shelf_pieces frame placement id shelf) ≡ heights_in column (shelf ∷ [])
+    → column_height column (shelf_pieces frame placement id shelf) ≡ column_height column (shelf ∷ [])
 pieces-heights frame placement id shelf column =
-    shelf_pieces-cases (λ _ pieces. heights_in column pieces ≡ heights_in column (shelf ∷ [])) frame placement id shelf
-    (λ empty cut. split_height (shelf.column == column) placement.height shelf.height (omega arith))
+    shelf_pieces-cases (λ _ pieces. column_height column pieces ≡ column_height column (shelf ∷ [])) frame placement id shelf
+    (λ empty split. split_height (shelf.column == column) placement.height shelf.height (omega arith))
     refl
   where
     split_height : (b : Bool) (n m : ℕ) → n ≤ m → cond b n 0 + (cond b (m - n) 0 + 0) ≡ cond b m 0 + 0
     split_height true n m h = omega arith
     split_height false n m h = refl
 
--- how many runs shelves have, by a front and a back
-runs_in_use-append : (front back : List Shelf) → runs_in_use (front ++ back) ≡ runs_in_use front + runs_in_use back
-runs_in_use-append [] back = omega arith
-runs_in_use-append (shelf ∷ shelves) back = omega (arith, runs_in_use-append shelves back)
+-- how many items shelves have, by a front and a back
+items_in_use-append : (front back : List Shelf) → items_in_use (front ++ back) ≡ items_in_use front + items_in_use back
+items_in_use-append [] back = omega arith
+items_in_use-append (shelf ∷ shelves) back = omega (arith, items_in_use-append shelves back)
 
--- how often an id holds a run of the shelf in which it takes one
-taken_shelf-holders : (k : ℕ) (frame : Frame) (placement : Placement) (id height : ℕ) (shelf : Shelf)
-    → IsTaking frame placement shelf → times k (holders (taken_shelf frame placement id height shelf).runs) ≡ times k (holders shelf.runs) + hit id k
-taken_shelf-holders k frame placement id height shelf t =
+-- how often an id holds an item of the shelf in which it takes one
+taken_shelf-item_ids : (k : ℕ) (frame : Frame) (placement : Placement) (id height : ℕ) (shelf : Shelf)
+    → IsTaking frame placement shelf → times k (item_ids (taken_shelf frame placement id height shelf).items) ≡ times k (item_ids shelf.items) + hit id k
+taken_shelf-item_ids k frame placement id height shelf t =
     let f = t.found in
-    rw (f.taken placement.width id) (pieces-holders k f.front f.run f.back placement.width id f.free ∙ ap (λ rs. times k (holders rs) + hit id k) (sym f.whole))
+    rw (f.taken placement.width id) (pieces-item_ids k f.front f.item f.back placement.width id f.free ∙ ap (λ rs. times k (item_ids rs) + hit id k) (sym f.whole))
 
--- how many runs the shelf has in which one is taken
+-- how many items the shelf has in which one is taken
 taken_shelf-length : (frame : Frame) (placement : Placement) (id height : ℕ) (shelf : Shelf) → IsTaking frame placement shelf
-    → length (taken_shelf frame placement id height shelf).runs ≡ length shelf.runs + cond (is_run_cut placement.width (width_at (column_place frame shelf) shelf.runs placement.place)) 1 0
+    → length (taken_shelf frame placement id height shelf).items ≡ length shelf.items + cond (is_item_split placement.width (width_at (column_place frame shelf) shelf.items placement.place)) 1 0
 taken_shelf-length frame placement id height shelf t =
     let f = t.found in
-    rw (f.taken placement.width id, f.width) (pieces-length f.front f.run f.back placement.width id ∙ ap (λ rs. length rs + cond (is_run_cut placement.width f.run.width) 1 0) (sym f.whole))
+    rw (f.taken placement.width id, f.width) (pieces-length f.front f.item f.back placement.width id ∙ ap (λ rs. length rs + cond (is_item_split placement.width f.item.width) 1 0) (sym f.whole))
 
--- how often an id holds a run of the shelves that stand for one in which an id takes a run
+-- how often an id holds an item of the shelves that stand for one in which an id takes an item
 pieces-ids : (k : ℕ) (frame : Frame) (placement : Placement) (id : ℕ) (shelf : Shelf)
     → IsTaking frame placement shelf → times k (ids (shelf_pieces frame placement id shelf)) ≡ times k (ids (shelf ∷ [])) + hit id k
 pieces-ids k frame placement id shelf t =
     shelf_pieces-cases (λ _ pieces. times k (ids pieces) ≡ times k (ids (shelf ∷ [])) + hit id k) frame placement id shelf
-    (λ empty cut. omega (arith, taken_shelf-holders k frame placement id placement.height shelf t, times-append k (holders (taken_shelf frame placement id placement.height shelf).runs) [], times-append k (holders shelf.runs) []))
-    (omega (arith, taken_shelf-holders k frame placement id shelf.height shelf t, times-append k (holders (taken_shelf frame placement id shelf.height shelf).runs) [], times-append k (holders shelf.runs) []))
+    (λ empty split. omega (arith, taken_shelf-item_ids k frame placement id placement.height shelf t, times-append k (item_ids (taken_shelf frame placement id placement.height shelf).items) [], times-append k (item_ids shelf.items) []))
+    (omega (arith, taken_shelf-item_ids k frame placement id shelf.height shelf t, times-append k (item_ids (taken_shelf frame placement id shelf.height shelf).items) [], times-append k (item_ids shelf.items) []))
 
--- how many runs the shelves have that stand for one in which a placement takes a run
-pieces-runs_in_use : (frame : Frame) (placement : Placement) (id : ℕ) (shelf : Shelf)
-    → IsTaking frame placement shelf → runs_in_use (shelf_pieces frame placement id shelf) ≡ length shelf.runs + cuts_in frame placement shelf
-pieces-runs_in_use frame placement id shelf t =
-    shelf_pieces-cases (λ b pieces. runs_in_use pieces ≡ length shelf.runs + (cond b 1 0 + cond (is_run_cut placement.width (width_at (column_place frame shelf) shelf.runs placement.place)) 1 0)) frame placement id shelf
-    (λ empty cut. omega (arith, taken_shelf-length frame placement id placement.height shelf t))
+-- how many items the shelves have that stand for one in which a placement takes an item
+pieces-items_in_use : (frame : Frame) (placement : Placement) (id : ℕ) (shelf : Shelf)
+    → IsTaking frame placement shelf → items_in_use (shelf_pieces frame placement id shelf) ≡ length shelf.items + splits_in frame placement shelf
+pieces-items_in_use frame placement id shelf t =
+    shelf_pieces-cases (λ b pieces. items_in_use pieces ≡ length shelf.items + (cond b 1 0 + cond (is_item_split placement.width (width_at (column_place frame shelf) shelf.items placement.place)) 1 0)) frame placement id shelf
+    (λ empty split. omega (arith, taken_shelf-length frame placement id placement.height shelf t))
     (omega (arith, taken_shelf-length frame placement id shelf.height shelf t))
 
 -- a new id counted once more is counted once
@@ -123,10 +123,10 @@ fresh-once count id k fresh once = by_test (id == k) refl
         omega (arith, ap count same)
     by_test false e = omega arith
 
--- taking a placement takes as many more runs as it makes cuts
-pub taken-runs_in_use : (state : AtlasState) (size : Size) (placement : Placement) (id : ℕ) → IsValid state → placement_of state size ≡ Some placement
-    → runs_in_use (taken state placement id).shelves ≡ runs_in_use state.shelves + cuts state placement
-taken-runs_in_use state size placement id valid h =
+-- taking a placement takes as many more items as it makes splits
+pub taken-items_in_use : (state : AtlasState) (size : Size) (placement : Placement) (id : ℕ) → IsValid state → placement_of state size ≡ Some placement
+    → items_in_use (taken state placement id).shelves ≡ items_in_use state.shelves + splits state placement
+taken-items_in_use state size placement id valid h =
     let placed = placement_of-placed state size placement h in
     let shelf = placed.chosen.shelf in
     let t = taking state size placement valid placed in
@@ -134,21 +134,21 @@ taken-runs_in_use state size placement id valid h =
     let pieces = shelf_pieces state.frame placement id shelf in
     omega (
       arith,
-      ap runs_in_use (split.cut (shelf_pieces state.frame placement id)),
-      ap runs_in_use split.whole,
-      runs_in_use-append split.front (pieces ++ split.back),
-      runs_in_use-append pieces split.back,
-      runs_in_use-append split.front (shelf ∷ split.back),
-      pieces-runs_in_use state.frame placement id shelf t,
-      cuts-read state placement shelf placed.chosen.at,
+      ap items_in_use (split.split (shelf_pieces state.frame placement id)),
+      ap items_in_use split.whole,
+      items_in_use-append split.front (pieces ++ split.back),
+      items_in_use-append pieces split.back,
+      items_in_use-append split.front (shelf ∷ split.back),
+      pieces-items_in_use state.frame placement id shelf t,
+      splits-read state placement shelf placed.chosen.at,
     )
 
--- taking a placement leaves runs enough for the records
+-- taking a placement leaves items enough for the records
 taken-room : (state : AtlasState) (size : Size) (placement : Placement) (id : ℕ) → IsValid state → placement_of state size ≡ Some placement
-    → runs_in_use (taken state placement id).shelves ≤ 65535
+    → items_in_use (taken state placement id).shelves ≤ 65535
 taken-room state size placement id valid h =
     let placed = placement_of-placed state size placement h in
-    omega (arith, taken-runs_in_use state size placement id valid h, placed.room)
+    omega (arith, taken-items_in_use state size placement id valid h, placed.room)
 
 -- a valid state stays valid when a placement is taken by a new id
 pub taken-valid : (state : AtlasState) (size : Size) (placement : Placement) (id : ℕ)
@@ -159,22 +159,22 @@ taken-valid state size placement id valid h fresh =
     let t = taking state size placement valid placed in
     let split = split-at state.shelves placement.shelf shelf placed.chosen.at in
     let pieces = shelf_pieces state.frame placement id shelf in
-    let same = split.cut (shelf_pieces state.frame placement id) in
+    let same = split.split (shelf_pieces state.frame placement id) in
     record {
       frame = valid.frame;
       shelves = rw same (each-shelf state.frame placement id split.front shelf split.back valid.frame t (subst (Each (IsShelf state.frame)) split.whole valid.shelves));
-      ordered = rw same (ordered-shelves state.frame placement id split.front shelf split.back (subst (NoneTouch is_out_of_order) split.whole valid.ordered));
+      ordered = rw same (ordered-shelves state.frame placement id split.front shelf split.back (subst (NoNeighbours is_out_of_order) split.whole valid.ordered));
       heights = λ column c. omega (
         arith,
-        ap (heights_in column) same,
-        ap (heights_in column) split.whole,
+        ap (column_height column) same,
+        ap (column_height column) split.whole,
         valid.heights column c,
-        heights_in-append column split.front (pieces ++ split.back),
-        heights_in-append column pieces split.back,
-        heights_in-append column split.front (shelf ∷ split.back),
+        column_height-append column split.front (pieces ++ split.back),
+        column_height-append column pieces split.back,
+        column_height-append column split.front (shelf ∷ split.back),
         pieces-heights state.frame placement id shelf column,
       );
-      apart = rw same (apart-shelves state.frame placement id split.front shelf split.back t (subst (NoneTouch both_empty) split.whole valid.apart));
+      apart = rw same (apart-shelves state.frame placement id split.front shelf split.back t (subst (NoNeighbours both_empty) split.whole valid.apart));
       ids = λ k. omega (
         arith,
         fresh-once (λ n. times n (ids state.shelves)) id k fresh (valid.ids k),

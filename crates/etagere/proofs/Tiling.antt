@@ -6,27 +6,27 @@ use Rattle.etagere_base.specs.declared.frames.Frame.{Frame}
 use Rattle.etagere_base.specs.declared.geometry.Rectangle.{Rectangle}
 use Rattle.etagere_base.specs.declared.ids.Allocation.{Allocation}
 use Rattle.etagere.specs.Lists.{Each}
-use Rattle.etagere.specs.Places.{column_place, heights_in, rectangle_at, allocation_of, held_along, held_after, held}
+use Rattle.etagere.specs.Places.{column_place, column_height, rectangle_at, allocation_of, allocations_along, allocations_after, allocations}
 use Rattle.etagere.specs.Rectangles.{AreApart, SharesNone, IsInside}
-use Rattle.etagere.specs.State.{Run, Shelf, AtlasState, total_width}
-use Rattle.etagere.specs.Valid.{IsRun, IsShelf, IsValid}
+use Rattle.etagere.specs.State.{Item, Shelf, AtlasState, total_width}
+use Rattle.etagere.specs.Valid.{IsItem, IsShelf, IsValid}
 use Rattle.etagere.proofs.Boxes.{LiesIn, LiesIn-widen, apart-across, apart-along, inside-from_lies, AreApart-append, IsApartFrom, SharesNone-swap}
 use Rattle.etagere.proofs.EachLemmas.{Each-append, Each-weaken}
 use Rattle.etagere.proofs.FrameSides.{column-within, columns-apart}
-use Rattle.etagere.proofs.Heights.{heights_in-append, heights_in-own}
+use Rattle.etagere.proofs.Heights.{column_height-append, column_height-own}
 
--- a shelf in a column of the frame, filled by runs that are not empty
+-- a shelf in a column of the frame, filled by items that are not empty
 record IsFilled (frame : Frame) (shelf : Shelf) : Type 0 where
   pub column : shelf.column < frame.columns
   pub height : 1 ≤ shelf.height
-  pub runs : Each (λ (run : Run). 1 ≤ run.width) shelf.runs
-  pub width : total_width shelf.runs ≡ frame.column_width
+  pub items : Each (λ (item : Item). 1 ≤ item.width) shelf.items
+  pub width : total_width shelf.items ≡ frame.column_width
 
 -- shelves that fill the columns of a frame
 record IsTiled (frame : Frame) (shelves : List Shelf) : Type 0 where
   pub is_frame : IsFrame 65535 frame
   pub filled : Each (IsFilled frame) shelves
-  pub heights : (column : ℕ) → column < frame.columns → heights_in column shelves ≡ across_side frame
+  pub heights : (column : ℕ) → column < frame.columns → column_height column shelves ≡ across_side frame
 
 -- a shelf of a valid state is such a shelf
 filled-from-shelf : (frame : Frame) (shelf : Shelf) → IsShelf frame shelf → IsFilled frame shelf
@@ -34,7 +34,7 @@ filled-from-shelf frame shelf is_shelf =
     record {
       column = is_shelf.column;
       height = is_shelf.height;
-      runs = Each-weaken (IsRun frame) _ shelf.runs (λ (run : Run) (is_run : IsRun frame run). is_run.width) is_shelf.runs;
+      items = Each-weaken (IsItem frame) _ shelf.items (λ (item : Item) (is_item : IsItem frame item). is_item.width) is_shelf.items;
       width = is_shelf.width;
     }
 
@@ -48,13 +48,13 @@ tiled-from-valid state valid =
     }
 
 -- an allocation whose rectangle lies between these places
-abbrev HeldIn : Frame → ℕ → ℕ → ℕ → ℕ → Allocation → Type 0
-HeldIn frame left right low high allocation = LiesIn frame left right low high allocation.rectangle
+abbrev AllocatedIn : Frame → ℕ → ℕ → ℕ → ℕ → Allocation → Type 0
+AllocatedIn frame left right top bottom allocation = LiesIn frame left right top bottom allocation.rectangle
 
--- what a run allocates lies where the run does
-allocation-lies : (holder : Option ℕ) (frame : Frame) (along across width height : ℕ) → 1 ≤ width → 1 ≤ height
-    → Each (HeldIn frame along (along + width) across (across + height))
-    (allocation_of holder (rectangle_at frame along across width height))
+-- what an item allocates lies where the item does
+allocation-lies : (owner : Option ℕ) (frame : Frame) (along across width height : ℕ) → 1 ≤ width → 1 ≤ height
+    → Each (AllocatedIn frame along (along + width) across (across + height))
+    (allocation_of owner (rectangle_at frame along across width height))
 allocation-lies None frame along across width height wide tall = tt
 allocation-lies (Some id) frame along across width height wide tall = (
   record {
@@ -67,32 +67,32 @@ allocation-lies (Some id) frame along across width height wide tall = (
     tall = tall;
     from_left = omega arith;
     to_right = omega arith;
-    from_low = omega arith;
-    to_high = omega arith;
+    from_top = omega arith;
+    to_bottom = omega arith;
   },
   tt,
 )
 
 -- a list of at most one is apart
-allocation-apart : (holder : Option ℕ) (rectangle : Rectangle) → AreApart (allocation_of holder rectangle)
+allocation-apart : (owner : Option ℕ) (rectangle : Rectangle) → AreApart (allocation_of owner rectangle)
 allocation-apart None rectangle = tt
 allocation-apart (Some id) rectangle = (tt, tt)
 
--- what runs hold lies between where the first begins and the last ends
-held_along-lies : (frame : Frame) (across height here : ℕ) (runs : List Run)
-    → 1 ≤ height → Each (λ (run : Run). 1 ≤ run.width) runs
-    → Each (HeldIn frame here (here + total_width runs) across (across + height)) (held_along frame across height here runs)
-held_along-lies frame across height here [] tall wide = tt
-held_along-lies frame across height here (run ∷ runs) tall wide =
-    Each-append _ (allocation_of run.holder (rectangle_at frame here across run.width height)) _
-    (Each-weaken (HeldIn frame here (here + run.width) across (across + height)) _ _
-    (λ (a : Allocation) (lies : HeldIn frame here (here + run.width) across (across + height) a).
+-- what items hold lies between where the first begins and the last ends
+allocations_along-lies : (frame : Frame) (across height here : ℕ) (items : List Item)
+    → 1 ≤ height → Each (λ (item : Item). 1 ≤ item.width) items
+    → Each (AllocatedIn frame here (here + total_width items) across (across + height)) (allocations_along frame across height here items)
+allocations_along-lies frame across height here [] tall wide = tt
+allocations_along-lies frame across height here (item ∷ items) tall wide =
+    Each-append _ (allocation_of item.id (rectangle_at frame here across item.width height)) _
+    (Each-weaken (AllocatedIn frame here (here + item.width) across (across + height)) _ _
+    (λ (a : Allocation) (lies : AllocatedIn frame here (here + item.width) across (across + height) a).
     LiesIn-widen frame _ _ _ _ _ _ _ _ _ (omega arith) (omega arith) (omega arith) (omega arith) lies)
-    (allocation-lies run.holder frame here across run.width height wide.0 tall))
-    (Each-weaken (HeldIn frame (here + run.width) (here + run.width + total_width runs) across (across + height)) _ _
-    (λ (a : Allocation) (lies : HeldIn frame (here + run.width) (here + run.width + total_width runs) across (across + height) a).
+    (allocation-lies item.id frame here across item.width height wide.0 tall))
+    (Each-weaken (AllocatedIn frame (here + item.width) (here + item.width + total_width items) across (across + height)) _ _
+    (λ (a : Allocation) (lies : AllocatedIn frame (here + item.width) (here + item.width + total_width items) across (across + height) a).
     LiesIn-widen frame _ _ _ _ _ _ _ _ _ (omega arith) (omega arith) (omega arith) (omega arith) lies)
-    (held_along-lies frame across height (here + run.width) runs tall wide.1))
+    (allocations_along-lies frame across height (here + item.width) items tall wide.1))
 
 -- two lists are apart where what holds of each of one keeps it apart from what holds of each of the other
 each-apart : (P Q : Allocation → Type 0) (xs ys : List Allocation)
@@ -101,64 +101,64 @@ each-apart P Q xs ys apart front back =
     Each-weaken P (IsApartFrom ys) xs
     (λ (x : Allocation) (p : P x). Each-weaken Q _ ys (λ (y : Allocation) (q : Q y). apart x y p q) back) front
 
--- what the runs of a shelf hold is apart
-held_along-apart : (frame : Frame) (across height here : ℕ) (runs : List Run)
-    → 1 ≤ height → Each (λ (run : Run). 1 ≤ run.width) runs
-    → AreApart (held_along frame across height here runs)
-held_along-apart frame across height here [] tall wide = tt
-held_along-apart frame across height here (run ∷ runs) tall wide =
-    AreApart-append (allocation_of run.holder (rectangle_at frame here across run.width height)) _
-    (allocation-apart run.holder _)
-    (held_along-apart frame across height (here + run.width) runs tall wide.1)
-    (each-apart (HeldIn frame here (here + run.width) across (across + height))
-    (HeldIn frame (here + run.width) (here + run.width + total_width runs) across (across + height)) _ _
-    (λ (x y : Allocation) (p : HeldIn frame here (here + run.width) across (across + height) x)
-    (q : HeldIn frame (here + run.width) (here + run.width + total_width runs) across (across + height) y).
+-- what the items of a shelf hold is apart
+allocations_along-apart : (frame : Frame) (across height here : ℕ) (items : List Item)
+    → 1 ≤ height → Each (λ (item : Item). 1 ≤ item.width) items
+    → AreApart (allocations_along frame across height here items)
+allocations_along-apart frame across height here [] tall wide = tt
+allocations_along-apart frame across height here (item ∷ items) tall wide =
+    AreApart-append (allocation_of item.id (rectangle_at frame here across item.width height)) _
+    (allocation-apart item.id _)
+    (allocations_along-apart frame across height (here + item.width) items tall wide.1)
+    (each-apart (AllocatedIn frame here (here + item.width) across (across + height))
+    (AllocatedIn frame (here + item.width) (here + item.width + total_width items) across (across + height)) _ _
+    (λ (x y : Allocation) (p : AllocatedIn frame here (here + item.width) across (across + height) x)
+    (q : AllocatedIn frame (here + item.width) (here + item.width + total_width items) across (across + height) y).
     apart-along frame _ _ _ _ _ _ _ _ _ _ (omega arith) p q)
-    (allocation-lies run.holder frame here across run.width height wide.0 tall)
-    (held_along-lies frame across height (here + run.width) runs tall wide.1))
+    (allocation-lies item.id frame here across item.width height wide.0 tall)
+    (allocations_along-lies frame across height (here + item.width) items tall wide.1))
 
 -- an allocation lies in a column of the frame, after the heights of the shelves before it, within those of its own
 record LiesAfter (frame : Frame) (before shelves : List Shelf) (allocation : Allocation) : Type 0 where
   column : ℕ
   below : column < frame.columns
-  lies : HeldIn frame (column * frame.column_width) (column * frame.column_width + frame.column_width)
-      (heights_in column before) (heights_in column before + heights_in column shelves) allocation
+  lies : AllocatedIn frame (column * frame.column_width) (column * frame.column_width + frame.column_width)
+      (column_height column before) (column_height column before + column_height column shelves) allocation
 
 -- what a shelf holds that stands after others
-abbrev held_in_shelf : Frame → List Shelf → Shelf → List Allocation
-held_in_shelf frame before shelf =
-    held_along frame (heights_in shelf.column before) shelf.height (column_place frame shelf) shelf.runs
+abbrev allocated_in_shelf : Frame → List Shelf → Shelf → List Allocation
+allocated_in_shelf frame before shelf =
+    allocations_along frame (column_height shelf.column before) shelf.height (column_place frame shelf) shelf.items
 
 -- an allocation lies in the column of a shelf, after the heights before it, within its height
 abbrev InShelf : Frame → List Shelf → Shelf → Allocation → Type 0
 InShelf frame before shelf allocation =
-    HeldIn frame (shelf.column * frame.column_width) (shelf.column * frame.column_width + frame.column_width)
-    (heights_in shelf.column before) (heights_in shelf.column before + shelf.height) allocation
+    AllocatedIn frame (shelf.column * frame.column_width) (shelf.column * frame.column_width + frame.column_width)
+    (column_height shelf.column before) (column_height shelf.column before + shelf.height) allocation
 
 -- what one shelf holds lies in its column, within its height
 shelf-lies : (frame : Frame) (before : List Shelf) (shelf : Shelf) → IsFilled frame shelf
-    → Each (InShelf frame before shelf) (held_in_shelf frame before shelf)
+    → Each (InShelf frame before shelf) (allocated_in_shelf frame before shelf)
 shelf-lies frame before shelf filled =
     rw filled.width at
-    (held_along-lies frame (heights_in shelf.column before) shelf.height (column_place frame shelf) shelf.runs
-    filled.height filled.runs)
+    (allocations_along-lies frame (column_height shelf.column before) shelf.height (column_place frame shelf) shelf.items
+    filled.height filled.items)
 
 -- the heights before and after a shelf are those before it, and those from it on
-heights_in-moved : (column : ℕ) (before : List Shelf) (shelf : Shelf) (shelves : List Shelf)
-    → heights_in column (before ++ shelf ∷ []) + heights_in column shelves ≡ heights_in column before + heights_in column (shelf ∷ shelves)
-heights_in-moved column before shelf shelves = omega (arith, heights_in-append column before (shelf ∷ []))
+column_height-moved : (column : ℕ) (before : List Shelf) (shelf : Shelf) (shelves : List Shelf)
+    → column_height column (before ++ shelf ∷ []) + column_height column shelves ≡ column_height column before + column_height column (shelf ∷ shelves)
+column_height-moved column before shelf shelves = omega (arith, column_height-append column before (shelf ∷ []))
 
 -- what a shelf holds lies after those before it
 shelf-lies_after : (frame : Frame) (before : List Shelf) (shelf : Shelf) (shelves : List Shelf) → IsFilled frame shelf
-    → Each (LiesAfter frame before (shelf ∷ shelves)) (held_in_shelf frame before shelf)
+    → Each (LiesAfter frame before (shelf ∷ shelves)) (allocated_in_shelf frame before shelf)
 shelf-lies_after frame before shelf shelves filled =
     Each-weaken _ (LiesAfter frame before (shelf ∷ shelves)) _
     (λ (a : Allocation) (lies : InShelf frame before shelf a). record {
       column = shelf.column;
       below = filled.column;
       lies = LiesIn-widen frame _ _ _ _ _ _ _ _ _ (omega arith) (omega arith) (omega arith)
-          (omega (arith, heights_in-own shelf shelves)) lies;
+          (omega (arith, column_height-own shelf shelves)) lies;
     })
     (shelf-lies frame before shelf filled)
 
@@ -170,25 +170,25 @@ later-lies_after frame before shelf shelves a later =
       column = later.column;
       below = later.below;
       lies = LiesIn-widen frame _ _ _ _ _ _ _ _ _ (omega arith) (omega arith)
-          (omega (arith, heights_in-append later.column before (shelf ∷ [])))
-          (omega (arith, heights_in-moved later.column before shelf shelves)) later.lies;
+          (omega (arith, column_height-append later.column before (shelf ∷ [])))
+          (omega (arith, column_height-moved later.column before shelf shelves)) later.lies;
     }
 
 -- what shelves hold that stand after others lies after these
-held_after-lies : (frame : Frame) (before shelves : List Shelf) → Each (IsFilled frame) shelves
-    → Each (LiesAfter frame before shelves) (held_after frame before shelves)
-held_after-lies frame before [] filled = tt
-held_after-lies frame before (shelf ∷ shelves) filled =
+allocations_after-lies : (frame : Frame) (before shelves : List Shelf) → Each (IsFilled frame) shelves
+    → Each (LiesAfter frame before shelves) (allocations_after frame before shelves)
+allocations_after-lies frame before [] filled = tt
+allocations_after-lies frame before (shelf ∷ shelves) filled =
     Each-append (LiesAfter frame before (shelf ∷ shelves)) _ _
     (shelf-lies_after frame before shelf shelves filled.0)
     (Each-weaken (LiesAfter frame (before ++ shelf ∷ []) shelves) _ _ (later-lies_after frame before shelf shelves)
-    (held_after-lies frame (before ++ shelf ∷ []) shelves filled.1))
+    (allocations_after-lies frame (before ++ shelf ∷ []) shelves filled.1))
 
 -- the next shelf of a column begins where this one ends
-heights_in-through : (column : ℕ) (before : List Shelf) (shelf : Shelf) → shelf.column ≡ column
-    → heights_in shelf.column before + shelf.height ≤ heights_in column (before ++ shelf ∷ [])
-heights_in-through column before shelf e =
-    rw (← e) (omega (arith, heights_in-append shelf.column before (shelf ∷ []), heights_in-own shelf []))
+column_height-through : (column : ℕ) (before : List Shelf) (shelf : Shelf) → shelf.column ≡ column
+    → column_height shelf.column before + shelf.height ≤ column_height column (before ++ shelf ∷ [])
+column_height-through column before shelf e =
+    rw (← e) (omega (arith, column_height-append shelf.column before (shelf ∷ []), column_height-own shelf []))
 
 -- what a shelf holds is apart from what lies after it
 shelf-apart : (frame : Frame) (before : List Shelf) (shelf : Shelf) (shelves : List Shelf) (x y : Allocation)
@@ -197,7 +197,7 @@ shelf-apart : (frame : Frame) (before : List Shelf) (shelf : Shelf) (shelves : L
 shelf-apart frame before shelf shelves x y lies after =
     ⊎_elim
     (λ (same : shelf.column ≡ after.column).
-    apart-across frame _ _ _ _ _ _ _ _ _ _ (heights_in-through after.column before shelf same) lies after.lies)
+    apart-across frame _ _ _ _ _ _ _ _ _ _ (column_height-through after.column before shelf same) lies after.lies)
     (⊎_elim
     (λ (earlier : shelf.column < after.column).
     apart-along frame _ _ _ _ _ _ _ _ _ _ (columns-apart _ _ frame.column_width earlier) lies after.lies)
@@ -206,15 +206,15 @@ shelf-apart frame before shelf shelves x y lies after =
     (cases_order shelf.column after.column)
 
 -- what shelves hold that stand after others is apart
-held_after-apart : (frame : Frame) (before shelves : List Shelf)
-    → Each (IsFilled frame) shelves → AreApart (held_after frame before shelves)
-held_after-apart frame before [] filled = tt
-held_after-apart frame before (shelf ∷ shelves) filled =
-    AreApart-append (held_in_shelf frame before shelf) _
-    (held_along-apart frame _ _ _ shelf.runs filled.0.height filled.0.runs)
-    (held_after-apart frame (before ++ shelf ∷ []) shelves filled.1)
+allocations_after-apart : (frame : Frame) (before shelves : List Shelf)
+    → Each (IsFilled frame) shelves → AreApart (allocations_after frame before shelves)
+allocations_after-apart frame before [] filled = tt
+allocations_after-apart frame before (shelf ∷ shelves) filled =
+    AreApart-append (allocated_in_shelf frame before shelf) _
+    (allocations_along-apart frame _ _ _ shelf.items filled.0.height filled.0.items)
+    (allocations_after-apart frame (before ++ shelf ∷ []) shelves filled.1)
     (each-apart _ (LiesAfter frame (before ++ shelf ∷ []) shelves) _ _ (shelf-apart frame before shelf shelves)
-    (shelf-lies frame before shelf filled.0) (held_after-lies frame (before ++ shelf ∷ []) shelves filled.1))
+    (shelf-lies frame before shelf filled.0) (allocations_after-lies frame (before ++ shelf ∷ []) shelves filled.1))
 
 -- what lies in a column lies in the atlas
 lies-inside : (frame : Frame) (shelves : List Shelf) → IsTiled frame shelves
@@ -224,12 +224,12 @@ lies-inside frame shelves tiled a after =
     (LiesIn-widen frame _ _ _ _ _ _ _ _ _ (omega arith) (column-within frame after.column tiled.is_frame after.below) (omega arith)
     (omega (arith, tiled.heights after.column after.below)) after.lies)
 
--- everything that is held lies within the atlas
-pub held-inside : (state : AtlasState) → IsValid state → Each (λ (a : Allocation). IsInside state.frame a.rectangle) (held state)
-held-inside state valid =
+-- everything that is allocated lies within the atlas
+pub allocated-inside : (state : AtlasState) → IsValid state → Each (λ (a : Allocation). IsInside state.frame a.rectangle) (allocations state)
+allocated-inside state valid =
     let tiled = tiled-from-valid state valid in
-    Each-weaken (LiesAfter state.frame [] state.shelves) _ _ (lies-inside state.frame state.shelves tiled) (held_after-lies state.frame [] state.shelves tiled.filled)
+    Each-weaken (LiesAfter state.frame [] state.shelves) _ _ (lies-inside state.frame state.shelves tiled) (allocations_after-lies state.frame [] state.shelves tiled.filled)
 
--- any two that are held share no unit square
-pub held-apart : (state : AtlasState) → IsValid state → AreApart (held state)
-held-apart state valid = held_after-apart state.frame [] state.shelves (tiled-from-valid state valid).filled
+-- any two that are allocated share no unit square
+pub allocated-apart : (state : AtlasState) → IsValid state → AreApart (allocations state)
+allocated-apart state valid = allocations_after-apart state.frame [] state.shelves (tiled-from-valid state valid).filled

@@ -4,7 +4,7 @@ use Rattle.std.proofs.lemmas.Bool.{eq-eqb, eqb-true}
 use Rattle.std.specs.List.{list_any}
 use Rattle.std.specs.Prelude.{find, not, ◌==◌, nat_lt}
 use Rattle.etagere.specs.Lists.{times}
-use Rattle.etagere.specs.Taking.{without, replaced}
+use Rattle.etagere.specs.Taking.{remove_place, replace_place}
 
 -- how often a number stands in two lists
 pub times-append : (n : ℕ) (xs ys : List ℕ) → times n (xs ++ ys) ≡ times n xs + times n ys
@@ -29,42 +29,42 @@ find-stands test (y ∷ ys) x h = by_test (test y) refl h (find-stands test ys x
     by_test false e k later = let found = later k in (found.0, omega (arith, found.1))
 
 -- a number that does not stand in a list is not replaced
-replaced-absent : (n new : ℕ) (ns : List ℕ) → times n ns ≡ 0 → replaced n new ns ≡ ns
-replaced-absent n new [] h = refl
-replaced-absent n new (m ∷ ms) h =
-    let rest : replaced n new ms ≡ ms = replaced-absent n new ms (omega (arith, h)) in
+replace_place-absent : (n new : ℕ) (ns : List ℕ) → times n ns ≡ 0 → replace_place n new ns ≡ ns
+replace_place-absent n new [] h = refl
+replace_place-absent n new (m ∷ ms) h =
+    let rest : replace_place n new ms ≡ ms = replace_place-absent n new ms (omega (arith, h)) in
     let other : (m == n) ≡ false = grind arith in
     simp (other, rest) refl
 
 -- a number that does not stand in a list is not left out
-without-absent : (n : ℕ) (ns : List ℕ) → times n ns ≡ 0 → without n ns ≡ ns
-without-absent n [] h = refl
-without-absent n (m ∷ ms) h =
-    let rest : without n ms ≡ ms = without-absent n ms (omega (arith, h)) in
+remove_place-absent : (n : ℕ) (ns : List ℕ) → times n ns ≡ 0 → remove_place n ns ≡ ns
+remove_place-absent n [] h = refl
+remove_place-absent n (m ∷ ms) h =
+    let rest : remove_place n ms ≡ ms = remove_place-absent n ms (omega (arith, h)) in
     let other : (m == n) ≡ false = grind arith in
     simp (other, rest) refl
 
 -- how often a number stands in a list after one that stood there once was replaced
-pub times-replaced : (k n new : ℕ) (ns : List ℕ) → times n ns ≡ 1 → times k (replaced n new ns) + hit n k ≡ times k ns + hit new k
-times-replaced k n new [] h = cc
-times-replaced k n new (m ∷ ms) h = by_test (m == n) refl (times-replaced k n new ms)
+pub times-replace_place : (k n new : ℕ) (ns : List ℕ) → times n ns ≡ 1 → times k (replace_place n new ns) + hit n k ≡ times k ns + hit new k
+times-replace_place k n new [] h = cc
+times-replace_place k n new (m ∷ ms) h = by_test (m == n) refl (times-replace_place k n new ms)
   where
-    by_test : (b : Bool) → (m == n) ≡ b → (times n ms ≡ 1 → times k (replaced n new ms) + hit n k ≡ times k ms + hit new k) → times k (cond b new m ∷ replaced n new ms) + hit n k ≡ times k (m ∷ ms) + hit new k
+    by_test : (b : Bool) → (m == n) ≡ b → (times n ms ≡ 1 → times k (replace_place n new ms) + hit n k ≡ times k ms + hit new k) → times k (cond b new m ∷ replace_place n new ms) + hit n k ≡ times k (m ∷ ms) + hit new k
     by_test true e later =
         let same : m ≡ n = grind arith in
-        let rest : replaced n new ms ≡ ms = replaced-absent n new ms (grind arith) in
+        let rest : replace_place n new ms ≡ ms = replace_place-absent n new ms (grind arith) in
         rw (same, rest) (omega arith)
     by_test false e later = omega (arith, later (grind arith))
 
 -- how often a number stands in a list after one that stood there once was left out
-pub times-without : (k n : ℕ) (ns : List ℕ) → times n ns ≡ 1 → times k (without n ns) + hit n k ≡ times k ns
-times-without k n [] h = cc
-times-without k n (m ∷ ms) h = by_test (m == n) refl (times-without k n ms)
+pub times-remove_place : (k n : ℕ) (ns : List ℕ) → times n ns ≡ 1 → times k (remove_place n ns) + hit n k ≡ times k ns
+times-remove_place k n [] h = cc
+times-remove_place k n (m ∷ ms) h = by_test (m == n) refl (times-remove_place k n ms)
   where
-    by_test : (b : Bool) → (m == n) ≡ b → (times n ms ≡ 1 → times k (without n ms) + hit n k ≡ times k ms) → times k (cond (not b) (m ∷ without n ms) (without n ms)) + hit n k ≡ times k (m ∷ ms)
+    by_test : (b : Bool) → (m == n) ≡ b → (times n ms ≡ 1 → times k (remove_place n ms) + hit n k ≡ times k ms) → times k (cond (not b) (m ∷ remove_place n ms) (remove_place n ms)) + hit n k ≡ times k (m ∷ ms)
     by_test true e later =
         let same : m ≡ n = grind arith in
-        let rest : without n ms ≡ ms = without-absent n ms (grind arith) in
+        let rest : remove_place n ms ≡ ms = remove_place-absent n ms (grind arith) in
         rw (same, rest) (omega arith)
     by_test false e later = omega (arith, later (grind arith))
 

@@ -60,7 +60,7 @@ readme_example-third = refl
 pub readme_example-fourth : rectangle_of readme_four 4 ≡ Some (rectangle 0 560 1000 784)
 readme_example-fourth = refl
 
--- a returned run is tried first: passed over where it is too narrow, used where it is wide enough
+-- a returned item stands first in the free list: passed over where it is too narrow, used where it is wide enough
 abbrev reused_one : AtlasState
 reused_one = allocated (plain_atlas 1024 1024) (size 100 300) 1
 
@@ -70,20 +70,20 @@ reused_two = allocated reused_one (size 500 200) 2
 abbrev reused_three : AtlasState
 reused_three = allocated (returned reused_two 1) (size 300 200) 3
 
-pub returned_runs_are_tried_first-first : rectangle_of reused_one 1 ≡ Some (rectangle 0 0 100 320)
-returned_runs_are_tried_first-first = refl
+pub returned_items_are_free_list_first-first : rectangle_of reused_one 1 ≡ Some (rectangle 0 0 100 320)
+returned_items_are_free_list_first-first = refl
 
-pub returned_runs_are_tried_first-second : rectangle_of reused_two 2 ≡ Some (rectangle 100 0 600 320)
-returned_runs_are_tried_first-second = refl
+pub returned_items_are_free_list_first-second : rectangle_of reused_two 2 ≡ Some (rectangle 100 0 600 320)
+returned_items_are_free_list_first-second = refl
 
-pub returned_runs_are_tried_first-third : rectangle_of reused_three 3 ≡ Some (rectangle 600 0 900 320)
-returned_runs_are_tried_first-third = refl
+pub returned_items_are_free_list_first-third : rectangle_of reused_three 3 ≡ Some (rectangle 600 0 900 320)
+returned_items_are_free_list_first-third = refl
 
 abbrev reused_four : AtlasState
 reused_four = allocated reused_three (size 100 200) 4
 
-pub returned_runs_are_tried_first-fourth : rectangle_of reused_four 4 ≡ Some (rectangle 0 0 100 320)
-returned_runs_are_tried_first-fourth = refl
+pub returned_items_are_free_list_first-fourth : rectangle_of reused_four 4 ≡ Some (rectangle 0 0 100 320)
+returned_items_are_free_list_first-fourth = refl
 
 -- a bad fit is used where there is no other
 abbrev bad_fit_one : AtlasState
@@ -95,8 +95,8 @@ bad_fits_are_used-first = refl
 pub bad_fits_are_used-second : rectangle_of (allocated bad_fit_one (size 900 200) 2) 2 ≡ Some (rectangle 100 0 1000 1000)
 bad_fits_are_used-second = refl
 
-pub highest_side : rectangle_of (allocated (plain_atlas 64 65535) (size 64 65535) 1) 1 ≡ Some (rectangle 0 0 64 65535)
-highest_side = refl
+pub longest_side : rectangle_of (allocated (plain_atlas 64 65535) (size 64 65535) 1) 1 ≡ Some (rectangle 0 0 64 65535)
+longest_side = refl
 
 abbrev step_one : AtlasState
 step_one = allocated (plain_atlas 10 89) (size 10 80) 1
@@ -110,7 +110,7 @@ shelves_of_the_rest-refused = refl
 pub shelves_of_the_rest-second : rectangle_of (allocated step_one (size 10 8) 2) 2 ≡ Some (rectangle 0 80 10 89)
 shelves_of_the_rest-second = refl
 
--- a shelf that is much too high is not used while another fits
+-- a shelf that is much too tall is not used while another fits
 abbrev least_one : AtlasState
 least_one = allocated (plain_atlas 1000 1000) (size 100 300) 1
 
@@ -126,8 +126,8 @@ least_height_first-second = refl
 pub least_height_first-third : rectangle_of (allocated least_two (size 100 30) 3) 3 ≡ Some (rectangle 0 432 100 464)
 least_height_first-third = refl
 
-pub too_high : IsRefused (plain_atlas 1000 1000) (size 100 1001)
-too_high = refl
+pub too_tall : IsRefused (plain_atlas 1000 1000) (size 100 1001)
+too_tall = refl
 
 pub too_wide : IsRefused (plain_atlas 1000 1000) (size 1001 1000)
 too_wide = refl

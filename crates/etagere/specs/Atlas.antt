@@ -1,31 +1,31 @@
 use Rattle.std.specs.Prelude.{◌≡◌, ℕ, ◌<◌, ◌≤◌, false, not, Some, List, [], ◌∷◌, ◌++◌, filter, map, ◌==◌}
 use Rattle.etagere_base.specs.declared.geometry.Size.{Size}
 use Rattle.etagere_base.specs.declared.ids.Allocation.{Allocation}
-use Rattle.etagere.specs.Choice.{Placement, cuts, placement_of}
+use Rattle.etagere.specs.Choice.{Placement, splits, placement_of}
 use Rattle.etagere.specs.Fresh.{fresh, without_records}
 use Rattle.etagere.specs.Lists.{Each, times}
-use Rattle.etagere.specs.Places.{held, is_held}
+use Rattle.etagere.specs.Places.{allocations, is_allocated}
 use Rattle.etagere.specs.Rectangles.{AreApart, IsAligned, IsInside}
 use Rattle.etagere.specs.State.{AtlasState}
 use Rattle.etagere.specs.Taking.{given, taken}
 use Rattle.etagere.specs.Valid.{IsValid}
 
--- an allocation of a size leads from one state to the next: the place of the size was taken by an id that held nothing,
+-- an allocation of a size leads from one state to the next: the place of the size was taken by an id that allocated nothing,
 -- and its rectangle was given
 pub record Allocates (old : AtlasState) (size : Size) (allocation : Allocation) (new : AtlasState) : Type 0 where
   pub placement : Placement
   pub placed : placement_of old size ≡ Some placement
   pub rectangle : given old placement ≡ Some allocation.rectangle
-  pub fresh_id : is_held old allocation.id ≡ false
+  pub fresh_id : is_allocated old allocation.id ≡ false
   pub after : new ≡ taken old placement allocation.id
 
--- the place of a size needs a cut
-pub record NeedsCut (state : AtlasState) (size : Size) : Type 0 where
+-- the place of a size needs a split
+pub record NeedsSplit (state : AtlasState) (size : Size) : Type 0 where
   pub placement : Placement
   pub placed : placement_of state size ≡ Some placement
-  pub cut : 0 < cuts state placement
+  pub split : 0 < splits state placement
 
--- what is held after is what was held before and one more
+-- what is allocated after is what was allocated before and one more
 pub record Adds (old : List Allocation) (allocation : Allocation) (new : List Allocation) : Type 0 where
   pub front : List Allocation
   pub back : List Allocation
@@ -36,12 +36,12 @@ pub record Adds (old : List Allocation) (allocation : Allocation) (new : List Al
 abbrev pub without_id : ℕ → List Allocation → List Allocation
 without_id id allocations = filter (λ allocation. not (allocation.id == id)) allocations
 
--- what each state of an atlas keeps: it is valid, what is held has ids that differ and lies inside, aligned and apart, and
--- where nothing is held it is that of a new atlas but for its records
-pub record IsSound (state : AtlasState) : Type 0 where
+-- what each state of an atlas keeps: it is valid, what is allocated has ids that differ and lies inside, aligned and apart, and
+-- where nothing is allocated it is that of a new atlas but for its records
+pub record KeepsPromises (state : AtlasState) : Type 0 where
   pub valid : IsValid state
-  pub ids : (id : ℕ) → times id (map (λ allocation. allocation.id) (held state)) ≤ 1
-  pub inside : Each (λ (allocation : Allocation). IsInside state.frame allocation.rectangle) (held state)
-  pub aligned : Each (λ (allocation : Allocation). IsAligned state.frame allocation.rectangle) (held state)
-  pub apart : AreApart (held state)
-  pub empty : held state ≡ [] → without_records state ≡ without_records (fresh state.frame)
+  pub ids : (id : ℕ) → times id (map (λ allocation. allocation.id) (allocations state)) ≤ 1
+  pub inside : Each (λ (allocation : Allocation). IsInside state.frame allocation.rectangle) (allocations state)
+  pub aligned : Each (λ (allocation : Allocation). IsAligned state.frame allocation.rectangle) (allocations state)
+  pub apart : AreApart (allocations state)
+  pub empty : allocations state ≡ [] → without_records state ≡ without_records (fresh state.frame)

@@ -7,25 +7,25 @@ use Rattle.etagere_base.specs.declared.sides.Sides.{Sides}
 use Rattle.etagere_base.specs.Frames.{asked, across_side}
 use Rattle.etagere_base.specs.Sides.{step}
 use Rattle.etagere.specs.Places.{column_place}
-use Rattle.etagere.specs.State.{Run, Shelf, AtlasState, is_empty, runs_in_use}
+use Rattle.etagere.specs.State.{Item, Shelf, AtlasState, is_empty, items_in_use}
 
--- the height of a shelf for items of this height: stepped, unless that is higher than the atlas
+-- the height of a shelf for items of this height: stepped, unless that is taller than the atlas
 abbrev pub shelf_height : Frame → ℕ → ℕ
 shelf_height frame height = if nat_le (step height) (across_side frame) then step height else height
 
--- empty, or not much higher than asked
+-- empty, or not much taller than asked
 abbrev pub is_good_fit : ℕ → Shelf → Bool
 is_good_fit height shelf = is_empty shelf || nat_le shelf.height (height + height / 2)
 
--- the width of the run that begins at a place, where the first one begins here; 0 where none begins there
-abbrev pub width_at : ℕ → List Run → ℕ → ℕ
+-- the width of the item that begins at a place, where the first one begins here; 0 where none begins there
+abbrev pub width_at : ℕ → List Item → ℕ → ℕ
 width_at here [] place = 0
-width_at here (run ∷ runs) place = if here == place then run.width else width_at (here + run.width) runs place
+width_at here (item ∷ items) place = if here == place then item.width else width_at (here + item.width) items place
 
--- in a shelf the first place in trying order whose run is wide enough
+-- in a shelf the first place in the free list whose item is wide enough
 abbrev pub fitting_place : Frame → ℕ → Shelf → Option ℕ
 fitting_place frame width shelf =
-    find (λ place. nat_le width (width_at (column_place frame shelf) shelf.runs place)) shelf.tried
+    find (λ place. nat_le width (width_at (column_place frame shelf) shelf.items place)) shelf.free_list
 
 -- the rank of a shelf that fits: a good fit by its height, a bad one after every good one; none where it doesn't fit
 abbrev pub rank : Frame → ℕ → ℕ → Shelf → Option ℕ
@@ -49,7 +49,7 @@ first_least [] = None
 first_least (None ∷ ranks) = option_map one_later (first_least ranks)
 first_least (Some rank ∷ ranks) = Some (first_or rank (first_least ranks))
 
--- the shelf of least rank, and in it the first place in trying order that is wide enough
+-- the shelf of least rank, and in it the first place in the free list that is wide enough
 abbrev pub chosen : AtlasState → Sides → Option Placement
 chosen state sides =
     let height = shelf_height state.frame sides.across in
@@ -61,33 +61,33 @@ chosen state sides =
     (slice_get state.shelves found.number))
     (first_least (map (rank state.frame sides.along height) state.shelves))
 
--- an empty shelf is cut where more than 8 would be left of it
-abbrev pub is_shelf_cut : ℕ → Shelf → Bool
-is_shelf_cut height shelf = is_empty shelf && nat_lt (height + 8) shelf.height
+-- an empty shelf is split where more than 8 would be left of it
+abbrev pub is_shelf_split : ℕ → Shelf → Bool
+is_shelf_split height shelf = is_empty shelf && nat_lt (height + 8) shelf.height
 
--- a run is cut where more than 8 would be left of it
-abbrev pub is_run_cut : ℕ → ℕ → Bool
-is_run_cut width run_width = nat_lt (width + 8) run_width
+-- an item is split where more than 8 would be left of it
+abbrev pub is_item_split : ℕ → ℕ → Bool
+is_item_split width item_width = nat_lt (width + 8) item_width
 
--- how many cuts a placement makes in its shelf, each of which needs a record for the rest
-abbrev pub cuts_in : Frame → Placement → Shelf → ℕ
-cuts_in frame placement shelf =
-    (if is_shelf_cut placement.height shelf then 1 else 0)
-    + (if is_run_cut placement.width (width_at (column_place frame shelf) shelf.runs placement.place) then 1 else 0)
+-- how many splits a placement makes in its shelf, each of which needs a record for the rest
+abbrev pub splits_in : Frame → Placement → Shelf → ℕ
+splits_in frame placement shelf =
+    (if is_shelf_split placement.height shelf then 1 else 0)
+    + (if is_item_split placement.width (width_at (column_place frame shelf) shelf.items placement.place) then 1 else 0)
 
-abbrev pub cuts : AtlasState → Placement → ℕ
-cuts state placement = cuts_of (slice_get state.shelves placement.shelf)
+abbrev pub splits : AtlasState → Placement → ℕ
+splits state placement = splits_of (slice_get state.shelves placement.shelf)
   where
-    cuts_of : Option Shelf → ℕ
-    cuts_of None = 0
-    cuts_of (Some shelf) = cuts_in state.frame placement shelf
+    splits_of : Option Shelf → ℕ
+    splits_of None = 0
+    splits_of (Some shelf) = splits_in state.frame placement shelf
 
--- the chosen place, where there are records enough for its cuts
+-- the chosen place, where there are records enough for its splits
 abbrev pub placement_of : AtlasState → Size → Option Placement
 placement_of state size =
     option_and_then
     (λ sides. option_and_then
-    (λ placement. if nat_le (runs_in_use state.shelves + cuts state placement) 65535 then Some placement else None)
+    (λ placement. if nat_le (items_in_use state.shelves + splits state placement) 65535 then Some placement else None)
     (chosen state sides))
     (asked state.frame size)
 

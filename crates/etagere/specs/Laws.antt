@@ -2,13 +2,13 @@ use Rattle.std.specs.Prelude.{◌≡◌, ℕ, Some, None, Option, List, slice_ge
 use Rattle.etagere_base.specs.declared.frames.Frame.{Frame}
 use Rattle.etagere_base.specs.declared.geometry.Size.{Size}
 use Rattle.etagere.specs.Choice.{Found, Placement, first_least, placement_of}
-use Rattle.etagere.specs.Joining.{joined_runs, joined_shelves}
+use Rattle.etagere.specs.Merging.{merged_items, merged_shelves}
 use Rattle.etagere.specs.Layout.{layout}
 use Rattle.etagere.specs.Least.{IsFirstLeast}
 use Rattle.etagere.specs.Lists.{times}
-use Rattle.etagere.specs.Places.{held_after, held_along}
+use Rattle.etagere.specs.Places.{allocations_after, allocations_along}
 use Rattle.etagere.specs.Returning.{returned}
-use Rattle.etagere.specs.State.{Run, Shelf, AtlasState}
+use Rattle.etagere.specs.State.{Item, Shelf, AtlasState}
 use Rattle.etagere.specs.Taking.{taken}
 use Rattle.etagere.specs.Valid.{IsValid, ids}
 
@@ -26,14 +26,14 @@ ReturnRestores =
     (state : AtlasState) (size : Size) (placement : Placement) (id : ℕ) → IsValid state → placement_of state size ≡ Some placement
     → times id (ids state.shelves) ≡ 0 → layout (returned (taken state placement id) id) ≡ layout state
 
--- what is joined is joined
-abbrev pub JoinsOnce : Type 0
-JoinsOnce =
-    ((runs : List Run) → joined_runs (joined_runs runs) ≡ joined_runs runs)
-    × ((shelves : List Shelf) → joined_shelves (joined_shelves shelves) ≡ joined_shelves shelves)
+-- what is merged is merged
+abbrev pub MergesOnce : Type 0
+MergesOnce =
+    ((items : List Item) → merged_items (merged_items items) ≡ merged_items items)
+    × ((shelves : List Shelf) → merged_shelves (merged_shelves shelves) ≡ merged_shelves shelves)
 
--- joining changes no held rectangle
-abbrev pub JoiningKeepsHeld : Type 0
-JoiningKeepsHeld =
-    ((frame : Frame) (across height here : ℕ) (runs : List Run) → held_along frame across height here (joined_runs runs) ≡ held_along frame across height here runs)
-    × ((frame : Frame) (before shelves : List Shelf) → held_after frame before (joined_shelves shelves) ≡ held_after frame before shelves)
+-- merging changes no allocated rectangle
+abbrev pub MergingKeepsAllocated : Type 0
+MergingKeepsAllocated =
+    ((frame : Frame) (across height here : ℕ) (items : List Item) → allocations_along frame across height here (merged_items items) ≡ allocations_along frame across height here items)
+    × ((frame : Frame) (before shelves : List Shelf) → allocations_after frame before (merged_shelves shelves) ≡ allocations_after frame before shelves)

@@ -2,12 +2,12 @@ use Rattle.std.specs.Prelude.{◌≡◌, ℕ, ◌<◌, ◌≤◌, Option, None, 
 use Rattle.etagere.specs.Choice.{Found}
 
 -- what was found first, unless what was found after it has a lower rank
-abbrev pub first_of : Option Found → Option Found → Option Found
-first_of None later = later
-first_of (Some found) None = Some found
-first_of (Some found) (Some later) = if nat_lt later.rank found.rank then Some later else Some found
+abbrev pub better : Option Found → Option Found → Option Found
+better None later = later
+better (Some found) None = Some found
+better (Some found) (Some later) = if nat_lt later.rank found.rank then Some later else Some found
 
--- what was found stands in the list, nothing ranks lower, and nothing before it ranks as low
+-- what was found stands in the list, nothing ranks lower, and nothing before it ranks as short
 pub record IsFirstLeast (ranks : List (Option ℕ)) (found : Found) : Type 0 where
   pub at : slice_get ranks found.number ≡ Some (Some found.rank)
   pub least : (n r : ℕ) → slice_get ranks n ≡ Some (Some r) → found.rank ≤ r

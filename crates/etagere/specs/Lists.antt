@@ -6,10 +6,10 @@ times n [] = 0
 times n (m ∷ ms) = (if m == n then 1 else 0) + times n ms
 
 -- the list with the element of this number replaced by its pieces
-abbrev pub cut_at : {X : Type 0} → ℕ → (X → List X) → List X → List X
-cut_at n pieces [] = []
-cut_at zero pieces (x ∷ xs) = pieces x ++ xs
-cut_at (suc n) pieces (x ∷ xs) = x ∷ cut_at n pieces xs
+abbrev pub replaced_at : {X : Type 0} → ℕ → (X → List X) → List X → List X
+replaced_at n pieces [] = []
+replaced_at zero pieces (x ∷ xs) = pieces x ++ xs
+replaced_at (suc n) pieces (x ∷ xs) = x ∷ replaced_at n pieces xs
 
 -- the list with its first element that passes the test changed
 abbrev pub at_first : {X : Type 0} → (X → Bool) → (X → X) → List X → List X
@@ -17,10 +17,10 @@ at_first test change [] = []
 at_first test change (x ∷ xs) = if test x then change x ∷ xs else x ∷ at_first test change xs
 
 -- no two neighbours touch
-abbrev pub NoneTouch : {X : Type 0} → (X → X → Bool) → List X → Type 0
-NoneTouch touch [] = Unit {0}
-NoneTouch touch (x ∷ []) = Unit {0}
-NoneTouch touch (x ∷ y ∷ ys) = (touch x y ≡ false) × NoneTouch touch (y ∷ ys)
+abbrev pub NoNeighbours : {X : Type 0} → (X → X → Bool) → List X → Type 0
+NoNeighbours touch [] = Unit {0}
+NoNeighbours touch (x ∷ []) = Unit {0}
+NoNeighbours touch (x ∷ y ∷ ys) = (touch x y ≡ false) × NoNeighbours touch (y ∷ ys)
 
 -- a fact of each element
 abbrev pub Each : {X : Type 0} → (X → Type 0) → List X → Type 0

@@ -1,13 +1,33 @@
-use Rattle.std.specs.Prelude.{ℕ, zero, suc, Bool, List, [], ◌∷◌, if◌then◌else◌}
+use Rattle.std.specs.Prelude.{◌+◌, Bool, ◌&&◌, None, List, [], ◌∷◌, ◌==◌, if◌then◌else◌}
+use Rattle.etagere.specs.State.{Item, Shelf, is_free, is_empty}
 
--- the element of this number and the one after it become one where the two touch
-abbrev pub merged_at : {X : Type 0} → (X → X → Bool) → (X → X → X) → ℕ → List X → List X
-merged_at touch merged n [] = []
-merged_at touch merged zero (x ∷ []) = x ∷ []
-merged_at touch merged zero (x ∷ y ∷ ys) = if touch x y then merged x y ∷ ys else x ∷ y ∷ ys
-merged_at touch merged (suc n) (x ∷ xs) = x ∷ merged_at touch merged n xs
+-- an element in front of a merged list: one with the first where the two touch
+abbrev pub merged_onto : {X : Type 0} → (X → X → Bool) → (X → X → X) → X → List X → List X
+merged_onto touch combine x [] = x ∷ []
+merged_onto touch combine x (y ∷ ys) = if touch x y then combine x y ∷ ys else x ∷ y ∷ ys
 
--- the element of this number and the one before it become one where the two touch
-abbrev pub merged_before : {X : Type 0} → (X → X → Bool) → (X → X → X) → ℕ → List X → List X
-merged_before touch merged zero xs = xs
-merged_before touch merged (suc n) xs = merged_at touch merged n xs
+-- each longest block of neighbours that touch becomes one
+abbrev pub merged_by : {X : Type 0} → (X → X → Bool) → (X → X → X) → List X → List X
+merged_by touch combine [] = []
+merged_by touch combine (x ∷ xs) = merged_onto touch combine x (merged_by touch combine xs)
+
+abbrev pub both_free : Item → Item → Bool
+both_free item next = is_free item && is_free next
+
+abbrev pub combined_items : Item → Item → Item
+combined_items item next = record { width = item.width + next.width; id = None }
+
+-- free neighbours become one free item of the summed width
+abbrev pub merged_items : List Item → List Item
+merged_items items = merged_by both_free combined_items items
+
+abbrev pub both_empty : Shelf → Shelf → Bool
+both_empty shelf next = shelf.column == next.column && (is_empty shelf && is_empty next)
+
+abbrev pub combined_shelves : Shelf → Shelf → Shelf
+combined_shelves shelf next =
+    record { column = shelf.column; height = shelf.height + next.height; items = shelf.items; free_list = shelf.free_list }
+
+-- empty neighbours of one column become one empty shelf of the summed height
+abbrev pub merged_shelves : List Shelf → List Shelf
+merged_shelves shelves = merged_by both_empty combined_shelves shelves

@@ -24,7 +24,7 @@ pub record IsInside (frame : Frame) (rectangle : Rectangle) : Type 0 where
   pub left : pos 0 ≤ℤ rectangle.min.x
   pub top : pos 0 ≤ℤ rectangle.min.y
   pub wide : rectangle.min.x <ℤ rectangle.max.x
-  pub high : rectangle.min.y <ℤ rectangle.max.y
+  pub tall : rectangle.min.y <ℤ rectangle.max.y
   pub right : rectangle.max.x ≤ℤ pos frame.width
   pub bottom : rectangle.max.y ≤ℤ pos frame.height
 

@@ -1,75 +1,75 @@
 use Rattle.std.specs.Prelude.{ℕ, zero, suc, ◌+◌, Bool, false, Option, None, Some, is_some, List, [], ◌∷◌, position, take, ◌==◌, if◌then◌else◌}
 use Rattle.etagere_base.specs.declared.frames.Frame.{Frame}
-use Rattle.etagere.specs.Joining.{joined_runs, joined_shelves}
+use Rattle.etagere.specs.Merging.{merged_items, merged_shelves}
 use Rattle.etagere.specs.Lists.{at_first}
 use Rattle.etagere.specs.Places.{column_place}
-use Rattle.etagere.specs.State.{Run, Shelf, AtlasState, is_free, total_width}
-use Rattle.etagere.specs.Taking.{without}
+use Rattle.etagere.specs.State.{Item, Shelf, AtlasState, is_free, total_width}
+use Rattle.etagere.specs.Taking.{remove_place}
 
--- the run is held by this id
-abbrev pub is_holder : ℕ → Option ℕ → Bool
-is_holder id None = false
-is_holder id (Some holder) = holder == id
+-- the item is allocated by this id
+abbrev pub has_id : ℕ → Option ℕ → Bool
+has_id id None = false
+has_id id (Some owner) = owner == id
 
--- the number of the run that an id holds
-abbrev pub number_of : ℕ → List Run → Option ℕ
-number_of id runs = position (λ (run : Run). is_holder id run.holder) runs
+-- the number of the item that an id holds
+abbrev pub number_of : ℕ → List Item → Option ℕ
+number_of id items = position (λ (item : Item). has_id id item.id) items
 
--- the run of this number is free
-abbrev pub is_free_at : ℕ → List Run → Bool
+-- the item of this number is free
+abbrev pub is_free_at : ℕ → List Item → Bool
 is_free_at n [] = false
-is_free_at zero (run ∷ runs) = is_free run
-is_free_at (suc n) (run ∷ runs) = is_free_at n runs
+is_free_at zero (item ∷ items) = is_free item
+is_free_at (suc n) (item ∷ items) = is_free_at n items
 
--- the run before the one of this number is free
-abbrev pub is_free_before : ℕ → List Run → Bool
-is_free_before zero runs = false
-is_free_before (suc n) runs = is_free_at n runs
+-- the item before the one of this number is free
+abbrev pub is_free_before : ℕ → List Item → Bool
+is_free_before zero items = false
+is_free_before (suc n) items = is_free_at n items
 
--- where the run of this number begins, the first one here
-abbrev pub place_at : ℕ → List Run → ℕ → ℕ
-place_at here runs n = here + total_width (take n runs)
+-- where the item of this number begins, the first one here
+abbrev pub place_at : ℕ → List Item → ℕ → ℕ
+place_at here items n = here + total_width (take n items)
 
--- the runs with the one of this number free
-abbrev pub freed : ℕ → List Run → List Run
+-- the items with the one of this number free
+abbrev pub freed : ℕ → List Item → List Item
 freed n [] = []
-freed zero (run ∷ runs) = record { width = run.width; holder = None } ∷ runs
-freed (suc n) (run ∷ runs) = run ∷ freed n runs
+freed zero (item ∷ items) = record { width = item.width; id = None } ∷ items
+freed (suc n) (item ∷ items) = item ∷ freed n items
 
--- the trying order after the run of this number was freed: the place of a free next run goes out, and the run's own
--- goes to the front unless the run before it is free
-abbrev pub returned_tried : ℕ → List Run → ℕ → List ℕ → List ℕ
-returned_tried here runs n tried =
-    let others = if is_free_at (suc n) runs then without (place_at here runs (suc n)) tried else tried in
-    if is_free_before n runs then others else place_at here runs n ∷ others
+-- the free list after the item of this number was freed: the place of a free next item goes out, and the item's own
+-- goes to the front unless the item before it is free
+abbrev pub returned_free_list : ℕ → List Item → ℕ → List ℕ → List ℕ
+returned_free_list here items n free_list =
+    let others = if is_free_at (suc n) items then remove_place (place_at here items (suc n)) free_list else free_list in
+    if is_free_before n items then others else place_at here items n ∷ others
 
--- the shelf with the run of this number returned
+-- the shelf with the item of this number returned
 abbrev pub freed_shelf : Frame → ℕ → Shelf → Shelf
 freed_shelf frame n shelf =
     record {
       column = shelf.column;
       height = shelf.height;
-      runs = joined_runs (freed n shelf.runs);
-      tried = returned_tried (column_place frame shelf) shelf.runs n shelf.tried;
+      items = merged_items (freed n shelf.items);
+      free_list = returned_free_list (column_place frame shelf) shelf.items n shelf.free_list;
     }
 
--- an id holds a run of the shelf
-abbrev pub is_held_in : ℕ → Shelf → Bool
-is_held_in id shelf = is_some (number_of id shelf.runs)
+-- an id holds an item of the shelf
+abbrev pub is_allocated_in : ℕ → Shelf → Bool
+is_allocated_in id shelf = is_some (number_of id shelf.items)
 
--- the shelf with the run of an id returned
+-- the shelf with the item of an id returned
 abbrev pub returned_shelf : Frame → ℕ → Shelf → Shelf
-returned_shelf frame id shelf = freed_or (number_of id shelf.runs)
+returned_shelf frame id shelf = freed_or (number_of id shelf.items)
   where
     freed_or : Option ℕ → Shelf
     freed_or None = shelf
     freed_or (Some n) = freed_shelf frame n shelf
 
--- the state after the run of an id was returned
+-- the state after the item of an id was returned
 abbrev pub returned : AtlasState → ℕ → AtlasState
 returned state id =
     record {
       frame = state.frame;
-      shelves = joined_shelves (at_first (is_held_in id) (returned_shelf state.frame id) state.shelves);
+      shelves = merged_shelves (at_first (is_allocated_in id) (returned_shelf state.frame id) state.shelves);
       records = state.records;
     }

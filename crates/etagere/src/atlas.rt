@@ -3,11 +3,11 @@ ghost use Rattle.etagere_base.specs.Frames as frames;
 ghost use Rattle.etagere_base.specs.Frames.{IsAccepted, options_fault};
 ghost use Rattle.etagere_base.specs.Options.{default_options};
 ghost use Rattle.etagere_base.specs.declared.faults.OptionsFault.TheVariants as faults;
-ghost use Rattle.etagere.specs.Atlas.{Adds, Allocates, IsSound, NeedsCut, without_id};
+ghost use Rattle.etagere.specs.Atlas.{Adds, Allocates, KeepsPromises, NeedsSplit, without_id};
 ghost use Rattle.etagere.specs.Choice.{IsRefused};
 ghost use Rattle.etagere.specs.Fresh.{fresh};
 ghost use Rattle.etagere.specs.Places as places;
-ghost use Rattle.etagere.specs.Places.{held, is_held};
+ghost use Rattle.etagere.specs.Places.{allocations, is_allocated};
 ghost use Rattle.etagere.specs.Rectangles.{IsLarge};
 ghost use Rattle.etagere.specs.Returning.{returned};
 ghost use Rattle.etagere.specs.Space as space;
@@ -28,8 +28,8 @@ use std::marker::Model;
 
 /// Places rectangles on the shelves of one atlas, and takes them back in any order.
 ///
-/// Each shelf is a strip across a column of the atlas, cut into runs side by side. A size goes to the lowest
-/// shelf that is high enough and not much too high; where there is none, to the first that is high enough.
+/// Each shelf is a strip across a column of the atlas, split into items side by side. A size goes to the shortest
+/// shelf that is tall enough and not much too tall; where there is none, to the first that is tall enough.
 /// Neighbours that are free become one again.
 ///
 /// ```text
@@ -41,7 +41,7 @@ use std::marker::Model;
 pub struct AtlasAllocator {
     frame: Frame,
     shelves: Vec<Shelf>,
-    runs_in_use: u32,
+    items_in_use: u32,
     records: u32,
     allocated_space: u32,
 }
@@ -51,23 +51,23 @@ impl Model for AtlasAllocator {
 
     ghost Value = { AtlasState };
 
-    ghost use Rattle.etagere.specs.Kept.{IsKept, state_in};
+    ghost use Rattle.etagere.specs.Consistent.{IsConsistent, state_in};
 
     ghost view = { state_in };
 
-    ghost invariant = { IsKept };
+    ghost invariant = { IsConsistent };
 }
 
 impl AtlasAllocator {
     /// An empty atlas of this size in pixels, with the default options.
     ///
-    /// The first fault that holds is answered; `Memory` only where there is no other and no memory. Takes
+    /// Returns the first fault; `Memory` only where there is no other and no memory. Takes
     /// memory for one shelf.
     pub fn new(alloc: Global, size: Size) -> Result<AtlasAllocator, OptionsFault>
         ensures ok { IfOk result (λ atlas. atlas ≡ fresh (frames.atlas_frame size default_options)) }
-        ensures empty { IfOk result (λ atlas. held atlas ≡ []) }
+        ensures empty { IfOk result (λ atlas. allocations atlas ≡ []) }
         ensures accepted { OnOk result (IsAccepted 65535 size default_options) }
-        ensures sound { IfOk result IsSound }
+        ensures promises { IfOk result KeepsPromises }
         ensures fault { IfSome (options_fault 65535 size default_options) (λ fault. result ≡ Err fault) }
         ensures memory { IfErr result (λ fault. IsAccepted 65535 size default_options → fault ≡ faults.Memory) }
     {
@@ -76,7 +76,7 @@ impl AtlasAllocator {
 
     /// An empty atlas of this size in pixels.
     ///
-    /// The first fault that holds is answered; `Memory` only where there is no other and no memory. Takes
+    /// Returns the first fault; `Memory` only where there is no other and no memory. Takes
     /// memory for a shelf in each column.
     pub fn with_options(
         alloc: Global,
@@ -84,9 +84,9 @@ impl AtlasAllocator {
         options: &AllocatorOptions,
     ) -> Result<AtlasAllocator, OptionsFault>
         ensures ok { IfOk result (λ atlas. atlas ≡ fresh (frames.atlas_frame size options.now)) }
-        ensures empty { IfOk result (λ atlas. held atlas ≡ []) }
+        ensures empty { IfOk result (λ atlas. allocations atlas ≡ []) }
         ensures accepted { OnOk result (IsAccepted 65535 size options.now) }
-        ensures sound { IfOk result IsSound }
+        ensures promises { IfOk result KeepsPromises }
         ensures fault { IfSome (options_fault 65535 size options.now) (λ fault. result ≡ Err fault) }
         ensures memory { IfErr result (λ fault. IsAccepted 65535 size options.now → fault ≡ faults.Memory) }
     {
@@ -100,7 +100,7 @@ impl AtlasAllocator {
         Ok(AtlasAllocator {
             frame,
             shelves,
-            runs_in_use: frame.columns,
+            items_in_use: frame.columns,
             records: frame.columns,
             allocated_space: 0,
         })
@@ -118,59 +118,59 @@ impl AtlasAllocator {
 
     /// Gives a rectangle that is at least as large as the size in pixels, or none where there is no place.
     ///
-    /// `Err` comes only where the place is to be cut and there was no memory. Nothing changes after an `Err`
-    /// or none. Each cut takes memory for a run and its place in the trying order, or for a shelf; a size
-    /// that needs none takes none. Goes through all shelves, in each that is high enough through its runs
-    /// once for each free run tried, and again through the shelves before the chosen one.
+    /// `Err` comes only where the place is to be split and there was no memory. Nothing changes after an `Err`
+    /// or none. Each split takes memory for an item and its place in the free list, or for a shelf; a size
+    /// that needs none takes none. Goes through all shelves, in each that is tall enough through its items
+    /// once for each free item in the free list, and again through the shelves before the chosen one.
     pub fn allocate(&mut self, size: Size) -> Result<Option<Allocation>, AllocError>
         ensures placed { IfOk result (λ answer. IfSome answer (λ allocation. Allocates self.old size allocation self.new)) }
         ensures refused { IfOk result (λ answer. IfNone answer (IsRefused self.old size)) }
         ensures none { IfOk result (λ answer. IfNone answer (self.new ≡ self.old)) }
         ensures err { OnErr result (self.new ≡ self.old) }
-        ensures cut { OnErr result (NeedsCut self.old size) }
-        ensures held { IfOk result (λ answer. IfSome answer (λ allocation. Adds (held self.old) allocation (held self.new))) }
+        ensures split { OnErr result (NeedsSplit self.old size) }
+        ensures allocated { IfOk result (λ answer. IfSome answer (λ allocation. Adds (allocations self.old) allocation (allocations self.new))) }
         ensures large { IfOk result (λ answer. IfSome answer (λ allocation. IsLarge self.old.frame size allocation.rectangle)) }
-        ensures sound { IsSound self.new }
+        ensures promises { KeepsPromises self.new }
     {
-        let Some(placement) = placement_of(&self.frame, &self.shelves, self.runs_in_use, size)
+        let Some(placement) = placement_of(&self.frame, &self.shelves, self.items_in_use, size)
         else {
             return Ok(None);
         };
         let rectangle = given(&self.frame, &self.shelves, &placement);
         let id = corner_id(&rectangle);
-        let cuts = self.shelves[placement.shelf].cuts(&self.frame, &placement);
+        let splits = self.shelves[placement.shelf].splits(&self.frame, &placement);
         let area = given_area(&self.frame, &self.shelves, &placement);
         take_placement(&self.frame, &mut self.shelves, &placement, id)?;
-        self.runs_in_use += cuts;
-        self.records = self.records.max(self.runs_in_use);
+        self.items_in_use += splits;
+        self.records = self.records.max(self.items_in_use);
         self.allocated_space += area;
         Ok(Some(Allocation { id, rectangle }))
     }
 
-    /// Takes back the rectangle that an id holds, and joins what is free with its neighbours.
+    /// Takes back the rectangle that an id holds, and merges what is free with its neighbours.
     ///
     /// `Err` comes exactly where the id holds nothing; then nothing changes. Takes no memory. Goes through the
-    /// runs of all shelves up to that of the id, and a few times through the runs of that one.
+    /// items of all shelves up to that of the id, and a few times through the items of that one.
     pub fn deallocate(&mut self, id: AllocId) -> Result<(), UnknownId>
         ensures ok { OnOk result (self.new ≡ returned self.old id) }
-        ensures unknown { IsErr result ↔ (is_held self.old id ≡ false) }
+        ensures unknown { IsErr result ↔ (is_allocated self.old id ≡ false) }
         ensures err { OnErr result (self.new ≡ self.old) }
-        ensures held { OnOk result (held self.new ≡ without_id id (held self.old)) }
-        ensures sound { IsSound self.new }
+        ensures allocated { OnOk result (allocations self.new ≡ without_id id (allocations self.old)) }
+        ensures promises { KeepsPromises self.new }
     {
         let Some(number) = shelf_of(&self.shelves, id) else {
             return Err(UnknownId);
         };
-        let area = self.shelves[number].held_area(id);
-        let joined = free_in(&self.frame, &mut self.shelves, number, id);
-        self.runs_in_use -= joined;
+        let area = self.shelves[number].allocated_area(id);
+        let merged = free_in(&self.frame, &mut self.shelves, number, id);
+        self.items_in_use -= merged;
         self.allocated_space -= area;
         Ok(())
     }
 
     /// The rectangle that an id holds, as it was given; none exactly where it holds nothing.
     ///
-    /// Takes no memory. Goes through the runs of all shelves up to that of the id.
+    /// Takes no memory. Goes through the items of all shelves up to that of the id.
     pub fn get(&self, id: AllocId) -> Option<Rectangle>
         ensures { result ≡ places.rectangle_of self.now id }
     {
@@ -182,30 +182,30 @@ impl AtlasAllocator {
     /// Takes no memory. Goes through the shelves, and frees the memory of all but one in each column.
     pub fn clear(&mut self)
         ensures cleared { self.new ≡ fresh self.old.frame }
-        ensures empty { held self.new ≡ [] }
-        ensures sound { IsSound self.new }
+        ensures empty { allocations self.new ≡ [] }
+        ensures promises { KeepsPromises self.new }
     {
         reset_columns(&self.frame, &mut self.shelves);
-        self.runs_in_use = self.frame.columns;
+        self.items_in_use = self.frame.columns;
         self.records = self.frame.columns;
         self.allocated_space = 0;
     }
 
-    /// Whether nothing is held. Takes the same time always.
+    /// Whether nothing is allocated. Takes the same time always.
     pub fn is_empty(&self) -> bool
-        ensures { IsTrue result ↔ (held self.now ≡ []) }
+        ensures { IsTrue result ↔ (allocations self.now ≡ []) }
     {
         self.allocated_space == 0
     }
 
-    /// The areas of everything that is held, added up, in square pixels. Takes the same time always.
+    /// The areas of everything that is allocated, added up, in square pixels. Takes the same time always.
     pub fn allocated_space(&self) -> i32
         ensures { result ≡ pos (space.allocated_space self.now) }
     {
         self.allocated_space as i32
     }
 
-    /// The area of the atlas less what is held, in square pixels. Takes the same time always.
+    /// The area of the atlas less what is allocated, in square pixels. Takes the same time always.
     pub fn free_space(&self) -> i32
         ensures free { result ≡ pos (self.now.frame.width * self.now.frame.height - space.allocated_space self.now) }
         ensures sum { result +ℤ pos (space.allocated_space self.now) ≡ pos (self.now.frame.width * self.now.frame.height) }
@@ -218,12 +218,12 @@ impl Clone for AtlasAllocator {
     ghost is_clone = { λ atlas other. other ≡ atlas };
 
     /// An atlas that equals this one, its ids and its later answers too, and shares nothing with it. Takes
-    /// memory for each shelf, and goes through all runs.
+    /// memory for each shelf, and goes through all items.
     fn clone(&self) -> Result<AtlasAllocator, AllocError> {
         Ok(AtlasAllocator {
             frame: self.frame,
             shelves: self.shelves.clone()?,
-            runs_in_use: self.runs_in_use,
+            items_in_use: self.items_in_use,
             records: self.records,
             allocated_space: self.allocated_space,
         })

@@ -3,9 +3,8 @@ ghost use Rattle.std.specs.Option.{option_map};
 ghost use Rattle.etagere_base.specs.Frames.{IsFrame};
 ghost use Rattle.etagere.specs.Choice as choice;
 ghost use Rattle.etagere.specs.Choice.{first_least};
-ghost use Rattle.etagere.specs.Least.{first_of};
+ghost use Rattle.etagere.specs.Least as least;
 ghost use Rattle.etagere.specs.Places as places;
-ghost use Rattle.etagere.specs.Places.{heights_in};
 ghost use Rattle.etagere.specs.State as state;
 ghost use Rattle.etagere.specs.Steps.{CanTake, IsNarrow, state_of};
 ghost use Rattle.etagere.specs.Taking as taking;
@@ -13,34 +12,34 @@ ghost use Rattle.etagere.specs.Lists.{Each};
 
 use crate::placements::{Found, Placement};
 use crate::shelves::Shelf;
-use etagere_base::{Frame, Point, Rectangle, Sides, Size, asked, point2, step, turned};
+use etagere_base::{Frame, Point, Rectangle, Sides, Size, asked, point2, step, swapped_axes};
 
-/// The place of a size among the shelves, where it has one and there are records enough for its cuts.
+/// The place of a size among the shelves, where it has one and there are records enough for its splits.
 pub(crate) fn placement_of(
     frame: &Frame,
     shelves: &[Shelf],
-    runs_in_use: u32,
+    items_in_use: u32,
     size: Size,
 ) -> Option<Placement>
     requires frame { IsFrame 65535 frame.now }
     requires narrow { Each (IsNarrow frame.now) shelves.now }
-    requires counted { runs_in_use ≡ state.runs_in_use shelves.now }
-    requires few { runs_in_use ≤ 65535 }
+    requires counted { items_in_use ≡ state.items_in_use shelves.now }
+    requires few { items_in_use ≤ 65535 }
     ensures { result ≡ choice.placement_of (state_of frame.now shelves.now) size }
 {
     let sides = asked(frame, size)?;
     let placement = chosen(frame, shelves, sides)?;
-    if runs_in_use + shelves[placement.shelf].cuts(frame, &placement) <= 65535 {
+    if items_in_use + shelves[placement.shelf].splits(frame, &placement) <= 65535 {
         Some(placement)
     } else {
         None
     }
 }
 
-/// The shelf of least rank, and in it the first place in trying order that is wide enough.
+/// The shelf of least rank, and in it the first place in the free list that is wide enough.
 fn chosen(frame: &Frame, shelves: &[Shelf], sides: Sides) -> Option<Placement>
     requires frame { IsFrame 65535 frame.now }
-    requires low { sides.across ≤ 65535 }
+    requires short { sides.across ≤ 65535 }
     requires narrow { Each (IsNarrow frame.now) shelves.now }
     ensures { result ≡ choice.chosen (state_of frame.now shelves.now) sides }
 {
@@ -55,7 +54,7 @@ fn chosen(frame: &Frame, shelves: &[Shelf], sides: Sides) -> Option<Placement>
     })
 }
 
-/// The height of a shelf for items of this height: stepped, unless that is higher than the atlas.
+/// The height of a shelf for items of this height: stepped, unless that is taller than the atlas.
 fn shelf_height(frame: &Frame, height: u32) -> u32
     requires { height ≤ 65535 }
     ensures value { result ≡ choice.shelf_height frame.now height }
@@ -70,7 +69,7 @@ fn shelf_height(frame: &Frame, height: u32) -> u32
 
 /// The number of the first shelf of least rank.
 fn best_shelf(frame: &Frame, shelves: &[Shelf], width: u32, height: u32) -> Option<usize>
-    requires low { height ≤ 65535 }
+    requires short { height ≤ 65535 }
     requires narrow { Each (IsNarrow frame.now) shelves.now }
     ensures number { result ≡ option_map (λ found. found.number) (first_least (map (choice.rank frame.now width height) shelves.now)) }
     ensures within { IfSome result (λ number. number < length shelves.now) }
@@ -84,7 +83,7 @@ fn best_shelf(frame: &Frame, shelves: &[Shelf], width: u32, height: u32) -> Opti
 
 /// What was found before, unless the rank of the next shelf is lower.
 fn better(best: Option<Found>, number: usize, rank: Option<u32>) -> Option<Found>
-    ensures { result ≡ first_of best (option_map (λ rank. record { number = number; rank = rank }) rank) }
+    ensures { result ≡ least.better best (option_map (λ rank. record { number = number; rank = rank }) rank) }
 {
     let Some(rank) = rank else {
         return best;
@@ -102,7 +101,7 @@ pub(crate) fn given(frame: &Frame, shelves: &[Shelf], placement: &Placement) -> 
     ensures { Some result ≡ taking.given (state_of frame.now shelves.now) placement.now }
 {
     let shelf = &shelves[placement.shelf];
-    let across = height_of_column(&shelves[..placement.shelf], shelf.column());
+    let across = column_height(&shelves[..placement.shelf], shelf.column());
     let width = shelf.given_width(frame, placement);
     let height = shelf.given_height(placement);
     rectangle_at(frame, placement.place, across, width, height)
@@ -120,9 +119,9 @@ pub(crate) fn given_area(frame: &Frame, shelves: &[Shelf], placement: &Placement
 }
 
 /// The heights of the shelves of a column, added up.
-pub(crate) fn height_of_column(shelves: &[Shelf], column: u32) -> u32
-    requires { heights_in column shelves.now < 2 ^ 32 }
-    ensures { result ≡ heights_in column shelves.now }
+pub(crate) fn column_height(shelves: &[Shelf], column: u32) -> u32
+    requires { places.column_height column shelves.now < 2 ^ 32 }
+    ensures { result ≡ places.column_height column shelves.now }
 {
     let mut height = 0;
     for shelf in shelves {
@@ -133,7 +132,7 @@ pub(crate) fn height_of_column(shelves: &[Shelf], column: u32) -> u32
     height
 }
 
-/// What lies at a place along and across, this wide along and this high across.
+/// What lies at a place along and across, this wide along and this tall across.
 pub(crate) fn rectangle_at(
     frame: &Frame,
     along: u32,
@@ -155,6 +154,6 @@ fn point_at(frame: &Frame, along: u32, across: u32) -> Point
     requires { (along ≤ 65535) × (across ≤ 65535) }
     ensures { result ≡ places.point_at frame.now along across }
 {
-    let place = turned(frame.vertical, Sides { along, across });
+    let place = swapped_axes(frame.vertical, Sides { along, across });
     point2(place.along as i32, place.across as i32)
 }

@@ -1,76 +1,84 @@
 ghost use Rattle.std.specs.Prelude.{◌≡◌, ◌+◌, ◌<◌, ◌≤◌, ◌^◌, IsTrue, false, OnOk, OnErr, vec_len, vec_capacity};
-ghost use Rattle.etagere.specs.Choice.{is_run_cut, width_at};
-ghost use Rattle.etagere.specs.Joining.{both_free, joined_runs};
-ghost use Rattle.etagere.specs.Lists.{NoneTouch, times};
-ghost use Rattle.etagere.specs.Returning.{freed, is_free_at, returned_tried};
+ghost use Rattle.etagere.specs.Choice.{is_item_split, width_at};
+ghost use Rattle.etagere.specs.Merging.{both_free, merged_items};
+ghost use Rattle.etagere.specs.Lists.{NoNeighbours, times};
+ghost use Rattle.etagere.specs.Returning.{freed, is_free_at, returned_free_list};
 ghost use Rattle.etagere.specs.State.{total_width};
-ghost use Rattle.etagere.specs.Steps.{held_count};
-ghost use Rattle.etagere.specs.Taking.{taken_runs, taken_tried};
+ghost use Rattle.etagere.specs.Steps.{allocated_count};
+ghost use Rattle.etagere.specs.Taking.{taken_items, taken_free_list};
 
+use crate::free_lists;
+use crate::items::{self, Item};
 use crate::placements::Placement;
-use crate::runs::{self, Run};
-use crate::trying;
 use etagere_base::AllocId;
 use std::alloc::AllocError;
 
-/// Takes a place of a shelf's runs. An `Err`, which comes only where the run is cut, changes nothing.
+/// Takes a place of a shelf's items. An `Err`, which comes only where the item is split, changes nothing.
 pub(crate) fn take(
-    runs: &mut Vec<Run>,
-    tried: &mut Vec<u32>,
+    items: &mut Vec<Item>,
+    free_list: &mut Vec<u32>,
     here: u32,
     placement: &Placement,
     id: AllocId,
 ) -> Result<(), AllocError>
-    requires narrow { here + total_width runs.old.items < 2 ^ 32 }
-    requires short { (placement.now.width ≤ 65535) × (placement.now.place ≤ 65535) }
-    requires there { 0 < width_at here runs.old.items placement.now.place }
-    requires tried { 0 < times placement.now.place tried.old.items }
-    requires room { vec_len tried.old + held_count runs.old.items ≤ vec_capacity tried.old }
-    ensures runs { OnOk result (runs.new.items ≡ taken_runs placement.now.width id placement.now.place here runs.old.items) }
-    ensures tried { OnOk result (tried.new.items ≡ taken_tried placement.now.width placement.now.place (width_at here runs.old.items placement.now.place) tried.old.items) }
-    ensures room { vec_len tried.new + held_count runs.new.items ≤ vec_capacity tried.new }
-    ensures capacity { vec_capacity tried.old ≤ vec_capacity tried.new }
-    ensures longer { vec_len runs.old ≤ vec_len runs.new }
-    ensures err { OnErr result ((runs.new.items ≡ runs.old.items) × (tried.new.items ≡ tried.old.items)) }
-    ensures cut { OnErr result (IsTrue (is_run_cut placement.now.width (width_at here runs.old.items placement.now.place))) }
+    requires narrow { here + total_width items.old.items < 2 ^ 32 }
+    requires bounded { (placement.now.width ≤ 65535) × (placement.now.place ≤ 65535) }
+    requires there { 0 < width_at here items.old.items placement.now.place }
+    requires free_list { 0 < times placement.now.place free_list.old.items }
+    requires room { vec_len free_list.old + allocated_count items.old.items ≤ vec_capacity free_list.old }
+    ensures items { OnOk result (items.new.items ≡ taken_items placement.now.width id placement.now.place here items.old.items) }
+    ensures free_list { OnOk result (free_list.new.items ≡ taken_free_list placement.now.width placement.now.place (width_at here items.old.items placement.now.place) free_list.old.items) }
+    ensures room { vec_len free_list.new + allocated_count items.new.items ≤ vec_capacity free_list.new }
+    ensures capacity { vec_capacity free_list.old ≤ vec_capacity free_list.new }
+    ensures longer { vec_len items.old ≤ vec_len items.new }
+    ensures err { OnErr result ((items.new.items ≡ items.old.items) × (free_list.new.items ≡ free_list.old.items)) }
+    ensures split { OnErr result (IsTrue (is_item_split placement.now.width (width_at here items.old.items placement.now.place))) }
 {
-    let run_width = runs::width_at(runs, here, placement.place);
-    make_room(runs, tried, runs::is_run_cut(placement.width, run_width))?;
-    runs::take(runs, here, placement.place, placement.width, id);
-    trying::take_place(tried, placement.place, placement.width, run_width);
+    let item_width = items::width_at(items, here, placement.place);
+    make_room(
+        items,
+        free_list,
+        items::is_item_split(placement.width, item_width),
+    )?;
+    items::take(items, here, placement.place, placement.width, id);
+    free_lists::take_place(free_list, placement.place, placement.width, item_width);
     Ok(())
 }
 
-/// Makes room for the rest of a run that is cut.
-fn make_room(runs: &mut Vec<Run>, tried: &mut Vec<u32>, is_cut: bool) -> Result<(), AllocError>
-    ensures same { (runs.new.items ≡ runs.old.items) × (tried.new.items ≡ tried.old.items) }
-    ensures runs { OnOk result (IsTrue is_cut → vec_len runs.new < vec_capacity runs.new) }
-    ensures tried { OnOk result (IsTrue is_cut → vec_len tried.old + (vec_len runs.old + 1) ≤ vec_capacity tried.new) }
-    ensures capacity { vec_capacity tried.old ≤ vec_capacity tried.new }
-    ensures cut { OnErr result (IsTrue is_cut) }
+/// Makes room for the rest of an item that is split.
+fn make_room(
+    items: &mut Vec<Item>,
+    free_list: &mut Vec<u32>,
+    is_split: bool,
+) -> Result<(), AllocError>
+    ensures same { (items.new.items ≡ items.old.items) × (free_list.new.items ≡ free_list.old.items) }
+    ensures items { OnOk result (IsTrue is_split → vec_len items.new < vec_capacity items.new) }
+    ensures free_list { OnOk result (IsTrue is_split → vec_len free_list.old + (vec_len items.old + 1) ≤ vec_capacity free_list.new) }
+    ensures capacity { vec_capacity free_list.old ≤ vec_capacity free_list.new }
+    ensures split { OnErr result (IsTrue is_split) }
 {
-    if is_cut {
-        tried.reserve(runs.len() + 1)?;
-        runs.reserve(1)?;
+    if is_split {
+        free_list.reserve(items.len() + 1)?;
+        items.reserve(1)?;
     }
     Ok(())
 }
 
-/// Frees a held run of a shelf, and joins it with its free neighbours.
-pub(crate) fn free(runs: &mut Vec<Run>, tried: &mut Vec<u32>, here: u32, number: usize)
-    requires narrow { here + total_width runs.old.items < 2 ^ 32 }
-    requires apart { NoneTouch both_free runs.old.items }
-    requires within { number < vec_len runs.old }
-    requires held { is_free_at number runs.old.items ≡ false }
-    requires room { vec_len tried.old + held_count runs.old.items ≤ vec_capacity tried.old }
-    ensures runs { runs.new.items ≡ joined_runs (freed number runs.old.items) }
-    ensures tried { tried.new.items ≡ returned_tried here runs.old.items number tried.old.items }
-    ensures room { vec_len tried.new + held_count runs.new.items ≤ vec_capacity tried.new }
-    ensures capacity { vec_capacity tried.new ≡ vec_capacity tried.old }
-    ensures some { 1 ≤ vec_len runs.new }
+/// Frees an allocated item of a shelf, and merges it with its free neighbours.
+pub(crate) fn free(items: &mut Vec<Item>, free_list: &mut Vec<u32>, here: u32, number: usize)
+    requires narrow { here + total_width items.old.items < 2 ^ 32 }
+    requires apart { NoNeighbours both_free items.old.items }
+    requires within { number < vec_len items.old }
+    requires allocated { is_free_at number items.old.items ≡ false }
+    requires room { vec_len free_list.old + allocated_count items.old.items ≤ vec_capacity free_list.old }
+    ensures items { items.new.items ≡ merged_items (freed number items.old.items) }
+    ensures free_list { free_list.new.items ≡ returned_free_list here items.old.items number free_list.old.items }
+    ensures room { vec_len free_list.new + allocated_count items.new.items ≤ vec_capacity free_list.new }
+    ensures capacity { vec_capacity free_list.new ≡ vec_capacity free_list.old }
+    ensures some { 1 ≤ vec_len items.new }
 {
-    trying::return_place(tried, runs, here, number);
-    runs::free(runs, number);
-    runs::merge(runs, number);
-    runs::merge_before(runs, number);
+    free_lists::return_place(free_list, items, here, number);
+    items::free(items, number);
+    items::merge(items, number);
+    items::merge_before(items, number);
 }

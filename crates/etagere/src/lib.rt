@@ -4,16 +4,16 @@
 mod atlas;
 mod choosing;
 mod edits;
+mod free_lists;
 mod ids;
+mod items;
 mod looking;
 mod model_laws;
 mod placements;
 mod returning;
-mod runs;
 mod shelves;
 mod starting;
 mod taking;
-mod trying;
 mod vectors;
 
 pub use atlas::AtlasAllocator;

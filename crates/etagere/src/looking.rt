@@ -2,7 +2,7 @@ ghost use Rattle.std.specs.Prelude.{◌≡◌};
 ghost use Rattle.etagere.specs.Places as places;
 ghost use Rattle.etagere.specs.Steps.{AreWithin, state_of};
 
-use crate::choosing::height_of_column;
+use crate::choosing::column_height;
 use crate::returning::shelf_of;
 use crate::shelves::Shelf;
 use etagere_base::{AllocId, Frame, Rectangle};
@@ -14,6 +14,6 @@ pub(crate) fn rectangle_of(frame: &Frame, shelves: &[Shelf], id: AllocId) -> Opt
 {
     let number = shelf_of(shelves, id)?;
     let shelf = &shelves[number];
-    let across = height_of_column(&shelves[..number], shelf.column());
+    let across = column_height(&shelves[..number], shelf.column());
     shelf.rectangle_of(frame, across, id)
 }

@@ -1,46 +1,46 @@
 ghost use Rattle.std.specs.Prelude.{◌≡◌, ◌+◌, ◌<◌, Some, position, vec_len};
-ghost use Rattle.etagere.specs.Joining.{both_empty, joined_shelves, merged_shelves};
+ghost use Rattle.etagere.specs.Merging.{both_empty, merged_shelves, combined_shelves};
 ghost use Rattle.etagere.specs.Lists.{at_first};
-ghost use Rattle.etagere.specs.Merging.{merged_at, merged_before};
-ghost use Rattle.etagere.specs.Returning.{is_held_in, returned_shelf};
-ghost use Rattle.etagere.specs.State.{runs_in_use};
-ghost use Rattle.etagere.specs.Steps.{AreLow, AreReturnable};
+ghost use Rattle.etagere.specs.MergingAt.{merged_at, merged_before};
+ghost use Rattle.etagere.specs.Returning.{is_allocated_in, returned_shelf};
+ghost use Rattle.etagere.specs.State.{items_in_use};
+ghost use Rattle.etagere.specs.Steps.{AreShort, AreReturnable};
 
 use crate::shelves::Shelf;
 use etagere_base::{AllocId, Frame};
 
-/// The number of the first shelf in which an id holds a run.
+/// The number of the first shelf in which an id holds an item.
 pub(crate) fn shelf_of(shelves: &[Shelf], id: AllocId) -> Option<usize>
-    ensures { result ≡ position (is_held_in id) shelves.now }
+    ensures { result ≡ position (is_allocated_in id) shelves.now }
 {
     shelves.iter().position(|shelf| shelf.holds(id))
 }
 
-/// Frees the run that an id holds in the shelf of this number, joins what is free with its neighbours, and
-/// answers how many runs fewer there are.
+/// Frees the item that an id holds in the shelf of this number, merges what is free with its neighbours, and
+/// answers how many items fewer there are.
 pub(crate) fn free_in(frame: &Frame, shelves: &mut Vec<Shelf>, number: usize, id: AllocId) -> u32
     requires ready { AreReturnable frame.now shelves.old.items }
-    requires held { position (is_held_in id) shelves.old.items ≡ Some number }
-    ensures shelves { shelves.new.items ≡ joined_shelves (at_first (is_held_in id) (returned_shelf frame.now id) shelves.old.items) }
-    ensures counted { runs_in_use shelves.new.items + result ≡ runs_in_use shelves.old.items }
+    requires allocated { position (is_allocated_in id) shelves.old.items ≡ Some number }
+    ensures shelves { shelves.new.items ≡ merged_shelves (at_first (is_allocated_in id) (returned_shelf frame.now id) shelves.old.items) }
+    ensures counted { items_in_use shelves.new.items + result ≡ items_in_use shelves.old.items }
 {
     let shelf = &mut shelves[number];
-    let before = shelf.run_count();
+    let before = shelf.item_count();
     shelf.free(frame, id);
-    let joined = (before - shelf.run_count()) as u32;
-    joined + merge(shelves, number) + merge_before(shelves, number)
+    let merged = (before - shelf.item_count()) as u32;
+    merged + merge(shelves, number) + merge_before(shelves, number)
 }
 
 /// Makes a shelf and the next one a single one where both are empty and of one column, and answers how many
-/// runs fewer there are.
+/// items fewer there are.
 fn merge(shelves: &mut Vec<Shelf>, number: usize) -> u32
     requires within { number < vec_len shelves.old }
-    requires low { AreLow shelves.old.items }
-    ensures shelves { shelves.new.items ≡ merged_at both_empty merged_shelves number shelves.old.items }
+    requires short { AreShort shelves.old.items }
+    ensures shelves { shelves.new.items ≡ merged_at both_empty combined_shelves number shelves.old.items }
     ensures within { number < vec_len shelves.new }
-    ensures counted { runs_in_use shelves.new.items + result ≡ runs_in_use shelves.old.items }
+    ensures counted { items_in_use shelves.new.items + result ≡ items_in_use shelves.old.items }
 {
-    if number + 1 == shelves.len() || !shelves[number].joins(&shelves[number + 1]) {
+    if number + 1 == shelves.len() || !shelves[number].both_empty(&shelves[number + 1]) {
         return 0;
     }
     let next = shelves.remove(number + 1);
@@ -49,12 +49,12 @@ fn merge(shelves: &mut Vec<Shelf>, number: usize) -> u32
 }
 
 /// Makes a shelf and the one before it a single one where both are empty and of one column, and answers how
-/// many runs fewer there are.
+/// many items fewer there are.
 fn merge_before(shelves: &mut Vec<Shelf>, number: usize) -> u32
     requires within { number < vec_len shelves.old }
-    requires low { AreLow shelves.old.items }
-    ensures shelves { shelves.new.items ≡ merged_before both_empty merged_shelves number shelves.old.items }
-    ensures counted { runs_in_use shelves.new.items + result ≡ runs_in_use shelves.old.items }
+    requires short { AreShort shelves.old.items }
+    ensures shelves { shelves.new.items ≡ merged_before both_empty combined_shelves number shelves.old.items }
+    ensures counted { items_in_use shelves.new.items + result ≡ items_in_use shelves.old.items }
 {
     if number == 0 {
         0

@@ -1,7 +1,7 @@
 ghost use Rattle.std.specs.Prelude.{◌≡◌, ◌<◌, OnOk, OnErr, true, false};
-ghost use Rattle.etagere.specs.Choice.{cuts};
-ghost use Rattle.etagere.specs.Lists.{Each, cut_at};
-ghost use Rattle.etagere.specs.Steps.{CanTake, IsNarrow, is_cut_at, state_of};
+ghost use Rattle.etagere.specs.Choice.{splits};
+ghost use Rattle.etagere.specs.Lists.{Each, replaced_at};
+ghost use Rattle.etagere.specs.Steps.{CanTake, IsNarrow, is_split_at, state_of};
 ghost use Rattle.etagere.specs.Taking.{shelf_pieces};
 
 use crate::placements::Placement;
@@ -10,7 +10,7 @@ use crate::vectors::insert_reserved;
 use etagere_base::{AllocId, Frame};
 use std::alloc::AllocError;
 
-/// Takes a placement among the shelves. An `Err`, which comes only where something is cut, changes nothing.
+/// Takes a placement among the shelves. An `Err`, which comes only where something is split, changes nothing.
 pub(crate) fn take_placement(
     frame: &Frame,
     shelves: &mut Vec<Shelf>,
@@ -19,12 +19,12 @@ pub(crate) fn take_placement(
 ) -> Result<(), AllocError>
     requires narrow { Each (IsNarrow frame.now) shelves.old.items }
     requires takeable { CanTake frame.now placement.now shelves.old.items }
-    ensures ok { OnOk result (shelves.new.items ≡ cut_at placement.now.shelf (shelf_pieces frame.now placement.now id) shelves.old.items) }
+    ensures ok { OnOk result (shelves.new.items ≡ replaced_at placement.now.shelf (shelf_pieces frame.now placement.now id) shelves.old.items) }
     ensures err { OnErr result (shelves.new.items ≡ shelves.old.items) }
-    ensures cut { OnErr result (0 < cuts (state_of frame.now shelves.old.items) placement.now) }
+    ensures split { OnErr result (0 < splits (state_of frame.now shelves.old.items) placement.now) }
 {
-    if shelves[placement.shelf].is_cut(placement.height) {
-        take_lower(frame, shelves, placement, id)
+    if shelves[placement.shelf].is_split(placement.height) {
+        take_shorter(frame, shelves, placement, id)
     } else {
         take_whole(frame, shelves, placement, id)
     }
@@ -39,10 +39,10 @@ fn take_whole(
 ) -> Result<(), AllocError>
     requires narrow { Each (IsNarrow frame.now) shelves.old.items }
     requires takeable { CanTake frame.now placement.now shelves.old.items }
-    requires whole { is_cut_at placement.now shelves.old.items ≡ false }
-    ensures ok { OnOk result (shelves.new.items ≡ cut_at placement.now.shelf (shelf_pieces frame.now placement.now id) shelves.old.items) }
+    requires whole { is_split_at placement.now shelves.old.items ≡ false }
+    ensures ok { OnOk result (shelves.new.items ≡ replaced_at placement.now.shelf (shelf_pieces frame.now placement.now id) shelves.old.items) }
     ensures err { OnErr result (shelves.new.items ≡ shelves.old.items) }
-    ensures cut { OnErr result (0 < cuts (state_of frame.now shelves.old.items) placement.now) }
+    ensures split { OnErr result (0 < splits (state_of frame.now shelves.old.items) placement.now) }
 {
     let shelf = &mut shelves[placement.shelf];
     let height = shelf.height();
@@ -50,7 +50,7 @@ fn take_whole(
 }
 
 /// Takes a placement in the lower part of an empty shelf, and leaves an empty shelf of the rest after it.
-fn take_lower(
+fn take_shorter(
     frame: &Frame,
     shelves: &mut Vec<Shelf>,
     placement: &Placement,
@@ -58,8 +58,8 @@ fn take_lower(
 ) -> Result<(), AllocError>
     requires narrow { Each (IsNarrow frame.now) shelves.old.items }
     requires takeable { CanTake frame.now placement.now shelves.old.items }
-    requires cut { is_cut_at placement.now shelves.old.items ≡ true }
-    ensures ok { OnOk result (shelves.new.items ≡ cut_at placement.now.shelf (shelf_pieces frame.now placement.now id) shelves.old.items) }
+    requires split { is_split_at placement.now shelves.old.items ≡ true }
+    ensures ok { OnOk result (shelves.new.items ≡ replaced_at placement.now.shelf (shelf_pieces frame.now placement.now id) shelves.old.items) }
     ensures err { OnErr result (shelves.new.items ≡ shelves.old.items) }
 {
     let alloc = *shelves.allocator();

@@ -52,7 +52,7 @@ accepted longest size options h =
       column_width = positive _ failed.4;
     }
 
--- a share of a length, cut down to an alignment, is no longer than the length
+-- a share of a length, rounded down to an alignment, is no longer than the length
 down-share-le : (length parts alignment : ℕ) → down (length / parts) alignment ≤ length
 down-share-le length parts alignment = omega (arith, div-mul-le_self (length / parts) alignment, div-le_self length parts)
 

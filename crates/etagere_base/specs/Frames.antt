@@ -5,7 +5,7 @@ use Rattle.etagere_base.specs.declared.frames.Frame.{Frame}
 use Rattle.etagere_base.specs.declared.geometry.Size.{Size}
 use Rattle.etagere_base.specs.declared.options.AllocatorOptions.{AllocatorOptions}
 use Rattle.etagere_base.specs.declared.sides.Sides.{Sides}
-use Rattle.etagere_base.specs.Sides.{side, turned, up, down}
+use Rattle.etagere_base.specs.Sides.{side, swapped_axes, up, down}
 
 -- a side of an atlas or of a size asked for: at least 1, and no longer than the longest
 abbrev pub is_side : ℕ → ℤ → Bool
@@ -14,15 +14,15 @@ is_side longest length = nat_lt 0 (side length) && nat_le (side length) longest
 -- the sides of an atlas along and across its shelves
 abbrev pub sides_of : Size → AllocatorOptions → Sides
 sides_of size options =
-    turned options.vertical_shelves (record { along = side size.width; across = side size.height })
+    swapped_axes options.vertical_shelves (record { along = side size.width; across = side size.height })
 
 -- the alignments along and across the shelves
 abbrev pub alignments_of : AllocatorOptions → Sides
 alignments_of options =
-    turned options.vertical_shelves
+    swapped_axes options.vertical_shelves
     (record { along = side options.alignment.width; across = side options.alignment.height })
 
--- the width of a column: an equal share of the atlas, cut down to the alignment
+-- the width of a column: an equal share of the atlas, rounded down to the alignment
 abbrev pub column_width_of : Size → AllocatorOptions → ℕ
 column_width_of size options =
     down ((sides_of size options).along / side options.num_columns) (alignments_of options).along
@@ -56,28 +56,28 @@ atlas_frame size options =
 
 -- the side of the atlas along its shelves
 abbrev pub along_side : Frame → ℕ
-along_side frame = (turned frame.vertical (record { along = frame.width; across = frame.height })).along
+along_side frame = (swapped_axes frame.vertical (record { along = frame.width; across = frame.height })).along
 
 -- the side of the atlas across its shelves
 abbrev pub across_side : Frame → ℕ
-across_side frame = (turned frame.vertical (record { along = frame.width; across = frame.height })).across
+across_side frame = (swapped_axes frame.vertical (record { along = frame.width; across = frame.height })).across
 
 -- the alignment along the shelves
 abbrev pub alignment_along : Frame → ℕ
 alignment_along frame =
-    (turned frame.vertical (record { along = frame.alignment_width; across = frame.alignment_height })).along
+    (swapped_axes frame.vertical (record { along = frame.alignment_width; across = frame.alignment_height })).along
 
 -- the sides if they fit a column
 abbrev pub fitting : Frame → Sides → Option Sides
 fitting frame sides =
     if nat_le sides.along frame.column_width && nat_le sides.across (across_side frame) then Some sides else None
 
--- what a size asks of the shelves: each side rounded up by its own axis, then turned; none where the size
+-- what a size asks of the shelves: each side rounded up by its own axis, then swapped; none where the size
 -- is empty, has a side above 65535 or is larger than a column
 abbrev pub asked : Frame → Size → Option Sides
 asked frame size =
     if is_side 65535 size.width && is_side 65535 size.height
-    then fitting frame (turned frame.vertical
+    then fitting frame (swapped_axes frame.vertical
     (record {
       along = up (side size.width) frame.alignment_width;
       across = up (side size.height) frame.alignment_height;

@@ -7,9 +7,9 @@ side (pos n) = n
 side (negsuc n) = 0
 
 -- the two lengths change places where the shelves are vertical
-abbrev pub turned : Bool → Sides → Sides
-turned true sides = record { along = sides.across; across = sides.along }
-turned false sides = sides
+abbrev pub swapped_axes : Bool → Sides → Sides
+swapped_axes true sides = record { along = sides.across; across = sides.along }
+swapped_axes false sides = sides
 
 -- the least multiple of the alignment that is not below the length
 abbrev pub up : ℕ → ℕ → ℕ

@@ -3,7 +3,7 @@ ghost use Rattle.etagere_base.specs.Faults.{options_fault_number};
 
 use thiserror::Error;
 
-/// Why an atlas can't be made. The first that holds is answered, in this order.
+/// Why an atlas can't be made. A call returns the first fault, in this order.
 #[derive(Clone, Copy, Debug, PartialEq, Eq, Error)]
 pub enum OptionsFault {
     /// A side of the atlas is below 1 or above 65535.
@@ -18,7 +18,7 @@ pub enum OptionsFault {
     /// The number of columns is below 1.
     #[error("Columns")]
     Columns,
-    /// The width of a column, an equal share cut down to the alignment, comes out as 0.
+    /// The width of a column, an equal share rounded down to the alignment, comes out as 0.
     #[error("ColumnTooNarrow")]
     ColumnTooNarrow,
     /// There was no memory.
@@ -42,7 +42,7 @@ impl OptionsFault {
     }
 }
 
-/// Nothing that is held carries the id.
+/// Nothing that is allocated carries the id.
 #[derive(Clone, Copy, Debug, PartialEq, Eq, Error)]
 #[error("UnknownId")]
 pub struct UnknownId;

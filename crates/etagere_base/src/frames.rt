@@ -6,7 +6,7 @@ ghost use Rattle.etagere_base.specs.Sides.{side};
 use crate::faults::OptionsFault;
 use crate::geometry::Size;
 use crate::options::AllocatorOptions;
-use crate::sides::{Sides, side, turned, up};
+use crate::sides::{Sides, side, swapped_axes, up};
 
 /// What an atlas keeps of its size and options: lengths in pixels, the direction of its shelves, and the
 /// number of its columns.
@@ -34,7 +34,7 @@ impl Frame {
     }
 }
 
-/// The first fault of a size and options, want of memory aside, where no side may pass `longest`.
+/// The first fault of a size and options, memory aside, where no side may pass `longest`.
 pub fn options_fault(longest: u16, size: Size, options: &AllocatorOptions) -> Option<OptionsFault>
     ensures { result ≡ spec.options_fault longest size options.now }
 {
@@ -89,7 +89,7 @@ pub fn asked(frame: &Frame, size: Size) -> Option<Sides>
     if !(is_side(u16::MAX, size.width) && is_side(u16::MAX, size.height)) {
         return None;
     }
-    let sides = turned(
+    let sides = swapped_axes(
         frame.vertical,
         Sides {
             along: up(side(size.width), frame.alignment_width),

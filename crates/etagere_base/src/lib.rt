@@ -15,4 +15,4 @@ pub use geometry::{Point, Rectangle, Size, point2, size2};
 pub use ids::{AllocId, Allocation};
 pub use options::{AllocatorOptions, DEFAULT_OPTIONS};
 pub use sending::send;
-pub use sides::{Sides, side, step, turned, up};
+pub use sides::{Sides, side, step, swapped_axes, up};

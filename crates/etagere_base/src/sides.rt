@@ -11,14 +11,14 @@ pub struct Sides {
 /// A signed length as an unsigned one: 0 where it is negative.
 pub fn side(length: i32) -> u32
     ensures value { result ≡ spec.side length }
-    ensures short { result < 2 ^ 31 }
+    ensures bounded { result < 2 ^ 31 }
 {
     length.max(0) as u32
 }
 
-/// Turns sides or places between the axes of the atlas and those of its shelves, either way.
-pub fn turned(vertical: bool, sides: Sides) -> Sides
-    ensures { result ≡ spec.turned vertical sides }
+/// Swaps sides or places between the axes of the atlas and those of its shelves, either way.
+pub fn swapped_axes(vertical: bool, sides: Sides) -> Sides
+    ensures { result ≡ spec.swapped_axes vertical sides }
 {
     if vertical {
         Sides {

@@ -5,9 +5,9 @@ use Rattle.std.specs.List.{find, list_any}
 use Rattle.std.proofs.lemmas.Bool.Decides.{nat_tests}
 use Rattle.std.proofs.lemmas.List.{append-nil}
 use Rattle.etagere_base.specs.declared.ids.Allocation.{Allocation}
-use Rattle.etagere.specs.Atlas.{Adds, IsSound, without_id}
+use Rattle.etagere.specs.Atlas.{Adds, KeepsPromises, without_id}
 use Rattle.etagere.specs.Lists.{Each, times}
-use Rattle.etagere.specs.Places.{held, is_held, rectangle_of}
+use Rattle.etagere.specs.Places.{allocations, is_allocated, rectangle_of}
 use Rattle.etagere.specs.State.{AtlasState}
 use Rattle.etagere_run.specs.declared.ledger.Entry.{Entry}
 use Rattle.etagere_run.specs.Live.{allocation_at, without}
@@ -21,7 +21,7 @@ id_of_entry entry = entry.allocation.id
 -- the atlas holds this allocation
 abbrev pub IsKnown : AtlasState → Allocation → Type 0
 IsKnown state allocation =
-    find (λ (other : Allocation). other.id == allocation.id) (held state) ≡ Some allocation
+    find (λ (other : Allocation). other.id == allocation.id) (allocations state) ≡ Some allocation
 
 at_here : (P : Allocation → Type 0) (b : Bool) (entry : Entry) (found : Option Entry) (allocation : Allocation)
     → option_map (λ (e : Entry). e.allocation) (cond b (Some entry) found) ≡ Some allocation
@@ -72,11 +72,11 @@ times-without id position (entry ∷ live) allocation is =
     times_here id (entry.position == position) entry (find (λ (e : Entry). e.position == position) live) live
     (without position live) allocation is (times-without id position live allocation)
 
--- a ledger's allocations are held by the atlas, each under its id
-pub held-at : (live : List Entry) (state : AtlasState) (position : ℕ) (allocation : Allocation)
-    → AreTied live state → allocation_at position live ≡ Some allocation → is_held state allocation.id ≡ true
-held-at live state position allocation tied is =
-    list_any-found (λ (other : Allocation). other.id == allocation.id) (held state) allocation
+-- a ledger's allocations are allocated by the atlas, each under its id
+pub allocated-at : (live : List Entry) (state : AtlasState) (position : ℕ) (allocation : Allocation)
+    → AreTied live state → allocation_at position live ≡ Some allocation → is_allocated state allocation.id ≡ true
+allocated-at live state position allocation tied is =
+    list_any-found (λ (other : Allocation). other.id == allocation.id) (allocations state) allocation
     (Each-at (IsKnown state) position live allocation tied.known is)
 
 pub rectangle-at : (live : List Entry) (state : AtlasState) (position : ℕ) (allocation : Allocation)
@@ -86,17 +86,17 @@ rectangle-at live state position allocation tied is =
     ap (option_map (λ (other : Allocation). other.rectangle)) (Each-at (IsKnown state) position live allocation tied.known is)
 
 -- an id tests as another, or not
-other_id : (m n : ℕ) (b : Bool) (allocations : List Allocation) (allocation : Allocation)
+other_id : (m n : ℕ) (b : Bool) (live_allocations : List Allocation) (allocation : Allocation)
     → (m == n) ≡ b
-    → list_any (λ (other : Allocation). other.id == m) allocations ≡ false
-    → find (λ (other : Allocation). other.id == n) allocations ≡ Some allocation
+    → list_any (λ (other : Allocation). other.id == m) live_allocations ≡ false
+    → find (λ (other : Allocation). other.id == n) live_allocations ≡ Some allocation
     → (m == n) ≡ false
-other_id m n true allocations allocation is none found =
+other_id m n true live_allocations allocation is none found =
     let e : m ≡ n = grind (arith, nat_tests) in
-    let some : list_any (λ (other : Allocation). other.id == m) allocations ≡ true =
-    rw e (list_any-found (λ (other : Allocation). other.id == n) allocations allocation found) in
+    let some : list_any (λ (other : Allocation). other.id == m) live_allocations ≡ true =
+    rw e (list_any-found (λ (other : Allocation). other.id == n) live_allocations allocation found) in
     absurd (cc)
-other_id m n false allocations allocation is none found = is
+other_id m n false live_allocations allocation is none found = is
 
 -- what was known before an allocation was added is known after it
 known-added : (old new : List Allocation) (added known : Allocation)
@@ -129,16 +129,16 @@ known-new old new added adds none =
 -- what was placed comes to the ledger's end
 pub AreTied-placed : (position : ℕ) (live : List Entry) (old new : AtlasState) (added : Allocation)
     → AreTied live old
-    → Adds (held old) added (held new) → is_held old added.id ≡ false → IsSound new
+    → Adds (allocations old) added (allocations new) → is_allocated old added.id ≡ false → KeepsPromises new
     → AreTied (live ++ record { position = position; allocation = added } ∷ []) new
-AreTied-placed position live old new added tied adds none sound =
+AreTied-placed position live old new added tied adds none promises =
     let entry : Entry = record { position = position; allocation = added } in
     record {
-      sound = sound;
+      promises = promises;
       known = Each-last _ live entry
           (Each-weaker (λ (e : Entry). IsKnown old e.allocation) (λ (e : Entry). IsKnown new e.allocation) live
-          (λ e known. known-added (held old) (held new) added e.allocation adds none known) tied.known)
-          (known-new (held old) (held new) added adds none);
+          (λ e known. known-added (allocations old) (allocations new) added e.allocation adds none known) tied.known)
+          (known-new (allocations old) (allocations new) added adds none);
       counted = λ id.
           let numbers : List Allocation → List ℕ = map (λ (allocation : Allocation). allocation.id) in
           ap (λ l. times id (numbers l)) adds.after
@@ -149,7 +149,7 @@ AreTied-placed position live old new added tied adds none sound =
     }
 
 -- an id that is there once at most isn't there without its entry
-alone : (id rest live : ℕ) {held : ℕ} → live ≡ cond (id == id) 1 0 + rest → held ≡ live → held ≤ 1 → rest ≡ 0
+alone : (id rest live : ℕ) {allocations : ℕ} → live ≡ cond (id == id) 1 0 + rest → allocations ≡ live → allocations ≤ 1 → rest ≡ 0
 alone id rest live is counted once = grind (arith, nat_tests)
 
 kept : (m n k : ℕ) → (m == n) ≡ true → (n == k) ≡ false → not (m == k) ≡ true
@@ -158,46 +158,46 @@ kept m n k same differs = grind (arith, nat_tests)
 other_is : (m n rest all : ℕ) → (m == n) ≡ false → all ≡ cond (n == m) 1 0 + rest → all ≡ rest
 other_is m n rest all differs is = grind (arith, nat_tests)
 
--- how often an id is held after one was returned
-counted-without : (id gone : ℕ) (b : Bool) (allocations : List Allocation) (rest : ℕ)
+-- how often an id is allocated after one was returned
+counted-without : (id gone : ℕ) (b : Bool) (live_allocations : List Allocation) (rest : ℕ)
     → (id == gone) ≡ b
-    → times id (map (λ (allocation : Allocation). allocation.id) allocations) ≡ cond (gone == id) 1 0 + rest
-    → times id (map (λ (allocation : Allocation). allocation.id) allocations) ≤ 1
-    → times id (map (λ (allocation : Allocation). allocation.id) (without_id gone allocations)) ≡ rest
-counted-without id gone true allocations rest same is once =
+    → times id (map (λ (allocation : Allocation). allocation.id) live_allocations) ≡ cond (gone == id) 1 0 + rest
+    → times id (map (λ (allocation : Allocation). allocation.id) live_allocations) ≤ 1
+    → times id (map (λ (allocation : Allocation). allocation.id) (without_id gone live_allocations)) ≡ rest
+counted-without id gone true live_allocations rest same is once =
     let e : id ≡ gone = grind (arith, nat_tests) in
     let none : rest ≡ 0 = grind (arith, nat_tests) in
-    rw (e, none) (times-filter_same (λ (allocation : Allocation). allocation.id) gone allocations)
-counted-without id gone false allocations rest differs is once =
-    times-filter_other (λ (allocation : Allocation). allocation.id) gone id allocations differs
-    ∙ other_is id gone rest (times id (map (λ (allocation : Allocation). allocation.id) allocations)) differs is
+    rw (e, none) (times-filter_same (λ (allocation : Allocation). allocation.id) gone live_allocations)
+counted-without id gone false live_allocations rest differs is once =
+    times-filter_other (λ (allocation : Allocation). allocation.id) gone id live_allocations differs
+    ∙ other_is id gone rest (times id (map (λ (allocation : Allocation). allocation.id) live_allocations)) differs is
 
 -- what was returned leaves the ledger
 pub AreTied-returned : (position : ℕ) (live : List Entry) (old new : AtlasState) (gone : Allocation)
     → AreTied live old
     → allocation_at position live ≡ Some gone
-    → held new ≡ without_id gone.id (held old) → IsSound new
+    → allocations new ≡ without_id gone.id (allocations old) → KeepsPromises new
     → AreTied (without position live) new
-AreTied-returned position live old new gone tied is after sound =
+AreTied-returned position live old new gone tied is after promises =
     let rest = without position live in
     record {
-      sound = sound;
+      promises = promises;
       known = Each-both (λ (e : Entry). IsKnown old e.allocation) (λ (e : Entry). (id_of_entry e == gone.id) ≡ false) (λ (e : Entry). IsKnown new e.allocation) rest
           (λ e known differs. ap (find (λ (other : Allocation). other.id == e.allocation.id)) after
-          ∙ find-filter (λ (other : Allocation). other.id == e.allocation.id) (λ (other : Allocation). not (other.id == gone.id)) (held old)
+          ∙ find-filter (λ (other : Allocation). other.id == e.allocation.id) (λ (other : Allocation). not (other.id == gone.id)) (allocations old)
           (λ other same. kept other.id e.allocation.id gone.id same differs)
           ∙ known)
           (Each-without _ position live tied.known)
           (Each-times id_of_entry gone.id rest
           (alone gone.id (times gone.id (map id_of_entry rest)) (times gone.id (map id_of_entry live))
-          (times-without gone.id position live gone is) (tied.counted gone.id) (tied.sound.ids gone.id)));
+          (times-without gone.id position live gone is) (tied.counted gone.id) (tied.promises.ids gone.id)));
       counted = λ id.
           ap (λ (l : List Allocation). times id (map (λ (allocation : Allocation). allocation.id) l)) after
-          ∙ counted-without id gone.id (id == gone.id) (held old) (times id (map id_of_entry rest)) refl
-          (tied.counted id ∙ times-without id position live gone is) (tied.sound.ids id);
+          ∙ counted-without id gone.id (id == gone.id) (allocations old) (times id (map id_of_entry rest)) refl
+          (tied.counted id ∙ times-without id position live gone is) (tied.promises.ids id);
     }
 
 -- a cleared atlas has an empty ledger
-pub AreTied-none : (new : AtlasState) → held new ≡ [] → IsSound new → AreTied [] new
-AreTied-none new none sound =
-    record { sound = sound; known = tt; counted = λ id. ap (λ l. times id (map (λ (allocation : Allocation). allocation.id) l)) none }
+pub AreTied-none : (new : AtlasState) → allocations new ≡ [] → KeepsPromises new → AreTied [] new
+AreTied-none new none promises =
+    record { promises = promises; known = tt; counted = λ id. ap (λ l. times id (map (λ (allocation : Allocation). allocation.id) l)) none }

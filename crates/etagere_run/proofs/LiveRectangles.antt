@@ -1,4 +1,4 @@
--- What is live is held, and so lies as what is held does.
+-- What is live is allocated, and so lies as what is allocated does.
 use Rattle.std.proofs.Common.{◌≡◌, ℕ, ◌+◌, ◌≤◌, Bool, true, false, cond, ◌==◌, ap, Some, List, [], ◌∷◌, map, refl, subst, arith}
 use Rattle.std.specs.Prelude.{option_map}
 use Rattle.std.specs.List.{find}
@@ -6,11 +6,11 @@ use Rattle.std.proofs.lemmas.Bool.Decides.{nat_tests}
 use Rattle.etagere_base.specs.declared.geometry.Rectangle.{Rectangle}
 use Rattle.etagere_base.specs.declared.ids.Allocation.{Allocation}
 use Rattle.etagere.specs.Lists.{Each, times}
-use Rattle.etagere.specs.Places.{held, rectangle_of}
+use Rattle.etagere.specs.Places.{allocations, rectangle_of}
 use Rattle.etagere.specs.Rectangles.{AreApart, SharesNone}
 use Rattle.etagere.specs.State.{AtlasState}
 use Rattle.etagere_run.specs.declared.ledger.Entry.{Entry}
-use Rattle.etagere_run.specs.Live.{allocations}
+use Rattle.etagere_run.specs.Live.{live_allocations}
 use Rattle.etagere_run.specs.Tied.{AreTied}
 use Rattle.etagere_run.proofs.Found.{Each-both, Each-find, Each-times, Each-weaker, empty-times}
 use Rattle.etagere_run.proofs.Ledgers.{IsKnown, id_of_entry}
@@ -34,9 +34,9 @@ apart_here s t false true one two here others never first second apart later =
     subst (λ (a : Allocation). SharesNone one.rectangle a.rectangle) e (λ x y in_one in_here. h x y in_here in_one)
 apart_here s t false false one two here others never first second apart later = later first second
 
-apart_found : (s t : Allocation → Bool) (one two : Allocation) (allocations : List Allocation)
+apart_found : (s t : Allocation → Bool) (one two : Allocation) (live_allocations : List Allocation)
     → ((a : Allocation) → s a ≡ true → t a ≡ true → ⊥)
-    → AreApart allocations → find s allocations ≡ Some one → find t allocations ≡ Some two
+    → AreApart live_allocations → find s live_allocations ≡ Some one → find t live_allocations ≡ Some two
     → SharesNone one.rectangle two.rectangle
 apart_found s t one two [] never apart first second = absurd (cc)
 apart_found s t one two (here ∷ others) never apart first second =
@@ -46,12 +46,12 @@ apart_found s t one two (here ∷ others) never apart first second =
 never_both : (m one two : ℕ) → (two == one) ≡ false → (m == one) ≡ true → (m == two) ≡ true → ⊥
 never_both m one two differ first second = grind (arith, nat_tests)
 
--- two that are held under ids that differ lie apart
+-- two that are allocated under ids that differ lie apart
 apart_known : (state : AtlasState) (one two : Allocation)
-    → AreApart (held state) → IsKnown state one → IsKnown state two → (two.id == one.id) ≡ false
+    → AreApart (allocations state) → IsKnown state one → IsKnown state two → (two.id == one.id) ≡ false
     → SharesNone one.rectangle two.rectangle
 apart_known state one two apart first second differ =
-    apart_found (λ (a : Allocation). a.id == one.id) (λ (a : Allocation). a.id == two.id) one two (held state)
+    apart_found (λ (a : Allocation). a.id == one.id) (λ (a : Allocation). a.id == two.id) one two (allocations state)
     (λ a. never_both a.id one.id two.id differ) apart first second
 
 Each-mapped : {X Y : Type 0} (P : Y → Type 0) (f : X → Y) (xs : List X) → Each (λ (x : X). P (f x)) xs → Each P (map f xs)
@@ -62,10 +62,10 @@ first_once : (n m : ℕ) → cond (n == n) 1 0 + m ≤ 1 → m ≡ 0
 first_once n m once = grind (arith, nat_tests)
 
 AreApart-known : (state : AtlasState) (live : List Entry)
-    → AreApart (held state)
+    → AreApart (allocations state)
     → Each (λ (entry : Entry). IsKnown state entry.allocation) live
     → ((id : ℕ) → times id (map id_of_entry live) ≤ 1)
-    → AreApart (allocations live)
+    → AreApart (live_allocations live)
 AreApart-known state [] apart known once = tt
 AreApart-known state (entry ∷ live) apart known once =
     let one = entry.allocation in (
@@ -80,19 +80,19 @@ AreApart-known state (entry ∷ live) apart known once =
 -- the ids of what is live differ
 pub ids-tied : (live : List Entry) (state : AtlasState) → AreTied live state
     → (id : ℕ) → times id (map (λ (entry : Entry). entry.allocation.id) live) ≤ 1
-ids-tied live state tied id = omega (arith, tied.counted id, tied.sound.ids id)
+ids-tied live state tied id = omega (arith, tied.counted id, tied.promises.ids id)
 
 -- what is live lies apart
-pub AreApart-tied : (live : List Entry) (state : AtlasState) → AreTied live state → AreApart (allocations live)
+pub AreApart-tied : (live : List Entry) (state : AtlasState) → AreTied live state → AreApart (live_allocations live)
 AreApart-tied live state tied =
-    AreApart-known state live tied.sound.apart tied.known (ids-tied live state tied)
+    AreApart-known state live tied.promises.apart tied.known (ids-tied live state tied)
 
--- what holds of each rectangle that is held holds of each that is live
+-- what holds of each rectangle that is allocated holds of each that is live
 pub rectangles-tied : (P : Rectangle → Type 0) (live : List Entry) (state : AtlasState) → AreTied live state
-    → Each (λ (allocation : Allocation). P allocation.rectangle) (held state) → Each (λ (entry : Entry). P entry.allocation.rectangle) live
+    → Each (λ (allocation : Allocation). P allocation.rectangle) (allocations state) → Each (λ (entry : Entry). P entry.allocation.rectangle) live
 rectangles-tied P live state tied each =
     Each-weaker (λ (entry : Entry). IsKnown state entry.allocation) _ live
-    (λ entry known. Each-find (λ (a : Allocation). P a.rectangle) (λ (a : Allocation). a.id == entry.allocation.id) (held state) entry.allocation each known)
+    (λ entry known. Each-find (λ (a : Allocation). P a.rectangle) (λ (a : Allocation). a.id == entry.allocation.id) (allocations state) entry.allocation each known)
     tied.known
 
 -- the atlas has what is live where it was given
@@ -103,6 +103,6 @@ kept-tied live state tied =
     (λ entry known. ap (option_map (λ (a : Allocation). a.rectangle)) known)
     tied.known
 
--- where nothing is live, nothing is held
-pub empty-tied : (state : AtlasState) → AreTied [] state → held state ≡ []
-empty-tied state tied = empty-times (λ (a : Allocation). a.id) (held state) tied.counted
+-- where nothing is live, nothing is allocated
+pub empty-tied : (state : AtlasState) → AreTied [] state → allocations state ≡ []
+empty-tied state tied = empty-times (λ (a : Allocation). a.id) (allocations state) tied.counted

@@ -4,9 +4,9 @@ use Rattle.std.specs.Prelude.{option_map}
 use Rattle.etagere_base.specs.declared.geometry.Rectangle.{Rectangle}
 use Rattle.etagere_base.specs.declared.geometry.Size.{Size}
 use Rattle.etagere_base.specs.declared.ids.Allocation.{Allocation}
-use Rattle.etagere.specs.Atlas.{Adds, Allocates, IsSound, without_id}
+use Rattle.etagere.specs.Atlas.{Adds, Allocates, KeepsPromises, without_id}
 use Rattle.etagere.specs.Fresh.{fresh}
-use Rattle.etagere.specs.Places.{held}
+use Rattle.etagere.specs.Places.{allocations}
 use Rattle.etagere.specs.Rectangles.{IsLarge}
 use Rattle.etagere.specs.Returning.{returned}
 use Rattle.etagere.specs.State.{AtlasState}
@@ -21,22 +21,22 @@ use Rattle.etagere_run.proofs.Ledgers.{AreTied-none, AreTied-placed, AreTied-ret
 pub placed : (position : ℕ) (size : Size) (allocation : Allocation) (entries later : List Entry) (old new : AtlasState)
     → AreTied entries old
     → Allocates old size allocation new
-    → Adds (held old) allocation (held new)
+    → Adds (allocations old) allocation (allocations new)
     → IsLarge old.frame size allocation.rectangle
-    → IsSound new
+    → KeepsPromises new
     → later ≡ entries ++ record { position = position; allocation = allocation } ∷ []
     → IsAnswer position (Allocate size) (Placed allocation) entries later old new
-placed position size allocation entries later old new tied allocates adds large sound later_is =
+placed position size allocation entries later old new tied allocates adds large promises later_is =
     record {
       step = record {
         allocates = allocates;
-        valid = sound.valid;
-        rectangle = ap (option_map (λ (a : Allocation). a.rectangle)) (known-new (held old) (held new) allocation adds allocates.fresh_id);
+        valid = promises.valid;
+        rectangle = ap (option_map (λ (a : Allocation). a.rectangle)) (known-new (allocations old) (allocations new) allocation adds allocates.fresh_id);
         large = large;
       };
       live_is = later_is;
       frame = ap (λ (s : AtlasState). s.frame) allocates.after;
-      tied = rw later_is (AreTied-placed position entries old new allocation tied adds allocates.fresh_id sound);
+      tied = rw later_is (AreTied-placed position entries old new allocation tied adds allocates.fresh_id promises);
     }
 
 -- what was live at a position went back
@@ -44,16 +44,16 @@ pub gone_back : (position other : ℕ) (allocation : Allocation) (entries later 
     → AreTied entries old
     → allocation_at other entries ≡ Some allocation
     → new ≡ returned old allocation.id
-    → held new ≡ without_id allocation.id (held old)
-    → IsSound new
+    → allocations new ≡ without_id allocation.id (allocations old)
+    → KeepsPromises new
     → later ≡ without other entries
     → IsAnswer position (Return other) Returned entries later old new
-gone_back position other allocation entries later old new tied is new_is held_is sound later_is =
+gone_back position other allocation entries later old new tied is new_is held_is promises later_is =
     record {
       step = record { allocation = allocation; live_is = is; after = new_is };
       live_is = later_is;
       frame = ap (λ (s : AtlasState). s.frame) new_is;
-      tied = rw later_is (AreTied-returned other entries old new allocation tied is held_is sound);
+      tied = rw later_is (AreTied-returned other entries old new allocation tied is held_is promises);
     }
 
 -- what is live at a position was looked up
@@ -73,12 +73,12 @@ looked position other allocation rectangle index entries state tied is rectangle
 
 -- the atlas was cleared
 pub cleared : (position : ℕ) (entries later : List Entry) (old new : AtlasState)
-    → new ≡ fresh old.frame → held new ≡ [] → IsSound new → later ≡ []
+    → new ≡ fresh old.frame → allocations new ≡ [] → KeepsPromises new → later ≡ []
     → IsAnswer position Clear Cleared entries later old new
-cleared position entries later old new new_is none sound later_is =
+cleared position entries later old new new_is none promises later_is =
     record {
       step = new_is;
       live_is = later_is;
       frame = ap (λ (s : AtlasState). s.frame) new_is;
-      tied = rw later_is (AreTied-none new none sound);
+      tied = rw later_is (AreTied-none new none promises);
     }

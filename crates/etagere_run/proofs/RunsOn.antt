@@ -8,10 +8,10 @@ use Rattle.etagere_base.specs.declared.geometry.Size.{Size}
 use Rattle.etagere_base.specs.declared.ids.Allocation.{Allocation}
 use Rattle.etagere_base.specs.declared.options.AllocatorOptions.{AllocatorOptions}
 use Rattle.etagere_base.specs.Frames.{atlas_frame}
-use Rattle.etagere.specs.Atlas.{IsSound}
+use Rattle.etagere.specs.Atlas.{KeepsPromises}
 use Rattle.etagere.specs.Fresh.{fresh, without_records}
 use Rattle.etagere.specs.Lists.{Each, times}
-use Rattle.etagere.specs.Places.{held, rectangle_of}
+use Rattle.etagere.specs.Places.{allocations, rectangle_of}
 use Rattle.etagere.specs.Rectangles.{AreApart, IsAligned, IsInside, IsLarge}
 use Rattle.etagere.specs.State.{AtlasState}
 use Rattle.etagere_run.specs.declared.commands.AtlasCommand.{AtlasCommand}
@@ -19,8 +19,8 @@ use Rattle.etagere_run.specs.declared.commands.AtlasCommand.TheVariants.{Allocat
 use Rattle.etagere_run.specs.declared.commands.Reply.{Reply}
 use Rattle.etagere_run.specs.declared.commands.Reply.TheVariants.{Placed, Refused, Returned, At, NotLive, Cleared, NoMemory}
 use Rattle.etagere_run.specs.declared.ledger.Entry.{Entry}
-use Rattle.etagere_run.specs.Live.{allocations, live, live_after, live_from}
-use Rattle.etagere_run.specs.Runs.{IsGiven, IsOrderly, IsOrderlyThroughout, Runs, RunsTo, Step}
+use Rattle.etagere_run.specs.Live.{live_allocations, live, live_after, live_from}
+use Rattle.etagere_run.specs.Runs.{IsGiven, RunKeepsPromises, RunKeepsPromisesThroughout, Runs, RunsTo, Step}
 use Rattle.etagere_run.specs.Tied.{AreTied, IsAnswer}
 use Rattle.etagere_run.proofs.Found.{Each-last, Each-weaker}
 use Rattle.etagere_run.proofs.Ledgers.{AreTied-none, Each-without}
@@ -168,37 +168,37 @@ IsUnderWay-more frame commands replies entries later old new command reply way s
     }
 
 -- what is live now is orderly
-IsOrderly-now : (frame : Frame) (commands : List AtlasCommand) (replies : List Reply) (entries : List Entry) (state : AtlasState)
-    → IsUnderWay frame commands replies entries state → IsOrderly frame commands replies
-IsOrderly-now frame commands replies entries state way =
+RunKeepsPromises-now : (frame : Frame) (commands : List AtlasCommand) (replies : List Reply) (entries : List Entry) (state : AtlasState)
+    → IsUnderWay frame commands replies entries state → RunKeepsPromises frame commands replies
+RunKeepsPromises-now frame commands replies entries state way =
     record {
       state = state;
       run = way.run;
       given = subst (Each (IsGiven frame commands replies)) way.live_is way.given;
       inside = subst (Each (λ (entry : Entry). IsInside frame entry.allocation.rectangle)) way.live_is
           (subst (λ (f : Frame). Each (λ (entry : Entry). IsInside f entry.allocation.rectangle) entries) way.frame_is
-          (rectangles-tied (IsInside state.frame) entries state way.tied way.tied.sound.inside));
+          (rectangles-tied (IsInside state.frame) entries state way.tied way.tied.promises.inside));
       aligned = subst (Each (λ (entry : Entry). IsAligned frame entry.allocation.rectangle)) way.live_is
           (subst (λ (f : Frame). Each (λ (entry : Entry). IsAligned f entry.allocation.rectangle) entries) way.frame_is
-          (rectangles-tied (IsAligned state.frame) entries state way.tied way.tied.sound.aligned));
-      apart = subst (λ (l : List Entry). AreApart (allocations l)) way.live_is (AreApart-tied entries state way.tied);
+          (rectangles-tied (IsAligned state.frame) entries state way.tied way.tied.promises.aligned));
+      apart = subst (λ (l : List Entry). AreApart (live_allocations l)) way.live_is (AreApart-tied entries state way.tied);
       ids = subst (λ (l : List Entry). (id : ℕ) → times id (map (λ entry. entry.allocation.id) l) ≤ 1) way.live_is
           (ids-tied entries state way.tied);
       kept = subst (Each (λ (entry : Entry). rectangle_of state entry.allocation.id ≡ Some entry.allocation.rectangle)) way.live_is
           (kept-tied entries state way.tied);
       empty = λ none.
-          way.tied.sound.empty (empty-tied state (subst (λ (l : List Entry). AreTied l state) (way.live_is ∙ none) way.tied))
+          way.tied.promises.empty (empty-tied state (subst (λ (l : List Entry). AreTied l state) (way.live_is ∙ none) way.tied))
           ∙ ap (λ (f : Frame). without_records (fresh f)) way.frame_is;
     }
 
 -- one moment more
-IsOrderlyThroughout-more : (frame : Frame) (commands : List AtlasCommand) (replies : List Reply)
+RunKeepsPromisesThroughout-more : (frame : Frame) (commands : List AtlasCommand) (replies : List Reply)
     (command : AtlasCommand) (reply : Reply)
     → length replies ≡ length commands
-    → IsOrderlyThroughout frame commands replies
-    → IsOrderly frame (commands ++ command ∷ []) (replies ++ reply ∷ [])
-    → IsOrderlyThroughout frame (commands ++ command ∷ []) (replies ++ reply ∷ [])
-IsOrderlyThroughout-more frame commands replies command reply same so_far now n within =
+    → RunKeepsPromisesThroughout frame commands replies
+    → RunKeepsPromises frame (commands ++ command ∷ []) (replies ++ reply ∷ [])
+    → RunKeepsPromisesThroughout frame (commands ++ command ∷ []) (replies ++ reply ∷ [])
+RunKeepsPromisesThroughout-more frame commands replies command reply same so_far now n within =
     ⊎_elim
     (λ last. rw (
       take_all n (commands ++ command ∷ []) (omega (arith, length-append commands (command ∷ []), last)),
@@ -215,11 +215,11 @@ pub goes_on : (frame : Frame) (commands : List AtlasCommand) (position : ℕ) (d
     (reply : Reply) (entries later : List Entry) (old new : AtlasState)
     → position < length commands
     → IsUnderWay frame (take position commands) replies entries old
-    → IsOrderlyThroughout frame (take position commands) replies
+    → RunKeepsPromisesThroughout frame (take position commands) replies
     → IsAnswer position (get_or commands position d) reply entries later old new
     → longer ≡ replies ++ reply ∷ []
     → IsUnderWay frame (take (position + 1) commands) longer later new
-    × IsOrderlyThroughout frame (take (position + 1) commands) longer
+    × RunKeepsPromisesThroughout frame (take (position + 1) commands) longer
 goes_on frame commands position d replies longer reply entries later old new within way so_far answer longer_is =
     let command = get_or commands position d in
     let here = length-take-le position commands (omega arith) in
@@ -228,26 +228,26 @@ goes_on frame commands position d replies longer reply entries later old new wit
     (answer.live_is ∙ ap (λ n. live_after n command reply entries) (sym here)) answer.frame answer.tied in
     rw (take_more commands position d within, longer_is) (
       further,
-      IsOrderlyThroughout-more frame (take position commands) replies command reply way.lengths so_far
-          (IsOrderly-now frame (take position commands ++ command ∷ []) (replies ++ reply ∷ []) later new further),
+      RunKeepsPromisesThroughout-more frame (take position commands) replies command reply way.lengths so_far
+          (RunKeepsPromises-now frame (take position commands ++ command ∷ []) (replies ++ reply ∷ []) later new further),
     )
 
 -- the run before the first command
-pub starts : (frame : Frame) (state : AtlasState) → state ≡ fresh frame → held state ≡ [] → IsSound state
-    → IsUnderWay frame [] [] [] state × IsOrderlyThroughout frame [] []
-starts frame state is none sound =
-    let way = IsUnderWay-none frame state is (AreTied-none state none sound) in
+pub starts : (frame : Frame) (state : AtlasState) → state ≡ fresh frame → allocations state ≡ [] → KeepsPromises state
+    → IsUnderWay frame [] [] [] state × RunKeepsPromisesThroughout frame [] []
+starts frame state is none promises =
+    let way = IsUnderWay-none frame state is (AreTied-none state none promises) in
     let commands : List AtlasCommand = [] in
     let replies : List Reply = [] in
-    (way, λ n within. rw (take_all n commands (omega arith), take_all n replies (omega arith)) (IsOrderly-now frame [] [] [] state way))
+    (way, λ n within. rw (take_all n commands (omega arith), take_all n replies (omega arith)) (RunKeepsPromises-now frame [] [] [] state way))
 
 -- after the last command
 pub ends : (size : Size) (options : AllocatorOptions) (commands : List AtlasCommand) (position : ℕ) (replies : List Reply)
     (entries : List Entry) (state : AtlasState)
     → length commands ≤ position
     → IsUnderWay (atlas_frame size options) (take position commands) replies entries state
-    → IsOrderlyThroughout (atlas_frame size options) (take position commands) replies
-    → RunsTo size options commands replies × IsOrderlyThroughout (atlas_frame size options) commands replies
+    → RunKeepsPromisesThroughout (atlas_frame size options) (take position commands) replies
+    → RunsTo size options commands replies × RunKeepsPromisesThroughout (atlas_frame size options) commands replies
 ends size options commands position replies entries state all way throughout =
     let is = take_all position commands all in
     let run : RunsTo size options (take position commands) replies = (state, way.run) in

@@ -17,8 +17,8 @@ abbrev pub allocation_at : ℕ → List Entry → Option Allocation
 allocation_at position live =
     option_map (λ entry. entry.allocation) (find (λ entry. entry.position == position) live)
 
-abbrev pub allocations : List Entry → List Allocation
-allocations live = map (λ entry. entry.allocation) live
+abbrev pub live_allocations : List Entry → List Allocation
+live_allocations live = map (λ entry. entry.allocation) live
 
 -- what is live after the command at a position got its reply: what was placed comes last, what was returned goes,
 -- and all goes where the atlas was cleared

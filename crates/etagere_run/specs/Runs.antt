@@ -6,7 +6,7 @@ use Rattle.etagere_base.specs.declared.geometry.Size.{Size}
 use Rattle.etagere_base.specs.declared.ids.Allocation.{Allocation}
 use Rattle.etagere_base.specs.declared.options.AllocatorOptions.{AllocatorOptions}
 use Rattle.etagere_base.specs.Frames.{atlas_frame, options_fault}
-use Rattle.etagere.specs.Atlas.{Allocates, NeedsCut}
+use Rattle.etagere.specs.Atlas.{Allocates, NeedsSplit}
 use Rattle.etagere.specs.Choice.{IsRefused}
 use Rattle.etagere.specs.Fresh.{fresh, without_records}
 use Rattle.etagere.specs.Lists.{Each, times}
@@ -22,7 +22,7 @@ use Rattle.etagere_run.specs.declared.commands.Reply.TheVariants.{Placed, Refuse
 use Rattle.etagere_run.specs.declared.faults.RunFault.{RunFault}
 use Rattle.etagere_run.specs.declared.faults.RunFault.TheVariants as run_faults
 use Rattle.etagere_run.specs.declared.ledger.Entry.{Entry}
-use Rattle.etagere_run.specs.Live.{allocation_at, allocations, live, live_after}
+use Rattle.etagere_run.specs.Live.{allocation_at, live_allocations, live, live_after}
 
 -- a size got its place: what was allocated is where it was given, and large enough
 pub record Places (old : AtlasState) (size : Size) (allocation : Allocation) (new : AtlasState) : Type 0 where
@@ -48,7 +48,7 @@ pub record Shows (entries : List Entry) (position : ℕ) (rectangle : Rectangle)
 abbrev pub Step : List Entry → AtlasState → AtlasCommand → Reply → AtlasState → Type 0
 Step entries old (Allocate size) (Placed allocation) new = Places old size allocation new
 Step entries old (Allocate size) Refused new = IsRefused old size × (new ≡ old)
-Step entries old (Allocate size) NoMemory new = NeedsCut old size × (new ≡ old)
+Step entries old (Allocate size) NoMemory new = NeedsSplit old size × (new ≡ old)
 Step entries old (Return position) Returned new = GivesBack entries old position new
 Step entries old (Return position) NotLive new = (allocation_at position entries ≡ None) × (new ≡ old)
 Step entries old (Look position) (At rectangle index) new = Shows entries position rectangle index × (new ≡ old)
@@ -102,23 +102,23 @@ pub record IsGiven (frame : Frame) (commands : List AtlasCommand) (replies : Lis
 -- what holds after each run of a new atlas, of the rectangles that are live, as they were first given: they are large
 -- enough, lie inside, aligned, and share no unit square, their ids differ, and the atlas still has them there; and where
 -- none is live, the atlas is as new but for its records
-pub record IsOrderly (frame : Frame) (commands : List AtlasCommand) (replies : List Reply) : Type 0 where
+pub record RunKeepsPromises (frame : Frame) (commands : List AtlasCommand) (replies : List Reply) : Type 0 where
   pub state : AtlasState
   pub run : Runs 0 [] (fresh frame) commands replies state
   pub given : Each (IsGiven frame commands replies) (live commands replies)
   pub inside : Each (λ (entry : Entry). IsInside frame entry.allocation.rectangle) (live commands replies)
   pub aligned : Each (λ (entry : Entry). IsAligned frame entry.allocation.rectangle) (live commands replies)
-  pub apart : AreApart (allocations (live commands replies))
+  pub apart : AreApart (live_allocations (live commands replies))
   pub ids : (id : ℕ) → times id (map (λ entry. entry.allocation.id) (live commands replies)) ≤ 1
   pub kept : Each (λ (entry : Entry). rectangle_of state entry.allocation.id ≡ Some entry.allocation.rectangle) (live commands replies)
   pub empty : live commands replies ≡ [] → without_records state ≡ without_records (fresh frame)
 
 -- that holds at each moment: of each front of the commands and their replies
-abbrev pub IsOrderlyThroughout : Frame → List AtlasCommand → List Reply → Type 0
-IsOrderlyThroughout frame commands replies =
-    (n : ℕ) → n ≤ length commands → IsOrderly frame (take n commands) (take n replies)
+abbrev pub RunKeepsPromisesThroughout : Frame → List AtlasCommand → List Reply → Type 0
+RunKeepsPromisesThroughout frame commands replies =
+    (n : ℕ) → n ≤ length commands → RunKeepsPromises frame (take n commands) (take n replies)
 
--- why a run of this size and options may not start: their first fault, or want of memory
+-- why a run of this size and options may not start: their first fault, or that memory ran out
 abbrev pub RefusesRun : Size → AllocatorOptions → RunFault → Type 0
 RefusesRun size options (run_faults.Options fault) =
     MatchOption (options_fault 65535 size options) (fault ≡ faults.Memory) (λ first. fault ≡ first)

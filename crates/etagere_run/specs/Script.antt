@@ -42,7 +42,7 @@ request_of after (line ∷ lines) = do
 abbrev pub script_of : List ℕ → Result Request ℕ
 script_of input = request_of (length (lines_of input) + 1) (filled_from 1 (lines_of input))
 
--- a fault is the one that the definition says, but for want of memory
+-- a fault is the one that the definition says, unless memory ran out
 abbrev pub Fails : {A : Type 0} → ScriptFault → Result A ℕ → Type 0
 Fails (BadLine number) meaning = meaning ≡ Err number
 Fails Memory meaning = ⊤

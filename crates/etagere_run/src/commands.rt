@@ -24,7 +24,7 @@ pub enum Reply {
     Returned,
     /// The allocation is at this rectangle, as it was first given; the number is its id modulo 65536.
     At(Rectangle, u32),
-    /// The position names nothing that is held now.
+    /// The position names nothing that is allocated now.
     NotLive,
     /// The atlas is empty.
     Cleared,

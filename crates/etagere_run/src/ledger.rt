@@ -43,7 +43,7 @@ impl Ledger {
         self.entries.push(entry).unwrap();
     }
 
-    /// What the command at a position was given, if it is held.
+    /// What the command at a position was given, if it is allocated.
     pub fn find(&self, position: usize) -> Option<Allocation>
         ensures { result ≡ allocation_at position self.now.entries.items }
     {
@@ -51,7 +51,7 @@ impl Ledger {
         Some(self.entries[place].allocation)
     }
 
-    /// Takes out what the command at a position was given, if it is held.
+    /// Takes out what the command at a position was given, if it is allocated.
     pub fn take(&mut self, position: usize) -> Option<Allocation>
         ensures found { result ≡ allocation_at position self.old.entries.items }
         ensures taken { IfSome result

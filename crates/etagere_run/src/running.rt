@@ -1,6 +1,6 @@
 ghost use Rattle.std.specs.Prelude.{ℕ, ◌<◌, ◌≤◌, ◌+◌, vec_capacity, vec_len, IfOk, IfErr, OnOk};
 ghost use Rattle.etagere_base.specs.Frames.{IsAccepted, atlas_frame};
-ghost use Rattle.etagere_run.specs.Runs.{IsOrderlyThroughout, RefusesRun, RunsTo};
+ghost use Rattle.etagere_run.specs.Runs.{RunKeepsPromisesThroughout, RefusesRun, RunsTo};
 ghost use Rattle.etagere_run.specs.Tied.{AreTied, IsAnswer};
 
 use crate::commands::{AtlasCommand, Reply};
@@ -11,7 +11,7 @@ use std::alloc::Global;
 
 /// Runs the commands in order on a new atlas of this size in pixels, and gives a reply to each.
 ///
-/// `Options` tells the first fault of the size and options, and want of memory for the atlas only where
+/// `Options` tells the first fault of the size and options, and that memory ran out for the atlas only where
 /// they have none; `Memory` comes where there is no room for the replies or for what is live, which is
 /// taken first. After an error nothing was run. Takes memory for a reply and a ledger entry for each
 /// command, beside what the atlas takes. Each command costs what its call of the atlas does, and a search
@@ -23,8 +23,8 @@ pub fn run_atlas(
     commands: &[AtlasCommand],
 ) -> Result<Vec<Reply>, RunFault>
     ensures run { IfOk result (λ replies. RunsTo size options.now commands.now replies.items) }
-    ensures orderly { IfOk result
-        (λ replies. IsOrderlyThroughout (atlas_frame size options.now) commands.now replies.items) }
+    ensures promises { IfOk result
+        (λ replies. RunKeepsPromisesThroughout (atlas_frame size options.now) commands.now replies.items) }
     ensures accepted { OnOk result (IsAccepted 65535 size options.now) }
     ensures err { IfErr result (RefusesRun size options.now) }
 {

@@ -1,5 +1,5 @@
 use Rattle.std.proofs.lemmas.Result.{on_ok_weaker, on_err_weaker}
-use Rattle.etagere.proofs.TakenEdits.{taken-whole, cuts-run}
+use Rattle.etagere.proofs.TakenEdits.{taken-whole, splits-item}
 use Rattle.etagere.proofs.taking.take_whole.Goals as goal
 
 pub returns-clause-ok : goal.returns-clause-ok
@@ -9,8 +9,8 @@ returns-clause-ok c =
     c.requires.takeable.within c.requires.whole c.index_mut-shelf.ensures.value c.height-height.ensures)
     c.take.ensures.ok
 
-pub returns-clause-cut : goal.returns-clause-cut
-returns-clause-cut c =
+pub returns-clause-split : goal.returns-clause-split
+returns-clause-split c =
     on_err_weaker c.take.result
-    (cuts-run c.args.frame.now c.args.placement.now c.args.shelves.now.items c.index_mut-shelf.result.now c.requires.takeable.within c.index_mut-shelf.ensures.value)
-    c.take.ensures.cut
+    (splits-item c.args.frame.now c.args.placement.now c.args.shelves.now.items c.index_mut-shelf.result.now c.requires.takeable.within c.index_mut-shelf.ensures.value)
+    c.take.ensures.split

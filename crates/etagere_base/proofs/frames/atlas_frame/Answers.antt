@@ -7,8 +7,8 @@ use Rattle.etagere_base.proofs.frames.atlas_frame.Goals as goal
 
 pub returns-clause-frame : goal.returns-clause-frame
 returns-clause-frame c =
-    let short_width : side c.args.options.now.alignment.width < 2 ^ 31 = search (rules, c.side-3.ensures.short) in
-    let short_height : side c.args.options.now.alignment.height < 2 ^ 31 = search (rules, c.side-4.ensures.short) in
+    let short_width : side c.args.options.now.alignment.width < 2 ^ 31 = search (rules, c.side-3.ensures.bounded) in
+    let short_height : side c.args.options.now.alignment.height < 2 ^ 31 = search (rules, c.side-4.ensures.bounded) in
     let made : Frame = record {
       width = c.side.result;
       height = c.side-2.result;

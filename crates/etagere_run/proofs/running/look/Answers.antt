@@ -10,7 +10,7 @@ returns-in-Some-get c position =
     looked position c.args.other c.in-Some.allocation c.in-Some-get.rectangle (c.serialize.result % 65536)
     c.args.ledger.now.entries.items c.args.atlas.now c.requires (sym c.in-Some.ensures) (cc) (ap (λ n. n % 65536) c.serialize.ensures)
 
--- what is live is held, so its rectangle is known
+-- what is live is allocated, so its rectangle is known
 pub returns-in-None : goal.returns-in-None
 returns-in-None c position =
     let is = rectangle-at c.args.ledger.now.entries.items c.args.atlas.now c.args.other c.in-Some.allocation c.requires (sym c.in-Some.ensures) in

@@ -1,8 +1,8 @@
 use Rattle.std.proofs.Common.{◌≡◌, ◌<◌, ◌≤◌, [], ◌∷◌, ◌++◌, length, arith, rules}
 use Rattle.etagere_base.specs.Frames.{IsAccepted, atlas_frame}
-use Rattle.etagere.specs.Atlas.{IsSound}
+use Rattle.etagere.specs.Atlas.{KeepsPromises}
 use Rattle.etagere.specs.Fresh.{fresh}
-use Rattle.etagere.specs.Places.{held}
+use Rattle.etagere.specs.Places.{allocations}
 use Rattle.etagere_run.proofs.RunsOn.{ends, goes_on, starts}
 use Rattle.etagere_run.proofs.running.run_atlas.Goals as goal
 
@@ -28,12 +28,12 @@ pub loop-position-init : goal.loop-position-init
 loop-position-init c =
     let frame = atlas_frame c.args.size c.args.options.now in
     let is : c.in_ok-atlas.atlas ≡ fresh frame = search rules in
-    let none : held c.in_ok-atlas.atlas ≡ [] = search rules in
-    let sound : IsSound c.in_ok-atlas.atlas = search rules in
+    let none : allocations c.in_ok-atlas.atlas ≡ [] = search rules in
+    let promises : KeepsPromises c.in_ok-atlas.atlas = search rules in
     let accepted : IsAccepted 65535 c.args.size c.args.options.now = search rules in
     let replies : c.in_ok-replies.replies.items ≡ [] = search rules in
     let entries : c.in_ok-ledger.ledger.entries.items ≡ [] = search rules in
-    let start = starts frame c.in_ok-atlas.atlas is none sound in
+    let start = starts frame c.in_ok-atlas.atlas is none promises in
     record {
       way = rw (replies, entries) start.0;
       throughout = rw replies start.1;
@@ -50,4 +50,4 @@ returns c =
     let end = ends c.args.size c.args.options.now c.args.commands.now c.loop-position.position
     c.loop-position.replies.items c.loop-position.ledger.entries.items c.loop-position.atlas all
     c.loop-position.invariant.way c.loop-position.invariant.throughout in
-    record { run = end.0; orderly = end.1; accepted = c.loop-position.invariant.accepted; err = tt }
+    record { run = end.0; promises = end.1; accepted = c.loop-position.invariant.accepted; err = tt }

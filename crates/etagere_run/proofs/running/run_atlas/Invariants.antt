@@ -1,7 +1,7 @@
 use Rattle.std.proofs.Common.{◌≡◌, ◌≤◌, length, take}
 use Rattle.std.specs.Prelude.{vec_capacity, vec_len}
 use Rattle.etagere_base.specs.Frames.{IsAccepted, atlas_frame}
-use Rattle.etagere_run.specs.Runs.{IsOrderlyThroughout}
+use Rattle.etagere_run.specs.Runs.{RunKeepsPromisesThroughout}
 use Rattle.etagere_run.proofs.RunsOn.{IsUnderWay}
 use Rattle.etagere_run.proofs.running.run_atlas.Given as goal
 
@@ -13,7 +13,7 @@ invariant-loop-position l =
     let so_far = take l.position l.commands in
     record {
       way : IsUnderWay frame so_far l.replies.items l.ledger.entries.items l.atlas;
-      throughout : IsOrderlyThroughout frame so_far l.replies.items;
+      throughout : RunKeepsPromisesThroughout frame so_far l.replies.items;
       accepted : IsAccepted 65535 l.fn.size l.options;
       replies : vec_len l.replies ≡ l.position;
       space : length l.commands ≤ vec_capacity l.replies;

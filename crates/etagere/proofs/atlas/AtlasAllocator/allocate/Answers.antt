@@ -1,21 +1,21 @@
 use Rattle.std.specs.Prelude.{OnErr, Result, Ok, Err}
 use Rattle.std.proofs.Common.{◌≡◌, ℕ, ◌+◌, Some, List, ap, sym, subst, ◌∙◌, arith}
-use Rattle.etagere.specs.Atlas.{Adds, Allocates, IsSound, NeedsCut}
-use Rattle.etagere.specs.Choice.{placement_of, cuts}
+use Rattle.etagere.specs.Atlas.{Adds, Allocates, KeepsPromises, NeedsSplit}
+use Rattle.etagere.specs.Choice.{placement_of, splits}
 use Rattle.etagere.specs.Corners.{corner}
-use Rattle.etagere.specs.Kept.{state_in}
-use Rattle.etagere.specs.Places.{held}
+use Rattle.etagere.specs.Consistent.{state_in}
+use Rattle.etagere.specs.Places.{allocations}
 use Rattle.etagere.specs.Rectangles.{IsLarge}
 use Rattle.etagere.specs.Space.{space_in}
 use Rattle.etagere.specs.State.{AtlasState, Shelf}
 use Rattle.etagere.specs.Taking.{given}
 use Rattle.etagere.proofs.Allocated.{Allocated, allocated}
 use Rattle.etagere.proofs.CornersApart.{corner-small}
-use Rattle.etagere.proofs.HeldIds.{times-not_held}
-use Rattle.etagere.proofs.Placed.{cuts-read}
+use Rattle.etagere.proofs.AllocatedIds.{times-not_allocated}
+use Rattle.etagere.proofs.Placed.{splits-read}
 use Rattle.etagere.proofs.Returnable.{narrow-valid}
 use Rattle.etagere.proofs.ShelfNumbers.{narrow-read, shelf-read}
-use Rattle.etagere.proofs.Sound.{corner-not_held, given-inside, sound}
+use Rattle.etagere.proofs.Promises.{corner-not_allocated, given-inside, promises}
 use Rattle.etagere.proofs.SpaceSteps.{space-taken-small}
 use Rattle.etagere.proofs.Takeable.{can_take}
 use Rattle.etagere.proofs.TakenSpace.{space-taken}
@@ -28,8 +28,8 @@ on_err (Err e) p = p
 pub placement_of-requires-clause-narrow : goal.placement_of-requires-clause-narrow
 placement_of-requires-clause-narrow c = rw c.deref.ensures.value (narrow-valid (state_in c.self.inside) c.self.invariant.valid)
 
-pub returns-in_default-clause-sound : goal.returns-in_default-clause-sound
-returns-in_default-clause-sound c = subst IsSound c.self.view_is (sound (state_in c.self.inside) c.self.invariant.valid)
+pub returns-in_default-clause-promises : goal.returns-in_default-clause-promises
+returns-in_default-clause-promises c = subst KeepsPromises c.self.view_is (promises (state_in c.self.inside) c.self.invariant.valid)
 
 pub given-rectangle-requires-clause-narrow : goal.given-rectangle-requires-clause-narrow
 given-rectangle-requires-clause-narrow c = rw c.deref-2.ensures.value (narrow-valid (state_in c.self.inside) c.self.invariant.valid)
@@ -53,15 +53,15 @@ index-requires c =
     let placed : placement_of old c.args.size ≡ Some c.in-Some.placement = sym (rw c.deref.ensures.value at c.placement_of.ensures) ∙ c.in-Some.is in
     omega (arith, (can_take old c.args.size c.in-Some.placement c.self.invariant.valid placed).within)
 
-pub cuts-cuts-requires-clause-narrow : goal.cuts-cuts-requires-clause-narrow
-cuts-cuts-requires-clause-narrow c =
+pub splits-splits-requires-clause-narrow : goal.splits-splits-requires-clause-narrow
+splits-splits-requires-clause-narrow c =
     let old = state_in c.self.inside in
     let placed : placement_of old c.args.size ≡ Some c.in-Some.placement = sym (rw c.deref.ensures.value at c.placement_of.ensures) ∙ c.in-Some.is in
     narrow-read old.frame old.shelves c.in-Some.placement.shelf c.index.result.now (can_take old c.args.size c.in-Some.placement c.self.invariant.valid placed).within c.index.ensures
     (narrow-valid old c.self.invariant.valid)
 
-pub cuts-cuts-requires-clause-short : goal.cuts-cuts-requires-clause-short
-cuts-cuts-requires-clause-short c =
+pub splits-splits-requires-clause-bounded : goal.splits-splits-requires-clause-bounded
+splits-splits-requires-clause-bounded c =
     let old = state_in c.self.inside in
     let placed : placement_of old c.args.size ≡ Some c.in-Some.placement = sym (rw c.deref.ensures.value at c.placement_of.ensures) ∙ c.in-Some.is in
     let can = can_take old c.args.size c.in-Some.placement c.self.invariant.valid placed in
@@ -76,20 +76,20 @@ take_placement-requires-clause-takeable c =
     let placed : placement_of (state_in c.self.inside) c.args.size ≡ Some c.in-Some.placement = sym (rw c.deref.ensures.value at c.placement_of.ensures) ∙ c.in-Some.is in
     can_take (state_in c.self.inside) c.args.size c.in-Some.placement c.self.invariant.valid placed
 
-pub returns-in_err-take_placement-clause-cut : goal.returns-in_err-take_placement-clause-cut
-returns-in_err-take_placement-clause-cut c =
+pub returns-in_err-take_placement-clause-split : goal.returns-in_err-take_placement-clause-split
+returns-in_err-take_placement-clause-split c =
     let placed : placement_of (state_in c.self.inside) c.args.size ≡ Some c.in-Some.placement = sym (rw c.deref.ensures.value at c.placement_of.ensures) ∙ c.in-Some.is in
-    let needs : NeedsCut (state_in c.self.inside) c.args.size = record { placement = c.in-Some.placement; placed = placed; cut = c.in_err-take_placement.ensures.cut } in
-    on_err c.from_residual.result (subst (λ (state : AtlasState). NeedsCut state c.args.size) c.self.view_is needs)
+    let needs : NeedsSplit (state_in c.self.inside) c.args.size = record { placement = c.in-Some.placement; placed = placed; split = c.in_err-take_placement.ensures.split } in
+    on_err c.from_residual.result (subst (λ (state : AtlasState). NeedsSplit state c.args.size) c.self.view_is needs)
 
-pub returns-in_err-take_placement-clause-sound : goal.returns-in_err-take_placement-clause-sound
-returns-in_err-take_placement-clause-sound c =
+pub returns-in_err-take_placement-clause-promises : goal.returns-in_err-take_placement-clause-promises
+returns-in_err-take_placement-clause-promises c =
     let old = state_in c.self.inside in
-    subst IsSound (ap (λ (l : List Shelf). record { frame = old.frame; shelves = l; records = old.records }) (sym c.in_err-take_placement.ensures.err))
-    (sound old c.self.invariant.valid)
+    subst KeepsPromises (ap (λ (l : List Shelf). record { frame = old.frame; shelves = l; records = old.records }) (sym c.in_err-take_placement.ensures.err))
+    (promises old c.self.invariant.valid)
 
 -- what the allocation leaves
-made : (c : goal.After-self-3-1) → Allocated (state_in c.self.inside) c.args.size c.given-rectangle.result (c.self.inside.runs_in_use + c.cuts-cuts.result)
+made : (c : goal.After-self-3-1) → Allocated (state_in c.self.inside) c.args.size c.given-rectangle.result (c.self.inside.items_in_use + c.splits-splits.result)
     (record { frame = c.self.inside.frame; shelves = c.take_placement.new.shelves.items; records = c.max-self-inside.result })
 made c =
     let old = state_in c.self.inside in
@@ -98,10 +98,10 @@ made c =
     let gives : given old placement ≡ Some c.given-rectangle.result = sym (rw c.deref-2.ensures.value at c.given-rectangle.ensures) in
     let can = can_take old c.args.size placement c.self.invariant.valid placed in
     let read = shelf-read old.shelves placement.shelf c.index.result.now can.within c.index.ensures in
-    let cuts_are : c.cuts-cuts.result ≡ cuts old placement = c.cuts-cuts.ensures ∙ sym (cuts-read old placement c.index.result.now read) in
-    allocated old c.args.size placement c.given-rectangle.result c.take_placement.new.shelves.items (c.self.inside.runs_in_use + c.cuts-cuts.result) c.max-self-inside.result
+    let splits_are : c.splits-splits.result ≡ splits old placement = c.splits-splits.ensures ∙ sym (splits-read old placement c.index.result.now read) in
+    allocated old c.args.size placement c.given-rectangle.result c.take_placement.new.shelves.items (c.self.inside.items_in_use + c.splits-splits.result) c.max-self-inside.result
     c.self.invariant.valid c.self.invariant.corners placed gives (rw c.corner_id-id.ensures at c.in_ok-take_placement.ensures.ok)
-    (omega (arith, cuts_are, c.self.invariant.counted)) c.max-self-inside.ensures
+    (omega (arith, splits_are, c.self.invariant.counted)) c.max-self-inside.ensures
 
 pub invariant_of-self-2 : goal.invariant_of-self-2
 invariant_of-self-2 c =
@@ -111,7 +111,7 @@ invariant_of-self-2 c =
     let read = shelf-read old.shelves placement.shelf c.index.result.now (can_take old c.args.size placement c.self.invariant.valid placed).within c.index.ensures in
     let area = (rw c.deref-3.ensures.value at c.given_area-area.ensures) c.index.result.now read in
     record {
-      valid = (made c).sound_after.valid;
+      valid = (made c).promises_after.valid;
       corners = (made c).corners;
       counted = (made c).counted;
       space = omega (
@@ -130,18 +130,18 @@ returns-clause-placed c =
     subst (λ (state : AtlasState). Allocates state c.args.size (record { id = c.corner_id-id.result; rectangle = rectangle }) new) c.self.view_is
     (subst (λ (id : ℕ). Allocates (state_in c.self.inside) c.args.size (record { id = id; rectangle = rectangle }) new) (sym c.corner_id-id.ensures) (made c).allocates)
 
-pub returns-clause-held : goal.returns-clause-held
-returns-clause-held c =
+pub returns-clause-allocated : goal.returns-clause-allocated
+returns-clause-allocated c =
     let rectangle = c.given-rectangle.result in
     let new : AtlasState = record { frame = c.self.inside.frame; shelves = c.take_placement.new.shelves.items; records = c.max-self-inside.result } in
-    subst (λ (state : AtlasState). Adds (held state) (record { id = c.corner_id-id.result; rectangle = rectangle }) (held new)) c.self.view_is
-    (subst (λ (id : ℕ). Adds (held (state_in c.self.inside)) (record { id = id; rectangle = rectangle }) (held new)) (sym c.corner_id-id.ensures) (made c).adds)
+    subst (λ (state : AtlasState). Adds (allocations state) (record { id = c.corner_id-id.result; rectangle = rectangle }) (allocations new)) c.self.view_is
+    (subst (λ (id : ℕ). Adds (allocations (state_in c.self.inside)) (record { id = id; rectangle = rectangle }) (allocations new)) (sym c.corner_id-id.ensures) (made c).adds)
 
 pub returns-clause-large : goal.returns-clause-large
 returns-clause-large c = subst (λ (state : AtlasState). IsLarge state.frame c.args.size c.given-rectangle.result) c.self.view_is (made c).large
 
-pub returns-clause-sound : goal.returns-clause-sound
-returns-clause-sound c = (made c).sound_after
+pub returns-clause-promises : goal.returns-clause-promises
+returns-clause-promises c = (made c).promises_after
 
 pub given_area-area-requires-clause-narrow : goal.given_area-area-requires-clause-narrow
 given_area-area-requires-clause-narrow c = rw c.deref-3.ensures.value (narrow-valid (state_in c.self.inside) c.self.invariant.valid)
@@ -159,10 +159,10 @@ overflow_add-self-2 c =
     let gives : given old placement ≡ Some c.given-rectangle.result = sym (rw c.deref-2.ensures.value at c.given-rectangle.ensures) in
     let read = shelf-read old.shelves placement.shelf c.index.result.now (can_take old c.args.size placement c.self.invariant.valid placed).within c.index.ensures in
     let area = (rw c.deref-3.ensures.value at c.given_area-area.ensures) c.index.result.now read in
-    let not_held = corner-not_held old c.args.size placement c.given-rectangle.result c.self.invariant.valid placed gives c.self.invariant.corners in
+    let not_allocated = corner-not_allocated old c.args.size placement c.given-rectangle.result c.self.invariant.valid placed gives c.self.invariant.corners in
     omega (
       arith,
       area,
       c.self.invariant.space,
-      space-taken-small old c.args.size placement (corner c.given-rectangle.result) c.index.result.now c.self.invariant.valid placed (times-not_held old (corner c.given-rectangle.result) not_held) read,
+      space-taken-small old c.args.size placement (corner c.given-rectangle.result) c.index.result.now c.self.invariant.valid placed (times-not_allocated old (corner c.given-rectangle.result) not_allocated) read,
     )

@@ -1,7 +1,7 @@
 use Rattle.std.specs.Prelude.{pos, ◌^◌}
 use Rattle.std.proofs.Common.{◌<◌, ap, arith, ◌∙◌, w32}
 use Rattle.std.proofs.lemmas.Int.{ints, to_z_pos}
-use Rattle.etagere.specs.Kept.{state_in}
+use Rattle.etagere.specs.Consistent.{state_in}
 use Rattle.etagere.specs.Space.{allocated_space}
 use Rattle.etagere.proofs.SpaceSteps.{space-small}
 use Rattle.etagere.proofs.atlas.AtlasAllocator.allocated_space.Goals as goal

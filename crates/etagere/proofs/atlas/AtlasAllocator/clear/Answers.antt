@@ -1,15 +1,15 @@
 use Rattle.std.proofs.Common.{◌≡◌, List, ap, sym, subst, ◌∙◌, arith}
-use Rattle.etagere.specs.Atlas.{IsSound}
+use Rattle.etagere.specs.Atlas.{KeepsPromises}
 use Rattle.etagere.specs.Corners.{AreCorners}
 use Rattle.etagere.specs.Fresh.{fresh}
-use Rattle.etagere.specs.Kept.{state_in}
-use Rattle.etagere.specs.Places.{held}
+use Rattle.etagere.specs.Consistent.{state_in}
+use Rattle.etagere.specs.Places.{allocations}
 use Rattle.etagere.specs.Space.{space_in}
-use Rattle.etagere.specs.State.{AtlasState, Shelf, runs_in_use}
+use Rattle.etagere.specs.State.{AtlasState, Shelf, items_in_use}
 use Rattle.etagere.specs.Valid.{IsValid}
 use Rattle.etagere.proofs.ColumnShelves.{columns-le-shelves}
-use Rattle.etagere.proofs.FreshLemmas.{fresh-held, fresh-valid, runs_in_use-empty_columns, space-fresh}
-use Rattle.etagere.proofs.Sound.{sound}
+use Rattle.etagere.proofs.FreshLemmas.{fresh-allocated, fresh-valid, items_in_use-empty_columns, space-fresh}
+use Rattle.etagere.proofs.Promises.{promises}
 use Rattle.etagere.proofs.atlas.AtlasAllocator.clear.Goals as goal
 
 pub reset_columns-requires-clause-enough : goal.reset_columns-requires-clause-enough
@@ -22,18 +22,18 @@ invariant_of-self c =
     ap (λ (l : List Shelf). record { frame = frame; shelves = l; records = frame.columns }) (sym c.reset_columns.ensures) in
     record {
       valid = subst IsValid made (fresh-valid frame c.self.invariant.valid.frame);
-      corners = subst (λ (state : AtlasState). AreCorners (held state)) made (subst AreCorners (sym (fresh-held frame)) tt);
-      counted = sym (ap runs_in_use c.reset_columns.ensures ∙ runs_in_use-empty_columns frame 0 frame.columns);
+      corners = subst (λ (state : AtlasState). AreCorners (allocations state)) made (subst AreCorners (sym (fresh-allocated frame)) tt);
+      counted = sym (ap items_in_use c.reset_columns.ensures ∙ items_in_use-empty_columns frame 0 frame.columns);
       space = sym (ap space_in c.reset_columns.ensures ∙ space-fresh frame);
     }
 
-pub returns-clause-sound : goal.returns-clause-sound
-returns-clause-sound c =
+pub returns-clause-promises : goal.returns-clause-promises
+returns-clause-promises c =
     let frame = c.self.inside.frame in
-    subst IsSound (ap (λ (l : List Shelf). record { frame = frame; shelves = l; records = frame.columns }) (sym c.reset_columns.ensures))
-    (sound (fresh frame) (fresh-valid frame c.self.invariant.valid.frame))
+    subst KeepsPromises (ap (λ (l : List Shelf). record { frame = frame; shelves = l; records = frame.columns }) (sym c.reset_columns.ensures))
+    (promises (fresh frame) (fresh-valid frame c.self.invariant.valid.frame))
 
 pub returns-clause-empty : goal.returns-clause-empty
 returns-clause-empty c =
     let frame = c.self.inside.frame in
-    ap (λ (l : List Shelf). held (record { frame = frame; shelves = l; records = frame.columns })) c.reset_columns.ensures ∙ fresh-held frame
+    ap (λ (l : List Shelf). allocations (record { frame = frame; shelves = l; records = frame.columns })) c.reset_columns.ensures ∙ fresh-allocated frame

@@ -1,7 +1,7 @@
 use Rattle.std.specs.Prelude.{pos, ◌^◌, ◌+ℤ◌}
 use Rattle.std.proofs.Common.{◌≡◌, ◌-◌, ◌*◌, ◌<◌, ap, arith, subst, to_z, w32}
 use Rattle.std.proofs.lemmas.Int.{to_z_pos}
-use Rattle.etagere.specs.Kept.{state_in}
+use Rattle.etagere.specs.Consistent.{state_in}
 use Rattle.etagere.specs.Space.{allocated_space}
 use Rattle.etagere.specs.State.{AtlasState}
 use Rattle.etagere.proofs.SpaceBounds.{space-le-area}

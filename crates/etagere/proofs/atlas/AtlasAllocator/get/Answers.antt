@@ -1,4 +1,4 @@
-use Rattle.etagere.specs.Kept.{state_in}
+use Rattle.etagere.specs.Consistent.{state_in}
 use Rattle.etagere.proofs.Returnable.{within}
 use Rattle.etagere.proofs.atlas.AtlasAllocator.get.Goals as goal
 

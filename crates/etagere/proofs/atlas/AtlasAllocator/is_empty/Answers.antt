@@ -1,14 +1,14 @@
 use Rattle.std.proofs.Common.{◌≡◌, [], subst, ◌∙◌, sym, eq-eqb}
 use Rattle.std.proofs.lemmas.Bool.{eqb-true}
-use Rattle.etagere.specs.Kept.{state_in}
-use Rattle.etagere.specs.Places.{held}
+use Rattle.etagere.specs.Consistent.{state_in}
+use Rattle.etagere.specs.Places.{allocations}
 use Rattle.etagere.specs.State.{AtlasState}
-use Rattle.etagere.proofs.SpaceNone.{no_space-nothing_held, nothing_held-no_space}
+use Rattle.etagere.proofs.SpaceNone.{no_space-nothing_allocated, nothing_allocated-no_space}
 use Rattle.etagere.proofs.atlas.AtlasAllocator.is_empty.Goals as goal
 
 pub returns : goal.returns
 returns c =
     let old = state_in c.self.inside in (
-      λ zero. subst (λ (state : AtlasState). held state ≡ []) c.self.view_is (no_space-nothing_held old c.self.invariant.valid (sym c.self.invariant.space ∙ eqb-true c.self.inside.allocated_space 0 zero)),
-      λ nothing. eq-eqb c.self.inside.allocated_space 0 (c.self.invariant.space ∙ nothing_held-no_space old (subst (λ (state : AtlasState). held state ≡ []) (sym c.self.view_is) nothing)),
+      λ zero. subst (λ (state : AtlasState). allocations state ≡ []) c.self.view_is (no_space-nothing_allocated old c.self.invariant.valid (sym c.self.invariant.space ∙ eqb-true c.self.inside.allocated_space 0 zero)),
+      λ nothing. eq-eqb c.self.inside.allocated_space 0 (c.self.invariant.space ∙ nothing_allocated-no_space old (subst (λ (state : AtlasState). allocations state ≡ []) (sym c.self.view_is) nothing)),
     )

@@ -1,13 +1,13 @@
 use Rattle.std.proofs.Common.{◌≡◌, List, ap, sym, subst, ◌∙◌}
-use Rattle.etagere.specs.Atlas.{IsSound}
+use Rattle.etagere.specs.Atlas.{KeepsPromises}
 use Rattle.etagere.specs.Corners.{AreCorners}
 use Rattle.etagere.specs.Fresh.{fresh}
-use Rattle.etagere.specs.Places.{held}
+use Rattle.etagere.specs.Places.{allocations}
 use Rattle.etagere.specs.Space.{space_in}
-use Rattle.etagere.specs.State.{AtlasState, Shelf, runs_in_use}
+use Rattle.etagere.specs.State.{AtlasState, Shelf, items_in_use}
 use Rattle.etagere.specs.Valid.{IsValid}
-use Rattle.etagere.proofs.FreshLemmas.{fresh-held, fresh-valid, runs_in_use-empty_columns, space-fresh}
-use Rattle.etagere.proofs.Sound.{sound}
+use Rattle.etagere.proofs.FreshLemmas.{fresh-allocated, fresh-valid, items_in_use-empty_columns, space-fresh}
+use Rattle.etagere.proofs.Promises.{promises}
 use Rattle.etagere.proofs.atlas.AtlasAllocator.with_options.Goals as goal
 
 -- the state that the fields stand for at the end
@@ -21,15 +21,15 @@ invariant_of-result c =
     let frame = c.atlas_frame-frame.result in
     record {
       valid = subst IsValid (made c) (fresh-valid frame c.atlas_frame-frame.ensures.frame);
-      corners = subst (λ (state : AtlasState). AreCorners (held state)) (made c) (subst AreCorners (sym (fresh-held frame)) tt);
-      counted = sym (ap runs_in_use c.in-Ok.ensures ∙ runs_in_use-empty_columns frame 0 frame.columns);
+      corners = subst (λ (state : AtlasState). AreCorners (allocations state)) (made c) (subst AreCorners (sym (fresh-allocated frame)) tt);
+      counted = sym (ap items_in_use c.in-Ok.ensures ∙ items_in_use-empty_columns frame 0 frame.columns);
       space = sym (ap space_in c.in-Ok.ensures ∙ space-fresh frame);
     }
 
-pub returns-clause-sound : goal.returns-clause-sound
-returns-clause-sound c =
+pub returns-clause-promises : goal.returns-clause-promises
+returns-clause-promises c =
     let frame = c.atlas_frame-frame.result in
-    subst IsSound (made c) (sound (fresh frame) (fresh-valid frame c.atlas_frame-frame.ensures.frame))
+    subst KeepsPromises (made c) (promises (fresh frame) (fresh-valid frame c.atlas_frame-frame.ensures.frame))
 
 pub returns-clause-empty : goal.returns-clause-empty
-returns-clause-empty c = ap held (sym (made c)) ∙ fresh-held c.atlas_frame-frame.result
+returns-clause-empty c = ap allocations (sym (made c)) ∙ fresh-allocated c.atlas_frame-frame.result

@@ -1,0 +1,32 @@
+-- What items and shelves allocate, by a front and a back, and by the heights before.
+use Rattle.std.proofs.Common.{◌≡◌, ℕ, ◌+◌, List, [], ◌∷◌, ◌++◌, refl, sym, ap, append_assoc, arith}
+use Rattle.std.proofs.lemmas.List.{append-nil}
+use Rattle.etagere_base.specs.declared.frames.Frame.{Frame}
+use Rattle.etagere.specs.Places.{column_height, allocations_along, allocations_after}
+use Rattle.etagere.specs.State.{Item, Shelf, total_width}
+use Rattle.etagere.proofs.Heights.{column_height-append}
+
+-- what the items of a front and a back allocate
+pub allocations_along-append : (frame : Frame) (across height here : ℕ) (front back : List Item)
+    → allocations_along frame across height here (front ++ back) ≡ allocations_along frame across height here front ++ allocations_along frame across height (here + total_width front) back
+allocations_along-append frame across height here [] back = ap (λ n. allocations_along frame across height n back) (omega arith)
+allocations_along-append frame across height here (item ∷ items) back =
+    let begin : allocations_along frame across height ((here + item.width) + total_width items) back ≡ allocations_along frame across height (here + (item.width + total_width items)) back =
+    ap (λ n. allocations_along frame across height n back) (omega arith) in
+    simp (allocations_along-append frame across height (here + item.width) items back, begin, append_assoc) refl
+
+-- what shelves allocate that stand after a front
+pub allocations_after-append : (frame : Frame) (before front back : List Shelf)
+    → allocations_after frame before (front ++ back) ≡ allocations_after frame before front ++ allocations_after frame (before ++ front) back
+allocations_after-append frame before [] back = ap (λ shelves. allocations_after frame shelves back) (sym (append-nil before))
+allocations_after-append frame before (shelf ∷ shelves) back =
+    simp (allocations_after-append frame (before ++ shelf ∷ []) shelves back, append_assoc) refl
+
+-- of the shelves before it a shelf's allocations depend on the heights alone
+pub allocations_after-heights : (frame : Frame) (before other shelves : List Shelf)
+    → ((column : ℕ) → column_height column before ≡ column_height column other) → allocations_after frame before shelves ≡ allocations_after frame other shelves
+allocations_after-heights frame before other [] h = refl
+allocations_after-heights frame before other (shelf ∷ shelves) h =
+    let later = allocations_after-heights frame (before ++ shelf ∷ []) (other ++ shelf ∷ []) shelves
+    (λ column. omega (arith, h column, column_height-append column before (shelf ∷ []), column_height-append column other (shelf ∷ []))) in
+    rw (h shelf.column, later) refl

@@ -1,0 +1,70 @@
+ghost use Rattle.std.specs.Prelude.{◌≡◌, ◌+◌, ◌<◌, ◌≤◌, ◌^◌, find, nat_le, vec_len, vec_capacity, length};
+ghost use Rattle.etagere.specs.Choice as choice;
+ghost use Rattle.etagere.specs.Returning.{returned_free_list};
+ghost use Rattle.etagere.specs.State.{total_width};
+ghost use Rattle.etagere.specs.Taking as taking;
+ghost use Rattle.etagere.specs.Taking.{taken_free_list};
+
+use crate::items::{Item, is_free_at, is_item_split, place_at, width_at};
+use crate::vectors::insert_reserved;
+
+/// The first of the places whose item is wide enough.
+pub(crate) fn fitting_place(free_list: &[u32], items: &[Item], here: u32, width: u32) -> Option<u32>
+    requires { here + total_width items.now < 2 ^ 32 }
+    ensures { result ≡ find (λ place. nat_le width (choice.width_at here items.now place)) free_list.now }
+{
+    for &place in free_list {
+        if width <= width_at(items, here, place) {
+            return Some(place);
+        }
+    }
+    None
+}
+
+/// Takes a place out.
+pub(crate) fn remove_place(free_list: &mut Vec<u32>, place: u32)
+    ensures places { free_list.new.items ≡ taking.remove_place place free_list.old.items }
+    ensures shorter { vec_len free_list.new ≤ vec_len free_list.old }
+    ensures capacity { vec_capacity free_list.new ≡ vec_capacity free_list.old }
+{
+    free_list.retain(|other| *other != place);
+}
+
+/// Puts another place where one stands.
+pub(crate) fn replace_place(free_list: &mut [u32], place: u32, new: u32)
+    ensures { free_list.new ≡ taking.replace_place place new free_list.old }
+{
+    for other in free_list.iter_mut() {
+        *other = if *other == place { new } else { *other };
+    }
+}
+
+/// The free list after a place was taken: the rest of its item stands where the item stood.
+pub(crate) fn take_place(free_list: &mut Vec<u32>, place: u32, width: u32, item_width: u32)
+    requires { (width ≤ 65535) × (place + width < 2 ^ 32) }
+    ensures places { free_list.new.items ≡ taken_free_list width place item_width free_list.old.items }
+    ensures capacity { vec_capacity free_list.new ≡ vec_capacity free_list.old }
+{
+    if is_item_split(width, item_width) {
+        replace_place(free_list, place, place + width);
+    } else {
+        remove_place(free_list, place);
+    }
+}
+
+/// The free list after the item of this number is freed, beside the items before that.
+pub(crate) fn return_place(free_list: &mut Vec<u32>, items: &[Item], here: u32, number: usize)
+    requires narrow { here + total_width items.now < 2 ^ 32 }
+    requires within { number < length items.now }
+    requires room { vec_len free_list.old < vec_capacity free_list.old }
+    ensures places { free_list.new.items ≡ returned_free_list here items.now number free_list.old.items }
+    ensures longer { vec_len free_list.new ≤ vec_len free_list.old + 1 }
+    ensures capacity { vec_capacity free_list.new ≡ vec_capacity free_list.old }
+{
+    if is_free_at(items, number + 1) {
+        remove_place(free_list, place_at(items, here, number + 1));
+    }
+    if number == 0 || !is_free_at(items, number - 1) {
+        insert_reserved(free_list, 0, place_at(items, here, number));
+    }
+}

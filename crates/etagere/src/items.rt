@@ -1,0 +1,236 @@
+ghost use Rattle.std.specs.Prelude.{◌≡◌, ◌+◌, ◌<◌, ◌≤◌, ◌^◌, IsTrue, false, vec_len, vec_capacity, length};
+ghost use Rattle.etagere.specs.Choice as choice;
+ghost use Rattle.etagere.specs.Choice.{is_item_split};
+ghost use Rattle.etagere.specs.Merging as merging;
+ghost use Rattle.etagere.specs.Merging.{both_free, combined_items};
+ghost use Rattle.etagere.specs.Lists.{replaced_at};
+ghost use Rattle.etagere.specs.MergingAt.{merged_at, merged_before};
+ghost use Rattle.etagere.specs.Returning as returning;
+ghost use Rattle.etagere.specs.Returning.{freed};
+ghost use Rattle.etagere.specs.State as state;
+ghost use Rattle.etagere.specs.State.{total_width};
+ghost use Rattle.etagere.specs.Steps as steps;
+ghost use Rattle.etagere.specs.Steps.{width_of};
+ghost use Rattle.etagere.specs.Taking.{item_pieces, taken_items};
+
+use crate::vectors::insert_reserved;
+use etagere_base::AllocId;
+use std::marker::Model;
+
+/// A stretch of a shelf, in pixels along; free where nothing holds it.
+#[derive(Clone, Copy)]
+pub(crate) struct Item {
+    width: u32,
+    id: Option<AllocId>,
+}
+
+impl Model for Item {
+    ghost use Rattle.etagere.specs.State.{Item};
+
+    ghost Value = { Item };
+
+    ghost view = { λ item. record { width = item.width; id = item.id } };
+
+    ghost inverse = { λ item. record { width = item.width; id = item.id } };
+}
+
+impl Item {
+    pub(crate) fn free(width: u32) -> Item
+        ensures { result ≡ record { width = width; id = None } }
+    {
+        Item { width, id: None }
+    }
+
+    pub(crate) fn allocated(width: u32, id: AllocId) -> Item
+        ensures { result ≡ record { width = width; id = Some id } }
+    {
+        Item {
+            width,
+            id: Some(id),
+        }
+    }
+
+    pub(crate) fn width(&self) -> u32
+        ensures { result ≡ self.now.width }
+    {
+        self.width
+    }
+
+    pub(crate) fn is_free(&self) -> bool
+        ensures { result ≡ state.is_free self.now }
+    {
+        self.id.is_none()
+    }
+
+    /// Whether the two become one where they are neighbours.
+    fn both_free(&self, next: &Item) -> bool
+        ensures { result ≡ merging.both_free self.now next.now }
+    {
+        self.is_free() && next.is_free()
+    }
+
+    pub(crate) fn has_id(&self, id: AllocId) -> bool
+        ensures { result ≡ returning.has_id id self.now.id }
+    {
+        match self.id {
+            None => false,
+            Some(owner) => owner.serialize() == id.serialize(),
+        }
+    }
+}
+
+/// The number of the item that an id holds.
+pub(crate) fn number_of(items: &[Item], id: AllocId) -> Option<usize>
+    ensures { result ≡ returning.number_of id items.now }
+{
+    items.iter().position(|item| item.has_id(id))
+}
+
+/// The width of the item that begins at `place`, where the first one begins at `here`; 0 where none does.
+pub(crate) fn width_at(items: &[Item], here: u32, place: u32) -> u32
+    requires { here + total_width items.now < 2 ^ 32 }
+    ensures { result ≡ choice.width_at here items.now place }
+{
+    let mut next = here;
+    for item in items {
+        if next == place {
+            return item.width();
+        }
+        next += item.width();
+    }
+    0
+}
+
+/// The number of the item that begins at `place`, where the first one begins at `here`; their count where
+/// none does.
+pub(crate) fn number_at(items: &[Item], here: u32, place: u32) -> usize
+    requires { here + total_width items.now < 2 ^ 32 }
+    ensures { result ≡ steps.number_at here items.now place }
+{
+    let mut next = here;
+    for (number, item) in items.iter().enumerate() {
+        if next == place {
+            return number;
+        }
+        next += item.width();
+    }
+    items.len()
+}
+
+/// Where the item of this number begins, the first one at `here`.
+pub(crate) fn place_at(items: &[Item], here: u32, number: usize) -> u32
+    requires narrow { here + total_width items.now < 2 ^ 32 }
+    requires within { number ≤ length items.now }
+    ensures { result ≡ returning.place_at here items.now number }
+{
+    here + width_of_all(&items[..number])
+}
+
+fn width_of_all(items: &[Item]) -> u32
+    requires { total_width items.now < 2 ^ 32 }
+    ensures { result ≡ total_width items.now }
+{
+    let mut width = 0;
+    for item in items {
+        width += item.width();
+    }
+    width
+}
+
+/// Whether there is an item of this number, and it is free.
+pub(crate) fn is_free_at(items: &[Item], number: usize) -> bool
+    ensures { result ≡ returning.is_free_at number items.now }
+{
+    number < items.len() && items[number].is_free()
+}
+
+/// Gives the front of an item to an id, and leaves the rest free behind it.
+pub(crate) fn give_front(items: &mut Vec<Item>, number: usize, width: u32, id: AllocId)
+    requires within { number < vec_len items.old }
+    requires room { vec_len items.old < vec_capacity items.old }
+    requires split { IsTrue (is_item_split width (width_of items.old.items number)) }
+    ensures longer { vec_len items.old ≤ vec_len items.new }
+    ensures items { items.new.items ≡ replaced_at number (item_pieces width id) items.old.items }
+{
+    let item = items[number];
+    let rest = item.width() - width;
+    items[number] = Item::allocated(width, id);
+    insert_reserved(items, number + 1, Item::free(rest));
+}
+
+/// Gives a whole item to an id.
+pub(crate) fn give_whole(items: &mut Vec<Item>, number: usize, width: u32, id: AllocId)
+    requires within { number < vec_len items.old }
+    requires whole { is_item_split width (width_of items.old.items number) ≡ false }
+    ensures longer { vec_len items.old ≤ vec_len items.new }
+    ensures items { items.new.items ≡ replaced_at number (item_pieces width id) items.old.items }
+{
+    let item = items[number];
+    items[number] = Item::allocated(item.width(), id);
+}
+
+/// Whether an item is split for a width, since more than 8 would be left of it.
+pub(crate) fn is_item_split(width: u32, item_width: u32) -> bool
+    requires { width ≤ 65535 }
+    ensures { result ≡ choice.is_item_split width item_width }
+{
+    width + 8 < item_width
+}
+
+/// Takes the item that begins at `place`, or its front where more than 8 would be left of it.
+pub(crate) fn take(items: &mut Vec<Item>, here: u32, place: u32, width: u32, id: AllocId)
+    requires narrow { here + total_width items.old.items < 2 ^ 32 }
+    requires there { 0 < choice.width_at here items.old.items place }
+    requires bounded { width ≤ 65535 }
+    requires room { IsTrue (is_item_split width (choice.width_at here items.old.items place)) → vec_len items.old < vec_capacity items.old }
+    ensures longer { vec_len items.old ≤ vec_len items.new }
+    ensures items { items.new.items ≡ taken_items width id place here items.old.items }
+{
+    let item_width = width_at(items, here, place);
+    let number = number_at(items, here, place);
+    if is_item_split(width, item_width) {
+        give_front(items, number, width, id);
+    } else {
+        give_whole(items, number, width, id);
+    }
+}
+
+/// Frees an item.
+pub(crate) fn free(items: &mut Vec<Item>, number: usize)
+    requires { number < vec_len items.old }
+    ensures items { items.new.items ≡ freed number items.old.items }
+    ensures len { vec_len items.new ≡ vec_len items.old }
+{
+    let item = items[number];
+    items[number] = Item::free(item.width());
+}
+
+/// Makes an item and the next one a single one where both are free.
+pub(crate) fn merge(items: &mut Vec<Item>, number: usize)
+    requires within { number < vec_len items.old }
+    requires narrow { total_width items.old.items < 2 ^ 32 }
+    ensures items { items.new.items ≡ merged_at both_free combined_items number items.old.items }
+    ensures within { number < vec_len items.new }
+{
+    if number + 1 == items.len() {
+        return;
+    }
+    let item = items[number];
+    let next = items[number + 1];
+    if item.both_free(&next) {
+        items.remove(number + 1);
+        items[number] = Item::free(item.width() + next.width());
+    }
+}
+
+/// Makes an item and the one before it a single one where both are free.
+pub(crate) fn merge_before(items: &mut Vec<Item>, number: usize)
+    requires within { number < vec_len items.old }
+    requires narrow { total_width items.old.items < 2 ^ 32 }
+    ensures items { items.new.items ≡ merged_before both_free combined_items number items.old.items }
+    ensures some { 1 ≤ vec_len items.new }
+{
+    if number > 0 {
+        merge(items, number - 1);
+    }
+}
