@@ -6,12 +6,13 @@ use Rattle.etagere_base.specs.Frames.{IsFrame, alignment_along}
 use Rattle.etagere_base.specs.Sides.{swapped_axes}
 use Rattle.etagere_base.specs.declared.frames.Frame.{Frame}
 use Rattle.etagere_base.specs.declared.ids.Allocation.{Allocation}
-use Rattle.etagere.specs.Lists.{Each}
-use Rattle.etagere.specs.Places.{allocation_of, column_place, column_height, allocations, allocations_after, allocations_along, rectangle_at}
-use Rattle.etagere.specs.Rectangles.{IsAligned, place_along}
+use Rattle.etagere_base.specs.Lists.{Each}
+use Rattle.etagere_base.specs.Places.{rectangle_at}
+use Rattle.etagere.specs.Places.{allocation_of, column_place, column_height, allocations, allocations_after, allocations_along}
+use Rattle.etagere_base.specs.Rectangles.{IsAligned, place_along}
 use Rattle.etagere.specs.State.{AtlasState, Item, Shelf}
 use Rattle.etagere.specs.Valid.{IsItem, IsShelf, IsValid}
-use Rattle.etagere.proofs.EachLemmas.{Each-append}
+use Rattle.etagere_base.proofs.EachLemmas.{Each-append}
 
 -- the point at a place along lies there
 point-along : (vertical : Bool) (along across : ℕ)

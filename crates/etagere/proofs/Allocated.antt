@@ -6,9 +6,9 @@ use Rattle.etagere_base.specs.declared.geometry.Size.{Size}
 use Rattle.etagere.specs.Atlas.{Adds, Allocates, KeepsPromises}
 use Rattle.etagere.specs.Choice.{Placement, splits, placement_of}
 use Rattle.etagere.specs.Corners.{AreCorners, corner}
-use Rattle.etagere.specs.Lists.{replaced_at}
+use Rattle.etagere_base.specs.Lists.{replaced_at}
 use Rattle.etagere.specs.Places.{allocations}
-use Rattle.etagere.specs.Rectangles.{IsLarge}
+use Rattle.etagere_base.specs.Rectangles.{IsLarge}
 use Rattle.etagere.specs.State.{AtlasState, Shelf, items_in_use}
 use Rattle.etagere.specs.Taking.{given, shelf_pieces, taken}
 use Rattle.etagere.specs.Valid.{IsValid}

@@ -3,12 +3,13 @@ use Rattle.std.proofs.Common.{◌≡◌, ℕ, zero, suc, ◌+◌, ◌<◌, ◌�
 use Rattle.std.specs.Prelude.{not, ◌&&◌, None, Some}
 use Rattle.etagere.specs.Choice.{is_item_split}
 use Rattle.etagere.specs.Merging.{both_free, combined_items}
-use Rattle.etagere.specs.Lists.{times, replaced_at}
-use Rattle.etagere.specs.MergingAt.{merged_before, merged_at}
+use Rattle.etagere_base.specs.Lists.{times, replaced_at}
+use Rattle.etagere_base.specs.MergingAt.{merged_before, merged_at}
 use Rattle.etagere.specs.Returning.{is_free_at, freed}
 use Rattle.etagere.specs.State.{Item, is_free}
 use Rattle.etagere.specs.Steps.{allocated_count, number_at}
-use Rattle.etagere.specs.Taking.{taken_items, taken_free_list, remove_place, replace_place, item_pieces}
+use Rattle.etagere_base.specs.Lists.{remove_place, replace_place}
+use Rattle.etagere.specs.Taking.{taken_items, taken_free_list, item_pieces}
 use Rattle.etagere.proofs.ItemLemmas.{taken_items-replaced_at}
 
 -- one more item, free or allocated, counts at most once

@@ -6,13 +6,13 @@ use Rattle.std.specs.List.{list_any}
 use Rattle.std.specs.Prelude.{position, is_some}
 use Rattle.etagere_base.specs.declared.frames.Frame.{Frame}
 use Rattle.etagere_base.specs.declared.ids.Allocation.{Allocation}
-use Rattle.etagere.specs.Lists.{times}
+use Rattle.etagere_base.specs.Lists.{times}
 use Rattle.etagere.specs.Places.{column_place, column_height, allocations_along, allocations_after, allocations, is_allocated}
 use Rattle.etagere.specs.Returning.{has_id, is_allocated_in}
 use Rattle.etagere.specs.State.{Item, Shelf, AtlasState}
 use Rattle.etagere.specs.Valid.{item_ids, ids}
-use Rattle.etagere.proofs.FirstPlace.{is_some-position}
-use Rattle.etagere.proofs.TimesLemmas.{is_among, not_among-times, times-not_among}
+use Rattle.etagere_base.proofs.FirstPlace.{is_some-position}
+use Rattle.etagere_base.proofs.TimesLemmas.{is_among, not_among-times, times-not_among}
 
 -- the id of an allocation
 abbrev pub id_of : Allocation → ℕ

@@ -5,8 +5,8 @@ use Rattle.std.specs.Prelude.{slice_get, is_some}
 use Rattle.etagere_base.specs.declared.frames.Frame.{Frame}
 use Rattle.etagere.specs.Returning.{has_id, number_of, freed_shelf, returned_shelf, is_free_at}
 use Rattle.etagere.specs.State.{Item, Shelf, is_free}
-use Rattle.etagere.proofs.ReplacedLists.{slice_get-append}
-use Rattle.etagere.proofs.FirstPlace.{split-first}
+use Rattle.etagere_base.proofs.ReplacedLists.{slice_get-append}
+use Rattle.etagere_base.proofs.FirstPlace.{split-first}
 
 -- what is known where an id holds an item of a shelf: the item's number, and the item
 pub record AllocatedItem (id : ℕ) (items : List Item) : Type 0 where

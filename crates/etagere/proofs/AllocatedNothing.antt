@@ -6,17 +6,17 @@ use Rattle.etagere_base.specs.Frames.{across_side}
 use Rattle.etagere_base.specs.declared.frames.Frame.{Frame}
 use Rattle.etagere.specs.Fresh.{empty_columns, fresh, without_records}
 use Rattle.etagere.specs.Merging.{both_free, both_empty}
-use Rattle.etagere.specs.Lists.{Each, times, NoNeighbours}
+use Rattle.etagere_base.specs.Lists.{Each, times, NoNeighbours}
 use Rattle.etagere.specs.Places.{column_place, column_height, free_places, allocations}
 use Rattle.etagere.specs.State.{Item, Shelf, AtlasState, empty_shelf, is_empty, total_width}
 use Rattle.etagere.specs.Valid.{IsShelf, IsValid, item_ids, ids, is_out_of_order}
-use Rattle.etagere.proofs.EachLemmas.{Each-both, Each-weaken}
-use Rattle.etagere.proofs.FrameSides.{across-positive}
+use Rattle.etagere_base.proofs.EachLemmas.{Each-both, Each-weaken}
+use Rattle.etagere_base.proofs.FrameSides.{across-positive}
 use Rattle.etagere.proofs.Heights.{column_height-alone, column_height-none, column_height-other}
 use Rattle.etagere.proofs.AllocatedIds.{id_of, ids-allocations_after}
 use Rattle.etagere.proofs.ItemIds.{free_first, ids-none}
-use Rattle.etagere.proofs.NoNeighboursLemmas.{NoNeighbours-tail}
-use Rattle.etagere.proofs.TimesLemmas.{times-one}
+use Rattle.etagere_base.proofs.NoNeighboursLemmas.{NoNeighbours-tail}
+use Rattle.etagere_base.proofs.TimesLemmas.{times-one}
 
 -- an item by its fields
 item_is : (item : Item) (width : ℕ) → item.width ≡ width → item.id ≡ None → item ≡ record { width = width; id = None }

@@ -10,12 +10,13 @@ use Rattle.std.specs.Prelude.{find, position, slice_get}
 use Rattle.etagere_base.specs.declared.frames.Frame.{Frame}
 use Rattle.etagere_base.specs.declared.geometry.Rectangle.{Rectangle}
 use Rattle.etagere_base.specs.declared.ids.Allocation.{Allocation}
-use Rattle.etagere.specs.Places.{column_place, rectangle_at, column_height, allocations_along, allocations_after, rectangle_of}
+use Rattle.etagere_base.specs.Places.{rectangle_at}
+use Rattle.etagere.specs.Places.{column_place, column_height, allocations_along, allocations_after, rectangle_of}
 use Rattle.etagere.specs.Returning.{has_id, number_of, place_at, is_allocated_in}
 use Rattle.etagere.specs.State.{Item, Shelf, total_width}
 use Rattle.etagere.specs.Steps.{allocated_rectangle, width_of, state_of}
-use Rattle.etagere.proofs.ReplacedLists.{slice_get-append}
-use Rattle.etagere.proofs.FirstPlace.{is_some-position, position-cons, split-first}
+use Rattle.etagere_base.proofs.ReplacedLists.{slice_get-append}
+use Rattle.etagere_base.proofs.FirstPlace.{is_some-position, position-cons, split-first}
 use Rattle.etagere.proofs.AllocatedIds.{is_allocated-shelves}
 use Rattle.etagere.proofs.AllocatedLists.{allocations_after-append}
 use Rattle.etagere.proofs.ItemLemmas.{width_of-get, width_of-le}

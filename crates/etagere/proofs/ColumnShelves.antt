@@ -4,7 +4,7 @@ use Rattle.std.specs.Prelude.{nat_lt}
 use Rattle.etagere.specs.Places.{column_height}
 use Rattle.etagere.specs.State.{Shelf, AtlasState}
 use Rattle.etagere.specs.Valid.{IsValid}
-use Rattle.etagere.proofs.FrameSides.{across-positive}
+use Rattle.etagere_base.proofs.FrameSides.{across-positive}
 
 -- the heights of the shelves of the columns before this one, added up
 abbrev pub heights_before : ℕ → List Shelf → ℕ

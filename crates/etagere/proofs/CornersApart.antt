@@ -10,10 +10,10 @@ use Rattle.etagere_base.specs.declared.ids.Allocation.{Allocation}
 use Rattle.etagere_base.specs.Frames.{IsFrame}
 use Rattle.etagere_base.specs.Sides.{side}
 use Rattle.etagere.specs.Corners.{corner, AreCorners}
-use Rattle.etagere.specs.Rectangles.{AreApart, Covers, SharesNone, IsInside}
-use Rattle.etagere.specs.Lists.{Each}
-use Rattle.etagere.proofs.Boxes.{AreApart-middle}
-use Rattle.etagere.proofs.EachLemmas.{Each-both, Each-weaken, Each-middle, Each-remove_place, list_any-none}
+use Rattle.etagere_base.specs.Rectangles.{AreApart, Covers, SharesNone, IsInside}
+use Rattle.etagere_base.specs.Lists.{Each}
+use Rattle.etagere_base.proofs.Boxes.{AreApart-middle}
+use Rattle.etagere_base.proofs.EachLemmas.{Each-both, Each-weaken, Each-middle, Each-remove_place, list_any-none}
 
 -- a place is no later than its number
 side-least : (z : ℤ) → z ≤ℤ pos (side z)

@@ -3,12 +3,12 @@ use Rattle.std.proofs.Common.{◌≡◌, ℕ, zero, suc, ◌+◌, ◌<◌, ◌�
 use Rattle.std.proofs.lemmas.Bool.{eq-eqb, ne_eqb, and_parts, and_right}
 use Rattle.std.specs.Prelude.{slice_get}
 use Rattle.etagere.specs.Merging.{both_free, combined_items}
-use Rattle.etagere.specs.Lists.{Each, times}
-use Rattle.etagere.specs.MergingAt.{merged_at}
+use Rattle.etagere_base.specs.Lists.{Each, times}
+use Rattle.etagere_base.specs.MergingAt.{merged_at}
 use Rattle.etagere.specs.Places.{free_places}
 use Rattle.etagere.specs.Returning.{is_free_at, place_at, freed}
 use Rattle.etagere.specs.State.{Item, is_free, total_width}
-use Rattle.etagere.proofs.TimesLemmas.{hit}
+use Rattle.etagere_base.proofs.TimesLemmas.{hit}
 
 -- how often a place is one of the free items', the first item here
 abbrev pub starts : ℕ → ℕ → List Item → ℕ

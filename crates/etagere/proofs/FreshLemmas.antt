@@ -6,12 +6,12 @@ use Rattle.etagere_base.specs.Frames.{IsFrame, across_side}
 use Rattle.etagere_base.specs.declared.frames.Frame.{Frame}
 use Rattle.etagere.specs.Fresh.{empty_columns, fresh}
 use Rattle.etagere.specs.Merging.{both_empty}
-use Rattle.etagere.specs.Lists.{Each, times, NoNeighbours}
+use Rattle.etagere_base.specs.Lists.{Each, times, NoNeighbours}
 use Rattle.etagere.specs.Places.{column_height, allocations_after, allocations}
 use Rattle.etagere.specs.Space.{space_in, allocated_space}
 use Rattle.etagere.specs.State.{Shelf, empty_shelf, items_in_use}
 use Rattle.etagere.specs.Valid.{IsShelf, IsValid, ids, is_out_of_order}
-use Rattle.etagere.proofs.FrameSides.{across-positive, columns-le}
+use Rattle.etagere_base.proofs.FrameSides.{across-positive, columns-le}
 use Rattle.etagere.proofs.Heights.{column_height-alone, column_height-other}
 
 -- empty columns hold nothing

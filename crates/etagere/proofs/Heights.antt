@@ -3,11 +3,11 @@ use Rattle.std.proofs.Common.{◌≡◌, ℕ, suc, ◌+◌, ◌≤◌, List, [],
 use Rattle.std.proofs.lemmas.Bool.{and_parts, eqb-true, cond_both}
 use Rattle.std.specs.Prelude.{slice_get}
 use Rattle.etagere.specs.Merging.{both_empty, combined_shelves, merged_shelves}
-use Rattle.etagere.specs.Lists.{Each}
-use Rattle.etagere.specs.MergingAt.{merged_at}
+use Rattle.etagere_base.specs.Lists.{Each}
+use Rattle.etagere_base.specs.MergingAt.{merged_at}
 use Rattle.etagere.specs.Places.{column_height}
 use Rattle.etagere.specs.State.{Shelf, is_empty}
-use Rattle.etagere.proofs.MergedKeeps.{measure-merged}
+use Rattle.etagere_base.proofs.MergedKeeps.{measure-merged}
 
 -- the heights of shelves end to end
 pub column_height-append : (column : ℕ) (xs ys : List Shelf)

@@ -2,12 +2,12 @@
 use Rattle.std.proofs.Common.{◌≡◌, ℕ, zero, suc, ◌+◌, ◌≤◌, true, ◌==◌, ◌&&◌, Option, None, Some, List, [], ◌∷◌, ◌++◌, refl, ap, sym, arith}
 use Rattle.std.proofs.lemmas.Bool.{and_parts}
 use Rattle.etagere.specs.Merging.{both_free, combined_items, merged_items, both_empty, combined_shelves, merged_shelves}
-use Rattle.etagere.specs.Lists.{times}
+use Rattle.etagere_base.specs.Lists.{times}
 use Rattle.etagere.specs.Returning.{freed}
 use Rattle.etagere.specs.State.{Item, Shelf, is_free, is_empty, is_one_free}
 use Rattle.etagere.specs.Valid.{item_ids, ids}
-use Rattle.etagere.proofs.MergedKeeps.{measure-merged}
-use Rattle.etagere.proofs.TimesLemmas.{times-append}
+use Rattle.etagere_base.proofs.MergedKeeps.{measure-merged}
+use Rattle.etagere_base.proofs.TimesLemmas.{times-append}
 
 -- a free item has no id
 pub no_id : (item : Item) → is_free item ≡ true → item.id ≡ None

@@ -3,13 +3,13 @@ use Rattle.std.proofs.Common.{◌≡◌, ℕ, zero, suc, ◌+◌, ◌-◌, ◌<�
 use Rattle.std.specs.Prelude.{None, Some, insert, remove}
 use Rattle.etagere.specs.Choice.{is_item_split, width_at}
 use Rattle.etagere.specs.Merging.{both_free, combined_items}
-use Rattle.etagere.specs.Lists.{replaced_at}
-use Rattle.etagere.specs.MergingAt.{merged_at}
+use Rattle.etagere_base.specs.Lists.{replaced_at}
+use Rattle.etagere_base.specs.MergingAt.{merged_at}
 use Rattle.etagere.specs.Returning.{is_free_at, freed}
 use Rattle.etagere.specs.State.{Item, is_free, total_width}
 use Rattle.etagere.specs.Steps.{number_at, width_of}
 use Rattle.etagere.specs.Taking.{item_pieces, taken_items}
-use Rattle.etagere.proofs.ListEdits.{merged_at-touch}
+use Rattle.etagere_base.proofs.ListEdits.{merged_at-touch}
 
 -- the item of a number is free as the one that is read there
 pub is_free_at-within : (n : ℕ) (items : List Item) (d : Item) → n < length items → is_free_at n items ≡ is_free (get_or items n d)

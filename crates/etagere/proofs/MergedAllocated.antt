@@ -3,8 +3,10 @@ use Rattle.std.proofs.Common.{◌≡◌, ℕ, ◌+◌, true, ◌==◌, ◌&&◌,
 use Rattle.std.proofs.lemmas.Bool.{and_parts, cond_both}
 use Rattle.etagere_base.specs.declared.frames.Frame.{Frame}
 use Rattle.etagere_base.specs.declared.ids.Allocation.{Allocation}
-use Rattle.etagere.specs.Merging.{merged_onto, both_free, combined_items, merged_items, both_empty, combined_shelves, merged_shelves}
-use Rattle.etagere.specs.Places.{column_place, column_height, rectangle_at, allocation_of, allocations_along, allocations_after}
+use Rattle.etagere_base.specs.Merging.{merged_onto}
+use Rattle.etagere.specs.Merging.{both_free, combined_items, merged_items, both_empty, combined_shelves, merged_shelves}
+use Rattle.etagere_base.specs.Places.{rectangle_at}
+use Rattle.etagere.specs.Places.{column_place, column_height, allocation_of, allocations_along, allocations_after}
 use Rattle.etagere.specs.State.{Item, Shelf, is_free, is_empty, is_one_free}
 use Rattle.etagere.proofs.Heights.{column_height-append, column_height-combined}
 use Rattle.etagere.proofs.AllocatedLists.{allocations_after-heights}

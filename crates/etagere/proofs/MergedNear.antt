@@ -3,12 +3,12 @@ use Rattle.std.proofs.Common.{◌≡◌, ℕ, zero, suc, ◌≤◌, ◌<◌, Boo
 use Rattle.std.specs.Prelude.{slice_set}
 use Rattle.std.proofs.lemmas.List.{take-set-le, drop-set-lt}
 use Rattle.etagere.specs.Merging.{both_free, combined_items, merged_items, both_empty, combined_shelves, merged_shelves}
-use Rattle.etagere.specs.Lists.{NoNeighbours}
-use Rattle.etagere.specs.MergingAt.{merged_at, merged_before}
+use Rattle.etagere_base.specs.Lists.{NoNeighbours}
+use Rattle.etagere_base.specs.MergingAt.{merged_at, merged_before}
 use Rattle.etagere.specs.Returning.{freed}
 use Rattle.etagere.specs.State.{Item, Shelf, is_free, is_empty}
-use Rattle.etagere.proofs.Merged.{Merges, merged-near}
-use Rattle.etagere.proofs.NoNeighboursLemmas.{NoNeighbours-take, NoNeighbours-drop}
+use Rattle.etagere_base.proofs.Merged.{Merges, merged-near}
+use Rattle.etagere_base.proofs.NoNeighboursLemmas.{NoNeighbours-take, NoNeighbours-drop}
 
 -- next to a free item the test is the other item's alone
 free_next : (a b c : Bool) → (a && b) ≡ true → (true && c) ≡ (b && c)

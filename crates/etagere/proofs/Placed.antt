@@ -10,11 +10,11 @@ use Rattle.etagere_base.specs.declared.frames.Frame.{Frame}
 use Rattle.etagere_base.specs.declared.geometry.Size.{Size}
 use Rattle.etagere_base.specs.declared.sides.Sides.{Sides}
 use Rattle.etagere.specs.Choice.{Found, Placement, first_least, shelf_height, fitting_place, rank, splits, placement_of, width_at, splits_in, chosen}
-use Rattle.etagere.specs.Lists.{times}
+use Rattle.etagere_base.specs.Lists.{times}
 use Rattle.etagere.specs.Places.{column_place}
 use Rattle.etagere.specs.State.{Shelf, AtlasState, items_in_use}
 use Rattle.etagere.proofs.Least.{first_least-is}
-use Rattle.etagere.proofs.TimesLemmas.{find-stands}
+use Rattle.etagere_base.proofs.TimesLemmas.{find-stands}
 
 -- what an option gives through a function that may give none
 and_then-parts : {A B : Type 0} (f : A → Option B) (o : Option A) (y : B) → option_and_then f o ≡ Some y → (x : A) × (o ≡ Some x) × (f x ≡ Some y)

@@ -7,8 +7,9 @@ use Rattle.etagere_base.specs.declared.geometry.Rectangle.{Rectangle}
 use Rattle.etagere_base.specs.declared.geometry.Size.{Size}
 use Rattle.etagere_base.specs.declared.sides.Sides.{Sides}
 use Rattle.etagere.specs.Choice.{Placement, placement_of}
-use Rattle.etagere.specs.Places.{rectangle_at, column_height}
-use Rattle.etagere.specs.Rectangles.{IsLarge}
+use Rattle.etagere_base.specs.Places.{rectangle_at}
+use Rattle.etagere.specs.Places.{column_height}
+use Rattle.etagere_base.specs.Rectangles.{IsLarge}
 use Rattle.etagere.specs.State.{AtlasState}
 use Rattle.etagere.specs.Taking.{given, given_width, given_height, given_in}
 use Rattle.etagere.proofs.Placed.{chosen-stands, placement_of-placed, shelf_height-tall}

@@ -10,7 +10,7 @@ use Rattle.etagere_base.specs.declared.geometry.Size.{Size}
 use Rattle.etagere_base.specs.declared.sides.Sides.{Sides}
 use Rattle.etagere.specs.Choice.{Placement, chosen, splits_in, placement_of, shelf_height}
 use Rattle.etagere.specs.State.{Shelf, AtlasState, items_in_use}
-use Rattle.etagere.proofs.FrameSides.{sides_low}
+use Rattle.etagere_base.proofs.FrameSides.{sides_low}
 use Rattle.etagere.proofs.Placed.{IsChosen, chosen-parts, test-both}
 
 -- sides that fit a column are no longer than it

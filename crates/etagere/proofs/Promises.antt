@@ -8,23 +8,23 @@ use Rattle.etagere_base.specs.declared.ids.Allocation.{Allocation}
 use Rattle.etagere.specs.Atlas.{KeepsPromises}
 use Rattle.etagere.specs.Choice.{Placement, placement_of}
 use Rattle.etagere.specs.Corners.{AreCorners, corner}
-use Rattle.etagere.specs.Lists.{Each, times}
+use Rattle.etagere_base.specs.Lists.{Each, times}
 use Rattle.etagere.specs.Places.{allocations, is_allocated}
-use Rattle.etagere.specs.Rectangles.{AreApart, IsInside}
+use Rattle.etagere_base.specs.Rectangles.{AreApart, IsInside}
 use Rattle.etagere.specs.Returning.{returned}
 use Rattle.etagere.specs.State.{AtlasState}
 use Rattle.etagere.specs.Taking.{given, taken}
 use Rattle.etagere.specs.Valid.{IsValid, ids}
 use Rattle.etagere.proofs.Aligned.{allocated-aligned}
 use Rattle.etagere.proofs.CornersApart.{corner-fresh}
-use Rattle.etagere.proofs.EachLemmas.{Each-append, Each-back, Each-filter, Each-front, Each-middle}
+use Rattle.etagere_base.proofs.EachLemmas.{Each-append, Each-back, Each-filter, Each-front, Each-middle}
 use Rattle.etagere.proofs.AllocatedIds.{ids-allocations_after}
 use Rattle.etagere.proofs.AllocatedNothing.{nothing_allocated-fresh}
 use Rattle.etagere.proofs.ReturnedAllocated.{returned-allocated}
 use Rattle.etagere.proofs.TakenAllocated.{TakesIn, taken-allocations}
 use Rattle.etagere.proofs.TakenValid.{taken-valid}
 use Rattle.etagere.proofs.Tiling.{allocated-apart, allocated-inside}
-use Rattle.etagere.proofs.TimesLemmas.{times-above, unused}
+use Rattle.etagere_base.proofs.TimesLemmas.{times-above, unused}
 
 -- a valid state is sound
 pub promises : (state : AtlasState) → IsValid state → KeepsPromises state

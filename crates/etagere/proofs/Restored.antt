@@ -8,19 +8,19 @@ use Rattle.etagere_base.specs.declared.geometry.Size.{Size}
 use Rattle.etagere.specs.Choice.{Placement, is_shelf_split, placement_of}
 use Rattle.etagere.specs.Merging.{both_free, combined_items, merged_items, both_empty, combined_shelves, merged_shelves}
 use Rattle.etagere.specs.Layout.{without_free_list, layout}
-use Rattle.etagere.specs.Lists.{times, at_first, NoNeighbours}
+use Rattle.etagere_base.specs.Lists.{times, at_first, NoNeighbours}
 use Rattle.etagere.specs.Places.{column_place}
 use Rattle.etagere.specs.Returning.{has_id, number_of, freed, is_allocated_in, returned_shelf, returned}
 use Rattle.etagere.specs.State.{Item, Shelf, AtlasState, is_empty, empty_shelf}
 use Rattle.etagere.specs.Taking.{item_pieces, taken_items, taken_shelf, shelf_pieces, taken}
 use Rattle.etagere.specs.Valid.{IsShelf, IsValid, ids}
-use Rattle.etagere.proofs.ReplacedLists.{split-at}
-use Rattle.etagere.proofs.EachLemmas.{Each-get}
-use Rattle.etagere.proofs.FirstPlace.{at_first-split, is_some-position, list_any-parts, position-behind}
+use Rattle.etagere_base.proofs.ReplacedLists.{split-at}
+use Rattle.etagere_base.proofs.EachLemmas.{Each-get}
+use Rattle.etagere_base.proofs.FirstPlace.{at_first-split, is_some-position, list_any-parts, position-behind}
 use Rattle.etagere.proofs.AllocatedIds.{not_allocated_in-times}
 use Rattle.etagere.proofs.AllocatedItems.{returned_shelf-allocated}
-use Rattle.etagere.proofs.Merged.{merged-apart, merged-map, merged-pieces}
-use Rattle.etagere.proofs.NoNeighboursLemmas.{NoNeighbours-map}
+use Rattle.etagere_base.proofs.Merged.{merged-apart, merged-map, merged-pieces}
+use Rattle.etagere_base.proofs.NoNeighboursLemmas.{NoNeighbours-map}
 use Rattle.etagere.proofs.Placed.{chosen-stands, placement_of-placed}
 use Rattle.etagere.proofs.TakenPieces.{free_item, allocated_item, pieces-cases}
 use Rattle.etagere.proofs.TakenItems.{free_at}

@@ -4,13 +4,13 @@ use Rattle.std.specs.Prelude.{nat_lt}
 use Rattle.etagere_base.specs.Frames.{IsFrame}
 use Rattle.etagere_base.specs.declared.frames.Frame.{Frame}
 use Rattle.etagere.specs.Merging.{both_free}
-use Rattle.etagere.specs.Lists.{NoNeighbours, Each}
+use Rattle.etagere_base.specs.Lists.{NoNeighbours, Each}
 use Rattle.etagere.specs.Places.{column_place, column_height}
 use Rattle.etagere.specs.State.{Shelf, AtlasState, total_width}
 use Rattle.etagere.specs.Steps.{AreReturnable, AreWithin, IsNarrow}
 use Rattle.etagere.specs.Valid.{IsShelf, IsValid}
-use Rattle.etagere.proofs.EachLemmas.{Each-weaken}
-use Rattle.etagere.proofs.FrameSides.{column-within, sides_low}
+use Rattle.etagere_base.proofs.EachLemmas.{Each-weaken}
+use Rattle.etagere_base.proofs.FrameSides.{column-within, sides_low}
 use Rattle.etagere.proofs.Heights.{column_height-none}
 
 -- a shelf ends where the atlas does or before

@@ -7,8 +7,9 @@ use Rattle.etagere_base.specs.declared.frames.Frame.{Frame}
 use Rattle.etagere_base.specs.declared.geometry.Rectangle.{Rectangle}
 use Rattle.etagere_base.specs.declared.ids.Allocation.{Allocation}
 use Rattle.etagere.specs.Atlas.{without_id}
-use Rattle.etagere.specs.Lists.{times, at_first}
-use Rattle.etagere.specs.Places.{column_place, column_height, rectangle_at, allocation_of, allocations_along, allocations_after, allocations}
+use Rattle.etagere_base.specs.Lists.{times, at_first}
+use Rattle.etagere_base.specs.Places.{rectangle_at}
+use Rattle.etagere.specs.Places.{column_place, column_height, allocation_of, allocations_along, allocations_after, allocations}
 use Rattle.etagere.specs.Returning.{freed, is_allocated_in, returned_shelf, returned}
 use Rattle.etagere.specs.State.{Item, Shelf, AtlasState}
 use Rattle.etagere.specs.Valid.{item_ids, ids, IsValid}
@@ -18,7 +19,7 @@ use Rattle.etagere.proofs.AllocatedLists.{allocations_after-heights}
 use Rattle.etagere.proofs.AllocatedItems.{column-returned_shelf, height-returned_shelf, returned_shelf-allocated, item_of_owner}
 use Rattle.etagere.proofs.ItemIds.{times-item_ids}
 use Rattle.etagere.proofs.MergedAllocated.{merged_items-allocations_along, merged_shelves-allocated}
-use Rattle.etagere.proofs.TimesLemmas.{times-append}
+use Rattle.etagere_base.proofs.TimesLemmas.{times-append}
 
 -- a count of nothing has no part
 zero_parts : (b : Bool) (n : ℕ) → cond b 1 0 + n ≡ 0 → (not b ≡ true) × (n ≡ 0)

@@ -3,15 +3,15 @@ use Rattle.std.proofs.Common.{◌≡◌, ℕ, zero, suc, ◌+◌, ◌≤◌, Boo
 use Rattle.std.proofs.lemmas.Bool.{cond_both}
 use Rattle.std.specs.Prelude.{slice_get}
 use Rattle.etagere.specs.Merging.{both_free, combined_items, merged_items}
-use Rattle.etagere.specs.Lists.{Each, times, NoNeighbours}
-use Rattle.etagere.specs.MergingAt.{merged_at, merged_before}
+use Rattle.etagere_base.specs.Lists.{Each, times, NoNeighbours}
+use Rattle.etagere_base.specs.MergingAt.{merged_at, merged_before}
 use Rattle.etagere.specs.Places.{free_places}
 use Rattle.etagere.specs.Returning.{is_free_at, is_free_before, place_at, freed, returned_free_list}
 use Rattle.etagere.specs.State.{Item, is_free, total_width}
-use Rattle.etagere.specs.Taking.{remove_place}
+use Rattle.etagere_base.specs.Lists.{remove_place}
 use Rattle.etagere.proofs.FreePlaces.{once, starts, starts-free, starts-freed, starts-merged_at}
 use Rattle.etagere.proofs.MergedNear.{merged_items-freed, take-freed}
-use Rattle.etagere.proofs.TimesLemmas.{times-remove_place}
+use Rattle.etagere_base.proofs.TimesLemmas.{times-remove_place}
 
 -- freeing an item leaves the one before it free or allocated
 is_free_at-freed_before : (n : ℕ) (items : List Item) → is_free_at n (freed (suc n) items) ≡ is_free_at n items

@@ -4,12 +4,12 @@ use Rattle.std.proofs.lemmas.List.Quantifiers.{position-Some}
 use Rattle.std.specs.Prelude.{position, slice_get}
 use Rattle.etagere_base.specs.declared.frames.Frame.{Frame}
 use Rattle.etagere.specs.Merging.{both_empty, combined_shelves, merged_shelves}
-use Rattle.etagere.specs.Lists.{NoNeighbours, at_first}
-use Rattle.etagere.specs.MergingAt.{merged_at, merged_before}
+use Rattle.etagere_base.specs.Lists.{NoNeighbours, at_first}
+use Rattle.etagere_base.specs.MergingAt.{merged_at, merged_before}
 use Rattle.etagere.specs.Returning.{is_allocated_in, returned_shelf}
 use Rattle.etagere.specs.State.{Shelf, items_in_use}
 use Rattle.etagere.specs.Steps.{AreShort}
-use Rattle.etagere.proofs.FirstPlace.{at_first-set}
+use Rattle.etagere_base.proofs.FirstPlace.{at_first-set}
 use Rattle.etagere.proofs.Heights.{column_height-set}
 use Rattle.etagere.proofs.AllocatedItems.{column-returned_shelf, height-returned_shelf}
 use Rattle.etagere.proofs.MergedNear.{merged_shelves-near}

@@ -5,14 +5,14 @@ use Rattle.std.specs.Prelude.{slice_get}
 use Rattle.etagere_base.specs.Frames.{alignment_along}
 use Rattle.etagere_base.specs.declared.frames.Frame.{Frame}
 use Rattle.etagere.specs.Merging.{both_free, combined_items, merged_items}
-use Rattle.etagere.specs.Lists.{Each}
+use Rattle.etagere_base.specs.Lists.{Each}
 use Rattle.etagere.specs.Places.{column_place}
 use Rattle.etagere.specs.Returning.{freed, freed_shelf}
 use Rattle.etagere.specs.State.{Item, Shelf, is_free, total_width}
 use Rattle.etagere.specs.Valid.{IsItem, IsShelf}
-use Rattle.etagere.proofs.EachLemmas.{Each-weaken}
-use Rattle.etagere.proofs.Merged.{apart-merged}
-use Rattle.etagere.proofs.MergedKeeps.{Each-merged, at_most-merged, measure-merged}
+use Rattle.etagere_base.proofs.EachLemmas.{Each-weaken}
+use Rattle.etagere_base.proofs.Merged.{apart-merged}
+use Rattle.etagere_base.proofs.MergedKeeps.{Each-merged, at_most-merged, measure-merged}
 use Rattle.etagere.proofs.MergedNear.{items-merge}
 use Rattle.etagere.proofs.ReturnedFreeList.{times-returned_free_list}
 

@@ -8,7 +8,7 @@ use Rattle.etagere.specs.Space.{allocated_width, space_in, allocated_space}
 use Rattle.etagere.specs.State.{Shelf, AtlasState}
 use Rattle.etagere.specs.Steps.{width_of}
 use Rattle.etagere.specs.Valid.{IsValid}
-use Rattle.etagere.proofs.FirstPlace.{at_first-set}
+use Rattle.etagere_base.proofs.FirstPlace.{at_first-set}
 use Rattle.etagere.proofs.AllocatedItems.{height-returned_shelf, number_of-allocated, returned_shelf-allocated}
 use Rattle.etagere.proofs.SpaceLemmas.{allocated_width-freed, allocated_width-merged, space_in-merged, space_in-set}
 

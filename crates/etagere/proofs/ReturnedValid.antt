@@ -3,20 +3,20 @@ use Rattle.std.proofs.Common.{◌≡◌, ℕ, ◌+◌, ◌≤◌, true, cond, �
 use Rattle.std.specs.Prelude.{nat_lt}
 use Rattle.etagere_base.specs.declared.frames.Frame.{Frame}
 use Rattle.etagere.specs.Merging.{merged_items, both_empty, combined_shelves, merged_shelves}
-use Rattle.etagere.specs.Lists.{Each, times, at_first, NoNeighbours}
+use Rattle.etagere_base.specs.Lists.{Each, times, at_first, NoNeighbours}
 use Rattle.etagere.specs.Places.{column_height}
 use Rattle.etagere.specs.Returning.{freed, is_allocated_in, returned_shelf, returned}
 use Rattle.etagere.specs.State.{Item, Shelf, AtlasState, items_in_use}
 use Rattle.etagere.specs.Valid.{IsShelf, IsValid, item_ids, ids, is_out_of_order}
-use Rattle.etagere.proofs.FirstChanged.{Each-at_first, measure-at_first, at_most-at_first, NoNeighbours-at_first}
+use Rattle.etagere_base.proofs.FirstChanged.{Each-at_first, measure-at_first, at_most-at_first, NoNeighbours-at_first}
 use Rattle.etagere.proofs.Heights.{same_column, column_height-merged}
 use Rattle.etagere.proofs.AllocatedItems.{not_free, returned_shelf-allocated, column-returned_shelf, height-returned_shelf, item_of_owner}
 use Rattle.etagere.proofs.ItemIds.{item_ids-merged, ids-merged, times-item_ids-freed}
-use Rattle.etagere.proofs.Merged.{apart-merged}
-use Rattle.etagere.proofs.MergedKeeps.{at_most-merged, Each-merged, NoNeighbours-merged}
+use Rattle.etagere_base.proofs.Merged.{apart-merged}
+use Rattle.etagere_base.proofs.MergedKeeps.{at_most-merged, Each-merged, NoNeighbours-merged}
 use Rattle.etagere.proofs.MergedNear.{shelves-merge}
 use Rattle.etagere.proofs.ReturnedShelf.{length-freed, length-merged-le, freed_shelf-valid}
-use Rattle.etagere.proofs.TimesLemmas.{times-append}
+use Rattle.etagere_base.proofs.TimesLemmas.{times-append}
 
 -- a merged shelf is as a shelf must be
 combined-shelf : (frame : Frame) (x y : Shelf) → both_empty x y ≡ true → IsShelf frame x → IsShelf frame y → IsShelf frame (combined_shelves x y)

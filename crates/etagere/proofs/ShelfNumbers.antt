@@ -5,13 +5,13 @@ use Rattle.std.proofs.lemmas.Option.{get_or_from_slice_get, slice_get_read, slic
 use Rattle.std.specs.Prelude.{remove, slice_get}
 use Rattle.etagere_base.specs.declared.frames.Frame.{Frame}
 use Rattle.etagere.specs.Merging.{both_empty, combined_shelves}
-use Rattle.etagere.specs.Lists.{Each}
-use Rattle.etagere.specs.MergingAt.{merged_at}
+use Rattle.etagere_base.specs.Lists.{Each}
+use Rattle.etagere_base.specs.MergingAt.{merged_at}
 use Rattle.etagere.specs.State.{Item, Shelf, is_empty, is_one_free, items_in_use}
 use Rattle.etagere.specs.Steps.{IsNarrow}
 use Rattle.etagere.specs.Taking.{taken}
-use Rattle.etagere.proofs.EachLemmas.{Each-get}
-use Rattle.etagere.proofs.ListEdits.{merged_at-apart, merged_at-touch}
+use Rattle.etagere_base.proofs.EachLemmas.{Each-get}
+use Rattle.etagere_base.proofs.ListEdits.{merged_at-apart, merged_at-touch}
 
 -- an element is still there after one behind it was taken out
 get-removed : {X : Type 0} (n : ℕ) (xs : List X) (x : X) → slice_get xs n ≡ Some x → slice_get (remove xs (suc n)) n ≡ Some x

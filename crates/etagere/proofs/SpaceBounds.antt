@@ -5,7 +5,7 @@ use Rattle.std.specs.Prelude.{nat_lt}
 use Rattle.etagere_base.specs.Frames.{IsFrame, along_side, across_side}
 use Rattle.etagere_base.specs.Sides.{swapped_axes}
 use Rattle.etagere_base.specs.declared.frames.Frame.{Frame}
-use Rattle.etagere.specs.Lists.{Each}
+use Rattle.etagere_base.specs.Lists.{Each}
 use Rattle.etagere.specs.Space.{allocated_width, space_in, allocated_space}
 use Rattle.etagere.specs.State.{Shelf, AtlasState}
 use Rattle.etagere.specs.Valid.{IsShelf, IsValid}

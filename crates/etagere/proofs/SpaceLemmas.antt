@@ -7,7 +7,7 @@ use Rattle.etagere.specs.Returning.{is_free_at, freed}
 use Rattle.etagere.specs.Space.{allocated_width, space_in}
 use Rattle.etagere.specs.State.{Item, is_free, is_one_free, Shelf, is_empty, total_width}
 use Rattle.etagere.specs.Steps.{width_of}
-use Rattle.etagere.proofs.MergedKeeps.{measure-merged}
+use Rattle.etagere_base.proofs.MergedKeeps.{measure-merged}
 
 -- the allocated widths of items, by a front and a back
 pub allocated_width-append : (front back : List Item) → allocated_width (front ++ back) ≡ allocated_width front + allocated_width back

@@ -1,7 +1,7 @@
 -- Where nothing is allocated, no space is.
 use Rattle.std.proofs.Common.{◌≡◌, ℕ, zero, suc, ◌+◌, ◌*◌, ◌≤◌, Bool, true, false, cond, List, [], ◌∷◌, map, refl, ap, ◌∙◌, sym, arith}
 use Rattle.etagere_base.specs.declared.frames.Frame.{Frame}
-use Rattle.etagere.specs.Lists.{Each}
+use Rattle.etagere_base.specs.Lists.{Each}
 use Rattle.etagere.specs.Places.{allocations}
 use Rattle.etagere.specs.Space.{allocated_width, space_in, allocated_space}
 use Rattle.etagere.specs.State.{Item, Shelf, AtlasState, is_free}

@@ -4,7 +4,7 @@ use Rattle.std.proofs.Common.{◌≡◌, ℕ, ◌+◌, ◌*◌, ◌<◌, ◌≤�
 use Rattle.std.proofs.Math.Nat.{mul-le-mul_right}
 use Rattle.etagere_base.specs.declared.geometry.Size.{Size}
 use Rattle.etagere.specs.Choice.{Placement, placement_of}
-use Rattle.etagere.specs.Lists.{times}
+use Rattle.etagere_base.specs.Lists.{times}
 use Rattle.etagere.specs.Places.{column_place}
 use Rattle.etagere.specs.Returning.{is_allocated_in, returned}
 use Rattle.etagere.specs.Space.{allocated_space}
@@ -12,7 +12,7 @@ use Rattle.etagere.specs.State.{Shelf, AtlasState, total_width}
 use Rattle.etagere.specs.Steps.{allocated_area}
 use Rattle.etagere.specs.Taking.{given_height, given_width, taken}
 use Rattle.etagere.specs.Valid.{IsValid, ids}
-use Rattle.etagere.proofs.EachLemmas.{Each-get}
+use Rattle.etagere_base.proofs.EachLemmas.{Each-get}
 use Rattle.etagere.proofs.Heights.{column_height-upto}
 use Rattle.etagere.proofs.AllocatedItems.{item_of_owner}
 use Rattle.etagere.proofs.Returnable.{within}

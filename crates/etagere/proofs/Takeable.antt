@@ -7,8 +7,8 @@ use Rattle.etagere.specs.Places.{column_place, column_height}
 use Rattle.etagere.specs.State.{Shelf, AtlasState, total_width}
 use Rattle.etagere.specs.Steps.{CanTake, IsTakeable}
 use Rattle.etagere.specs.Valid.{IsValid}
-use Rattle.etagere.proofs.ReplacedLists.{split-at}
-use Rattle.etagere.proofs.FrameSides.{sides_low}
+use Rattle.etagere_base.proofs.ReplacedLists.{split-at}
+use Rattle.etagere_base.proofs.FrameSides.{sides_low}
 use Rattle.etagere.proofs.Heights.{column_height-append, column_height-own}
 use Rattle.etagere.proofs.Placed.{IsPlaced, placement_of-placed, chosen-stands}
 use Rattle.etagere.proofs.PlacedSizes.{placement-short}

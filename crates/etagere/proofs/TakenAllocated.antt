@@ -6,11 +6,12 @@ use Rattle.etagere_base.specs.declared.geometry.Rectangle.{Rectangle}
 use Rattle.etagere_base.specs.declared.geometry.Size.{Size}
 use Rattle.etagere_base.specs.declared.ids.Allocation.{Allocation}
 use Rattle.etagere.specs.Choice.{Placement, is_item_split, placement_of}
-use Rattle.etagere.specs.Places.{column_place, column_height, rectangle_at, allocations_along, allocations_after, allocations}
+use Rattle.etagere_base.specs.Places.{rectangle_at}
+use Rattle.etagere.specs.Places.{column_place, column_height, allocations_along, allocations_after, allocations}
 use Rattle.etagere.specs.State.{Item, Shelf, AtlasState, is_one_free, total_width}
 use Rattle.etagere.specs.Taking.{item_pieces, taken_shelf, shelf_pieces, given_width, given_in, given, taken}
 use Rattle.etagere.specs.Valid.{IsValid}
-use Rattle.etagere.proofs.ReplacedLists.{split-at}
+use Rattle.etagere_base.proofs.ReplacedLists.{split-at}
 use Rattle.etagere.proofs.Heights.{column_height-append}
 use Rattle.etagere.proofs.AllocatedLists.{allocations_along-append, allocations_after-append, allocations_after-heights}
 use Rattle.etagere.proofs.Placed.{placement_of-placed}

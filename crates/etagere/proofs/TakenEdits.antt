@@ -5,12 +5,12 @@ use Rattle.std.proofs.lemmas.Option.{slice_get-get_or}
 use Rattle.std.specs.Prelude.{insert}
 use Rattle.etagere_base.specs.declared.frames.Frame.{Frame}
 use Rattle.etagere.specs.Choice.{Placement, splits, is_item_split, is_shelf_split, width_at}
-use Rattle.etagere.specs.Lists.{replaced_at}
+use Rattle.etagere_base.specs.Lists.{replaced_at}
 use Rattle.etagere.specs.Places.{column_place}
 use Rattle.etagere.specs.State.{Shelf, empty_shelf}
 use Rattle.etagere.specs.Steps.{is_split_at, state_of}
 use Rattle.etagere.specs.Taking.{shelf_pieces, taken_shelf}
-use Rattle.etagere.proofs.ReplacedLists.{replaced_at-insert, replaced_at-set}
+use Rattle.etagere_base.proofs.ReplacedLists.{replaced_at-insert, replaced_at-set}
 use Rattle.etagere.proofs.ShelfNumbers.{shelf-read}
 
 -- the shelf of a placement is split where the one that is read there is

@@ -3,15 +3,16 @@ use Rattle.std.proofs.Common.{◌≡◌, ℕ, ◌+◌, ◌-◌, ◌≤◌, cond,
 use Rattle.std.proofs.lemmas.Bool.{cond-true}
 use Rattle.std.specs.Prelude.{is_none}
 use Rattle.etagere_base.specs.declared.frames.Frame.{Frame}
-use Rattle.etagere.specs.Lists.{Each, times}
+use Rattle.etagere_base.specs.Lists.{Each, times}
 use Rattle.etagere.specs.Places.{free_places}
 use Rattle.etagere.specs.State.{Item, is_free, total_width}
-use Rattle.etagere.specs.Taking.{item_pieces, taken_free_list, replace_place, remove_place}
+use Rattle.etagere_base.specs.Lists.{replace_place, remove_place}
+use Rattle.etagere.specs.Taking.{item_pieces, taken_free_list}
 use Rattle.etagere.specs.Valid.{IsItem}
-use Rattle.etagere.proofs.EachLemmas.{Each-front, Each-weaken}
+use Rattle.etagere_base.proofs.EachLemmas.{Each-front, Each-weaken}
 use Rattle.etagere.proofs.FreePlaces.{starts-after, starts-append, starts-before, starts-cons}
 use Rattle.etagere.proofs.TakenPieces.{IsRoom, free_item, allocated_item, pieces-cases}
-use Rattle.etagere.proofs.TimesLemmas.{hit, times-replace_place, times-remove_place}
+use Rattle.etagere_base.proofs.TimesLemmas.{hit, times-replace_place, times-remove_place}
 
 -- how often a place stands among those of free items, where one of them is in view
 places-old : (p here : ℕ) (front : List Item) (item : Item) (back : List Item) → item.id ≡ None

@@ -4,7 +4,7 @@ use Rattle.std.proofs.lemmas.Bool.{cond-true, cond-false}
 use Rattle.std.specs.Prelude.{◌==◌}
 use Rattle.etagere_base.specs.declared.frames.Frame.{Frame}
 use Rattle.etagere.specs.Choice.{width_at}
-use Rattle.etagere.specs.Lists.{Each, times}
+use Rattle.etagere_base.specs.Lists.{Each, times}
 use Rattle.etagere.specs.Places.{free_places}
 use Rattle.etagere.specs.State.{Item, is_free, total_width}
 use Rattle.etagere.specs.Taking.{item_pieces, taken_items}

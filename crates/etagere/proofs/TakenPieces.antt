@@ -9,15 +9,15 @@ use Rattle.etagere_base.specs.Frames.{alignment_along}
 use Rattle.etagere_base.specs.declared.frames.Frame.{Frame}
 use Rattle.etagere.specs.Choice.{is_item_split}
 use Rattle.etagere.specs.Merging.{both_free}
-use Rattle.etagere.specs.Lists.{Each, times, NoNeighbours}
+use Rattle.etagere_base.specs.Lists.{Each, times, NoNeighbours}
 use Rattle.etagere.specs.State.{Item, is_free, is_one_free, total_width}
 use Rattle.etagere.specs.Taking.{item_pieces}
 use Rattle.etagere.specs.Valid.{IsItem, item_ids}
-use Rattle.etagere.proofs.EachLemmas.{Each-append, Each-back, Each-front}
+use Rattle.etagere_base.proofs.EachLemmas.{Each-append, Each-back, Each-front}
 use Rattle.etagere.proofs.ItemIds.{times-item_ids}
-use Rattle.etagere.proofs.NoNeighboursLemmas.{NoNeighbours-changed, NoNeighbours-split}
+use Rattle.etagere_base.proofs.NoNeighboursLemmas.{NoNeighbours-changed, NoNeighbours-split}
 use Rattle.etagere.proofs.ItemLemmas.{total_width-append}
-use Rattle.etagere.proofs.TimesLemmas.{hit}
+use Rattle.etagere_base.proofs.TimesLemmas.{hit}
 
 -- a free item that is wide enough for a width that is aligned
 pub record IsRoom (frame : Frame) (item : Item) (width : ℕ) : Type 0 where

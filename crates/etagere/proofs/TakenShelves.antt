@@ -6,12 +6,12 @@ use Rattle.etagere_base.specs.declared.frames.Frame.{Frame}
 use Rattle.etagere_base.specs.declared.geometry.Size.{Size}
 use Rattle.etagere.specs.Choice.{Placement, is_shelf_split}
 use Rattle.etagere.specs.Merging.{both_free}
-use Rattle.etagere.specs.Lists.{Each, NoNeighbours, times}
+use Rattle.etagere_base.specs.Lists.{Each, NoNeighbours, times}
 use Rattle.etagere.specs.Places.{column_place, free_places}
 use Rattle.etagere.specs.State.{Shelf, AtlasState, is_empty, is_one_free, empty_shelf, total_width}
 use Rattle.etagere.specs.Taking.{taken_shelf, shelf_pieces}
 use Rattle.etagere.specs.Valid.{IsItem, IsShelf, IsValid}
-use Rattle.etagere.proofs.EachLemmas.{Each-get}
+use Rattle.etagere_base.proofs.EachLemmas.{Each-get}
 use Rattle.etagere.proofs.Placed.{IsPlaced, asked-sides, chosen-stands, shelf_height-tall}
 use Rattle.etagere.proofs.TakenPieces.{IsRoom, pieces-apart, pieces-each, pieces-not_empty, pieces-width}
 use Rattle.etagere.proofs.TakenItems.{IsFreeAt, free_at}

@@ -9,7 +9,7 @@ use Rattle.etagere.specs.Space.{allocated_width, space_in, allocated_space}
 use Rattle.etagere.specs.State.{Item, Shelf, AtlasState}
 use Rattle.etagere.specs.Taking.{item_pieces, given_width, given_height, taken_shelf, shelf_pieces, taken}
 use Rattle.etagere.specs.Valid.{IsValid}
-use Rattle.etagere.proofs.ReplacedLists.{split-at}
+use Rattle.etagere_base.proofs.ReplacedLists.{split-at}
 use Rattle.etagere.proofs.Placed.{placement_of-placed}
 use Rattle.etagere.proofs.SpaceLemmas.{allocated_width-append, allocated_width-free, allocated_width-one_free, space_in-append}
 use Rattle.etagere.proofs.TakenPieces.{free_item, allocated_item, pieces-cases}

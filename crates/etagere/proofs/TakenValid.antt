@@ -7,20 +7,20 @@ use Rattle.etagere_base.specs.declared.frames.Frame.{Frame}
 use Rattle.etagere_base.specs.declared.geometry.Size.{Size}
 use Rattle.etagere.specs.Choice.{Placement, is_item_split, width_at, splits, splits_in, placement_of}
 use Rattle.etagere.specs.Merging.{both_empty}
-use Rattle.etagere.specs.Lists.{Each, NoNeighbours, times}
+use Rattle.etagere_base.specs.Lists.{Each, NoNeighbours, times}
 use Rattle.etagere.specs.Places.{column_place, column_height}
 use Rattle.etagere.specs.State.{Shelf, AtlasState, is_empty, empty_shelf, items_in_use}
 use Rattle.etagere.specs.Taking.{taken_shelf, shelf_pieces, taken}
 use Rattle.etagere.specs.Valid.{IsShelf, IsValid, item_ids, ids, is_out_of_order}
-use Rattle.etagere.proofs.ReplacedLists.{split-at}
-use Rattle.etagere.proofs.EachLemmas.{Each-append, Each-back, Each-front}
+use Rattle.etagere_base.proofs.ReplacedLists.{split-at}
+use Rattle.etagere_base.proofs.EachLemmas.{Each-append, Each-back, Each-front}
 use Rattle.etagere.proofs.Heights.{column_height-append}
 use Rattle.etagere.proofs.ItemIds.{times-ids}
-use Rattle.etagere.proofs.NoNeighboursLemmas.{NoNeighbours-changed, NoNeighbours-split}
+use Rattle.etagere_base.proofs.NoNeighboursLemmas.{NoNeighbours-changed, NoNeighbours-split}
 use Rattle.etagere.proofs.Placed.{splits-read, placement_of-placed}
 use Rattle.etagere.proofs.TakenPieces.{pieces-item_ids, pieces-length}
 use Rattle.etagere.proofs.TakenShelves.{IsTaking, empty_shelf-valid, shelf_pieces-cases, taken_shelf-not_empty, taken_shelf-valid, taking}
-use Rattle.etagere.proofs.TimesLemmas.{hit, times-append}
+use Rattle.etagere_base.proofs.TimesLemmas.{hit, times-append}
 
 -- the shelves are valid after a placement took an item in one
 each-shelf : (frame : Frame) (placement : Placement) (id : ℕ) (front : List Shelf) (shelf : Shelf) (back : List Shelf)

@@ -5,14 +5,15 @@ use Rattle.etagere_base.specs.Frames.{IsFrame, across_side}
 use Rattle.etagere_base.specs.declared.frames.Frame.{Frame}
 use Rattle.etagere_base.specs.declared.geometry.Rectangle.{Rectangle}
 use Rattle.etagere_base.specs.declared.ids.Allocation.{Allocation}
-use Rattle.etagere.specs.Lists.{Each}
-use Rattle.etagere.specs.Places.{column_place, column_height, rectangle_at, allocation_of, allocations_along, allocations_after, allocations}
-use Rattle.etagere.specs.Rectangles.{AreApart, SharesNone, IsInside}
+use Rattle.etagere_base.specs.Lists.{Each}
+use Rattle.etagere_base.specs.Places.{rectangle_at}
+use Rattle.etagere.specs.Places.{column_place, column_height, allocation_of, allocations_along, allocations_after, allocations}
+use Rattle.etagere_base.specs.Rectangles.{AreApart, SharesNone, IsInside}
 use Rattle.etagere.specs.State.{Item, Shelf, AtlasState, total_width}
 use Rattle.etagere.specs.Valid.{IsItem, IsShelf, IsValid}
-use Rattle.etagere.proofs.Boxes.{LiesIn, LiesIn-widen, apart-across, apart-along, inside-from_lies, AreApart-append, IsApartFrom, SharesNone-swap}
-use Rattle.etagere.proofs.EachLemmas.{Each-append, Each-weaken}
-use Rattle.etagere.proofs.FrameSides.{column-within, columns-apart}
+use Rattle.etagere_base.proofs.Boxes.{LiesIn, LiesIn-widen, apart-across, apart-along, inside-from_lies, AreApart-append, IsApartFrom, SharesNone-swap}
+use Rattle.etagere_base.proofs.EachLemmas.{Each-append, Each-weaken}
+use Rattle.etagere_base.proofs.FrameSides.{column-within, columns-apart}
 use Rattle.etagere.proofs.Heights.{column_height-append, column_height-own}
 
 -- a shelf in a column of the frame, filled by items that are not empty

@@ -3,9 +3,9 @@ use Rattle.etagere_base.specs.declared.geometry.Size.{Size}
 use Rattle.etagere_base.specs.declared.ids.Allocation.{Allocation}
 use Rattle.etagere.specs.Choice.{Placement, splits, placement_of}
 use Rattle.etagere.specs.Fresh.{fresh, without_records}
-use Rattle.etagere.specs.Lists.{Each, times}
+use Rattle.etagere_base.specs.Lists.{Each, times}
 use Rattle.etagere.specs.Places.{allocations, is_allocated}
-use Rattle.etagere.specs.Rectangles.{AreApart, IsAligned, IsInside}
+use Rattle.etagere_base.specs.Rectangles.{AreApart, IsAligned, IsInside}
 use Rattle.etagere.specs.State.{AtlasState}
 use Rattle.etagere.specs.Taking.{given, taken}
 use Rattle.etagere.specs.Valid.{IsValid}

@@ -5,7 +5,7 @@ use Rattle.etagere.specs.Choice.{Found, Placement, first_least, placement_of}
 use Rattle.etagere.specs.Merging.{merged_items, merged_shelves}
 use Rattle.etagere.specs.Layout.{layout}
 use Rattle.etagere.specs.Least.{IsFirstLeast}
-use Rattle.etagere.specs.Lists.{times}
+use Rattle.etagere_base.specs.Lists.{times}
 use Rattle.etagere.specs.Places.{allocations_after, allocations_along}
 use Rattle.etagere.specs.Returning.{returned}
 use Rattle.etagere.specs.State.{Item, Shelf, AtlasState}

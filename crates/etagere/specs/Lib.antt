@@ -6,11 +6,8 @@ pub mod Fresh
 pub mod Laws
 pub mod Layout
 pub mod Least
-pub mod Lists
 pub mod Merging
-pub mod MergingAt
 pub mod Places
-pub mod Rectangles
 pub mod Returning
 pub mod ShelfConsistent
 pub mod Space

@@ -1,10 +1,9 @@
-use Rattle.std.specs.Prelude.{ℕ, ◌+◌, ◌*◌, Bool, pos, Option, None, Some, option_map, List, [], ◌∷◌, ◌++◌, find, ◌==◌, if◌then◌else◌}
+use Rattle.std.specs.Prelude.{ℕ, ◌+◌, ◌*◌, Bool, Option, None, Some, option_map, List, [], ◌∷◌, ◌++◌, find, ◌==◌, if◌then◌else◌}
 use Rattle.std.specs.List.{list_any}
 use Rattle.etagere_base.specs.declared.frames.Frame.{Frame}
-use Rattle.etagere_base.specs.declared.geometry.Point.{Point}
 use Rattle.etagere_base.specs.declared.geometry.Rectangle.{Rectangle}
 use Rattle.etagere_base.specs.declared.ids.Allocation.{Allocation}
-use Rattle.etagere_base.specs.Sides.{swapped_axes}
+use Rattle.etagere_base.specs.Places.{rectangle_at}
 use Rattle.etagere.specs.State.{Item, Shelf, AtlasState, is_free}
 
 -- where a column begins
@@ -21,17 +20,6 @@ abbrev pub free_places : ℕ → List Item → List ℕ
 free_places here [] = []
 free_places here (item ∷ items) =
     if is_free item then here ∷ free_places (here + item.width) items else free_places (here + item.width) items
-
--- the point at a place along and a place across
-abbrev pub point_at : Frame → ℕ → ℕ → Point
-point_at frame along across =
-    let place = swapped_axes frame.vertical (record { along = along; across = across }) in
-    record { x = pos place.along; y = pos place.across }
-
--- what lies at a place along and across, this wide along and this tall across
-abbrev pub rectangle_at : Frame → ℕ → ℕ → ℕ → ℕ → Rectangle
-rectangle_at frame along across width height =
-    record { min = point_at frame along across; max = point_at frame (along + width) (across + height) }
 
 -- what an item allocates: its rectangle, where an id holds it
 abbrev pub allocation_of : Option ℕ → Rectangle → List Allocation

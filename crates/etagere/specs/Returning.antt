@@ -1,10 +1,10 @@
 use Rattle.std.specs.Prelude.{ℕ, zero, suc, ◌+◌, Bool, false, Option, None, Some, is_some, List, [], ◌∷◌, position, take, ◌==◌, if◌then◌else◌}
 use Rattle.etagere_base.specs.declared.frames.Frame.{Frame}
 use Rattle.etagere.specs.Merging.{merged_items, merged_shelves}
-use Rattle.etagere.specs.Lists.{at_first}
+use Rattle.etagere_base.specs.Lists.{at_first}
 use Rattle.etagere.specs.Places.{column_place}
 use Rattle.etagere.specs.State.{Item, Shelf, AtlasState, is_free, total_width}
-use Rattle.etagere.specs.Taking.{remove_place}
+use Rattle.etagere_base.specs.Lists.{remove_place}
 
 -- the item is allocated by this id
 abbrev pub has_id : ℕ → Option ℕ → Bool

@@ -4,8 +4,9 @@ use Rattle.etagere_base.specs.declared.frames.Frame.{Frame}
 use Rattle.etagere_base.specs.declared.geometry.Rectangle.{Rectangle}
 use Rattle.etagere.specs.Choice.{Placement, is_shelf_split, width_at}
 use Rattle.etagere.specs.Merging.{both_empty, both_free}
-use Rattle.etagere.specs.Lists.{Each, NoNeighbours, times}
-use Rattle.etagere.specs.Places.{column_place, column_height, rectangle_at}
+use Rattle.etagere_base.specs.Lists.{Each, NoNeighbours, times}
+use Rattle.etagere_base.specs.Places.{rectangle_at}
+use Rattle.etagere.specs.Places.{column_place, column_height}
 use Rattle.etagere.specs.Returning.{number_of, place_at}
 use Rattle.etagere.specs.State.{Item, Shelf, AtlasState, is_free, items_in_use, total_width}
 use Rattle.etagere.specs.Taking.{given_width, given_height}

@@ -1,9 +1,10 @@
-use Rattle.std.specs.Prelude.{ℕ, ◌+◌, ◌-◌, max, not, Option, None, Some, option_map, List, [], ◌∷◌, ◌++◌, map, filter, take, slice_get, ◌==◌, if◌then◌else◌}
+use Rattle.std.specs.Prelude.{ℕ, ◌+◌, ◌-◌, max, Option, None, Some, option_map, List, [], ◌∷◌, ◌++◌, take, slice_get, ◌==◌, if◌then◌else◌}
 use Rattle.etagere_base.specs.declared.frames.Frame.{Frame}
 use Rattle.etagere_base.specs.declared.geometry.Rectangle.{Rectangle}
 use Rattle.etagere.specs.Choice.{Placement, is_shelf_split, is_item_split, width_at}
-use Rattle.etagere.specs.Lists.{replaced_at}
-use Rattle.etagere.specs.Places.{column_place, column_height, rectangle_at}
+use Rattle.etagere_base.specs.Lists.{remove_place, replace_place, replaced_at}
+use Rattle.etagere_base.specs.Places.{rectangle_at}
+use Rattle.etagere.specs.Places.{column_place, column_height}
 use Rattle.etagere.specs.State.{Item, Shelf, AtlasState, empty_shelf, items_in_use}
 
 -- what becomes of an item that is taken: the front is given and the rest stays free, or all of it is given
@@ -18,14 +19,6 @@ abbrev pub taken_items : ℕ → ℕ → ℕ → ℕ → List Item → List Item
 taken_items width id place here [] = []
 taken_items width id place here (item ∷ items) =
     if here == place then item_pieces width id item ++ items else item ∷ taken_items width id place (here + item.width) items
-
--- the list without a number
-abbrev pub remove_place : ℕ → List ℕ → List ℕ
-remove_place n ns = filter (λ m. not (m == n)) ns
-
--- the list with a number replaced by another
-abbrev pub replace_place : ℕ → ℕ → List ℕ → List ℕ
-replace_place n new ns = map (λ m. if m == n then new else m) ns
 
 -- the free list after a place was taken: the rest of its item stands where the item stood
 abbrev pub taken_free_list : ℕ → ℕ → ℕ → List ℕ → List ℕ

@@ -2,7 +2,7 @@ use Rattle.std.specs.Prelude.{◌≡◌, ℕ, ◌%◌, ◌<◌, ◌≤◌, Bool,
 use Rattle.etagere_base.specs.declared.frames.Frame.{Frame}
 use Rattle.etagere_base.specs.Frames.{IsFrame, across_side, alignment_along}
 use Rattle.etagere.specs.Merging.{both_free, both_empty}
-use Rattle.etagere.specs.Lists.{Each, NoNeighbours, times}
+use Rattle.etagere_base.specs.Lists.{Each, NoNeighbours, times}
 use Rattle.etagere.specs.Places.{column_place, column_height, free_places}
 use Rattle.etagere.specs.State.{Item, Shelf, AtlasState, total_width, items_in_use}
 

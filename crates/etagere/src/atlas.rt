@@ -8,7 +8,7 @@ ghost use Rattle.etagere.specs.Choice.{IsRefused};
 ghost use Rattle.etagere.specs.Fresh.{fresh};
 ghost use Rattle.etagere.specs.Places as places;
 ghost use Rattle.etagere.specs.Places.{allocations, is_allocated};
-ghost use Rattle.etagere.specs.Rectangles.{IsLarge};
+ghost use Rattle.etagere_base.specs.Rectangles.{IsLarge};
 ghost use Rattle.etagere.specs.Returning.{returned};
 ghost use Rattle.etagere.specs.Space as space;
 

@@ -1,6 +1,7 @@
 ghost use Rattle.std.specs.Prelude.{◌≡◌, ◌+◌, ◌*◌, ◌<◌, ◌≤◌, ◌^◌, Some, IfSome, length, map, slice_get};
 ghost use Rattle.std.specs.Option.{option_map};
 ghost use Rattle.etagere_base.specs.Frames.{IsFrame};
+ghost use Rattle.etagere_base.specs.Places as base_places;
 ghost use Rattle.etagere.specs.Choice as choice;
 ghost use Rattle.etagere.specs.Choice.{first_least};
 ghost use Rattle.etagere.specs.Least as least;
@@ -8,7 +9,7 @@ ghost use Rattle.etagere.specs.Places as places;
 ghost use Rattle.etagere.specs.State as state;
 ghost use Rattle.etagere.specs.Steps.{CanTake, IsNarrow, state_of};
 ghost use Rattle.etagere.specs.Taking as taking;
-ghost use Rattle.etagere.specs.Lists.{Each};
+ghost use Rattle.etagere_base.specs.Lists.{Each};
 
 use crate::placements::{Found, Placement};
 use crate::shelves::Shelf;
@@ -142,7 +143,7 @@ pub(crate) fn rectangle_at(
 ) -> Rectangle
     requires right { along + width ≤ 65535 }
     requires bottom { across + height ≤ 65535 }
-    ensures { result ≡ places.rectangle_at frame.now along across width height }
+    ensures { result ≡ base_places.rectangle_at frame.now along across width height }
 {
     Rectangle {
         min: point_at(frame, along, across),
@@ -152,7 +153,7 @@ pub(crate) fn rectangle_at(
 
 fn point_at(frame: &Frame, along: u32, across: u32) -> Point
     requires { (along ≤ 65535) × (across ≤ 65535) }
-    ensures { result ≡ places.point_at frame.now along across }
+    ensures { result ≡ base_places.point_at frame.now along across }
 {
     let place = swapped_axes(frame.vertical, Sides { along, across });
     point2(place.along as i32, place.across as i32)

@@ -1,7 +1,7 @@
 ghost use Rattle.std.specs.Prelude.{◌≡◌, ◌+◌, ◌<◌, ◌≤◌, ◌^◌, IsTrue, false, OnOk, OnErr, vec_len, vec_capacity};
 ghost use Rattle.etagere.specs.Choice.{is_item_split, width_at};
 ghost use Rattle.etagere.specs.Merging.{both_free, merged_items};
-ghost use Rattle.etagere.specs.Lists.{NoNeighbours, times};
+ghost use Rattle.etagere_base.specs.Lists.{NoNeighbours, times};
 ghost use Rattle.etagere.specs.Returning.{freed, is_free_at, returned_free_list};
 ghost use Rattle.etagere.specs.State.{total_width};
 ghost use Rattle.etagere.specs.Steps.{allocated_count};

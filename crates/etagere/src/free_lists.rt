@@ -2,7 +2,7 @@ ghost use Rattle.std.specs.Prelude.{◌≡◌, ◌+◌, ◌<◌, ◌≤◌, ◌^
 ghost use Rattle.etagere.specs.Choice as choice;
 ghost use Rattle.etagere.specs.Returning.{returned_free_list};
 ghost use Rattle.etagere.specs.State.{total_width};
-ghost use Rattle.etagere.specs.Taking as taking;
+ghost use Rattle.etagere_base.specs.Lists as lists;
 ghost use Rattle.etagere.specs.Taking.{taken_free_list};
 
 use crate::items::{Item, is_free_at, is_item_split, place_at, width_at};
@@ -23,7 +23,7 @@ pub(crate) fn fitting_place(free_list: &[u32], items: &[Item], here: u32, width:
 
 /// Takes a place out.
 pub(crate) fn remove_place(free_list: &mut Vec<u32>, place: u32)
-    ensures places { free_list.new.items ≡ taking.remove_place place free_list.old.items }
+    ensures places { free_list.new.items ≡ lists.remove_place place free_list.old.items }
     ensures shorter { vec_len free_list.new ≤ vec_len free_list.old }
     ensures capacity { vec_capacity free_list.new ≡ vec_capacity free_list.old }
 {
@@ -32,7 +32,7 @@ pub(crate) fn remove_place(free_list: &mut Vec<u32>, place: u32)
 
 /// Puts another place where one stands.
 pub(crate) fn replace_place(free_list: &mut [u32], place: u32, new: u32)
-    ensures { free_list.new ≡ taking.replace_place place new free_list.old }
+    ensures { free_list.new ≡ lists.replace_place place new free_list.old }
 {
     for other in free_list.iter_mut() {
         *other = if *other == place { new } else { *other };

@@ -1,7 +1,7 @@
 ghost use Rattle.std.specs.Prelude.{◌≡◌, ◌+◌, ◌<◌, Some, position, vec_len};
 ghost use Rattle.etagere.specs.Merging.{both_empty, merged_shelves, combined_shelves};
-ghost use Rattle.etagere.specs.Lists.{at_first};
-ghost use Rattle.etagere.specs.MergingAt.{merged_at, merged_before};
+ghost use Rattle.etagere_base.specs.Lists.{at_first};
+ghost use Rattle.etagere_base.specs.MergingAt.{merged_at, merged_before};
 ghost use Rattle.etagere.specs.Returning.{is_allocated_in, returned_shelf};
 ghost use Rattle.etagere.specs.State.{items_in_use};
 ghost use Rattle.etagere.specs.Steps.{AreShort, AreReturnable};

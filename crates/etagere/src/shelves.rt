@@ -3,7 +3,7 @@ ghost use Rattle.etagere.specs.Choice as choice;
 ghost use Rattle.etagere.specs.Choice.{is_item_split, width_at};
 ghost use Rattle.etagere.specs.Merging as merging;
 ghost use Rattle.etagere.specs.Merging.{both_free};
-ghost use Rattle.etagere.specs.Lists.{NoNeighbours, times};
+ghost use Rattle.etagere_base.specs.Lists.{NoNeighbours, times};
 ghost use Rattle.etagere.specs.Places.{column_place};
 ghost use Rattle.etagere.specs.Returning.{is_allocated_in, returned_shelf};
 ghost use Rattle.etagere.specs.State as state;

@@ -1,6 +1,6 @@
 ghost use Rattle.std.specs.Prelude.{◌≡◌, ◌<◌, OnOk, OnErr, true, false};
 ghost use Rattle.etagere.specs.Choice.{splits};
-ghost use Rattle.etagere.specs.Lists.{Each, replaced_at};
+ghost use Rattle.etagere_base.specs.Lists.{Each, replaced_at};
 ghost use Rattle.etagere.specs.Steps.{CanTake, IsNarrow, is_split_at, state_of};
 ghost use Rattle.etagere.specs.Taking.{shelf_pieces};
 

@@ -1,5 +1,10 @@
 pub mod Faults
 pub mod Frames
+pub mod Lists
+pub mod Merging
+pub mod MergingAt
 pub mod Options
+pub mod Places
+pub mod Rectangles
 pub mod Sending
 pub mod Sides

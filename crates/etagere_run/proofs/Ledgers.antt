@@ -6,7 +6,7 @@ use Rattle.std.proofs.lemmas.Bool.Decides.{nat_tests}
 use Rattle.std.proofs.lemmas.List.{append-nil}
 use Rattle.etagere_base.specs.declared.ids.Allocation.{Allocation}
 use Rattle.etagere.specs.Atlas.{Adds, KeepsPromises, without_id}
-use Rattle.etagere.specs.Lists.{Each, times}
+use Rattle.etagere_base.specs.Lists.{Each, times}
 use Rattle.etagere.specs.Places.{allocations, is_allocated, rectangle_of}
 use Rattle.etagere.specs.State.{AtlasState}
 use Rattle.etagere_run.specs.declared.ledger.Entry.{Entry}

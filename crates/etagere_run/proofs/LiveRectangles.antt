@@ -5,9 +5,9 @@ use Rattle.std.specs.List.{find}
 use Rattle.std.proofs.lemmas.Bool.Decides.{nat_tests}
 use Rattle.etagere_base.specs.declared.geometry.Rectangle.{Rectangle}
 use Rattle.etagere_base.specs.declared.ids.Allocation.{Allocation}
-use Rattle.etagere.specs.Lists.{Each, times}
+use Rattle.etagere_base.specs.Lists.{Each, times}
 use Rattle.etagere.specs.Places.{allocations, rectangle_of}
-use Rattle.etagere.specs.Rectangles.{AreApart, SharesNone}
+use Rattle.etagere_base.specs.Rectangles.{AreApart, SharesNone}
 use Rattle.etagere.specs.State.{AtlasState}
 use Rattle.etagere_run.specs.declared.ledger.Entry.{Entry}
 use Rattle.etagere_run.specs.Live.{live_allocations}

@@ -7,7 +7,7 @@ use Rattle.etagere_base.specs.declared.ids.Allocation.{Allocation}
 use Rattle.etagere.specs.Atlas.{Adds, Allocates, KeepsPromises, without_id}
 use Rattle.etagere.specs.Fresh.{fresh}
 use Rattle.etagere.specs.Places.{allocations}
-use Rattle.etagere.specs.Rectangles.{IsLarge}
+use Rattle.etagere_base.specs.Rectangles.{IsLarge}
 use Rattle.etagere.specs.Returning.{returned}
 use Rattle.etagere.specs.State.{AtlasState}
 use Rattle.etagere_run.specs.declared.commands.AtlasCommand.TheVariants.{Allocate, Return, Look, Clear}

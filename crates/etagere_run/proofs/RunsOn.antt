@@ -10,9 +10,9 @@ use Rattle.etagere_base.specs.declared.options.AllocatorOptions.{AllocatorOption
 use Rattle.etagere_base.specs.Frames.{atlas_frame}
 use Rattle.etagere.specs.Atlas.{KeepsPromises}
 use Rattle.etagere.specs.Fresh.{fresh, without_records}
-use Rattle.etagere.specs.Lists.{Each, times}
+use Rattle.etagere_base.specs.Lists.{Each, times}
 use Rattle.etagere.specs.Places.{allocations, rectangle_of}
-use Rattle.etagere.specs.Rectangles.{AreApart, IsAligned, IsInside, IsLarge}
+use Rattle.etagere_base.specs.Rectangles.{AreApart, IsAligned, IsInside, IsLarge}
 use Rattle.etagere.specs.State.{AtlasState}
 use Rattle.etagere_run.specs.declared.commands.AtlasCommand.{AtlasCommand}
 use Rattle.etagere_run.specs.declared.commands.AtlasCommand.TheVariants.{Allocate, Return, Look, Clear}

@@ -9,9 +9,9 @@ use Rattle.etagere_base.specs.Frames.{atlas_frame, options_fault}
 use Rattle.etagere.specs.Atlas.{Allocates, NeedsSplit}
 use Rattle.etagere.specs.Choice.{IsRefused}
 use Rattle.etagere.specs.Fresh.{fresh, without_records}
-use Rattle.etagere.specs.Lists.{Each, times}
+use Rattle.etagere_base.specs.Lists.{Each, times}
 use Rattle.etagere.specs.Places.{rectangle_of}
-use Rattle.etagere.specs.Rectangles.{AreApart, IsAligned, IsInside, IsLarge}
+use Rattle.etagere_base.specs.Rectangles.{AreApart, IsAligned, IsInside, IsLarge}
 use Rattle.etagere.specs.Returning.{returned}
 use Rattle.etagere.specs.State.{AtlasState}
 use Rattle.etagere.specs.Valid.{IsValid}

@@ -1,5 +1,5 @@
 use Rattle.std.proofs.Common.{◌≡◌, ◌==◌, if◌then◌else◌, get_or, add-one, rules}
-use Rattle.etagere.proofs.ListEdits.{mapped-more}
+use Rattle.etagere_base.proofs.ListEdits.{mapped-more}
 use Rattle.etagere.proofs.free_lists.replace_place.Goals as goal
 
 pub loop-other-preserved : goal.loop-other-preserved

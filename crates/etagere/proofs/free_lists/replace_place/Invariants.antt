@@ -1,5 +1,5 @@
 use Rattle.std.proofs.Common.{◌==◌, if◌then◌else◌}
-use Rattle.etagere.proofs.ListEdits.{IsMapped}
+use Rattle.etagere_base.proofs.ListEdits.{IsMapped}
 use Rattle.etagere.proofs.free_lists.replace_place.Given as goal
 
 -- the places so far are replaced, and those from here on are as they were

@@ -1,7 +1,7 @@
 use Rattle.std.proofs.Common.{◌≡◌, ap, arith, add-one, sym, ◌∙◌, suc, get_or}
 use Rattle.etagere.specs.Merging.{both_free, combined_items}
 use Rattle.etagere.specs.State.{Item}
-use Rattle.etagere.proofs.ListEdits.{merged_at-last, merged_at-apart}
+use Rattle.etagere_base.proofs.ListEdits.{merged_at-last, merged_at-apart}
 use Rattle.etagere.proofs.ItemLemmas.{merged_at-free, widths-le-total}
 use Rattle.etagere.proofs.items.merge.Goals as goal
 

@@ -2,7 +2,7 @@ use Rattle.std.proofs.Common.{◌+◌, ◌≤◌, sym, ap, ◌∙◌, arith}
 use Rattle.etagere.specs.Places.{column_place}
 use Rattle.etagere.specs.State.{Shelf, total_width}
 use Rattle.etagere.specs.Steps.{allocated_rectangle}
-use Rattle.etagere.proofs.EachLemmas.{Each-get}
+use Rattle.etagere_base.proofs.EachLemmas.{Each-get}
 use Rattle.etagere.proofs.Heights.{column_height-upto}
 use Rattle.etagere.proofs.AllocatedRectangles.{rectangle_of-allocated, rectangle_of-none}
 use Rattle.etagere.proofs.ReturnedNear.{shelf_of-read}

@@ -1,4 +1,4 @@
-use Rattle.etagere.proofs.Merged.{merged_idempotent}
+use Rattle.etagere_base.proofs.Merged.{merged_idempotent}
 use Rattle.etagere.proofs.MergedAllocated.{merged_items-allocations_along, merged_shelves-allocated}
 use Rattle.etagere.proofs.MergedNear.{items-merge, shelves-merge}
 use Rattle.etagere.proofs.model_laws.merging_is_a_normal_form.Goals as goal

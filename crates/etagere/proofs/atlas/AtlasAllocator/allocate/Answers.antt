@@ -5,7 +5,7 @@ use Rattle.etagere.specs.Choice.{placement_of, splits}
 use Rattle.etagere.specs.Corners.{corner}
 use Rattle.etagere.specs.Consistent.{state_in}
 use Rattle.etagere.specs.Places.{allocations}
-use Rattle.etagere.specs.Rectangles.{IsLarge}
+use Rattle.etagere_base.specs.Rectangles.{IsLarge}
 use Rattle.etagere.specs.Space.{space_in}
 use Rattle.etagere.specs.State.{AtlasState, Shelf}
 use Rattle.etagere.specs.Taking.{given}

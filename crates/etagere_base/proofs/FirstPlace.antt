@@ -5,8 +5,8 @@ use Rattle.std.proofs.lemmas.List.{set_at}
 use Rattle.std.proofs.lemmas.List.Folds.{list_any-append}
 use Rattle.std.specs.List.{list_any, position_or_len}
 use Rattle.std.specs.Prelude.{slice_get, slice_set, position, nat_lt, option_map, is_some}
-use Rattle.etagere.specs.Lists.{at_first}
-use Rattle.etagere.proofs.ReplacedLists.{slice_get-append}
+use Rattle.etagere_base.specs.Lists.{at_first}
+use Rattle.etagere_base.proofs.ReplacedLists.{slice_get-append}
 
 -- a number below a length, one further back
 one_back : (k n : ℕ) → nat_lt (1 + k) (suc n) ≡ nat_lt k n

@@ -1,4 +1,4 @@
-use Rattle.std.specs.Prelude.{◌≡◌, ℕ, zero, suc, ◌+◌, Bool, false, List, [], ◌∷◌, ◌++◌, ◌==◌, if◌then◌else◌}
+use Rattle.std.specs.Prelude.{◌≡◌, ℕ, zero, suc, ◌+◌, Bool, false, not, List, [], ◌∷◌, ◌++◌, filter, map, ◌==◌, if◌then◌else◌}
 
 -- how often a number stands in a list
 abbrev pub times : ℕ → List ℕ → ℕ
@@ -26,3 +26,11 @@ NoNeighbours touch (x ∷ y ∷ ys) = (touch x y ≡ false) × NoNeighbours touc
 abbrev pub Each : {X : Type 0} → (X → Type 0) → List X → Type 0
 Each P [] = Unit {0}
 Each P (x ∷ xs) = P x × Each P xs
+
+-- the list without a number
+abbrev pub remove_place : ℕ → List ℕ → List ℕ
+remove_place n ns = filter (λ m. not (m == n)) ns
+
+-- the list with a number replaced by another
+abbrev pub replace_place : ℕ → ℕ → List ℕ → List ℕ
+replace_place n new ns = map (λ m. if m == n then new else m) ns

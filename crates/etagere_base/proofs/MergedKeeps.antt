@@ -1,9 +1,9 @@
 -- What merging keeps of a list.
 use Rattle.std.proofs.Common.{◌≡◌, ℕ, ◌≤◌, Bool, true, false, List, [], ◌∷◌, refl, ◌∙◌, arith}
 use Rattle.std.proofs.lemmas.Bool.{cond_both}
-use Rattle.etagere.specs.Merging.{merged_onto, merged_by}
-use Rattle.etagere.specs.Lists.{Each, NoNeighbours}
-use Rattle.etagere.proofs.NoNeighboursLemmas.{NoNeighbours-first}
+use Rattle.etagere_base.specs.Merging.{merged_onto, merged_by}
+use Rattle.etagere_base.specs.Lists.{Each, NoNeighbours}
+use Rattle.etagere_base.proofs.NoNeighboursLemmas.{NoNeighbours-first}
 
 module _ {X : Type 0} (touch : X → X → Bool) (combine : X → X → X) where
   -- a measure that doesn't see a merge doesn't see merging

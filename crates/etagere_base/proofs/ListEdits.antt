@@ -1,7 +1,7 @@
 -- How the edits of lists that the program makes stand to the definitions, and a loop that replaces each number in place.
 use Rattle.std.proofs.Common.{◌≡◌, ℕ, zero, suc, ◌<◌, ◌≤◌, Bool, true, false, List, [], ◌∷◌, length, get_or, set, refl, ap, arith, take, drop}
 use Rattle.std.specs.Prelude.{remove, map}
-use Rattle.etagere.specs.MergingAt.{merged_at}
+use Rattle.etagere_base.specs.MergingAt.{merged_at}
 
 -- where two neighbours touch, taking out the second and setting the first merges them
 pub merged_at-touch : {X : Type 0} (touch : X → X → Bool) (combine : X → X → X) (n : ℕ) (xs : List X) (d e x : X) → suc n < length xs → touch (get_or xs n d) (get_or xs (suc n) e) ≡ true → combine (get_or xs n d) (get_or xs (suc n) e) ≡ x → merged_at touch combine n xs ≡ set (remove xs (suc n)) n x

@@ -1,8 +1,8 @@
 -- What changing the first element that passes a test keeps of a list.
 use Rattle.std.proofs.Common.{◌≡◌, ℕ, ◌≤◌, Bool, true, List, [], ◌∷◌, refl, ◌∙◌, arith}
 use Rattle.std.proofs.lemmas.Bool.{cond_both}
-use Rattle.etagere.specs.Lists.{Each, at_first, NoNeighbours}
-use Rattle.etagere.proofs.NoNeighboursLemmas.{NoNeighbours-first}
+use Rattle.etagere_base.specs.Lists.{Each, at_first, NoNeighbours}
+use Rattle.etagere_base.proofs.NoNeighboursLemmas.{NoNeighbours-first}
 
 module _ {X : Type 0} (test : X → Bool) (change : X → X) where
   -- a fact of each element that the change keeps

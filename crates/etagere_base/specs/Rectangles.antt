@@ -6,7 +6,7 @@ use Rattle.etagere_base.specs.declared.geometry.Rectangle.{Rectangle}
 use Rattle.etagere_base.specs.declared.geometry.Size.{Size}
 use Rattle.etagere_base.specs.declared.ids.Allocation.{Allocation}
 use Rattle.etagere_base.specs.Sides.{side, up}
-use Rattle.etagere.specs.Lists.{Each}
+use Rattle.etagere_base.specs.Lists.{Each}
 
 -- the unit square at these places lies in the rectangle
 pub record Covers (rectangle : Rectangle) (x y : ℤ) : Type 0 where

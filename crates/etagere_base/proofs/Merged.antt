@@ -1,10 +1,10 @@
 -- Merging neighbours that touch: a list with none stays, what is merged has none, and the pieces of one merge to it again.
 use Rattle.std.proofs.Common.{◌≡◌, ℕ, zero, suc, Bool, true, false, List, [], ◌∷◌, take, drop, refl, ap, ◌∙◌, cond, ◌++◌, map}
 use Rattle.std.proofs.lemmas.Bool.{cond_both, cond-false}
-use Rattle.etagere.specs.Merging.{merged_onto, merged_by}
-use Rattle.etagere.specs.Lists.{NoNeighbours}
-use Rattle.etagere.specs.MergingAt.{merged_at, merged_before}
-use Rattle.etagere.proofs.NoNeighboursLemmas.{NoNeighbours-back, NoNeighbours-first, NoNeighbours-tail}
+use Rattle.etagere_base.specs.Merging.{merged_onto, merged_by}
+use Rattle.etagere_base.specs.Lists.{NoNeighbours}
+use Rattle.etagere_base.specs.MergingAt.{merged_at, merged_before}
+use Rattle.etagere_base.proofs.NoNeighboursLemmas.{NoNeighbours-back, NoNeighbours-first, NoNeighbours-tail}
 
 -- what is merged touches its neighbours as its parts did
 pub record Merges {X : Type 0} (touch : X → X → Bool) (combine : X → X → X) : Type 0 where

@@ -3,8 +3,8 @@ use Rattle.std.proofs.Common.{◌≡◌, ℕ, suc, ◌+◌, ◌≤◌, Bool, tru
 use Rattle.std.proofs.lemmas.Bool.{eq-eqb, eqb-true}
 use Rattle.std.specs.List.{list_any}
 use Rattle.std.specs.Prelude.{find, not, ◌==◌, nat_lt}
-use Rattle.etagere.specs.Lists.{times}
-use Rattle.etagere.specs.Taking.{remove_place, replace_place}
+use Rattle.etagere_base.specs.Lists.{times}
+use Rattle.etagere_base.specs.Lists.{remove_place, replace_place}
 
 -- how often a number stands in two lists
 pub times-append : (n : ℕ) (xs ys : List ℕ) → times n (xs ++ ys) ≡ times n xs + times n ys

@@ -7,10 +7,10 @@ use Rattle.etagere_base.specs.Sides.{swapped_axes}
 use Rattle.etagere_base.specs.declared.frames.Frame.{Frame}
 use Rattle.etagere_base.specs.declared.geometry.Rectangle.{Rectangle}
 use Rattle.etagere_base.specs.declared.ids.Allocation.{Allocation}
-use Rattle.etagere.specs.Lists.{Each}
-use Rattle.etagere.specs.Places.{rectangle_at}
-use Rattle.etagere.specs.Rectangles.{Covers, SharesNone, IsInside, AreApart}
-use Rattle.etagere.proofs.EachLemmas.{Each-append, Each-middle}
+use Rattle.etagere_base.specs.Lists.{Each}
+use Rattle.etagere_base.specs.Places.{rectangle_at}
+use Rattle.etagere_base.specs.Rectangles.{Covers, SharesNone, IsInside, AreApart}
+use Rattle.etagere_base.proofs.EachLemmas.{Each-append, Each-middle}
 
 -- a rectangle with an area lies between two places along and two places across
 pub record LiesIn (frame : Frame) (left right top bottom : ℕ) (rectangle : Rectangle) : Type 0 where

@@ -1,6 +1,6 @@
 -- Lists of which no two neighbours touch.
 use Rattle.std.proofs.Common.{◌≡◌, ℕ, zero, suc, Bool, false, List, [], ◌∷◌, ◌++◌, take, drop, ◌∙◌, map}
-use Rattle.etagere.specs.Lists.{NoNeighbours}
+use Rattle.etagere_base.specs.Lists.{NoNeighbours}
 
 -- the rest behind the first element
 pub NoNeighbours-tail : {X : Type 0} (touch : X → X → Bool) (x : X) (xs : List X) → NoNeighbours touch (x ∷ xs) → NoNeighbours touch xs

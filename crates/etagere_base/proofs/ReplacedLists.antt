@@ -1,7 +1,7 @@
 -- Lists with one element in view, which is read or split: what stands before it, the element, and what stands after it.
 use Rattle.std.proofs.Common.{◌≡◌, ℕ, suc, Some, List, [], ◌∷◌, ◌++◌, length, refl, ap, arith, zero, ◌<◌, get_or, set, take}
 use Rattle.std.specs.Prelude.{slice_get, insert}
-use Rattle.etagere.specs.Lists.{replaced_at}
+use Rattle.etagere_base.specs.Lists.{replaced_at}
 
 -- the list has this element at this number, between a front and a back
 pub record IsAt {X : Type 0} (xs : List X) (n : ℕ) (x : X) : Type 0 where
