@@ -1,6 +1,6 @@
-use Rattle.std.specs.Prelude.{◌+◌, Bool, ◌&&◌, None, List, ◌==◌}
+use Rattle.std.specs.Prelude.{◌+◌, Bool, ◌&&◌, None, List, map, ◌==◌}
 use Rattle.etagere_base.specs.Merging.{merged_by}
-use Rattle.etagere.specs.State.{Item, Shelf, is_free, is_empty}
+use Rattle.etagere.specs.State.{Item, Shelf, AtlasState, is_free, is_empty}
 
 abbrev pub both_free : Item → Item → Bool
 both_free item next = is_free item && is_free next
@@ -22,3 +22,22 @@ combined_shelves shelf next =
 -- empty neighbours of one column become one empty shelf of the summed height
 abbrev pub merged_shelves : List Shelf → List Shelf
 merged_shelves shelves = merged_by both_empty combined_shelves shelves
+
+-- the shelf with each longest block of free neighbours made one item
+abbrev pub merged_shelf : Shelf → Shelf
+merged_shelf shelf =
+    record {
+      column = shelf.column;
+      height = shelf.height;
+      items = merged_items shelf.items;
+      free_list = shelf.free_list;
+    }
+
+-- the state with all merged: in each shelf its free neighbours, then in each column its empty shelves
+abbrev pub merged : AtlasState → AtlasState
+merged state =
+    record {
+      frame = state.frame;
+      shelves = merged_shelves (map merged_shelf state.shelves);
+      records = state.records;
+    }

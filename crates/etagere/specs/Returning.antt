@@ -1,7 +1,6 @@
-use Rattle.std.specs.Prelude.{ℕ, zero, suc, ◌+◌, Bool, false, Option, None, Some, is_some, List, [], ◌∷◌, position, take, ◌==◌, if◌then◌else◌}
+use Rattle.std.specs.Prelude.{ℕ, zero, suc, ◌+◌, Bool, false, Option, None, Some, List, [], ◌∷◌, map, position, take, ◌==◌, if◌then◌else◌}
 use Rattle.etagere_base.specs.declared.frames.Frame.{Frame}
-use Rattle.etagere.specs.Merging.{merged_items, merged_shelves}
-use Rattle.etagere_base.specs.Lists.{at_first}
+use Rattle.etagere.specs.Merging.{merged}
 use Rattle.etagere.specs.Places.{column_place}
 use Rattle.etagere.specs.State.{Item, Shelf, AtlasState, is_free, total_width}
 use Rattle.etagere_base.specs.Lists.{remove_place}
@@ -11,7 +10,7 @@ abbrev pub has_id : ℕ → Option ℕ → Bool
 has_id id None = false
 has_id id (Some owner) = owner == id
 
--- the number of the item that an id holds
+-- the number of the item that is allocated under an id
 abbrev pub number_of : ℕ → List Item → Option ℕ
 number_of id items = position (λ (item : Item). has_id id item.id) items
 
@@ -43,33 +42,30 @@ returned_free_list here items n free_list =
     let others = if is_free_at (suc n) items then remove_place (place_at here items (suc n)) free_list else free_list in
     if is_free_before n items then others else place_at here items n ∷ others
 
--- the shelf with the item of this number returned
+-- the shelf with the item of this number free, and the free list that it has once its neighbours are merged
 abbrev pub freed_shelf : Frame → ℕ → Shelf → Shelf
 freed_shelf frame n shelf =
     record {
       column = shelf.column;
       height = shelf.height;
-      items = merged_items (freed n shelf.items);
+      items = freed n shelf.items;
       free_list = returned_free_list (column_place frame shelf) shelf.items n shelf.free_list;
     }
 
--- an id holds an item of the shelf
-abbrev pub is_allocated_in : ℕ → Shelf → Bool
-is_allocated_in id shelf = is_some (number_of id shelf.items)
-
--- the shelf with the item of an id returned
-abbrev pub returned_shelf : Frame → ℕ → Shelf → Shelf
-returned_shelf frame id shelf = freed_or (number_of id shelf.items)
+-- the shelf with the item of an id free, where it has one
+abbrev pub freed_in : Frame → ℕ → Shelf → Shelf
+freed_in frame id shelf = freed_or (number_of id shelf.items)
   where
     freed_or : Option ℕ → Shelf
     freed_or None = shelf
     freed_or (Some n) = freed_shelf frame n shelf
 
--- the state after the item of an id was returned
+-- the state after the item of an id was returned: it is freed, and then all is merged
 abbrev pub returned : AtlasState → ℕ → AtlasState
 returned state id =
-    record {
+    merged
+    (record {
       frame = state.frame;
-      shelves = merged_shelves (at_first (is_allocated_in id) (returned_shelf state.frame id) state.shelves);
+      shelves = map (freed_in state.frame id) state.shelves;
       records = state.records;
-    }
+    })

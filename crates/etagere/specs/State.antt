@@ -1,5 +1,6 @@
-use Rattle.std.specs.Prelude.{ℕ, ◌+◌, ◌*◌, Bool, false, Option, None, is_none, List, [], ◌∷◌, length}
+use Rattle.std.specs.Prelude.{ℕ, ◌*◌, Bool, false, Option, None, is_none, List, [], ◌∷◌, length}
 use Rattle.etagere_base.specs.declared.frames.Frame.{Frame}
+use Rattle.etagere_base.specs.Lists.{total}
 
 -- a stretch of a shelf: its width, and the id of the allocation that holds it; free where none does
 pub record Item : Type 0 where
@@ -46,10 +47,8 @@ empty_shelf frame column height =
 
 -- the widths of items, added up
 abbrev pub total_width : List Item → ℕ
-total_width [] = 0
-total_width (item ∷ items) = item.width + total_width items
+total_width items = total (λ item. item.width) items
 
 -- how many items the shelves have
 abbrev pub items_in_use : List Shelf → ℕ
-items_in_use [] = 0
-items_in_use (shelf ∷ shelves) = length shelf.items + items_in_use shelves
+items_in_use shelves = total (λ shelf. length shelf.items) shelves

@@ -1,9 +1,10 @@
-use Rattle.std.specs.Prelude.{◌≡◌, ℕ, ◌%◌, ◌<◌, ◌≤◌, Bool, Option, None, Some, List, [], ◌∷◌, ◌++◌, nat_lt}
+use Rattle.std.specs.Prelude.{◌≡◌, ℕ, ◌%◌, ◌<◌, ◌≤◌, Bool, map, nat_lt}
 use Rattle.etagere_base.specs.declared.frames.Frame.{Frame}
-use Rattle.etagere_base.specs.Frames.{IsFrame, across_side, alignment_along}
+use Rattle.etagere_base.specs.Frames.{HasAllColumns, IsFrame, across_side, alignment_along, longest_side}
+use Rattle.etagere.specs.Choice.{most_items}
 use Rattle.etagere.specs.Merging.{both_free, both_empty}
 use Rattle.etagere_base.specs.Lists.{Each, NoNeighbours, times}
-use Rattle.etagere.specs.Places.{column_place, column_height, free_places}
+use Rattle.etagere.specs.Places.{allocations, column_place, column_height, free_places}
 use Rattle.etagere.specs.State.{Item, Shelf, AtlasState, total_width, items_in_use}
 
 -- an item is at least one pixel wide, and aligned
@@ -21,30 +22,18 @@ pub record IsShelf (frame : Frame) (shelf : Shelf) : Type 0 where
   pub apart : NoNeighbours both_free shelf.items
   pub free_list : (place : ℕ) → times place shelf.free_list ≡ times place (free_places (column_place frame shelf) shelf.items)
 
--- the ids that hold items
-abbrev pub item_ids : List Item → List ℕ
-item_ids [] = []
-item_ids (item ∷ items) = id_list item.id ++ item_ids items
-  where
-    id_list : Option ℕ → List ℕ
-    id_list None = []
-    id_list (Some id) = id ∷ []
-
-abbrev pub ids : List Shelf → List ℕ
-ids [] = []
-ids (shelf ∷ shelves) = item_ids shelf.items ++ ids shelves
-
 -- a later shelf stands in an earlier column
 abbrev pub is_out_of_order : Shelf → Shelf → Bool
 is_out_of_order shelf next = nat_lt next.column shelf.column
 
--- the shelves fill each column, column after column, no two empty ones side by side; each id holds one item; and the
--- items are no more than the records, which are at most 65535
+-- the shelves fill each column, column after column, no two empty ones side by side; each id is allocated once; and
+-- the items are no more than the records, which are at most the most items
 pub record IsValid (state : AtlasState) : Type 0 where
-  pub frame : IsFrame 65535 state.frame
+  pub frame : IsFrame longest_side state.frame
+  pub columns : HasAllColumns state.frame
   pub shelves : Each (IsShelf state.frame) state.shelves
   pub ordered : NoNeighbours is_out_of_order state.shelves
   pub heights : (column : ℕ) → column < state.frame.columns → column_height column state.shelves ≡ across_side state.frame
   pub apart : NoNeighbours both_empty state.shelves
-  pub ids : (id : ℕ) → times id (ids state.shelves) ≤ 1
-  pub records : (items_in_use state.shelves ≤ state.records) × (state.records ≤ 65535)
+  pub ids : (id : ℕ) → times id (map (λ allocation. allocation.id) (allocations state)) ≤ 1
+  pub records : (items_in_use state.shelves ≤ state.records) × (state.records ≤ most_items)

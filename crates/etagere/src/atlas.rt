@@ -1,6 +1,12 @@
-ghost use Rattle.std.specs.Prelude.{◌≡◌, ◌↔◌, ◌*◌, ◌-◌, ◌+ℤ◌, [], Err, false, pos, IfOk, IfErr, IfSome, IfNone, OnOk, OnErr, IsErr, IsTrue};
+//! The public calls of an atlas. Each is thin: it asks, and then changes the list of shelves by one call.
+//!
+//! Definitions: `Atlas` for what the clauses say, `State` for what they see, `Consistent` for what the
+//! fields keep. The clauses stay as they are: callers prove by them. Fields may change, with `state_in`
+//! and `IsConsistent`.
+
+ghost use Rattle.std.specs.Prelude.{◌≡◌, ◌↔◌, ◌*◌, ◌-◌, ◌+ℤ◌, [], Err, Some, false, pos, IfOk, IfErr, IfSome, IfNone, OnOk, OnErr, IsErr, IsTrue};
 ghost use Rattle.etagere_base.specs.Frames as frames;
-ghost use Rattle.etagere_base.specs.Frames.{IsAccepted, options_fault};
+ghost use Rattle.etagere_base.specs.Frames.{IsAccepted, longest_side, options_fault};
 ghost use Rattle.etagere_base.specs.Options.{default_options};
 ghost use Rattle.etagere_base.specs.declared.faults.OptionsFault.TheVariants as faults;
 ghost use Rattle.etagere.specs.Atlas.{Adds, Allocates, KeepsPromises, NeedsSplit, without_id};
@@ -12,7 +18,7 @@ ghost use Rattle.etagere_base.specs.Rectangles.{IsLarge};
 ghost use Rattle.etagere.specs.Returning.{returned};
 ghost use Rattle.etagere.specs.Space as space;
 
-use crate::choosing::{given, given_area, placement_of};
+use crate::choosing::placement_of;
 use crate::ids::corner_id;
 use crate::looking::rectangle_of;
 use crate::returning::{free_in, shelf_of};
@@ -20,8 +26,8 @@ use crate::shelves::Shelf;
 use crate::starting::{empty_columns, reset_columns};
 use crate::taking::take_placement;
 use etagere_base::{
-    AllocId, Allocation, AllocatorOptions, DEFAULT_OPTIONS, Frame, OptionsFault, Rectangle, Size,
-    UnknownId, atlas_frame, options_fault,
+    AllocId, Allocation, AllocatorOptions, DEFAULT_OPTIONS, Frame, LONGEST_SIDE, OptionsFault,
+    Rectangle, Size, UnknownId, atlas_frame, options_fault,
 };
 use std::alloc::{AllocError, Global};
 use std::marker::Model;
@@ -51,7 +57,7 @@ impl Model for AtlasAllocator {
 
     ghost Value = { AtlasState };
 
-    ghost use Rattle.etagere.specs.Consistent.{IsConsistent, state_in};
+    ghost use Rattle.etagere.specs.Private.Consistent.{IsConsistent, state_in};
 
     ghost view = { state_in };
 
@@ -64,12 +70,15 @@ impl AtlasAllocator {
     /// Returns the first fault; `Memory` only where there is no other and no memory. Takes
     /// memory for one shelf.
     pub fn new(alloc: Global, size: Size) -> Result<AtlasAllocator, OptionsFault>
-        ensures ok { IfOk result (λ atlas. atlas ≡ fresh (frames.atlas_frame size default_options)) }
+        ensures ok { IfOk result
+            (λ atlas. atlas ≡ fresh (frames.atlas_frame size default_options)) }
         ensures empty { IfOk result (λ atlas. allocations atlas ≡ []) }
-        ensures accepted { OnOk result (IsAccepted 65535 size default_options) }
+        ensures accepted { OnOk result (IsAccepted longest_side size default_options) }
         ensures promises { IfOk result KeepsPromises }
-        ensures fault { IfSome (options_fault 65535 size default_options) (λ fault. result ≡ Err fault) }
-        ensures memory { IfErr result (λ fault. IsAccepted 65535 size default_options → fault ≡ faults.Memory) }
+        ensures fault { IfSome (options_fault longest_side size default_options)
+            (λ fault. result ≡ Err fault) }
+        ensures memory { IfErr result
+            (λ fault. IsAccepted longest_side size default_options → fault ≡ faults.Memory) }
     {
         AtlasAllocator::with_options(alloc, size, &DEFAULT_OPTIONS)
     }
@@ -85,12 +94,14 @@ impl AtlasAllocator {
     ) -> Result<AtlasAllocator, OptionsFault>
         ensures ok { IfOk result (λ atlas. atlas ≡ fresh (frames.atlas_frame size options.now)) }
         ensures empty { IfOk result (λ atlas. allocations atlas ≡ []) }
-        ensures accepted { OnOk result (IsAccepted 65535 size options.now) }
+        ensures accepted { OnOk result (IsAccepted longest_side size options.now) }
         ensures promises { IfOk result KeepsPromises }
-        ensures fault { IfSome (options_fault 65535 size options.now) (λ fault. result ≡ Err fault) }
-        ensures memory { IfErr result (λ fault. IsAccepted 65535 size options.now → fault ≡ faults.Memory) }
+        ensures fault { IfSome (options_fault longest_side size options.now)
+            (λ fault. result ≡ Err fault) }
+        ensures memory { IfErr result
+            (λ fault. IsAccepted longest_side size options.now → fault ≡ faults.Memory) }
     {
-        if let Some(fault) = options_fault(u16::MAX, size, options) {
+        if let Some(fault) = options_fault(LONGEST_SIDE, size, options) {
             return Err(fault);
         }
         let frame = atlas_frame(size, options);
@@ -108,7 +119,8 @@ impl AtlasAllocator {
 
     /// The size in pixels that the atlas was made with. Takes the same time always.
     pub fn size(&self) -> Size
-        ensures { result ≡ record { width = pos self.now.frame.width; height = pos self.now.frame.height } }
+        ensures { result
+            ≡ record { width = pos self.now.frame.width; height = pos self.now.frame.height } }
     {
         Size {
             width: self.frame.width as i32,
@@ -123,39 +135,47 @@ impl AtlasAllocator {
     /// that needs none takes none. Goes through all shelves, in each that is tall enough through its items
     /// once for each free item in the free list, and again through the shelves before the chosen one.
     pub fn allocate(&mut self, size: Size) -> Result<Option<Allocation>, AllocError>
-        ensures placed { IfOk result (λ answer. IfSome answer (λ allocation. Allocates self.old size allocation self.new)) }
+        ensures placed { IfOk result
+            (λ answer. IfSome answer (λ allocation. Allocates self.old size allocation self.new)) }
         ensures refused { IfOk result (λ answer. IfNone answer (IsRefused self.old size)) }
         ensures none { IfOk result (λ answer. IfNone answer (self.new ≡ self.old)) }
         ensures err { OnErr result (self.new ≡ self.old) }
         ensures split { OnErr result (NeedsSplit self.old size) }
-        ensures allocated { IfOk result (λ answer. IfSome answer (λ allocation. Adds (allocations self.old) allocation (allocations self.new))) }
-        ensures large { IfOk result (λ answer. IfSome answer (λ allocation. IsLarge self.old.frame size allocation.rectangle)) }
+        ensures allocated { IfOk result
+            (λ answer. IfSome answer
+            (λ allocation. Adds (allocations self.old) allocation (allocations self.new))) }
+        ensures found { IfOk result
+            (λ answer. IfSome answer
+            (λ allocation. places.rectangle_of self.new allocation.id
+            ≡ Some allocation.rectangle)) }
+        ensures large { IfOk result
+            (λ answer. IfSome answer
+            (λ allocation. IsLarge self.old.frame size allocation.rectangle)) }
         ensures promises { KeepsPromises self.new }
     {
         let Some(placement) = placement_of(&self.frame, &self.shelves, self.items_in_use, size)
         else {
             return Ok(None);
         };
-        let rectangle = given(&self.frame, &self.shelves, &placement);
+        let rectangle = placement.rectangle(&self.frame);
         let id = corner_id(&rectangle);
-        let splits = self.shelves[placement.shelf].splits(&self.frame, &placement);
-        let area = given_area(&self.frame, &self.shelves, &placement);
         take_placement(&self.frame, &mut self.shelves, &placement, id)?;
-        self.items_in_use += splits;
+        self.items_in_use += placement.splits();
         self.records = self.records.max(self.items_in_use);
-        self.allocated_space += area;
+        self.allocated_space += placement.area();
         Ok(Some(Allocation { id, rectangle }))
     }
 
-    /// Takes back the rectangle that an id holds, and merges what is free with its neighbours.
+    /// Takes back the rectangle that is allocated under an id, and merges what is free with its neighbours.
     ///
-    /// `Err` comes exactly where the id holds nothing; then nothing changes. Takes no memory. Goes through the
+    /// `Err` comes exactly where nothing is allocated under the id; then nothing changes. Takes no memory. Goes through the
     /// items of all shelves up to that of the id, and a few times through the items of that one.
     pub fn deallocate(&mut self, id: AllocId) -> Result<(), UnknownId>
         ensures ok { OnOk result (self.new ≡ returned self.old id) }
         ensures unknown { IsErr result ↔ (is_allocated self.old id ≡ false) }
         ensures err { OnErr result (self.new ≡ self.old) }
-        ensures allocated { OnOk result (allocations self.new ≡ without_id id (allocations self.old)) }
+        ensures allocated { OnOk result
+            (allocations self.new ≡ without_id id (allocations self.old)) }
         ensures promises { KeepsPromises self.new }
     {
         let Some(number) = shelf_of(&self.shelves, id) else {
@@ -168,7 +188,7 @@ impl AtlasAllocator {
         Ok(())
     }
 
-    /// The rectangle that an id holds, as it was given; none exactly where it holds nothing.
+    /// The rectangle that is allocated under an id, as it was given; none exactly where nothing is.
     ///
     /// Takes no memory. Goes through the items of all shelves up to that of the id.
     pub fn get(&self, id: AllocId) -> Option<Rectangle>
@@ -207,8 +227,10 @@ impl AtlasAllocator {
 
     /// The area of the atlas less what is allocated, in square pixels. Takes the same time always.
     pub fn free_space(&self) -> i32
-        ensures free { result ≡ pos (self.now.frame.width * self.now.frame.height - space.allocated_space self.now) }
-        ensures sum { result +ℤ pos (space.allocated_space self.now) ≡ pos (self.now.frame.width * self.now.frame.height) }
+        ensures free { result ≡ pos
+            (self.now.frame.width * self.now.frame.height - space.allocated_space self.now) }
+        ensures sum { result +ℤ pos (space.allocated_space self.now) ≡ pos
+            (self.now.frame.width * self.now.frame.height) }
     {
         (self.frame.width * self.frame.height - self.allocated_space) as i32
     }

@@ -1,19 +1,27 @@
-ghost use Rattle.std.specs.Prelude.{◌≡◌, ◌+◌, ◌*◌, ◌<◌, ◌≤◌, ◌^◌, Some, IfSome, length, map, slice_get};
+//! Which shelf and which place a size gets, and all that is found out of the place.
+//!
+//! Definitions: `Choice`, and `Least` of `etagere_base`. Nothing here changes the atlas. A faster
+//! search keeps the result of `placement_of` and goes about it in another way.
+
+ghost use Rattle.std.specs.Prelude.{◌≡◌, ◌+◌, ◌*◌, ◌<◌, ◌≤◌, ◌^◌, IfSome, length, map};
 ghost use Rattle.std.specs.Option.{option_map};
-ghost use Rattle.etagere_base.specs.Frames.{IsFrame};
+ghost use Rattle.etagere_base.specs.Frames.{IsFrame, longest_side};
 ghost use Rattle.etagere_base.specs.Places as base_places;
 ghost use Rattle.etagere.specs.Choice as choice;
-ghost use Rattle.etagere.specs.Choice.{first_least};
-ghost use Rattle.etagere.specs.Least as least;
+ghost use Rattle.etagere.specs.Choice.{most_items};
+ghost use Rattle.etagere_base.specs.Least.{first_least};
+ghost use Rattle.etagere_base.specs.Least as least;
 ghost use Rattle.etagere.specs.Places as places;
 ghost use Rattle.etagere.specs.State as state;
-ghost use Rattle.etagere.specs.Steps.{CanTake, IsNarrow, state_of};
-ghost use Rattle.etagere.specs.Taking as taking;
+ghost use Rattle.etagere.specs.Private.Steps.{AreShort, IsNarrow, state_of};
 ghost use Rattle.etagere_base.specs.Lists.{Each};
 
 use crate::placements::{Found, Placement};
 use crate::shelves::Shelf;
 use etagere_base::{Frame, Point, Rectangle, Sides, Size, asked, point2, step, swapped_axes};
+
+/// An atlas has no more items than this.
+const MOST_ITEMS: u32 = 65535;
 
 /// The place of a size among the shelves, where it has one and there are records enough for its splits.
 pub(crate) fn placement_of(
@@ -22,15 +30,16 @@ pub(crate) fn placement_of(
     items_in_use: u32,
     size: Size,
 ) -> Option<Placement>
-    requires frame { IsFrame 65535 frame.now }
+    requires frame { IsFrame longest_side frame.now }
     requires narrow { Each (IsNarrow frame.now) shelves.now }
+    requires short { AreShort shelves.now }
     requires counted { items_in_use ≡ state.items_in_use shelves.now }
-    requires few { items_in_use ≤ 65535 }
+    requires few { items_in_use ≤ most_items }
     ensures { result ≡ choice.placement_of (state_of frame.now shelves.now) size }
 {
     let sides = asked(frame, size)?;
     let placement = chosen(frame, shelves, sides)?;
-    if items_in_use + shelves[placement.shelf].splits(frame, &placement) <= 65535 {
+    if items_in_use + placement.splits() <= MOST_ITEMS {
         Some(placement)
     } else {
         None
@@ -39,26 +48,25 @@ pub(crate) fn placement_of(
 
 /// The shelf of least rank, and in it the first place in the free list that is wide enough.
 fn chosen(frame: &Frame, shelves: &[Shelf], sides: Sides) -> Option<Placement>
-    requires frame { IsFrame 65535 frame.now }
-    requires short { sides.across ≤ 65535 }
+    requires frame { IsFrame longest_side frame.now }
+    requires short_sides { (sides.along ≤ longest_side) × (sides.across ≤ longest_side) }
     requires narrow { Each (IsNarrow frame.now) shelves.now }
+    requires short { AreShort shelves.now }
     ensures { result ≡ choice.chosen (state_of frame.now shelves.now) sides }
 {
     let height = shelf_height(frame, sides.across);
-    let shelf = best_shelf(frame, shelves, sides.along, height)?;
-    let place = shelves[shelf].fitting_place(frame, sides.along)?;
-    Some(Placement {
-        shelf,
-        place,
-        width: sides.along,
-        height,
-    })
+    let number = best_shelf(frame, shelves, sides.along, height)?;
+    let shelf = &shelves[number];
+    let across = column_height(&shelves[..number], shelf.column());
+    shelf.placement(frame, number, across, sides.along, height)
 }
 
 /// The height of a shelf for items of this height: stepped, unless that is taller than the atlas.
 fn shelf_height(frame: &Frame, height: u32) -> u32
-    requires { height ≤ 65535 }
+    requires frame { IsFrame longest_side frame.now }
+    requires short { height ≤ longest_side }
     ensures value { result ≡ choice.shelf_height frame.now height }
+    ensures short { result ≤ longest_side }
 {
     let stepped = step(height);
     if stepped <= frame.across_side() {
@@ -70,9 +78,10 @@ fn shelf_height(frame: &Frame, height: u32) -> u32
 
 /// The number of the first shelf of least rank.
 fn best_shelf(frame: &Frame, shelves: &[Shelf], width: u32, height: u32) -> Option<usize>
-    requires short { height ≤ 65535 }
+    requires short { height ≤ longest_side }
     requires narrow { Each (IsNarrow frame.now) shelves.now }
-    ensures number { result ≡ option_map (λ found. found.number) (first_least (map (choice.rank frame.now width height) shelves.now)) }
+    ensures number { result ≡ option_map (λ found. found.number)
+        (first_least (map (choice.rank frame.now width height) shelves.now)) }
     ensures within { IfSome result (λ number. number < length shelves.now) }
 {
     let mut best = None;
@@ -84,7 +93,8 @@ fn best_shelf(frame: &Frame, shelves: &[Shelf], width: u32, height: u32) -> Opti
 
 /// What was found before, unless the rank of the next shelf is lower.
 fn better(best: Option<Found>, number: usize, rank: Option<u32>) -> Option<Found>
-    ensures { result ≡ least.better best (option_map (λ rank. record { number = number; rank = rank }) rank) }
+    ensures { result ≡ least.better best
+        (option_map (λ rank. record { number = number; rank = rank }) rank) }
 {
     let Some(rank) = rank else {
         return best;
@@ -93,30 +103,6 @@ fn better(best: Option<Found>, number: usize, rank: Option<u32>) -> Option<Found
         Some(found) if found.rank <= rank => Some(found),
         _ => Some(Found { number, rank }),
     }
-}
-
-/// The rectangle that a placement gives.
-pub(crate) fn given(frame: &Frame, shelves: &[Shelf], placement: &Placement) -> Rectangle
-    requires narrow { Each (IsNarrow frame.now) shelves.now }
-    requires takeable { CanTake frame.now placement.now shelves.now }
-    ensures { Some result ≡ taking.given (state_of frame.now shelves.now) placement.now }
-{
-    let shelf = &shelves[placement.shelf];
-    let across = column_height(&shelves[..placement.shelf], shelf.column());
-    let width = shelf.given_width(frame, placement);
-    let height = shelf.given_height(placement);
-    rectangle_at(frame, placement.place, across, width, height)
-}
-
-/// The area that a placement gives.
-pub(crate) fn given_area(frame: &Frame, shelves: &[Shelf], placement: &Placement) -> u32
-    requires narrow { Each (IsNarrow frame.now) shelves.now }
-    requires takeable { CanTake frame.now placement.now shelves.now }
-    ensures { (shelf : state.Shelf) → slice_get shelves.now placement.now.shelf ≡ Some shelf
-        → result ≡ taking.given_width frame.now placement.now shelf * taking.given_height placement.now shelf }
-{
-    let shelf = &shelves[placement.shelf];
-    shelf.given_width(frame, placement) * shelf.given_height(placement)
 }
 
 /// The heights of the shelves of a column, added up.
@@ -141,8 +127,8 @@ pub(crate) fn rectangle_at(
     width: u32,
     height: u32,
 ) -> Rectangle
-    requires right { along + width ≤ 65535 }
-    requires bottom { across + height ≤ 65535 }
+    requires right { along + width ≤ longest_side }
+    requires bottom { across + height ≤ longest_side }
     ensures { result ≡ base_places.rectangle_at frame.now along across width height }
 {
     Rectangle {
@@ -152,7 +138,7 @@ pub(crate) fn rectangle_at(
 }
 
 fn point_at(frame: &Frame, along: u32, across: u32) -> Point
-    requires { (along ≤ 65535) × (across ≤ 65535) }
+    requires { (along ≤ longest_side) × (across ≤ longest_side) }
     ensures { result ≡ base_places.point_at frame.now along across }
 {
     let place = swapped_axes(frame.vertical, Sides { along, across });

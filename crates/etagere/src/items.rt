@@ -1,6 +1,12 @@
-ghost use Rattle.std.specs.Prelude.{◌≡◌, ◌+◌, ◌<◌, ◌≤◌, ◌^◌, IsTrue, false, vec_len, vec_capacity, length};
+//! The items of one shelf, side by side: their places and widths, and splitting, freeing and
+//! merging them.
+//!
+//! Definitions: `State`, `item_pieces` of `Taking`, `freed` of `Returning`, `Merging`. Small
+//! functions over slices, one loop each. The free list is not known here: `edits` changes both.
+
+ghost use Rattle.std.specs.Prelude.{◌≡◌, ◌+◌, ◌<◌, ◌≤◌, ◌^◌, true, false, vec_len, vec_capacity, length};
+ghost use Rattle.etagere_base.specs.Frames.{longest_side};
 ghost use Rattle.etagere.specs.Choice as choice;
-ghost use Rattle.etagere.specs.Choice.{is_item_split};
 ghost use Rattle.etagere.specs.Merging as merging;
 ghost use Rattle.etagere.specs.Merging.{both_free, combined_items};
 ghost use Rattle.etagere_base.specs.Lists.{replaced_at};
@@ -9,10 +15,10 @@ ghost use Rattle.etagere.specs.Returning as returning;
 ghost use Rattle.etagere.specs.Returning.{freed};
 ghost use Rattle.etagere.specs.State as state;
 ghost use Rattle.etagere.specs.State.{total_width};
-ghost use Rattle.etagere.specs.Steps as steps;
-ghost use Rattle.etagere.specs.Steps.{width_of};
-ghost use Rattle.etagere.specs.Taking.{item_pieces, taken_items};
+ghost use Rattle.etagere.specs.Private.Steps.{width_of};
+ghost use Rattle.etagere.specs.Taking.{item_pieces};
 
+use crate::placements::Placement;
 use crate::vectors::insert_reserved;
 use etagere_base::AllocId;
 use std::marker::Model;
@@ -79,7 +85,7 @@ impl Item {
     }
 }
 
-/// The number of the item that an id holds.
+/// The number of the item that is allocated under an id.
 pub(crate) fn number_of(items: &[Item], id: AllocId) -> Option<usize>
     ensures { result ≡ returning.number_of id items.now }
 {
@@ -105,7 +111,7 @@ pub(crate) fn width_at(items: &[Item], here: u32, place: u32) -> u32
 /// none does.
 pub(crate) fn number_at(items: &[Item], here: u32, place: u32) -> usize
     requires { here + total_width items.now < 2 ^ 32 }
-    ensures { result ≡ steps.number_at here items.now place }
+    ensures { result ≡ choice.number_at here items.now place }
 {
     let mut next = here;
     for (number, item) in items.iter().enumerate() {
@@ -145,53 +151,57 @@ pub(crate) fn is_free_at(items: &[Item], number: usize) -> bool
 }
 
 /// Gives the front of an item to an id, and leaves the rest free behind it.
-pub(crate) fn give_front(items: &mut Vec<Item>, number: usize, width: u32, id: AllocId)
-    requires within { number < vec_len items.old }
+pub(crate) fn give_front(items: &mut Vec<Item>, placement: &Placement, id: AllocId)
+    requires within { placement.now.item < vec_len items.old }
     requires room { vec_len items.old < vec_capacity items.old }
-    requires split { IsTrue (is_item_split width (width_of items.old.items number)) }
+    requires split { placement.now.splits_item ≡ true }
+    requires narrower { placement.now.width ≤ width_of items.old.items placement.now.item }
     ensures longer { vec_len items.old ≤ vec_len items.new }
-    ensures items { items.new.items ≡ replaced_at number (item_pieces width id) items.old.items }
+    ensures items { items.new.items ≡ replaced_at placement.now.item
+        (item_pieces placement.now id) items.old.items }
 {
-    let item = items[number];
-    let rest = item.width() - width;
-    items[number] = Item::allocated(width, id);
-    insert_reserved(items, number + 1, Item::free(rest));
+    let item = items[placement.item];
+    let rest = item.width() - placement.width;
+    items[placement.item] = Item::allocated(placement.width, id);
+    insert_reserved(items, placement.item + 1, Item::free(rest));
 }
 
 /// Gives a whole item to an id.
-pub(crate) fn give_whole(items: &mut Vec<Item>, number: usize, width: u32, id: AllocId)
-    requires within { number < vec_len items.old }
-    requires whole { is_item_split width (width_of items.old.items number) ≡ false }
+pub(crate) fn give_whole(items: &mut Vec<Item>, placement: &Placement, id: AllocId)
+    requires within { placement.now.item < vec_len items.old }
+    requires whole { placement.now.splits_item ≡ false }
     ensures longer { vec_len items.old ≤ vec_len items.new }
-    ensures items { items.new.items ≡ replaced_at number (item_pieces width id) items.old.items }
+    ensures items { items.new.items ≡ replaced_at placement.now.item
+        (item_pieces placement.now id) items.old.items }
 {
-    let item = items[number];
-    items[number] = Item::allocated(item.width(), id);
+    items[placement.item] = Item::allocated(placement.width, id);
 }
 
-/// Whether an item is split for a width, since more than 8 would be left of it.
+/// An item is split where more than this would be left of its width.
+const ITEM_SLACK: u32 = 8;
+
+/// Whether an item is split for a width, since more than the slack would be left of it.
 pub(crate) fn is_item_split(width: u32, item_width: u32) -> bool
-    requires { width ≤ 65535 }
+    requires { width ≤ longest_side }
     ensures { result ≡ choice.is_item_split width item_width }
 {
-    width + 8 < item_width
+    width + ITEM_SLACK < item_width
 }
 
-/// Takes the item that begins at `place`, or its front where more than 8 would be left of it.
-pub(crate) fn take(items: &mut Vec<Item>, here: u32, place: u32, width: u32, id: AllocId)
-    requires narrow { here + total_width items.old.items < 2 ^ 32 }
-    requires there { 0 < choice.width_at here items.old.items place }
-    requires bounded { width ≤ 65535 }
-    requires room { IsTrue (is_item_split width (choice.width_at here items.old.items place)) → vec_len items.old < vec_capacity items.old }
+/// Takes the item of a placement, or its front where it is split.
+pub(crate) fn take(items: &mut Vec<Item>, placement: &Placement, id: AllocId)
+    requires within { placement.now.item < vec_len items.old }
+    requires narrower { placement.now.splits_item ≡ true
+        → placement.now.width ≤ width_of items.old.items placement.now.item }
+    requires room { placement.now.splits_item ≡ true → vec_len items.old < vec_capacity items.old }
     ensures longer { vec_len items.old ≤ vec_len items.new }
-    ensures items { items.new.items ≡ taken_items width id place here items.old.items }
+    ensures items { items.new.items ≡ replaced_at placement.now.item
+        (item_pieces placement.now id) items.old.items }
 {
-    let item_width = width_at(items, here, place);
-    let number = number_at(items, here, place);
-    if is_item_split(width, item_width) {
-        give_front(items, number, width, id);
+    if placement.splits_item {
+        give_front(items, placement, id);
     } else {
-        give_whole(items, number, width, id);
+        give_whole(items, placement, id);
     }
 }
 
@@ -227,7 +237,8 @@ pub(crate) fn merge(items: &mut Vec<Item>, number: usize)
 pub(crate) fn merge_before(items: &mut Vec<Item>, number: usize)
     requires within { number < vec_len items.old }
     requires narrow { total_width items.old.items < 2 ^ 32 }
-    ensures items { items.new.items ≡ merged_before both_free combined_items number items.old.items }
+    ensures items { items.new.items
+        ≡ merged_before both_free combined_items number items.old.items }
     ensures some { 1 ≤ vec_len items.new }
 {
     if number > 0 {

@@ -1,4 +1,8 @@
 //! A texture atlas allocator: rectangles are placed on shelves and given back in any order.
+//!
+//! The calls stand in `atlas`, everything else is private. `choosing` finds a place, `taking` and
+//! `returning` change the list of shelves, `shelves`, `edits`, `items` and `free_lists` change one
+//! shelf.
 #![tactic(auto)]
 
 mod atlas;

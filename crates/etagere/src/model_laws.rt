@@ -1,6 +1,9 @@
 //! Laws of the ordered model, each the contract of a function that does nothing.
+//!
+//! Definitions: `Laws`. A law stands here where no clause of a call states it. The functions have
+//! no callers: they make the check prove the laws.
 
-ghost use Rattle.etagere.specs.Laws.{FindsAny, FindsFirstLeast, MergingKeepsAllocated, MergesOnce, ReturnRestores};
+ghost use Rattle.etagere.specs.Laws.{ChoosesAny, ChoosesByRule, FindsAny, FindsFirstLeast, MergesAll, MergesOnce, MergingKeepsAllocated, ReturnRestores};
 
 /// The shelf that is chosen is the first of least rank, and there is one wherever any fits.
 pub(crate) fn the_first_least_is_chosen()
@@ -8,8 +11,18 @@ pub(crate) fn the_first_least_is_chosen()
     ensures any { FindsAny }
 {}
 
-/// Merging is a normal form: merging twice is merging once, and no allocated rectangle changes by it.
+/// In a valid state a place is chosen by the rule, and there is one wherever a shelf fits: among the shelves
+/// that fit the good fits come first, by their heights, then the bad ones; equal ones by their position. In
+/// the shelf it is the first place in the free list whose item is wide enough.
+pub(crate) fn a_place_is_chosen_by_the_rule()
+    ensures rule { ChoosesByRule }
+    ensures any { ChoosesAny }
+{}
+
+/// Merging is a normal form: it leaves nothing to merge, so merging twice is merging once, and no allocated
+/// rectangle changes by it.
 pub(crate) fn merging_is_a_normal_form()
+    ensures all { MergesAll }
     ensures once { MergesOnce }
     ensures allocated { MergingKeepsAllocated }
 {}

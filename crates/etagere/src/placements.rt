@@ -1,11 +1,84 @@
-/// Where a size goes: the number of the shelf, the place along, the width to take and the height of the
-/// shelf.
+//! All that is found out of the place of a size, for those who take it.
+//!
+//! Definitions: `Placement` of `Choice`, and `Found` of `Least` in `etagere_base`. What is split and
+//! how much is given is decided once, in `shelves`; what is found out beside that gets a field here.
+
+ghost use Rattle.std.specs.Prelude.{◌≡◌, ◌+◌, ◌≤◌};
+ghost use Rattle.etagere_base.specs.Frames.{longest_side};
+ghost use Rattle.etagere.specs.Choice as choice;
+ghost use Rattle.etagere.specs.Choice.{rectangle_of_placement};
+
+use crate::choosing::rectangle_at;
+use etagere_base::{Frame, Rectangle};
+use std::marker::Model;
+
+/// All that was found out of the place of a size: the numbers of its shelf and of its item there, where they
+/// begin, the width and the height that are given, and which of the two is split for it.
 #[derive(Clone, Copy)]
 pub(crate) struct Placement {
     pub(crate) shelf: usize,
-    pub(crate) place: u32,
+    pub(crate) item: usize,
+    pub(crate) along: u32,
+    pub(crate) across: u32,
     pub(crate) width: u32,
     pub(crate) height: u32,
+    pub(crate) splits_shelf: bool,
+    pub(crate) splits_item: bool,
+}
+
+impl Model for Placement {
+    ghost use Rattle.etagere.specs.Choice.{Placement};
+
+    ghost Value = { Placement };
+
+    ghost view = { λ placement. record {
+      shelf = placement.shelf;
+      item = placement.item;
+      along = placement.along;
+      across = placement.across;
+      width = placement.width;
+      height = placement.height;
+      splits_shelf = placement.splits_shelf;
+      splits_item = placement.splits_item;
+    } };
+
+    ghost inverse = { λ placement. record {
+      shelf = placement.shelf;
+      item = placement.item;
+      along = placement.along;
+      across = placement.across;
+      width = placement.width;
+      height = placement.height;
+      splits_shelf = placement.splits_shelf;
+      splits_item = placement.splits_item;
+    } };
+}
+
+impl Placement {
+    /// The rectangle that is given.
+    pub(crate) fn rectangle(&self, frame: &Frame) -> Rectangle
+        requires right { self.now.along + self.now.width ≤ longest_side }
+        requires bottom { self.now.across + self.now.height ≤ longest_side }
+        ensures { result ≡ rectangle_of_placement frame.now self.now }
+    {
+        rectangle_at(frame, self.along, self.across, self.width, self.height)
+    }
+
+    /// The area that is given.
+    pub(crate) fn area(&self) -> u32
+        requires { (self.now.width ≤ longest_side) × (self.now.height ≤ longest_side) }
+        ensures { result ≡ choice.area self.now }
+    {
+        self.width * self.height
+    }
+
+    /// How many splits there are.
+    pub(crate) fn splits(&self) -> u32
+        ensures value { result ≡ choice.splits self.now }
+        ensures few { result ≤ 2 }
+    {
+        u32::from(self.splits_shelf) + u32::from(self.splits_item)
+    }
 }
 
 /// A shelf's number, and its rank for a size.
@@ -13,4 +86,14 @@ pub(crate) struct Placement {
 pub(crate) struct Found {
     pub(crate) number: usize,
     pub(crate) rank: u32,
+}
+
+impl Model for Found {
+    ghost use Rattle.etagere_base.specs.Least.{Found};
+
+    ghost Value = { Found };
+
+    ghost view = { λ found. record { number = found.number; rank = found.rank } };
+
+    ghost inverse = { λ found. record { number = found.number; rank = found.rank } };
 }

@@ -1,15 +1,21 @@
-ghost use Rattle.std.specs.Prelude.{◌≡◌, ◌+◌, ◌*◌, ◌<◌, ◌≤◌, ◌^◌, IfOk, OnErr, IsTrue, length};
+//! One shelf: whether it fits and how it ranks, what a placement gives in it, taking and freeing.
+//!
+//! Definitions: `State`, `Choice`, `Taking`; `ShelfConsistent` for the room that its free list
+//! keeps. What concerns several shelves is not here.
+
+ghost use Rattle.std.specs.Prelude.{◌≡◌, ◌+◌, ◌*◌, ◌<◌, ◌≤◌, ◌^◌, true, IfOk, OnErr, length};
+ghost use Rattle.etagere_base.specs.Frames.{longest_side};
+ghost use Rattle.std.specs.Option.{option_map};
 ghost use Rattle.etagere.specs.Choice as choice;
-ghost use Rattle.etagere.specs.Choice.{is_item_split, width_at};
 ghost use Rattle.etagere.specs.Merging as merging;
 ghost use Rattle.etagere.specs.Merging.{both_free};
 ghost use Rattle.etagere_base.specs.Lists.{NoNeighbours, times};
 ghost use Rattle.etagere.specs.Places.{column_place};
-ghost use Rattle.etagere.specs.Returning.{is_allocated_in, returned_shelf};
 ghost use Rattle.etagere.specs.State as state;
 ghost use Rattle.etagere.specs.State.{total_width};
-ghost use Rattle.etagere.specs.Steps.{IsNarrow, allocated_area, allocated_rectangle};
-ghost use Rattle.etagere.specs.Taking.{given_height, given_width, taken_shelf};
+ghost use Rattle.etagere.specs.Private.Steps as steps;
+ghost use Rattle.etagere.specs.Private.Steps.{IsNarrow, returned_shelf, width_of};
+ghost use Rattle.etagere.specs.Taking.{taken_shelf};
 
 use crate::choosing::rectangle_at;
 use crate::items::{self, Item};
@@ -19,7 +25,13 @@ use etagere_base::{AllocId, Frame, Rectangle};
 use std::alloc::{AllocError, Global};
 use std::marker::Model;
 
-/// A strip across a column. There is room in `in the free list` for the places of the allocated items too, so that a return
+/// A shelf is split where more than this would be left of its height.
+const SHELF_SLACK: u32 = 8;
+
+/// The rank of a bad fit, which is above each height.
+const BAD_FIT_RANK: u32 = 65536;
+
+/// A strip across a column. There is room in the free list for the places of the allocated items too, so that a return
 /// takes no memory.
 #[derive(Drop)]
 pub(crate) struct Shelf {
@@ -34,7 +46,7 @@ impl Model for Shelf {
 
     ghost Value = { Shelf };
 
-    ghost use Rattle.etagere.specs.ShelfConsistent.{IsShelfConsistent, shelf_in};
+    ghost use Rattle.etagere.specs.Private.ShelfConsistent.{IsShelfConsistent, shelf_in};
 
     ghost view = { shelf_in };
 
@@ -94,7 +106,7 @@ impl Shelf {
 
     /// Empty, or not much taller than asked.
     pub(crate) fn is_good_fit(&self, height: u32) -> bool
-        requires { height ≤ 65535 }
+        requires { height ≤ longest_side }
         ensures { result ≡ choice.is_good_fit height self.now }
     {
         self.is_empty() || self.height <= height + height / 2
@@ -111,7 +123,7 @@ impl Shelf {
     /// The rank among the shelves for a size, the shortest first; none where the size doesn't fit.
     pub(crate) fn rank(&self, frame: &Frame, width: u32, height: u32) -> Option<u32>
         requires narrow { IsNarrow frame.now self.now }
-        requires short { height ≤ 65535 }
+        requires short { height ≤ longest_side }
         ensures { result ≡ choice.rank frame.now width height self.now }
     {
         if self.height < height {
@@ -121,79 +133,68 @@ impl Shelf {
         if self.is_good_fit(height) {
             Some(self.height)
         } else {
-            Some(65536)
+            Some(BAD_FIT_RANK)
         }
     }
 
     /// Whether the shelf is split for items of this height.
     pub(crate) fn is_split(&self, height: u32) -> bool
-        requires { height ≤ 65535 }
+        requires { height ≤ longest_side }
         ensures { result ≡ choice.is_shelf_split height self.now }
     {
-        self.is_empty() && height + 8 < self.height
+        self.is_empty() && height + SHELF_SLACK < self.height
     }
 
-    /// The width that a placement here gives.
-    pub(crate) fn given_width(&self, frame: &Frame, placement: &Placement) -> u32
-        requires narrow { IsNarrow frame.now self.now }
-        requires bounded { placement.now.width ≤ 65535 }
-        ensures { result ≡ given_width frame.now placement.now self.now }
-    {
-        let width = items::width_at(&self.items, self.place(frame), placement.place);
-        if items::is_item_split(placement.width, width) {
-            placement.width
-        } else {
-            width
-        }
-    }
-
-    /// The height that a placement here gives.
-    pub(crate) fn given_height(&self, placement: &Placement) -> u32
-        requires { placement.now.height ≤ 65535 }
-        ensures { result ≡ given_height placement.now self.now }
-    {
-        if self.is_split(placement.height) {
-            placement.height
-        } else {
-            self.height
-        }
-    }
-
-    /// How many splits a placement makes here.
-    pub(crate) fn splits(&self, frame: &Frame, placement: &Placement) -> u32
-        requires narrow { IsNarrow frame.now self.now }
-        requires bounded { (placement.now.width ≤ 65535) × (placement.now.height ≤ 65535) }
-        ensures { result ≡ choice.splits_in frame.now placement.now self.now }
-    {
-        let width = items::width_at(&self.items, self.place(frame), placement.place);
-        u32::from(self.is_split(placement.height))
-            + u32::from(items::is_item_split(placement.width, width))
-    }
-
-    /// Takes a place, and gives the shelf this height. An `Err`, which comes only where the item is split,
-    /// changes nothing.
-    pub(crate) fn take(
-        &mut self,
+    /// What is found out of the first place in the free list whose item is wide enough, where the shelf has this
+    /// number and lies at a place across.
+    pub(crate) fn placement(
+        &self,
         frame: &Frame,
-        placement: &Placement,
+        number: usize,
+        across: u32,
+        width: u32,
         height: u32,
-        id: AllocId,
-    ) -> Result<(), AllocError>
-        requires narrow { IsNarrow frame.now self.old }
-        requires bounded { (placement.now.width ≤ 65535) × (placement.now.place ≤ 65535) }
-        requires there { 0 < width_at (column_place frame.now self.old) self.old.items placement.now.place }
-        requires free_list { 0 < times placement.now.place self.old.free_list }
-        ensures ok { IfOk result (λ _. self.new ≡ taken_shelf frame.now placement.now id height self.old) }
-        ensures err { OnErr result (self.new ≡ self.old) }
-        ensures split { OnErr result (IsTrue (is_item_split placement.now.width (width_at (column_place frame.now self.old) self.old.items placement.now.place))) }
+    ) -> Option<Placement>
+        requires narrow { IsNarrow frame.now self.now }
+        requires bounded { (width ≤ longest_side) × (height ≤ longest_side) }
+        ensures { result ≡ option_map
+            (choice.placement_in frame.now number across width height self.now)
+            (choice.fitting_place frame.now width self.now) }
     {
+        let along = self.fitting_place(frame, width)?;
         let here = self.place(frame);
-        edits::take(&mut self.items, &mut self.free_list, here, placement, id)?;
-        self.height = height;
+        let item_width = items::width_at(&self.items, here, along);
+        let splits_shelf = self.is_split(height);
+        let splits_item = items::is_item_split(width, item_width);
+        Some(Placement {
+            shelf: number,
+            item: items::number_at(&self.items, here, along),
+            along,
+            across,
+            width: if splits_item { width } else { item_width },
+            height: if splits_shelf { height } else { self.height },
+            splits_shelf,
+            splits_item,
+        })
+    }
+
+    /// Takes a placement here. An `Err`, which comes only where the item is split, changes nothing.
+    pub(crate) fn take(&mut self, placement: &Placement, id: AllocId) -> Result<(), AllocError>
+        requires free_list { 0 < times placement.now.along self.old.free_list }
+        requires item { placement.now.item < length self.old.items }
+        requires narrower { placement.now.splits_item ≡ true
+            → placement.now.width ≤ width_of self.old.items placement.now.item }
+        requires right { placement.now.along + placement.now.width < 2 ^ 32 }
+        ensures ok { IfOk result (λ _. self.new ≡ taken_shelf placement.now id self.old) }
+        ensures err { OnErr result (self.new ≡ self.old) }
+        ensures split { OnErr result (placement.now.splits_item ≡ true) }
+    {
+        edits::take(&mut self.items, &mut self.free_list, placement, id)?;
+        self.height = placement.height;
         Ok(())
     }
 
-    /// Frees the item that an id holds, if it holds one here, and merges it with its free neighbours.
+    /// Frees the item that is allocated under an id, if one is here, and merges it with its free neighbours.
     pub(crate) fn free(&mut self, frame: &Frame, id: AllocId)
         requires narrow { IsNarrow frame.now self.old }
         requires apart { NoNeighbours both_free self.old.items }
@@ -206,18 +207,24 @@ impl Shelf {
         edits::free(&mut self.items, &mut self.free_list, here, number);
     }
 
-    /// Whether an id holds an item here.
-    pub(crate) fn holds(&self, id: AllocId) -> bool
-        ensures { result ≡ is_allocated_in id self.now }
+    /// Whether an item here is allocated under an id.
+    pub(crate) fn is_allocated_in(&self, id: AllocId) -> bool
+        ensures { result ≡ steps.is_allocated_in id self.now }
     {
         items::number_of(&self.items, id).is_some()
     }
 
-    /// The rectangle that an id holds here, where the shelf lies at a place across.
-    pub(crate) fn rectangle_of(&self, frame: &Frame, across: u32, id: AllocId) -> Option<Rectangle>
-        requires right { column_place frame.now self.now + total_width self.now.items ≤ 65535 }
-        requires bottom { across + self.now.height ≤ 65535 }
-        ensures { result ≡ allocated_rectangle frame.now across id self.now }
+    /// The rectangle that is allocated under an id here, where the shelf lies at a place across.
+    pub(crate) fn allocated_rectangle(
+        &self,
+        frame: &Frame,
+        across: u32,
+        id: AllocId,
+    ) -> Option<Rectangle>
+        requires right { column_place frame.now self.now + total_width self.now.items
+            ≤ longest_side }
+        requires bottom { across + self.now.height ≤ longest_side }
+        ensures { result ≡ steps.allocated_rectangle frame.now across id self.now }
     {
         let number = items::number_of(&self.items, id)?;
         let place = items::place_at(&self.items, self.place(frame), number);
@@ -240,10 +247,10 @@ impl Shelf {
         self.height += by;
     }
 
-    /// The area of the item that an id holds here; 0 where it holds none.
+    /// The area of the item that is allocated under an id here; 0 where none is.
     pub(crate) fn allocated_area(&self, id: AllocId) -> u32
         requires { total_width self.now.items * self.now.height < 2 ^ 32 }
-        ensures { result ≡ allocated_area id self.now }
+        ensures { result ≡ steps.allocated_area id self.now }
     {
         match items::number_of(&self.items, id) {
             None => 0,

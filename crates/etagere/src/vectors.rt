@@ -1,3 +1,7 @@
+//! Inserting into a vector that has room, with no `Result`.
+//!
+//! It knows nothing of atlases.
+
 ghost use Rattle.std.specs.Prelude.{◌≡◌, ◌<◌, ◌≤◌, insert, vec_len, vec_capacity};
 
 /// Inserts where there is room, which takes no memory.

@@ -1,9 +1,10 @@
 -- What an accepted size and options say of the frame that they make.
 use Rattle.std.proofs.Common.{◌≡◌, ℕ, ◌-◌, ◌*◌, ◌/◌, ◌^◌, ◌<◌, ◌≤◌, Bool, true, false, cond, Some, None, ◌||◌, not, ◌&&◌, nat_lt, nat_le, ◌==◌, arith, refl}
 use Rattle.std.proofs.Math.Nat.{mul-mod_left, div-mul-le_self, div-le_self}
+use Rattle.std.proofs.lemmas.Nat.{le-div}
 use Rattle.etagere_base.specs.declared.geometry.Size.{Size}
 use Rattle.etagere_base.specs.declared.options.AllocatorOptions.{AllocatorOptions}
-use Rattle.etagere_base.specs.Frames.{IsAccepted, IsFrame, atlas_frame, column_width_of}
+use Rattle.etagere_base.specs.Frames.{IsAccepted, IsFrame, alignments_of, atlas_frame, column_width_of, sides_of}
 use Rattle.etagere_base.specs.Sides.{side, down}
 
 -- what the tests of a size and options have shown
@@ -67,7 +68,10 @@ accepted-frame longest size options h short_width short_height =
       area = a.area;
       alignment_width = (a.alignment_width, short_width);
       alignment_height = (a.alignment_height, short_height);
-      column_width = (a.column_width, down-share-le _ _ _);
+      column_width = a.column_width;
       aligned = mul-mod_left _ _;
-      columns = refl;
+      columns = (
+        le-div 1 _ _ a.column_width (omega (arith, down-share-le (sides_of size options).along (side options.num_columns) (alignments_of options).along)),
+        div-mul-le_self _ _,
+      );
     }

@@ -58,3 +58,8 @@ Each-filter P test [] each = tt
 Each-filter P test (x ∷ xs) each =
     cond_both (test x) (x ∷ filter test xs) (filter test xs) (Each P)
     (λ _. (each.0, Each-filter P test xs each.1)) (λ _. Each-filter P test xs each.1)
+
+-- what holds of everything holds of each element
+pub Each-all : {X : Type 0} (P : X → Type 0) → ((x : X) → P x) → (xs : List X) → Each P xs
+Each-all P all [] = tt
+Each-all P all (x ∷ xs) = (all x, Each-all P all xs)

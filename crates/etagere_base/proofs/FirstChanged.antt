@@ -1,5 +1,5 @@
 -- What changing the first element that passes a test keeps of a list.
-use Rattle.std.proofs.Common.{◌≡◌, ℕ, ◌≤◌, Bool, true, List, [], ◌∷◌, refl, ◌∙◌, arith}
+use Rattle.std.proofs.Common.{◌≡◌, Bool, true, List, [], ◌∷◌, ◌∙◌}
 use Rattle.std.proofs.lemmas.Bool.{cond_both}
 use Rattle.etagere_base.specs.Lists.{Each, at_first, NoNeighbours}
 use Rattle.etagere_base.proofs.NoNeighboursLemmas.{NoNeighbours-first}
@@ -12,26 +12,6 @@ module _ {X : Type 0} (test : X → Bool) (change : X → X) where
   Each-at_first P keeps (x ∷ xs) h =
       cond_both (test x) (change x ∷ xs) (x ∷ at_first test change xs) (Each P)
       (λ t. (keeps x t h.0, h.1)) (λ _. (h.0, Each-at_first P keeps xs h.1))
-
-  -- a measure that doesn't see the change
-  pub measure-at_first : {A : Type 0} (measure : List X → A)
-      → ((x : X) (xs ys : List X) → measure xs ≡ measure ys → measure (x ∷ xs) ≡ measure (x ∷ ys))
-      → ((x : X) (xs : List X) → measure (change x ∷ xs) ≡ measure (x ∷ xs))
-      → (xs : List X) → measure (at_first test change xs) ≡ measure xs
-  measure-at_first measure behind same [] = refl
-  measure-at_first measure behind same (x ∷ xs) =
-      cond_both (test x) (change x ∷ xs) (x ∷ at_first test change xs) (λ (l : List X). measure l ≡ measure (x ∷ xs))
-      (λ _. same x xs) (λ _. behind x (at_first test change xs) xs (measure-at_first measure behind same xs))
-
-  -- a measure that the change doesn't make larger
-  pub at_most-at_first : (measure : List X → ℕ)
-      → ((x : X) (xs ys : List X) → measure xs ≤ measure ys → measure (x ∷ xs) ≤ measure (x ∷ ys))
-      → ((x : X) (xs : List X) → test x ≡ true → measure (change x ∷ xs) ≤ measure (x ∷ xs))
-      → (xs : List X) → measure (at_first test change xs) ≤ measure xs
-  at_most-at_first measure behind smaller [] = omega arith
-  at_most-at_first measure behind smaller (x ∷ xs) =
-      cond_both (test x) (change x ∷ xs) (x ∷ at_first test change xs) (λ (l : List X). measure l ≤ measure (x ∷ xs))
-      (λ t. smaller x xs t) (λ _. behind x (at_first test change xs) xs (at_most-at_first measure behind smaller xs))
 
   module _ (touch : X → X → Bool) (next : (x y : X) → touch (change x) y ≡ touch x y)
       (before : (w x : X) → touch w (change x) ≡ touch w x) where

@@ -1,12 +1,13 @@
 -- The first element that passes a test: its number, and the list with it changed.
-use Rattle.std.proofs.Common.{◌≡◌, ℕ, suc, ◌+◌, Bool, true, false, cond, not, ◌||◌, Option, None, Some, List, [], ◌∷◌, ◌++◌, length, refl, ap, ◌∙◌, sym, arith}
+use Rattle.std.proofs.Common.{◌≡◌, ℕ, suc, ◌+◌, Bool, true, false, cond, not, ◌||◌, Option, None, Some, List, [], ◌∷◌, ◌++◌, length, refl, ap, ◌∙◌, subst, sym, arith}
 use Rattle.std.proofs.lemmas.Bool.{cond-true, cond-false, or_from, or_parts}
 use Rattle.std.proofs.lemmas.List.{set_at}
 use Rattle.std.proofs.lemmas.List.Folds.{list_any-append}
 use Rattle.std.specs.List.{list_any, position_or_len}
-use Rattle.std.specs.Prelude.{slice_get, slice_set, position, nat_lt, option_map, is_some}
+use Rattle.std.specs.Option.{option_or}
+use Rattle.std.specs.Prelude.{find, slice_get, slice_set, position, nat_lt, option_map, is_some}
 use Rattle.etagere_base.specs.Lists.{at_first}
-use Rattle.etagere_base.proofs.ReplacedLists.{slice_get-append}
+use Rattle.etagere_base.proofs.ReplacedLists.{IsAt, at-behind, at-start}
 
 -- a number below a length, one further back
 one_back : (k n : ℕ) → nat_lt (1 + k) (suc n) ≡ nat_lt k n
@@ -21,14 +22,11 @@ position_step : (b : Bool) (k n : ℕ) → cond (nat_lt (cond (not b) (1 + k) 0)
 position_step true k n = cond-true _ _ _ (zero_below n)
 position_step false k n = grind (arith, one_back k n)
 
--- a list with an element that passes a test and none before it that does
-pub record Split {X : Type 0} (test : X → Bool) (xs : List X) (n : ℕ) : Type 0 where
-  pub front : List X
+-- the first element of a list that passes a test, at its number
+pub record IsFirst {X : Type 0} (test : X → Bool) (xs : List X) (n : ℕ) : Type 0 where
   pub first : X
-  pub back : List X
-  pub is : xs ≡ front ++ first ∷ back
-  pub number : length front ≡ n
-  pub fails : list_any test front ≡ false
+  pub at : IsAt xs n first
+  pub fails : list_any test at.front ≡ false
   pub passes : test first ≡ true
 
 module _ {X : Type 0} (test : X → Bool) where
@@ -47,29 +45,29 @@ module _ {X : Type 0} (test : X → Bool) where
   is_some-position [] = refl
   is_some-position (x ∷ xs) = ap is_some (position-cons x xs) ∙ is_some_step (test x) (position test xs) (list_any test xs) (is_some-position xs)
 
-  -- a split behind an element that fails, or one at an element that passes
-  split_step : (x : X) (xs : List X) (b : Bool) (o : Option ℕ) → test x ≡ b → o ≡ position test xs
-      → ((m : ℕ) → position test xs ≡ Some m → Split test xs m)
-      → (n : ℕ) → cond b (Some 0) (option_map suc o) ≡ Some n → Split test (x ∷ xs) n
-  split_step x xs true o t e rest n h =
-      record { front = []; first = x; back = xs; is = refl; number = cc; fails = refl; passes = t }
-  split_step x xs false None t e rest n h = absurd (cc)
-  split_step x xs false (Some m) t e rest n h =
+  -- the first element that passes is one that does, or the first of the others behind one that fails
+  first_step : (x : X) (xs : List X) (b : Bool) (o : Option ℕ) → test x ≡ b → o ≡ position test xs
+      → ((m : ℕ) → position test xs ≡ Some m → IsFirst test xs m)
+      → (n : ℕ) → cond b (Some 0) (option_map suc o) ≡ Some n → IsFirst test (x ∷ xs) n
+  first_step x xs true o t e rest n h =
+      let here : 0 ≡ n = cc in
+      subst (IsFirst test (x ∷ xs)) here (record { first = x; at = at-start x xs; fails = refl; passes = t })
+  first_step x xs false None t e rest n h = absurd (cc)
+  first_step x xs false (Some m) t e rest n h =
       let s = rest m (sym e) in
-      record {
-        front = x ∷ s.front;
+      let here : suc m ≡ n = cc in
+      subst (IsFirst test (x ∷ xs)) here
+      (record {
         first = s.first;
-        back = s.back;
-        is = ap (λ (l : List X). x ∷ l) s.is;
-        number = ap suc s.number ∙ (cc);
-        fails = or_from (test x) (list_any test s.front) t s.fails;
+        at = at-behind s.first x xs m s.at;
+        fails = or_from (test x) (list_any test s.at.front) t s.fails;
         passes = s.passes;
-      }
+      })
 
-  -- the first element that passes splits the list
-  pub split-first : (xs : List X) (n : ℕ) → position test xs ≡ Some n → Split test xs n
-  split-first [] n h = absurd (cc)
-  split-first (x ∷ xs) n h = split_step x xs (test x) (position test xs) refl refl (split-first xs) n (sym (position-cons x xs) ∙ h)
+  -- what is found is the first element that passes
+  pub first-at : (xs : List X) (n : ℕ) → position test xs ≡ Some n → IsFirst test xs n
+  first-at [] n h = absurd (cc)
+  first-at (x ∷ xs) n h = first_step x xs (test x) (position test xs) refl refl (first-at xs) n (sym (position-cons x xs) ∙ h)
 
   -- the first element that passes stands behind those that fail
   pub position-behind : (front : List X) (x : X) (back : List X) → list_any test front ≡ false → test x ≡ true
@@ -98,11 +96,27 @@ module _ {X : Type 0} (test : X → Bool) where
   pub at_first-set : (change : X → X) (xs : List X) (n : ℕ) (x : X) → position test xs ≡ Some n → slice_get xs n ≡ Some x
       → at_first test change xs ≡ slice_set xs n (change x)
   at_first-set change xs n x p g =
-      let s = split-first xs n p in
-      let same : Some s.first ≡ Some x =
-      sym (slice_get-append s.front s.first s.back n s.number) ∙ ap (λ (l : List X). slice_get l n) (sym s.is) ∙ g in
-      ap (at_first test change) s.is
-      ∙ at_first-split change s.front s.first s.back s.fails s.passes
-      ∙ sym (set_at s.front s.first s.back (change s.first) n s.number)
-      ∙ ap (λ (l : List X). slice_set l n (change s.first)) (sym s.is)
-      ∙ ap (λ (y : X). slice_set xs n (change y)) (cc)
+      let s = first-at xs n p in
+      let same : s.first ≡ x = cc (s.at.get, g) in
+      ap (at_first test change) s.at.whole
+      ∙ at_first-split change s.at.front s.first s.at.back s.fails s.passes
+      ∙ sym (set_at s.at.front s.first s.at.back (change s.first) n s.at.number)
+      ∙ ap (λ (l : List X). slice_set l n (change s.first)) (sym s.at.whole)
+      ∙ ap (λ (y : X). slice_set xs n (change y)) same
+
+-- nothing is found where nothing passes
+pub find-none : {X : Type 0} (test : X → Bool) (xs : List X) → list_any test xs ≡ false → find test xs ≡ None
+find-none test [] h = refl
+find-none test (x ∷ xs) h =
+    let parts = or_parts (test x) (list_any test xs) h in
+    rw (parts.0) (find-none test xs parts.1)
+
+-- what is found first stays the first, whatever stands behind it
+pub found_first : {X Y : Type 0} (f : X → Y) (o p : Option X) → is_some (option_map f o) ≡ true → option_map f (option_or o p) ≡ option_map f o
+found_first f None p h = absurd (cc)
+found_first f (Some x) p h = refl
+
+-- a function gives something of what is there
+pub is_some-map : {X Y : Type 0} (f : X → Y) (o : Option X) → is_some (option_map f o) ≡ is_some o
+is_some-map f None = refl
+is_some-map f (Some x) = refl

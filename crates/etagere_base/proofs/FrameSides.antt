@@ -1,6 +1,6 @@
 -- The sides of an atlas along and across its shelves, and its columns.
-use Rattle.std.proofs.Common.{◌≡◌, ℕ, ◌+◌, ◌<◌, ◌≤◌, Bool, true, false, refl, arith, suc, ◌*◌, ap}
-use Rattle.std.proofs.Math.Nat.{div-mul-le_self, mul-le-mul_right, suc-mul, div-le_self}
+use Rattle.std.proofs.Common.{◌≡◌, ℕ, ◌+◌, ◌<◌, ◌≤◌, Bool, true, false, refl, arith, suc, ◌*◌}
+use Rattle.std.proofs.Math.Nat.{le-mul_of_pos_right, mul-le-mul_right, suc-mul}
 use Rattle.etagere_base.specs.Frames.{IsFrame, along_side, across_side}
 use Rattle.etagere_base.specs.declared.frames.Frame.{Frame}
 
@@ -28,13 +28,18 @@ columns-apart one other width h = omega (arith, mul-le-mul_right {m = suc one} {
 pub column-within : (frame : Frame) (column : ℕ) → IsFrame 65535 frame → column < frame.columns
     → column * frame.column_width + frame.column_width ≤ along_side frame
 column-within frame column is_frame below =
+    omega (arith, columns-apart column frame.columns frame.column_width below, is_frame.columns.1)
+
+-- a column is no wider than the atlas
+pub column_width-le : (longest : ℕ) (frame : Frame) → IsFrame longest frame → frame.column_width ≤ along_side frame
+column_width-le longest frame valid =
     omega (
       arith,
-      columns-apart column frame.columns frame.column_width below,
-      ap (λ (n : ℕ). n * frame.column_width) is_frame.columns,
-      div-mul-le_self (along_side frame) frame.column_width,
+      valid.columns.1,
+      mul-le-mul_right {m = 1} {n = frame.columns} frame.column_width valid.columns.0,
     )
 
 -- an atlas has no more columns than pixels along its shelves
 pub columns-le : (frame : Frame) → IsFrame 65535 frame → frame.columns ≤ 65535
-columns-le frame valid = omega (arith, valid.columns, (sides_low 65535 frame valid).0, div-le_self (along_side frame) frame.column_width)
+columns-le frame valid =
+    omega (arith, valid.columns.1, (sides_low 65535 frame valid).0, le-mul_of_pos_right frame.columns valid.column_width)

@@ -1,13 +1,19 @@
 mod Beginnings
 pub mod AcceptedFrames
+pub mod AlignedPlaces
 pub mod Boxes
+pub mod ColumnTotals
 pub mod EachLemmas
 pub mod FirstChanged
+pub mod FirstFound
 pub mod FirstPlace
 pub mod FrameSides
+pub mod GatheredLemmas
+pub mod Least
 pub mod ListEdits
 pub mod Merged
 pub mod MergedKeeps
 pub mod NoNeighboursLemmas
 pub mod ReplacedLists
 pub mod TimesLemmas
+pub mod Totals

@@ -1,6 +1,7 @@
 -- How the edits of lists that the program makes stand to the definitions, and a loop that replaces each number in place.
-use Rattle.std.proofs.Common.{◌≡◌, ℕ, zero, suc, ◌<◌, ◌≤◌, Bool, true, false, List, [], ◌∷◌, length, get_or, set, refl, ap, arith, take, drop}
-use Rattle.std.specs.Prelude.{remove, map}
+use Rattle.std.proofs.Common.{◌≡◌, ℕ, zero, suc, ◌<◌, ◌≤◌, Bool, true, false, List, [], ◌∷◌, length, get_or, set, refl, ap, arith, take, drop, Some, ◌+◌, ◌∙◌}
+use Rattle.std.proofs.lemmas.Option.{get_or_from_slice_get, slice_get_read}
+use Rattle.std.specs.Prelude.{remove, map, slice_get}
 use Rattle.etagere_base.specs.MergingAt.{merged_at}
 
 -- where two neighbours touch, taking out the second and setting the first merges them
@@ -41,3 +42,38 @@ mapped-more f (suc i) new (o ∷ os) (n ∷ ns) h m e =
     let front : n ∷ take i ns ≡ f o ∷ map f (take i os) = m.done in
     let tail = mapped-more f i new os ns (omega arith) (record { done = cc; rest = m.rest; same_length = omega (arith, m.same_length) }) e in
     record { done = cc; rest = tail.rest; same_length = omega (arith, tail.same_length) }
+
+-- an element is still there after one behind it was taken out
+get-removed : {X : Type 0} (n : ℕ) (xs : List X) (x : X) → slice_get xs n ≡ Some x → slice_get (remove xs (suc n)) n ≡ Some x
+get-removed n [] x h = absurd (cc)
+get-removed zero (y ∷ ys) x h = h
+get-removed (suc n) (y ∷ ys) x h = get-removed n ys x h
+
+-- what is read at a number and behind it, also once the second was taken out
+pub record IsRead {X : Type 0} (n : ℕ) (xs : List X) (x y kept taken : X) : Type 0 where
+  pub here : slice_get xs n ≡ Some x
+  pub there : slice_get xs (suc n) ≡ Some y
+  pub same : kept ≡ x
+  pub next : taken ≡ y
+
+-- what is read twice at a number and behind it
+pub two_read : {X : Type 0} (n : ℕ) (xs ys : List X) (x y kept taken : X) → n + 1 < length xs → x ≡ get_or xs n x → y ≡ get_or xs (n + 1) y
+    → ys ≡ remove xs (n + 1) → kept ≡ get_or ys n kept → taken ≡ get_or xs (n + 1) taken → IsRead n xs x y kept taken
+two_read {X} n xs ys x y kept taken within h k removed m t =
+    let one : n + 1 ≡ suc n = omega arith in
+    let here : slice_get xs n ≡ Some x = slice_get_read xs (length xs) n x refl (omega arith) h in
+    let there : slice_get xs (suc n) ≡ Some y = slice_get_read xs (length xs) (suc n) y refl (omega arith) (rw one at k) in
+    let again : slice_get xs (suc n) ≡ Some taken = slice_get_read xs (length xs) (suc n) taken refl (omega arith) (rw one at t) in
+    let after : slice_get ys n ≡ Some x = rw (removed, one) (get-removed n xs x here) in
+    record {
+      here = here;
+      there = there;
+      same = m ∙ get_or_from_slice_get ys n x kept after;
+      next = cc;
+    }
+
+-- what stands before an element that is merged with the next one stays
+pub take-merged_at : {X : Type 0} (touch : X → X → Bool) (combine : X → X → X) (n : ℕ) (xs : List X) → take n (merged_at touch combine n xs) ≡ take n xs
+take-merged_at touch combine zero xs = refl
+take-merged_at touch combine (suc n) [] = refl
+take-merged_at touch combine (suc n) (x ∷ xs) = ap (λ (l : List _). x ∷ l) (take-merged_at touch combine n xs)

@@ -1,10 +1,12 @@
 -- Merging neighbours that touch: a list with none stays, what is merged has none, and the pieces of one merge to it again.
-use Rattle.std.proofs.Common.{◌≡◌, ℕ, zero, suc, Bool, true, false, List, [], ◌∷◌, take, drop, refl, ap, ◌∙◌, cond, ◌++◌, map}
+use Rattle.std.proofs.Common.{◌≡◌, ℕ, zero, suc, Bool, true, false, List, [], ◌∷◌, take, drop, refl, ap, ◌∙◌, cond, ◌++◌, map, ◌<◌, ◌≤◌, arith, subst, sym}
 use Rattle.std.proofs.lemmas.Bool.{cond_both, cond-false}
+use Rattle.std.proofs.lemmas.List.{take-set-le, drop-set-lt}
+use Rattle.std.specs.Prelude.{slice_set}
 use Rattle.etagere_base.specs.Merging.{merged_onto, merged_by}
 use Rattle.etagere_base.specs.Lists.{NoNeighbours}
 use Rattle.etagere_base.specs.MergingAt.{merged_at, merged_before}
-use Rattle.etagere_base.proofs.NoNeighboursLemmas.{NoNeighbours-back, NoNeighbours-first, NoNeighbours-tail}
+use Rattle.etagere_base.proofs.NoNeighboursLemmas.{NoNeighbours-back, NoNeighbours-drop, NoNeighbours-first, NoNeighbours-tail, NoNeighbours-take}
 
 -- what is merged touches its neighbours as its parts did
 pub record Merges {X : Type 0} (touch : X → X → Bool) (combine : X → X → X) : Type 0 where
@@ -95,7 +97,7 @@ module _ {X : Type 0} (touch : X → X → Bool) (combine : X → X → X) where
     merged-near_first (x ∷ xs) h = ap (merged_onto touch combine x) (merged-apart xs h) ∙ merged_onto-merged_at x xs
 
     -- merging where one element alone may touch its neighbours is merging it with the next one and then with the one before
-    pub merged-near : (n : ℕ) (xs : List X) → NoNeighbours touch (take n xs) → NoNeighbours touch (drop (suc n) xs)
+    merged-near : (n : ℕ) (xs : List X) → NoNeighbours touch (take n xs) → NoNeighbours touch (drop (suc n) xs)
         → merged_by touch combine xs ≡ merged_before touch combine n (merged_at touch combine n xs)
     merged-near zero xs front back = merged-near_first xs back
     merged-near (suc zero) [] front back = refl
@@ -105,3 +107,13 @@ module _ {X : Type 0} (touch : X → X → Bool) (combine : X → X → X) where
     merged-near (suc (suc n)) (x ∷ []) front back = refl
     merged-near (suc (suc n)) (x ∷ y ∷ ys) front back =
         onto-onto x y (merged_by touch combine ys) front.0 ∙ ap (λ (l : List X). x ∷ l) (merged-near (suc n) (y ∷ ys) front.1 back)
+
+    -- merging after one element was written merges it with the next one and then with the one before
+    pub merged-near_set : (n : ℕ) (xs : List X) (x : X) → NoNeighbours touch xs
+        → merged_by touch combine (slice_set xs n x) ≡ merged_before touch combine n (merged_at touch combine n (slice_set xs n x))
+    merged-near_set n xs x apart =
+        let before : n ≤ n = omega arith in
+        let after : n < suc n = omega arith in
+        merged-near n (slice_set xs n x)
+        (subst (NoNeighbours touch) (sym (take-set-le n xs n x before)) (NoNeighbours-take touch n xs apart))
+        (subst (NoNeighbours touch) (sym (drop-set-lt (suc n) xs n x after)) (NoNeighbours-drop touch (suc n) xs apart))

@@ -1,5 +1,5 @@
 -- What merging keeps of a list.
-use Rattle.std.proofs.Common.{◌≡◌, ℕ, ◌≤◌, Bool, true, false, List, [], ◌∷◌, refl, ◌∙◌, arith}
+use Rattle.std.proofs.Common.{◌≡◌, Bool, true, false, List, [], ◌∷◌, refl, ◌∙◌}
 use Rattle.std.proofs.lemmas.Bool.{cond_both}
 use Rattle.etagere_base.specs.Merging.{merged_onto, merged_by}
 use Rattle.etagere_base.specs.Lists.{Each, NoNeighbours}
@@ -31,25 +31,6 @@ module _ {X : Type 0} (touch : X → X → Bool) (combine : X → X → X) where
       onto x [] p h = (p, tt)
       onto x (y ∷ ys) p h =
           cond_both (touch x y) (combine x y ∷ ys) (x ∷ y ∷ ys) (Each P) (λ t. (keeps x y t p h.0, h.1)) (λ _. (p, h))
-
-  -- a measure that no merge makes larger is not larger after merging
-  pub at_most-merged : (measure : List X → ℕ)
-      → ((x : X) (xs ys : List X) → measure xs ≤ measure ys → measure (x ∷ xs) ≤ measure (x ∷ ys))
-      → ((x y : X) (ys : List X) → measure (combine x y ∷ ys) ≤ measure (x ∷ y ∷ ys))
-      → (xs : List X) → measure (merged_by touch combine xs) ≤ measure xs
-  at_most-merged measure behind merge [] = omega arith
-  at_most-merged measure behind merge (x ∷ xs) =
-      let here : measure (merged_onto touch combine x (merged_by touch combine xs)) ≤ measure (x ∷ merged_by touch combine xs) =
-      onto x (merged_by touch combine xs) in
-      let rest : measure (x ∷ merged_by touch combine xs) ≤ measure (x ∷ xs) =
-      behind x (merged_by touch combine xs) xs (at_most-merged measure behind merge xs) in
-      omega arith
-    where
-      onto : (x : X) (xs : List X) → measure (merged_onto touch combine x xs) ≤ measure (x ∷ xs)
-      onto x [] = omega arith
-      onto x (y ∷ ys) =
-          cond_both (touch x y) (combine x y ∷ ys) (x ∷ y ∷ ys) (λ (l : List X). measure l ≤ measure (x ∷ y ∷ ys))
-          (λ _. merge x y ys) (λ _. omega arith)
 
 module _ {X : Type 0} (touch : X → X → Bool) (combine : X → X → X) (other : X → X → Bool)
     (next : (x y z : X) → touch x y ≡ true → other (combine x y) z ≡ other y z)

@@ -1,19 +1,24 @@
 -- How often a number stands in a list, and in the list with a number replaced or left out.
 use Rattle.std.proofs.Common.{◌≡◌, ℕ, suc, ◌+◌, ◌≤◌, Bool, true, false, cond, Some, List, [], ◌∷◌, ◌++◌, refl, ap, arith, ◌∙◌, sym, ◌||◌}
 use Rattle.std.proofs.lemmas.Bool.{eq-eqb, eqb-true}
-use Rattle.std.specs.List.{list_any}
+use Rattle.std.specs.List.{flat_map, list_any}
 use Rattle.std.specs.Prelude.{find, not, ◌==◌, nat_lt}
-use Rattle.etagere_base.specs.Lists.{times}
+use Rattle.etagere_base.specs.Lists.{times, total}
+use Rattle.etagere_base.proofs.Totals.{total-append}
 use Rattle.etagere_base.specs.Lists.{remove_place, replace_place}
-
--- how often a number stands in two lists
-pub times-append : (n : ℕ) (xs ys : List ℕ) → times n (xs ++ ys) ≡ times n xs + times n ys
-times-append n [] ys = omega arith
-times-append n (x ∷ xs) ys = omega (arith, times-append n xs ys)
 
 -- 1 where the two are equal, 0 where not
 abbrev pub hit : ℕ → ℕ → ℕ
 hit m n = cond (m == n) 1 0
+
+-- how often a number stands in two lists
+pub times-append : (n : ℕ) (xs ys : List ℕ) → times n (xs ++ ys) ≡ times n xs + times n ys
+times-append n xs ys = total-append (λ m. hit m n) xs ys
+
+-- how often a number stands in lists end to end
+pub times-flat_map : {X : Type 0} (n : ℕ) (part : X → List ℕ) (xs : List X) → times n (flat_map part xs) ≡ total (λ x. times n (part x)) xs
+times-flat_map n part [] = refl
+times-flat_map n part (x ∷ xs) = omega (arith, times-append n (part x) (flat_map part xs), times-flat_map n part xs)
 
 -- 1 is at most a count where the first one counts
 counted-here : (y x k : ℕ) → y ≡ x → 1 ≤ hit y x + k

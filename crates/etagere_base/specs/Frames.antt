@@ -7,6 +7,10 @@ use Rattle.etagere_base.specs.declared.options.AllocatorOptions.{AllocatorOption
 use Rattle.etagere_base.specs.declared.sides.Sides.{Sides}
 use Rattle.etagere_base.specs.Sides.{side, swapped_axes, up, down}
 
+-- no side of an atlas is longer, nor one that is asked for
+abbrev pub longest_side : ℕ
+longest_side = 65535
+
 -- a side of an atlas or of a size asked for: at least 1, and no longer than the longest
 abbrev pub is_side : ℕ → ℤ → Bool
 is_side longest length = nat_lt 0 (side length) && nat_le (side length) longest
@@ -73,10 +77,10 @@ fitting frame sides =
     if nat_le sides.along frame.column_width && nat_le sides.across (across_side frame) then Some sides else None
 
 -- what a size asks of the shelves: each side rounded up by its own axis, then swapped; none where the size
--- is empty, has a side above 65535 or is larger than a column
+-- is empty, has a side above the longest or is larger than a column
 abbrev pub asked : Frame → Size → Option Sides
 asked frame size =
-    if is_side 65535 size.width && is_side 65535 size.height
+    if is_side longest_side size.width && is_side longest_side size.height
     then fitting frame (swapped_axes frame.vertical
     (record {
       along = up (side size.width) frame.alignment_width;
@@ -84,13 +88,17 @@ asked frame size =
     }))
     else None
 
--- a frame keeps the ranges that its fields were tested for
+-- a frame's sides, area and alignments keep their ranges, and its columns are aligned and lie within its side
 pub record IsFrame (longest : ℕ) (frame : Frame) : Type 0 where
   pub width : (1 ≤ frame.width) × (frame.width ≤ longest)
   pub height : (1 ≤ frame.height) × (frame.height ≤ longest)
   pub area : frame.width * frame.height < 2 ^ 31
   pub alignment_width : (1 ≤ frame.alignment_width) × (frame.alignment_width < 2 ^ 31)
   pub alignment_height : (1 ≤ frame.alignment_height) × (frame.alignment_height < 2 ^ 31)
-  pub column_width : (1 ≤ frame.column_width) × (frame.column_width ≤ along_side frame)
+  pub column_width : 1 ≤ frame.column_width
   pub aligned : frame.column_width % alignment_along frame ≡ 0
-  pub columns : frame.columns ≡ along_side frame / frame.column_width
+  pub columns : (1 ≤ frame.columns) × (frame.columns * frame.column_width ≤ along_side frame)
+
+-- no more columns would fit the side along the shelves
+abbrev pub HasAllColumns : Frame → Type 0
+HasAllColumns frame = frame.columns ≡ along_side frame / frame.column_width

@@ -1,5 +1,7 @@
 pub mod Faults
 pub mod Frames
+pub mod Ids
+pub mod Least
 pub mod Lists
 pub mod Merging
 pub mod MergingAt

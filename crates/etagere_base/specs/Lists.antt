@@ -1,9 +1,22 @@
 use Rattle.std.specs.Prelude.{◌≡◌, ℕ, zero, suc, ◌+◌, Bool, false, not, List, [], ◌∷◌, ◌++◌, filter, map, ◌==◌, if◌then◌else◌}
 
+-- a measure of the elements, added up
+abbrev pub total : {X : Type 0} → (X → ℕ) → List X → ℕ
+total measure [] = 0
+total measure (x ∷ xs) = measure x + total measure xs
+
+-- a measure of the elements of one column, added up
+abbrev pub column_total : {X : Type 0} → (X → ℕ) → (X → ℕ) → ℕ → List X → ℕ
+column_total column_of measure column xs = total (λ x. if column_of x == column then measure x else 0) xs
+
+-- the lists of the elements end to end, where each element sees what stands before it
+abbrev pub gathered : {C X Y : Type 0} → (C → X → C) → (C → X → List Y) → C → List X → List Y
+gathered next part before [] = []
+gathered next part before (x ∷ xs) = part before x ++ gathered next part (next before x) xs
+
 -- how often a number stands in a list
 abbrev pub times : ℕ → List ℕ → ℕ
-times n [] = 0
-times n (m ∷ ms) = (if m == n then 1 else 0) + times n ms
+times n ms = total (λ m. if m == n then 1 else 0) ms
 
 -- the list with the element of this number replaced by its pieces
 abbrev pub replaced_at : {X : Type 0} → ℕ → (X → List X) → List X → List X

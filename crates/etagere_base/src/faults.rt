@@ -1,3 +1,8 @@
+//! Why a size and options make no atlas, and why an id can't be given back.
+//!
+//! Definitions: `Faults`. Numbers and messages are public: a new fault gets a new number, and
+//! `frames` says where in the order it is tested.
+
 ghost use Rattle.std.specs.Prelude.{◌≡◌};
 ghost use Rattle.etagere_base.specs.Faults.{options_fault_number};
 

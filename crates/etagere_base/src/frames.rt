@@ -1,12 +1,21 @@
-ghost use Rattle.std.specs.Prelude.{◌≡◌, ◌<◌};
+//! What an atlas keeps of its size and options, the first fault of these, and what a size asks of
+//! the shelves.
+//!
+//! Definitions: `Frames`. A new fault or option is tested in `options_fault` and kept in `Frame`,
+//! and its range stands in `IsFrame`.
+
+ghost use Rattle.std.specs.Prelude.{◌≡◌, ◌<◌, ◌≤◌, ◌^◌};
 ghost use Rattle.etagere_base.specs.Frames as spec;
-ghost use Rattle.etagere_base.specs.Frames.{IsAccepted, IsFrame, alignments_of, column_width_of};
+ghost use Rattle.etagere_base.specs.Frames.{IsAccepted, IsFrame, alignments_of, column_width_of, longest_side};
 ghost use Rattle.etagere_base.specs.Sides.{side};
 
 use crate::faults::OptionsFault;
 use crate::geometry::Size;
 use crate::options::AllocatorOptions;
 use crate::sides::{Sides, side, swapped_axes, up};
+
+/// No side of a shelf atlas is longer, in pixels, nor one that is asked of any.
+pub const LONGEST_SIDE: u16 = 65535;
 
 /// What an atlas keeps of its size and options: lengths in pixels, the direction of its shelves, and the
 /// number of its columns.
@@ -59,9 +68,9 @@ pub fn options_fault(longest: u16, size: Size, options: &AllocatorOptions) -> Op
 
 /// The frame of a shelf atlas of a size and options that have no fault.
 pub fn atlas_frame(size: Size, options: &AllocatorOptions) -> Frame
-    requires { IsAccepted 65535 size options.now }
+    requires { IsAccepted longest_side size options.now }
     ensures value { result ≡ spec.atlas_frame size options.now }
-    ensures frame { IsFrame 65535 result }
+    ensures frame { IsFrame longest_side result }
 {
     let along = if options.vertical_shelves {
         size.height
@@ -81,12 +90,15 @@ pub fn atlas_frame(size: Size, options: &AllocatorOptions) -> Frame
 }
 
 /// What a size asks of the shelves, along and across; none where it is empty, too long or larger than
-/// a column.
+/// a column. The alignments are at least 1 and below 2^31.
 pub fn asked(frame: &Frame, size: Size) -> Option<Sides>
-    requires { IsFrame 65535 frame.now }
+    requires alignment_width { (1 ≤ frame.now.alignment_width) ×
+        (frame.now.alignment_width < 2 ^ 31) }
+    requires alignment_height { (1 ≤ frame.now.alignment_height) ×
+        (frame.now.alignment_height < 2 ^ 31) }
     ensures { result ≡ spec.asked frame.now size }
 {
-    if !(is_side(u16::MAX, size.width) && is_side(u16::MAX, size.height)) {
+    if !(is_side(LONGEST_SIDE, size.width) && is_side(LONGEST_SIDE, size.height)) {
         return None;
     }
     let sides = swapped_axes(

@@ -1,3 +1,8 @@
+//! Points, sizes and rectangles in pixels.
+//!
+//! The clauses state each result themselves, so there are no definitions to read. What these types
+//! look like in JSON is public: a field that is added or renamed changes the text.
+
 ghost use Rattle.std.specs.Prelude.{◌≡◌, ◌-ℤ◌, ◌*ℤ◌, ◌≤ℤ◌, ◌↔◌, ◌⊎◌, pos, IsTrue, FitsSigned};
 ghost use Rattle.std.specs.Int.{w32};
 
@@ -60,7 +65,8 @@ impl Rectangle {
     pub fn size(self) -> Size
         requires width { FitsSigned w32 (self.max.x -ℤ self.min.x) }
         requires height { FitsSigned w32 (self.max.y -ℤ self.min.y) }
-        ensures { result ≡ record { width = self.max.x -ℤ self.min.x; height = self.max.y -ℤ self.min.y } }
+        ensures { result
+            ≡ record { width = self.max.x -ℤ self.min.x; height = self.max.y -ℤ self.min.y } }
     {
         Size {
             width: self.max.x - self.min.x,

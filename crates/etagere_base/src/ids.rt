@@ -1,8 +1,16 @@
+//! Ids, and what an allocation gives its caller.
+//!
+//! Contracts see an id as its number. How numbers are chosen is a matter of each allocator, and may
+//! change.
+
 ghost use Rattle.std.specs.Prelude.{◌≡◌, ℕ};
 
 use crate::geometry::Rectangle;
 use serde::{Deserialize, Serialize};
 use std::marker::Model;
+
+/// An id modulo this is its index.
+pub const INDEX_MODULUS: u32 = 65536;
 
 /// What names an allocation from `allocate` to its return. It is serialized as its number.
 #[derive(Clone, Copy, Debug, PartialEq, Eq, Hash, Serialize, Deserialize)]

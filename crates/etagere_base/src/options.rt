@@ -1,3 +1,8 @@
+//! How an atlas is to be divided, and the default.
+//!
+//! Definitions: `Options`. A new option also needs its fault in `faults`, what the atlas keeps of
+//! it in `frames`, and its word in the header of scripts.
+
 ghost use Rattle.std.specs.Prelude.{◌≡◌};
 ghost use Rattle.etagere_base.specs.Options.{default_options};
 

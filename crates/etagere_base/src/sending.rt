@@ -1,3 +1,7 @@
+//! Writing a whole text to a writer that may take less at a time, or fail.
+//!
+//! Definitions: `Sending`. Nothing is tried again: one fault of the writer ends the call.
+
 ghost use Rattle.std.specs.Prelude.{OnOk, OnErr};
 ghost use Rattle.std.specs.Io.KnownBytes.{Appends};
 ghost use Rattle.etagere_base.specs.Sending.{AppendsBeginning};
@@ -8,7 +12,8 @@ use std::io::{self, ErrorKind, Write};
 /// accepts no byte is answered as `WriteZero`.
 pub fn send<W: Write>(text: &[u8], writer: &mut W) -> io::Result<()>
     ensures whole { OnOk result (Appends (W.contents writer.old) (W.contents writer.new) text.now) }
-    ensures beginning { OnErr result (AppendsBeginning (W.contents writer.old) (W.contents writer.new) text.now) }
+    ensures beginning { OnErr result
+        (AppendsBeginning (W.contents writer.old) (W.contents writer.new) text.now) }
 {
     let mut sent = 0;
     while sent < text.len() {

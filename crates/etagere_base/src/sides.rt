@@ -1,3 +1,8 @@
+//! One length or two: sides and axes, rounding up to an alignment, and the steps of shelf heights.
+//!
+//! Definitions: `Sides`. Each function is the definition of its name. The numbers of `step` are
+//! public: with others, sizes get other shelves.
+
 ghost use Rattle.std.specs.Prelude.{◌≡◌, ◌+◌, ◌<◌, ◌≤◌, ◌^◌};
 ghost use Rattle.etagere_base.specs.Sides as spec;
 

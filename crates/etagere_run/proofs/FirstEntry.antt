@@ -5,21 +5,23 @@ use Rattle.std.specs.List.{position_or_len}
 use Rattle.std.proofs.lemmas.Bool.Decides.{nat_tests}
 use Rattle.std.proofs.lemmas.List.Folds.{find_at}
 use Rattle.std.proofs.lemmas.Option.{slice_get_past, slice_get_read}
-use Rattle.etagere_run.specs.declared.ledger.Entry.{Entry}
-use Rattle.etagere_run.specs.Live.{allocation_at, without}
+use Rattle.etagere_run.specs.Live.{Entry, allocation_at, without}
 
 -- an entry is of a position
 abbrev is_of : ℕ → Entry → Bool
 is_of position entry = entry.position == position
 
+-- the place that is found, and that it lies within
 place_is : (n m length : ℕ) (b : Bool) → nat_lt n length ≡ b → cond b (Some n) None ≡ Some m → (n ≡ m) × (n < length)
 place_is n m length true below is = (cc, grind (arith, nat_tests))
 place_is n m length false below is = absurd (cc)
 
+-- where no place is found, the test failed
 no_place : (b : Bool) (n : ℕ) → cond b (Some n) None ≡ None → b ≡ false
 no_place true n is = absurd (cc)
 no_place false n is = refl
 
+-- what is not below a number is at least that
 not_below : (m n : ℕ) → nat_lt m n ≡ false → n ≤ m
 not_below m n is = grind (arith, nat_tests)
 
@@ -44,6 +46,7 @@ allocation_at-none position entries none =
     sym (ap (option_map (λ (e : Entry). e.allocation))
     (find_at (is_of position) entries ∙ slice_get_past entries (position_or_len (is_of position) entries) past))
 
+-- the first entry is the one that goes, or stays
 removed_here : (b : Bool) (entry : Entry) (entries rest : List Entry) (k : ℕ)
     → remove entries k ≡ rest
     → remove (entry ∷ entries) (cond (not b) (1 + k) 0) ≡ cond b entries (entry ∷ rest)
@@ -51,6 +54,7 @@ removed_here true entry entries rest k is = refl
 removed_here false entry entries rest k is =
     let e : 1 + k ≡ suc k = omega arith in rw e (ap (λ (l : List Entry). entry ∷ l) is)
 
+-- taking out the entry at its first place leaves the others
 removed_first : (position : ℕ) (entries : List Entry)
     → remove entries (position_or_len (is_of position) entries) ≡ without position entries
 removed_first position [] = refl

@@ -6,12 +6,12 @@ use Rattle.std.proofs.Math.Seq.{take-length}
 use Rattle.std.proofs.lemmas.List.{length-drop}
 use Rattle.std.proofs.lemmas.List.Elements.{All-head, All-tail}
 use Rattle.etagere_run.specs.declared.commands.AtlasCommand.{AtlasCommand}
-use Rattle.etagere_run.specs.declared.script.Header.{Header}
 use Rattle.etagere_run.specs.declared.script.ScriptFault.{ScriptFault}
 use Rattle.etagere_run.specs.declared.script.ScriptFault.TheVariants as faults
 use Rattle.etagere_run.specs.Lines.{lines_of, words_of, filled_from}
-use Rattle.etagere_run.specs.Words.{header_of}
-use Rattle.etagere_run.specs.Script.{Request, script_of, request_of, commands_of, Fails, ◌>>=◌}
+use Rattle.etagere_run.specs.Words.{Header, header_of}
+use Rattle.etagere_run.specs.Script.{Request, script_of, request_of, commands_of, ◌>>=◌}
+use Rattle.etagere_run.specs.Private.ScriptReading.{Fails}
 use Rattle.etagere_run.proofs.Pieces.{before_pieces-separator, other_byte}
 
 -- what lines from this number on stand for
@@ -26,6 +26,7 @@ headed header read = read >>= λ commands. Ok (record { size = header.size; opti
 abbrev pub with_header : Header → ℕ → List ℕ → Result Request ℕ
 with_header header number bytes = headed header (commands_of (filled_from number (lines_of bytes)))
 
+-- a first line without bytes is passed over
 request_from-blank : (number : ℕ) (lines : List (List ℕ)) → request_from number ([] ∷ lines) ≡ request_from (number + 1) lines
 request_from-blank number lines = ap (λ n. request_of n (filled_from (number + 1) lines)) (omega arith)
 
@@ -45,6 +46,7 @@ script-feeds number (suc blanks) (byte ∷ bytes) short feeds =
     ∙ script-feeds (number + 1) blanks bytes (omega arith) (All-tail (λ byte. byte ≡ 10) byte (take blanks bytes) feeds)
     ∙ ap (λ n. request_from n (lines_of (drop blanks bytes))) (omega arith)
 
+-- a piece that a byte was put onto has bytes
 onto_first-filled : (byte : ℕ) (pieces lines : List (List ℕ)) (line : List ℕ) → onto_first byte pieces ≡ line ∷ lines → 0 < length line
 onto_first-filled byte [] lines line is = let same : byte ∷ [] ≡ line = cc in subst (λ l. 0 < length l) same (omega arith)
 onto_first-filled byte (piece ∷ pieces) lines line is = let same : byte ∷ piece ≡ line = cc in subst (λ l. 0 < length l) same (omega arith)
@@ -55,6 +57,7 @@ first-filled byte bytes line lines other is =
     onto_first-filled byte (lines_of bytes) lines line
     (sym (ap (λ t. cond t ([] ∷ lines_of bytes) (onto_first byte (lines_of bytes))) (other_byte byte 10 other)) ∙ is)
 
+-- a first line with bytes is the first of those
 filled_from-line : (number : ℕ) (line : List ℕ) (lines : List (List ℕ)) → 0 < length line → filled_from number (line ∷ lines) ≡ (number, line) ∷ filled_from (number + 1) lines
 filled_from-line number [] lines some = absurd (omega arith)
 filled_from-line number (byte ∷ bytes) lines some = refl
@@ -96,6 +99,7 @@ script-bad blanks bytes (byte ∷ rest) line after short feeds next is lines bad
     script-line blanks byte bytes rest line after short feeds is (lines (omega arith))
     ∙ first-bad (blanks + 1) line (lines_of after) (first-filled byte rest line (lines_of after) (head-other blanks byte bytes rest is next) (lines (omega arith))) bad
 
+-- the same where that line is a header
 pub script-good : (blanks : ℕ) (bytes rest line after : List ℕ) (header : Header) → blanks ≤ length bytes → All (λ byte. byte ≡ 10) (take blanks bytes) → (blanks < length bytes → get_or bytes blanks 0 ≢ 10) → drop blanks bytes ≡ rest → (0 < length rest → lines_of rest ≡ line ∷ lines_of after) → (length rest ≡ 0 → line ≡ []) → header_of (words_of line) ≡ Some header → script_of bytes ≡ with_header header (blanks + 1 + 1) after
 script-good blanks bytes [] line after header short feeds next is lines none good =
     let bad : header_of (words_of []) ≡ Some header = subst (λ l. header_of (words_of l) ≡ Some header) (none refl) good in cc

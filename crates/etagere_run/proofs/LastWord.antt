@@ -9,9 +9,8 @@ use Rattle.std.specs.Char.{is_ascii_digit}
 use Rattle.std.proofs.lemmas.List.Elements.{All-nil, All-cons, All-head, All-tail}
 use Rattle.etagere_run.specs.Lines.{before_pieces, words_of, Lacks}
 use Rattle.etagere_run.specs.Numbers.{number_of, position_of, natural_of, are_digits}
-use Rattle.etagere_run.specs.Words.{atlas_in, atlas_of, size_in, size_of, position_in, direction_of, command_of, command_named, ◌>>=◌}
+use Rattle.etagere_run.specs.Words.{Header, atlas_in, atlas_of, size_in, size_of, position_in, direction_of, command_of, command_named, ◌>>=◌}
 use Rattle.etagere_base.specs.declared.geometry.Size.{Size}
-use Rattle.etagere_run.specs.declared.script.Header.{Header}
 use Rattle.etagere_run.proofs.Pieces.{before_pieces-other, before_pieces-separator}
 
 -- the bytes are one word, or several with a space between
@@ -19,9 +18,11 @@ pub data Shape (bytes : List ℕ) : Type 0 where
   One : words_of bytes ≡ bytes ∷ [] → Shape bytes
   More : (first second : List ℕ) (rest : List (List ℕ)) → words_of bytes ≡ first ∷ second ∷ rest → ¬ (Lacks 32 bytes) → Shape bytes
 
+-- bytes without a space, and one more before them
 lacks-more : (x : ℕ) (xs : List ℕ) → x ≢ 32 → Lacks 32 xs → Lacks 32 (x ∷ xs)
 lacks-more = All-cons (λ byte. byte ≢ 32)
 
+-- bytes without a space, but for the first
 lacks-tail : (x : ℕ) (xs : List ℕ) → Lacks 32 (x ∷ xs) → Lacks 32 xs
 lacks-tail = All-tail (λ byte. byte ≢ 32)
 
@@ -38,10 +39,12 @@ longer x bytes other (One one) = One (ap (before_pieces 32 x) one ∙ before_pie
 longer x bytes other (More first second rest more space) =
     More (x ∷ first) second rest (ap (before_pieces 32 x) more ∙ before_pieces-other 32 x first (second ∷ rest) other) (λ h. space (lacks-tail x bytes h))
 
+-- each list of bytes has such a shape
 shape : (bytes : List ℕ) → Shape bytes
 shape [] = One refl
 shape (x ∷ bytes) = elim (cases_eq x 32) [ inl same ↦ subst (λ y. Shape (y ∷ bytes)) (sym same) (spaced bytes (shape bytes)) | inr other ↦ longer x bytes other (shape bytes) ]
 
+-- a digit is no space
 digit-other : (x : ℕ) → is_ascii_digit x ≡ true → x ≢ 32
 digit-other x h = λ same. absurd (false≢true (subst (λ y. is_ascii_digit y ≡ true) same h))
 
@@ -50,24 +53,30 @@ digits-lack : (bytes : List ℕ) → all_ascii_digits bytes ≡ true → Lacks 3
 digits-lack [] h = All-nil (λ byte. byte ≢ 32)
 digits-lack (x ∷ xs) h = let both = and_parts (is_ascii_digit x) (all_ascii_digits xs) h in lacks-more x xs (digit-other x both.0) (digits-lack xs both.1)
 
+-- one or more digits have no space among them
 are_digits-lack : (bytes : List ℕ) → are_digits bytes ≡ true → Lacks 32 bytes
 are_digits-lack [] h = absurd (false≢true h)
 are_digits-lack (x ∷ xs) h = digits-lack (x ∷ xs) h
 
+-- what stands for a natural number has no space
 natural-lacks : (greatest n : ℕ) (bytes : List ℕ) → natural_of greatest bytes ≡ Some n → Lacks 32 bytes
 natural-lacks greatest n bytes h = are_digits-lack bytes (and_parts (are_digits bytes) _ (cond_some _ _ n h).0).0
 
+-- a choice that gives something gives it by one of its sides
 chosen : {A : Type 0} (test : Bool) (x y : Option A) (z : A) → cond test x y ≡ Some z → ((test ≡ true) × (x ≡ Some z)) ⊎ ((test ≡ false) × (y ≡ Some z))
 chosen true x y z h = inl (refl, h)
 chosen false x y z h = inr (refl, h)
 
+-- what a function gives something of is something
 mapped : {A B : Type 0} (f : A → B) (o : Option A) (z : B) → option_map f o ≡ Some z → (x : A) × (o ≡ Some x)
 mapped f None z h = cc
 mapped f (Some x) z h = (x, refl)
 
+-- a minus sign is no space
 minus-other : (x : ℕ) → (x == 45) ≡ true → x ≢ 32
 minus-other x h = λ same. absurd (false≢true (subst (λ y. (y == 45) ≡ true) same h))
 
+-- what stands for a number has no space
 number-lacks : (bytes : List ℕ) (z : ℤ) → number_of bytes ≡ Some z → Lacks 32 bytes
 number-lacks [] z h = cc
 number-lacks (x ∷ xs) z h =
@@ -76,10 +85,12 @@ number-lacks (x ∷ xs) z h =
       | inr plain ↦ let some = mapped _ _ z plain.1 in natural-lacks _ some.0 (x ∷ xs) some.1
     ]
 
+-- one letter that is no space has none
 letter-lacks : (bytes : List ℕ) (letter : ℕ) → letter ≢ 32 → bytes_eq bytes (letter ∷ []) ≡ true → Lacks 32 bytes
 letter-lacks bytes letter other h =
     subst (Lacks 32) (sym ((bytes_eq-Decides bytes (letter ∷ [])).0 h)) (lacks-more letter [] other (All-nil (λ byte. byte ≢ 32)))
 
+-- what stands for a direction has no space
 direction-lacks : (bytes : List ℕ) (v : Bool) → direction_of bytes ≡ Some v → Lacks 32 bytes
 direction-lacks bytes v h =
     elim (chosen (bytes_eq bytes (codes "h")) (Some false) (cond (bytes_eq bytes (codes "v")) (Some true) None) v h) [
@@ -87,10 +98,12 @@ direction-lacks bytes v h =
       | inr other ↦ letter-lacks bytes 118 (search arith) (cond_some (bytes_eq bytes (codes "v")) true v other.1).0
     ]
 
+-- where a chain gives something, its first step does, and so does the rest of it
 bound : {A B : Type 0} (o : Option A) (f : A → Option B) (z : B) → (o >>= f) ≡ Some z → (x : A) × (o ≡ Some x) × (f x ≡ Some z)
 bound None f z h = cc
 bound (Some x) f z h = (x, refl, h)
 
+-- the second word of a size has no space
 size-lacks : (width height : List ℕ) (size : Size) → size_of width height ≡ Some size → Lacks 32 height
 size-lacks width height size h =
     let after = bound (number_of width) _ size h in
@@ -108,12 +121,15 @@ last-word f bytes none lacks (One one) = ap f one
 last-word f bytes none lacks (More first second rest more space) =
     ap f more ∙ none first second rest ∙ sym (none-spaced bytes (f (bytes ∷ [])) lacks space)
 
+-- a position is the last bytes, if they stand for one
 pub position_in-words : (bytes : List ℕ) → position_in (words_of bytes) ≡ position_of bytes
 position_in-words bytes = last-word position_in bytes (λ first second rest. refl) (λ n h. natural-lacks _ n bytes h) (shape bytes)
 
+-- the height of a size is the last bytes
 pub size_in-words : (width height : List ℕ) → size_in (width ∷ words_of height) ≡ size_of width height
 size_in-words width height = last-word (λ words. size_in (width ∷ words)) height (λ first second rest. refl) (λ size h. size-lacks width height size h) (shape height)
 
+-- the direction of an atlas has no space
 atlas-lacks : (width height alignment_width alignment_height columns direction : List ℕ) (header : Header) → atlas_of width height alignment_width alignment_height columns direction ≡ Some header → Lacks 32 direction
 atlas-lacks width height alignment_width alignment_height columns direction header h =
     let size = bound (size_of width height) _ header h in
@@ -121,11 +137,13 @@ atlas-lacks width height alignment_width alignment_height columns direction head
     let vertical = bound (direction_of direction) _ header alignment.2 in
     direction-lacks direction vertical.0 vertical.1
 
+-- the direction of an atlas is the last bytes
 pub atlas_in-words : (width height alignment_width alignment_height columns direction : List ℕ) → atlas_in (width ∷ height ∷ alignment_width ∷ alignment_height ∷ columns ∷ words_of direction) ≡ atlas_of width height alignment_width alignment_height columns direction
 atlas_in-words width height alignment_width alignment_height columns direction =
     last-word (λ words. atlas_in (width ∷ height ∷ alignment_width ∷ alignment_height ∷ columns ∷ words)) direction (λ first second rest. refl)
     (λ header h. atlas-lacks width height alignment_width alignment_height columns direction header h) (shape direction)
 
+-- bytes with a name before them are several words
 several-words : (name words : List ℕ) → Shape words → command_of (name ∷ words_of words) ≡ command_named name (words_of words)
 several-words name words (One one) = rw one refl
 several-words name words (More first second rest more space) = rw more refl

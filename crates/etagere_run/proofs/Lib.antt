@@ -1,14 +1,12 @@
+pub mod AtlasAnswers
 pub mod CommandLines
 pub mod Digits
 pub mod FirstEntry
-pub mod Found
 pub mod HeaderLine
 pub mod LastWord
-pub mod Ledgers
-pub mod LiveRectangles
+pub mod LiveEntries
 pub mod LiveRows
 pub mod Pieces
-pub mod Replies
 pub mod RunsOn
 pub mod ScriptRows
 pub mod TextRows

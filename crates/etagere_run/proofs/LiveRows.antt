@@ -6,7 +6,9 @@ use Rattle.etagere_run.specs.declared.commands.AtlasCommand.{AtlasCommand}
 use Rattle.etagere_run.specs.declared.commands.AtlasCommand.TheVariants.{Allocate, Return, Look, Clear}
 use Rattle.etagere_run.specs.declared.commands.Reply.{Reply}
 use Rattle.etagere_run.specs.declared.commands.Reply.TheVariants.{Placed, Refused, Returned, NotLive, Cleared}
-use Rattle.etagere_run.specs.Live.{allocation_at, live, peak}
+use Rattle.etagere_run.specs.AtlasRuns.{shelf_atlas}
+use Rattle.etagere_run.specs.Live.{Entry, allocation_at, peak}
+use Rattle.etagere_run.specs.Runs.{effects, live_in}
 
 abbrev size : Size
 size = record { width = pos 10; height = pos 8 }
@@ -28,20 +30,24 @@ replies =
     Placed (given 0) ∷ Placed (given 10) ∷ Placed (given 20) ∷ Returned ∷ NotLive ∷ Refused ∷ Cleared ∷ NotLive
     ∷ Placed (given 0) ∷ []
 
-pub three_live : map (λ entry. entry.position) (live (take 3 commands) (take 3 replies)) ≡ 0 ∷ 1 ∷ 2 ∷ []
+-- what is live after so many of the commands
+abbrev live_after_first : ℕ → List Entry
+live_after_first n = live_in shelf_atlas (take n commands) (take n replies)
+
+pub three_live : map (λ entry. entry.position) (live_after_first 3) ≡ 0 ∷ 1 ∷ 2 ∷ []
 three_live = refl
 
-pub one_returned : map (λ entry. entry.position) (live (take 6 commands) (take 6 replies)) ≡ 0 ∷ 2 ∷ []
+pub one_returned : map (λ entry. entry.position) (live_after_first 6) ≡ 0 ∷ 2 ∷ []
 one_returned = refl
 
-pub live_in_the_end : live commands replies ≡ record { position = 8; allocation = given 0 } ∷ []
+pub live_in_the_end : live_after_first 9 ≡ record { position = 8; allocation = given 0 } ∷ []
 live_in_the_end = refl
 
-pub first_given : allocation_at 2 (live (take 6 commands) (take 6 replies)) ≡ Some (given 20)
+pub first_given : allocation_at 2 (live_after_first 6) ≡ Some (given 20)
 first_given = refl
 
-pub peak_before_the_clear : peak (take 6 commands) (take 6 replies) ≡ 3
+pub peak_before_the_clear : peak (effects shelf_atlas (take 6 commands) (take 6 replies)) ≡ 3
 peak_before_the_clear = refl
 
-pub peak_in_the_end : peak commands replies ≡ 1
+pub peak_in_the_end : peak (effects shelf_atlas commands replies) ≡ 1
 peak_in_the_end = refl

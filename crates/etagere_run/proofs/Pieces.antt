@@ -6,21 +6,27 @@ use Rattle.std.proofs.lemmas.Bool.Decides.{nat_tests}
 use Rattle.std.proofs.lemmas.List.Elements.{All-head, All-tail}
 use Rattle.etagere_run.specs.Lines.{before_pieces, parted, Lacks}
 
+-- the first byte is no separator
 Lacks-head : (separator x : ℕ) (xs : List ℕ) → Lacks separator (x ∷ xs) → x ≢ separator
 Lacks-head separator = All-head (λ byte. byte ≢ separator)
 
+-- no later byte is one
 Lacks-tail : (separator x : ℕ) (xs : List ℕ) → Lacks separator (x ∷ xs) → Lacks separator xs
 Lacks-tail separator = All-tail (λ byte. byte ≢ separator)
 
+-- a byte is its own
 same_byte : (n : ℕ) → (n == n) ≡ true
 same_byte n = grind (arith, nat_tests)
 
+-- bytes that differ test so
 pub other_byte : (n m : ℕ) → n ≢ m → (n == m) ≡ false
 other_byte n m h = grind (arith, nat_tests)
 
+-- a separator begins an empty piece
 pub before_pieces-separator : (separator : ℕ) (pieces : List (List ℕ)) → before_pieces separator separator pieces ≡ [] ∷ pieces
 before_pieces-separator separator pieces = ap (λ t. cond t ([] ∷ pieces) (onto_first separator pieces)) (same_byte separator)
 
+-- another byte goes onto the first piece
 pub before_pieces-other : (separator byte : ℕ) (piece : List ℕ) (pieces : List (List ℕ)) → byte ≢ separator → before_pieces separator byte (piece ∷ pieces) ≡ (byte ∷ piece) ∷ pieces
 before_pieces-other separator byte piece pieces h = ap (λ t. cond t ([] ∷ piece ∷ pieces) ((byte ∷ piece) ∷ pieces)) (other_byte byte separator h)
 

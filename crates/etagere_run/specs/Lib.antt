@@ -1,10 +1,11 @@
+pub mod AtlasRuns
 pub mod Faults
 pub mod Lines
 pub mod Live
 pub mod Numbers
+pub mod Private
 pub mod Replaying
 pub mod ReplyText
 pub mod Runs
 pub mod Script
-pub mod Tied
 pub mod Words

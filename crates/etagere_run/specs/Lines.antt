@@ -2,6 +2,13 @@
 use Rattle.std.specs.Prelude.{ℕ, ◌+◌, ◌≢◌, List, [], ◌∷◌, All, ◌==◌, if◌then◌else◌}
 use Rattle.std.specs.List.{onto_first}
 
+-- the byte that ends a line, and the one that parts words
+abbrev pub line_feed : ℕ
+line_feed = 10
+
+abbrev pub space : ℕ
+space = 32
+
 -- a byte before pieces: a separator begins them with an empty piece, another byte goes onto the first
 abbrev pub before_pieces : ℕ → ℕ → List (List ℕ) → List (List ℕ)
 before_pieces separator byte pieces = if byte == separator then [] ∷ pieces else onto_first byte pieces
@@ -13,11 +20,11 @@ parted separator end (byte ∷ bytes) = before_pieces separator byte (parted sep
 
 -- the lines: a line feed ends each, and the last may lack it
 abbrev pub lines_of : List ℕ → List (List ℕ)
-lines_of bytes = parted 10 [] bytes
+lines_of bytes = parted line_feed [] bytes
 
 -- the words: one space parts them, and what it parts may be empty
 abbrev pub words_of : List ℕ → List (List ℕ)
-words_of line = parted 32 ([] ∷ []) line
+words_of line = parted space ([] ∷ []) line
 
 -- the lines with bytes, each with its number, where the first line has this number
 abbrev pub filled_from : ℕ → List (List ℕ) → List (ℕ × List ℕ)

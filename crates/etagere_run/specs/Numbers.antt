@@ -3,10 +3,17 @@ use Rattle.std.specs.Prelude.{ℕ, ◌+◌, ◌-◌, ◌*◌, ◌^◌, ℤ, pos,
 use Rattle.std.specs.Char.{is_ascii_digit}
 use Rattle.std.specs.Str.{all_ascii_digits}
 
+-- the bytes `0` and `-`
+abbrev pub digit_zero : ℕ
+digit_zero = 48
+
+abbrev pub minus_sign : ℕ
+minus_sign = 45
+
 -- the value of digits, each by its place
 abbrev pub value_of : List ℕ → ℕ
 value_of [] = 0
-value_of (digit ∷ digits) = (digit - 48) * 10 ^ length digits + value_of digits
+value_of (digit ∷ digits) = (digit - digit_zero) * 10 ^ length digits + value_of digits
 
 -- one or more digits
 abbrev pub are_digits : List ℕ → Bool
@@ -17,11 +24,11 @@ are_digits (byte ∷ bytes) = all_ascii_digits (byte ∷ bytes)
 abbrev pub natural_of : ℕ → List ℕ → Option ℕ
 natural_of greatest word = if are_digits word && nat_le (value_of word) greatest then Some (value_of word) else None
 
--- digits, or a minus sign (45) and digits, where the value fits an `i32`
+-- digits, or a minus sign and digits, where the value fits an `i32`
 abbrev pub number_of : List ℕ → Option ℤ
 number_of [] = None
 number_of (first ∷ rest) =
-    if first == 45
+    if first == minus_sign
     then option_map (λ n. neg_ℤ (pos n)) (natural_of (2 ^ 31) rest)
     else option_map pos (natural_of (2 ^ 31 - 1) (first ∷ rest))
 
@@ -32,6 +39,6 @@ position_of word = natural_of (2 ^ 32 - 1) word
 -- a value and one more digit behind it, where it fits a `u32`
 abbrev pub with_digit : ℕ → ℕ → Option ℕ
 with_digit value byte =
-    if is_ascii_digit byte && nat_le (value * 10 + (byte - 48)) (2 ^ 32 - 1)
-    then Some (value * 10 + (byte - 48))
+    if is_ascii_digit byte && nat_le (value * 10 + (byte - digit_zero)) (2 ^ 32 - 1)
+    then Some (value * 10 + (byte - digit_zero))
     else None

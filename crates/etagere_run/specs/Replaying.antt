@@ -3,30 +3,33 @@ use Rattle.std.specs.Prelude.{◌≡◌, ℕ, List, [], ◌∷◌, ◌++◌, Opt
 use Rattle.std.specs.Io.KnownBytes.{Appends, Keeps}
 use Rattle.etagere_base.specs.declared.faults.OptionsFault.{OptionsFault}
 use Rattle.etagere_base.specs.Faults.{options_fault_number}
-use Rattle.etagere_base.specs.Frames.{options_fault}
+use Rattle.etagere_base.specs.Frames.{IsAccepted, atlas_frame, options_fault, longest_side}
 use Rattle.etagere_base.specs.Sending.{AppendsBeginning}
 use Rattle.etagere_run.specs.declared.commands.Reply.{Reply}
 use Rattle.etagere_run.specs.declared.faults.Outcome.{Outcome}
 use Rattle.etagere_run.specs.declared.faults.Outcome.TheVariants.{Done, BadLine, Options}
 use Rattle.etagere_run.specs.declared.faults.ReplayFault.{ReplayFault}
 use Rattle.etagere_run.specs.declared.faults.ReplayFault.TheVariants.{Read, Write, Memory}
+use Rattle.etagere_run.specs.AtlasRuns.{shelf_atlas}
+use Rattle.etagere_run.specs.Lines.{line_feed}
 use Rattle.etagere_run.specs.ReplyText.{replies_text}
 use Rattle.etagere_run.specs.Runs.{RunsTo}
 use Rattle.etagere_run.specs.Script.{Request, script_of}
 
 -- the line on the first bad line, and the one on a fault of the options, each with its line feed
 abbrev pub bad_line_text : ℕ → List ℕ
-bad_line_text number = codes "line " ++ decimal number ++ codes ": bad" ++ 10 ∷ []
+bad_line_text number = codes "line " ++ decimal number ++ codes ": bad" ++ line_feed ∷ []
 
 abbrev pub options_text : ℕ → List ℕ
-options_text number = codes "options " ++ decimal number ++ 10 ∷ []
+options_text number = codes "options " ++ decimal number ++ line_feed ∷ []
 
--- the input spells a request that was run, and the text is that of its replies
+-- the input spells a request that is accepted and was run, and the text is that of its replies
 pub record IsRunOf (input text : List ℕ) : Type 0 where
   pub request : Request
   pub replies : List Reply
   pub spelled : script_of input ≡ Ok request
-  pub runs : RunsTo request.size request.options request.commands replies
+  pub accepted : IsAccepted longest_side request.size request.options
+  pub runs : RunsTo shelf_atlas (atlas_frame request.size request.options) request.commands replies
   pub text_is : text ≡ replies_text replies
 
 -- the input spells a request whose options have the fault of this number
@@ -34,7 +37,7 @@ pub record HasFault (input : List ℕ) (number : ℕ) (text : List ℕ) : Type 0
   pub request : Request
   pub fault : OptionsFault
   pub spelled : script_of input ≡ Ok request
-  pub refused : options_fault 65535 request.size request.options ≡ Some fault
+  pub refused : options_fault longest_side request.size request.options ≡ Some fault
   pub number_is : number ≡ options_fault_number fault
   pub text_is : text ≡ options_text number
 
@@ -46,12 +49,14 @@ Answers input (Options number) text = HasFault input number text
 
 -- the answer to an input that is all that a reader had left, where that is known
 abbrev pub AnswersReader : Option (List ℕ) → Outcome → List ℕ → Type 0
-AnswersReader remaining outcome text = (input : List ℕ) × IfSome remaining (λ bytes. input ≡ bytes) × Answers input outcome text
+AnswersReader remaining outcome text =
+    (input : List ℕ) × IfSome remaining (λ bytes. input ≡ bytes) × Answers input outcome text
 
 -- What a replay appends to what its writer contained: the whole text, after a failed write a beginning of
 -- it, and nothing where the reader failed or memory ran out.
 abbrev pub Replays : Option (List ℕ) → Option (List ℕ) → Option (List ℕ) → Result Outcome ReplayFault → Type 0
 Replays remaining old new (Ok outcome) = (text : List ℕ) × AnswersReader remaining outcome text × Appends old new text
 Replays remaining old new (Err Read) = Keeps old new
-Replays remaining old new (Err Write) = (outcome : Outcome) × (text : List ℕ) × AnswersReader remaining outcome text × AppendsBeginning old new text
+Replays remaining old new (Err Write) =
+    (outcome : Outcome) × (text : List ℕ) × AnswersReader remaining outcome text × AppendsBeginning old new text
 Replays remaining old new (Err Memory) = Keeps old new

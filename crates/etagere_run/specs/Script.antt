@@ -1,11 +1,8 @@
 -- What a script stands for: a request, or the number of its first bad line.
-use Rattle.std.specs.Prelude.{◌≡◌, ℕ, ◌+◌, List, [], ◌∷◌, length, Result, Ok, Err, ok_or, ⊤}
+use Rattle.std.specs.Prelude.{ℕ, ◌+◌, List, [], ◌∷◌, length, Result, Ok, Err, ok_or}
 use Rattle.etagere_base.specs.declared.geometry.Size.{Size}
 use Rattle.etagere_base.specs.declared.options.AllocatorOptions.{AllocatorOptions}
 use Rattle.etagere_run.specs.declared.commands.AtlasCommand.{AtlasCommand}
-use Rattle.etagere_run.specs.declared.script.Script.{Script}
-use Rattle.etagere_run.specs.declared.script.ScriptFault.{ScriptFault}
-use Rattle.etagere_run.specs.declared.script.ScriptFault.TheVariants.{BadLine, Memory}
 use Rattle.etagere_run.specs.Lines.{lines_of, words_of, filled_from}
 use Rattle.etagere_run.specs.Words.{header_of, command_of}
 
@@ -41,21 +38,3 @@ request_of after (line ∷ lines) = do
 -- one answer, so each input is exactly one of the two.
 abbrev pub script_of : List ℕ → Result Request ℕ
 script_of input = request_of (length (lines_of input) + 1) (filled_from 1 (lines_of input))
-
--- a fault is the one that the definition says, unless memory ran out
-abbrev pub Fails : {A : Type 0} → ScriptFault → Result A ℕ → Type 0
-Fails (BadLine number) meaning = meaning ≡ Err number
-Fails Memory meaning = ⊤
-
--- what was read, as a view shows it, is what the definition says, unless memory ran out
-abbrev pub Gives : {A B : Type 0} → (A → B) → Result A ScriptFault → Result B ℕ → Type 0
-Gives view (Ok read) meaning = meaning ≡ Ok (view read)
-Gives view (Err fault) meaning = Fails fault meaning
-
--- the request of a script that was read
-abbrev pub request : Script → Request
-request script = record {
-  size = script.header.size;
-  options = script.header.options;
-  commands = script.commands.items;
-}

@@ -1,10 +1,15 @@
 -- What the words of a line stand for.
 use Rattle.std.specs.Prelude.{ℕ, Bool, true, false, List, [], ◌∷◌, Option, Some, None, bytes_eq, codes, if◌then◌else◌, option_map}
 use Rattle.etagere_base.specs.declared.geometry.Size.{Size}
+use Rattle.etagere_base.specs.declared.options.AllocatorOptions.{AllocatorOptions}
 use Rattle.etagere_run.specs.declared.commands.AtlasCommand.{AtlasCommand}
 use Rattle.etagere_run.specs.declared.commands.AtlasCommand.TheVariants.{Allocate, Return, Look, Clear}
-use Rattle.etagere_run.specs.declared.script.Header.{Header}
 use Rattle.etagere_run.specs.Numbers.{number_of, position_of}
+
+-- the atlas of a script
+pub record Header : Type 0 where
+  pub size : Size
+  pub options : AllocatorOptions
 
 -- none where the first is none
 infixl 10 ◌>>=◌

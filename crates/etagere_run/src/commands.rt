@@ -1,3 +1,6 @@
+//! The commands of a run, and the replies to them, which serve every kind of run.
+//! The definitions of runs (`AtlasRuns`) and of the text of replies (`ReplyText`) match on them.
+
 use etagere::{Allocation, Rectangle, Size};
 
 /// A command of a run on a shelf atlas. A position is the number, from 0, of an earlier command.
@@ -22,7 +25,8 @@ pub enum Reply {
     Refused,
     /// The allocation was given back.
     Returned,
-    /// The allocation is at this rectangle, as it was first given; the number is its id modulo 65536.
+    /// The allocation is at this rectangle, as it was first given; the number is its index, the id
+    /// modulo 65536.
     At(Rectangle, u32),
     /// The position names nothing that is allocated now.
     NotLive,

@@ -1,5 +1,9 @@
+//! How runs and replays end: faults with their numbers, outcomes, exit statuses and words.
+//! Definition: `Faults`. A new fault or outcome goes here and there; what goes to standard output
+//! stands in `replaying`.
+
 ghost use Rattle.std.specs.Prelude.{◌≡◌};
-ghost use Rattle.etagere_run.specs.Faults.{replay_fault_number, run_fault_number};
+ghost use Rattle.etagere_run.specs.Faults.{fault_status, fault_words, outcome_status, replay_fault_number, run_fault_number};
 
 use etagere::OptionsFault;
 use thiserror::Error;
@@ -38,6 +42,19 @@ pub enum Outcome {
     Options(u32),
 }
 
+impl Outcome {
+    /// The program's exit status: 0 after `Done`, 1 after `Options`, 2 after `BadLine`.
+    pub fn status(self) -> u8
+        ensures { result ≡ outcome_status self }
+    {
+        match self {
+            Outcome::Done => 0,
+            Outcome::Options(_) => 1,
+            Outcome::BadLine(_) => 2,
+        }
+    }
+}
+
 /// Why a replay didn't write its text, or only a beginning of it.
 #[derive(Clone, Copy, Debug, PartialEq, Eq, Error)]
 pub enum ReplayFault {
@@ -61,6 +78,24 @@ impl ReplayFault {
             ReplayFault::Read => 1,
             ReplayFault::Write => 2,
             ReplayFault::Memory => 3,
+        }
+    }
+
+    /// The program's exit status, 3 after each of these faults.
+    pub fn status(self) -> u8
+        ensures { result ≡ fault_status self }
+    {
+        3
+    }
+
+    /// What the program says on standard error, without a line feed.
+    pub fn words(self) -> &'static str
+        ensures { result.now ≡ fault_words self }
+    {
+        match self {
+            ReplayFault::Read => "read fault",
+            ReplayFault::Write => "write fault",
+            ReplayFault::Memory => "no memory",
         }
     }
 }

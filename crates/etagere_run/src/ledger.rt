@@ -1,14 +1,30 @@
+//! The ledger of a run: which command was given what, of what is live. One list in the order of the
+//! commands, with room for all of them from the start, so nothing here takes memory later.
+//! Definition: `Live`, with the `Entry` that an entry is seen as. Another representation keeps the
+//! clauses; callers know nothing else of it.
+
 ghost use Rattle.std.specs.Prelude.{◌≡◌, ◌<◌, ◌≤◌, ◌==◌, ◌+◌, ◌∷◌, ◌++◌, [], vec_capacity, vec_len, IfOk, IfSome, IfNone, position as first_place};
 ghost use Rattle.etagere_run.specs.Live.{allocation_at, without};
 
 use etagere::Allocation;
 use std::alloc::{AllocError, Global};
+use std::marker::Model;
 
 /// An allocation, and the position of the command that was given it.
-#[derive(Clone, Copy, Debug, PartialEq)]
+#[derive(Clone, Copy)]
 pub struct Entry {
     pub position: usize,
     pub allocation: Allocation,
+}
+
+impl Model for Entry {
+    ghost use Rattle.etagere_run.specs.Live.{Entry};
+
+    ghost Value = { Entry };
+
+    ghost view = { λ entry. record { position = entry.position; allocation = entry.allocation } };
+
+    ghost inverse = { λ entry. record { position = entry.position; allocation = entry.allocation } };
 }
 
 /// What a run holds, in the order in which it was given.
@@ -31,8 +47,8 @@ impl Ledger {
     /// Adds what the command at a position was given.
     pub fn add(&mut self, position: usize, allocation: &Allocation)
         requires { vec_len self.old.entries < vec_capacity self.old.entries }
-        ensures added { self.new.entries.items
-            ≡ self.old.entries.items ++ record { position = position; allocation = allocation.now } ∷ [] }
+        ensures added { self.new.entries.items ≡ self.old.entries.items
+            ++ record { position = position; allocation = allocation.now } ∷ [] }
         ensures length { vec_len self.new.entries ≡ vec_len self.old.entries + 1 }
         ensures room { vec_capacity self.old.entries ≤ vec_capacity self.new.entries }
     {
@@ -48,7 +64,8 @@ impl Ledger {
         ensures { result ≡ allocation_at position self.now.entries.items }
     {
         let place = place_of(self.entries.as_slice(), position)?;
-        Some(self.entries[place].allocation)
+        let found = &self.entries[place];
+        Some(found.allocation)
     }
 
     /// Takes out what the command at a position was given, if it is allocated.

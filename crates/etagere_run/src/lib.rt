@@ -1,4 +1,5 @@
-//! Runs of commands on a shelf atlas, and scripts that spell such runs.
+//! Runs of commands on a shelf atlas, and scripts that spell such runs. `running` and `replaying` have the
+//! two public calls; the others serve them.
 #![tactic(auto)]
 
 mod commands;

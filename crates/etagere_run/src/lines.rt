@@ -1,3 +1,6 @@
+//! Bytes as lines, and a line as words, one after another from the front.
+//! Definition: `Lines`. Nothing here knows a command or a number, takes memory or copies bytes.
+
 ghost use Rattle.std.specs.Prelude.{◌≡◌, ◌≢◌, ◌<◌, ◌≤◌, ◌∷◌, ◌++◌, [], All, IfNone, IfSome, length, slice_index, take};
 ghost use Rattle.etagere_run.specs.Lines.{Lacks, lines_of, words_of};
 
@@ -14,14 +17,16 @@ pub fn split_once(bytes: &[u8], separator: u8) -> Option<(&[u8], &[u8])>
 /// The first of several words, and the bytes of those after it.
 pub fn split_word(words: &[u8]) -> Option<(&[u8], &[u8])>
     ensures one { IfNone result (words_of words.now ≡ words.now ∷ []) }
-    ensures more { IfSome result (λ parts. words_of words.now ≡ parts.0.now ∷ words_of parts.1.now) }
+    ensures more { IfSome result (λ parts.
+        words_of words.now ≡ parts.0.now ∷ words_of parts.1.now) }
 {
     split_once(words, b' ')
 }
 
 /// The first line without its line feed, and the bytes after it.
 pub fn first_line(bytes: &[u8]) -> (&[u8], &[u8])
-    ensures line { 0 < length bytes.now → lines_of bytes.now ≡ result.0.now ∷ lines_of result.1.now }
+    ensures line { 0 < length bytes.now →
+        lines_of bytes.now ≡ result.0.now ∷ lines_of result.1.now }
     ensures none { length bytes.now ≡ 0 → result.0.now ≡ [] }
     ensures shorter { 0 < length bytes.now → length result.1.now < length bytes.now }
 {

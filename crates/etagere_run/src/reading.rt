@@ -1,9 +1,15 @@
+//! Everything that a reader has, up to its end, in memory.
+//! A failed read is told from missing memory, and is never tried again.
+
 ghost use Rattle.std.specs.Prelude.{◌≡◌, ◌≢◌, IfErr, IfOk, IfSome, OnOk};
 ghost use Rattle.std.specs.Io.KnownBytes.{IsAtEnd};
 
 use crate::faults::ReplayFault;
 use std::alloc::Global;
 use std::io::Read;
+
+/// How many bytes are asked of a reader at once.
+const CHUNK: usize = 4096;
 
 /// Everything that a reader gives up to its end. A failed read is answered as such, also one that
 /// was interrupted.
@@ -14,7 +20,7 @@ pub fn read_all<R: Read>(alloc: Global, reader: &mut R) -> Result<Vec<u8>, Repla
     ensures fault { IfErr result (λ fault. fault ≢ ReplayFault.Write) }
 {
     let mut input = Vec::new(alloc);
-    let mut buffer = [0u8; 4096];
+    let mut buffer = [0u8; CHUNK];
     for _ in 0..u64::MAX {
         let count = reader.read(&mut buffer).map_err(|_| ReplayFault::Read)?;
         if count == 0 {

@@ -1,7 +1,11 @@
-ghost use Rattle.std.specs.Prelude.{◌≡◌, ℕ, List, Ok, IfErr, IfOk, OnOk, string_bytes};
+//! Replays a script: reads all of it, judges it, runs it, and only then writes its text.
+//! Definition: `Replaying`, over `Script`, `AtlasRuns` and `ReplyText`. What is written, and where,
+//! is settled there.
+
+ghost use Rattle.std.specs.Prelude.{◌≡◌, ℕ, List, Ok, Err, IfErr, IfOk, OnOk, string_bytes};
 ghost use Rattle.std.specs.Io.KnownBytes.{IsAtEnd};
 ghost use Rattle.etagere_run.specs.Replaying.{Answers, Replays, bad_line_text, options_text};
-ghost use Rattle.etagere_run.specs.Script.{request, script_of};
+ghost use Rattle.etagere_run.specs.Script.{script_of};
 
 use crate::faults::{Outcome, ReplayFault, RunFault};
 use crate::reading::read_all;
@@ -16,8 +20,9 @@ use std::io::{Read, Write};
 /// Reads a whole script, runs it and writes its replies, a line for each command.
 ///
 /// Where a line isn't good, `line N: bad` is written and nothing runs, and where the options have a
-/// fault, `options N`. After `Read` and `Memory` nothing was written, after `Write` a beginning of the
-/// text. Takes memory for the script, its commands, what `run_atlas` takes, and the text of the replies.
+/// fault, `options N`. After `Read` and `Memory` nothing was written, after `Write` a beginning of
+/// the text. The reader is at its end unless it failed or memory ran out. Takes memory for the
+/// script, its commands, what `run_atlas` takes, and the text of the replies.
 pub fn replay<R: Read, W: Write>(
     alloc: Global,
     reader: &mut R,
@@ -26,6 +31,7 @@ pub fn replay<R: Read, W: Write>(
     ensures written { Replays (R.remaining reader.old)
         (W.contents writer.old) (W.contents writer.new) result }
     ensures end { OnOk result (IsAtEnd (R.remaining reader.new)) }
+    ensures end_at_write { result ≡ Err ReplayFault.Write → IsAtEnd (R.remaining reader.new) }
 {
     let input = read_all(alloc, reader)?;
     let answer = answer_of(alloc, input.as_slice())?;
@@ -41,7 +47,8 @@ struct Answer {
 }
 
 fn answer_of(alloc: Global, bytes: &[u8]) -> Result<Answer, ReplayFault>
-    ensures answer { IfOk result (λ answer. Answers bytes.now answer.outcome (string_bytes answer.text)) }
+    ensures answer { IfOk result (λ answer.
+        Answers bytes.now answer.outcome (string_bytes answer.text)) }
     ensures fault { IfErr result (λ fault. fault ≡ ReplayFault.Memory) }
 {
     match read_script(alloc, bytes) {
@@ -53,7 +60,7 @@ fn answer_of(alloc: Global, bytes: &[u8]) -> Result<Answer, ReplayFault>
 
 fn run_script(alloc: Global, script: &Script) -> Result<Answer, ReplayFault>
     ensures answer { IfOk result (λ answer. (input : List ℕ)
-        → script_of input ≡ Ok (request script.now)
+        → script_of input ≡ Ok script.now
         → Answers input answer.outcome (string_bytes answer.text)) }
     ensures fault { IfErr result (λ fault. fault ≡ ReplayFault.Memory) }
 {

@@ -1,3 +1,6 @@
+//! The text of replies, a line for each.
+//! Definition: `ReplyText`. A new reply needs its words there and here.
+
 ghost use Rattle.std.specs.Prelude.{◌≡◌, ◌++◌, IfOk, OnOk, string_bytes};
 ghost use Rattle.etagere_run.specs.ReplyText as spec;
 ghost use Rattle.etagere_run.specs.ReplyText.{line_of};
@@ -33,8 +36,8 @@ fn push_reply(text: &mut String, reply: &Reply) -> Result<(), AllocError>
 }
 
 fn push_placed(text: &mut String, allocation: &Allocation) -> Result<(), AllocError>
-    ensures { OnOk result
-        (string_bytes text.new ≡ string_bytes text.old ++ line_of (Reply.Placed allocation.now)) }
+    ensures { OnOk result (string_bytes text.new
+        ≡ string_bytes text.old ++ line_of (Reply.Placed allocation.now)) }
 {
     let id = allocation.id.serialize();
     let Rectangle { min, max } = allocation.rectangle;
@@ -42,8 +45,8 @@ fn push_placed(text: &mut String, allocation: &Allocation) -> Result<(), AllocEr
 }
 
 fn push_at(text: &mut String, rectangle: &Rectangle, index: u32) -> Result<(), AllocError>
-    ensures { OnOk result
-        (string_bytes text.new ≡ string_bytes text.old ++ line_of (Reply.At rectangle.now index)) }
+    ensures { OnOk result (string_bytes text.new
+        ≡ string_bytes text.old ++ line_of (Reply.At rectangle.now index)) }
 {
     let Rectangle { min, max } = *rectangle;
     writeln!(text, "at {} {} {} {} {index}", min.x, min.y, max.x, max.y)

@@ -1,6 +1,11 @@
+//! Reads a script: a header, then a command on each line with bytes, or the number of the first
+//! line that isn't good. Definitions: `Script`, over `Lines`, `Words` and `Numbers`; what private
+//! functions answer is `ScriptReading`. A new kind of line goes into `Words` and beside the others.
+
 ghost use Rattle.std.specs.Prelude.{◌≡◌, ◌<◌, ◌+◌, ◌^◌, length};
 ghost use Rattle.etagere_run.specs.Lines.{filled_from, lines_of, words_of};
-ghost use Rattle.etagere_run.specs.Script.{Gives, commands_of, request, script_of};
+ghost use Rattle.etagere_run.specs.Script.{commands_of, script_of};
+ghost use Rattle.etagere_run.specs.Private.ScriptReading.{Gives};
 ghost use Rattle.etagere_run.specs.Words as spec;
 ghost use Rattle.etagere_run.specs.declared.script.ScriptFault.TheVariants.{Memory};
 
@@ -9,6 +14,7 @@ use crate::lines::{blank_lines, first_line, split_word};
 use crate::numbers::{number_of, position_of};
 use etagere::{AllocatorOptions, Size};
 use std::alloc::{AllocFailed, Global};
+use std::marker::Model;
 
 /// A run as a script spells it.
 #[derive(Drop)]
@@ -17,11 +23,33 @@ pub struct Script {
     pub commands: Vec<AtlasCommand>,
 }
 
+impl Model for Script {
+    ghost use Rattle.etagere_run.specs.Script.{Request};
+
+    ghost Value = { Request };
+
+    ghost view = { λ script. record {
+      size = script.header.size;
+      options = script.header.options;
+      commands = script.commands.items;
+    } };
+}
+
 /// The atlas of a script.
-#[derive(Clone, Copy, Debug, PartialEq, Eq)]
+#[derive(Clone, Copy)]
 pub struct Header {
     pub size: Size,
     pub options: AllocatorOptions,
+}
+
+impl Model for Header {
+    ghost use Rattle.etagere_run.specs.Words.{Header};
+
+    ghost Value = { Header };
+
+    ghost view = { λ header. record { size = header.size; options = header.options } };
+
+    ghost inverse = { λ header. record { size = header.size; options = header.options } };
 }
 
 /// Why a script isn't read.
@@ -44,7 +72,7 @@ impl<T: Drop> From<AllocFailed<T>> for ScriptFault {
 /// Reads a script: its first line with bytes is the header, each later one a command. Takes memory
 /// for the commands, and one pass over the bytes.
 pub fn read_script(alloc: Global, bytes: &[u8]) -> Result<Script, ScriptFault>
-    ensures { Gives request result (script_of bytes.now) }
+    ensures { Gives (λ script. script) result (script_of bytes.now) }
 {
     let blanks = blank_lines(bytes);
     let (line, rest) = first_line(&bytes[blanks..]);
@@ -84,7 +112,7 @@ fn header_of(line: &[u8]) -> Option<Header>
 {
     let (name, words) = split_word(line)?;
     if name == b"atlas".as_slice() {
-        atlas_of(words)
+        atlas_in(words)
     } else {
         None
     }
@@ -92,7 +120,7 @@ fn header_of(line: &[u8]) -> Option<Header>
 
 /// The atlas of the six words after its name.
 #[tactic(auto, using(crate::proofs::LastWord::last_words))]
-fn atlas_of(words: &[u8]) -> Option<Header>
+fn atlas_in(words: &[u8]) -> Option<Header>
     ensures { result ≡ spec.atlas_in (words_of words.now) }
 {
     let (width, words) = split_word(words)?;
@@ -104,13 +132,13 @@ fn atlas_of(words: &[u8]) -> Option<Header>
         size: size_of(width, height)?,
         options: AllocatorOptions {
             alignment: size_of(alignment_width, alignment_height)?,
-            vertical_shelves: is_vertical(direction)?,
+            vertical_shelves: direction_of(direction)?,
             num_columns: number_of(columns)?,
         },
     })
 }
 
-fn is_vertical(direction: &[u8]) -> Option<bool>
+fn direction_of(direction: &[u8]) -> Option<bool>
     ensures { result ≡ spec.direction_of direction.now }
 {
     match direction {

@@ -1,7 +1,8 @@
-//! Replays the script of standard input to standard output.
+//! Replays the script of standard input to standard output. Statuses and words are the library's, so
+//! that nothing is decided here.
 #![tactic(auto)]
 
-use etagere_run::{Outcome, ReplayFault, replay};
+use etagere_run::{ReplayFault, replay};
 use std::process::ExitCode;
 use std::rt::Env;
 use std::{env, io};
@@ -25,18 +26,12 @@ fn replay_input(rt: &(impl Input + Print + Eprint + AllocGlobal)) -> ExitCode {
     let mut reader = rt.reader();
     let mut writer = io::writer(rt);
     match replay(rt.alloc(), &mut reader, &mut writer) {
-        Ok(Outcome::Done) => ExitCode::SUCCESS,
-        Ok(Outcome::Options(_)) => ExitCode::from(1),
-        Ok(Outcome::BadLine(_)) => ExitCode::from(2),
+        Ok(outcome) => ExitCode::from(outcome.status()),
         Err(why) => fault(rt, why),
     }
 }
 
 fn fault(rt: &impl Eprint, why: ReplayFault) -> ExitCode {
-    let _ = rt.eprintln(match why {
-        ReplayFault::Read => "read fault",
-        ReplayFault::Write => "write fault",
-        ReplayFault::Memory => "no memory",
-    });
-    ExitCode::from(3)
+    let _ = rt.eprintln(why.words());
+    ExitCode::from(why.status())
 }

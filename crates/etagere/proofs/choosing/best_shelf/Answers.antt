@@ -2,8 +2,8 @@ use Rattle.std.proofs.Common.{◌≡◌, map, add-one, arith}
 use Rattle.std.specs.Option.{option_map}
 use Rattle.std.proofs.lemmas.Grind.{common_steps}
 use Rattle.etagere.specs.Choice as choice
-use Rattle.etagere.specs.Choice.{first_least}
-use Rattle.etagere.proofs.Least.{best-more, best-within}
+use Rattle.etagere_base.specs.Least.{first_least}
+use Rattle.etagere_base.proofs.Least.{best-more, best-within}
 use Rattle.etagere.proofs.choosing.best_shelf.Goals as goal
 
 pub loop-number-preserved : goal.loop-number-preserved

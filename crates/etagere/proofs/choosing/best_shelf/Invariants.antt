@@ -1,6 +1,6 @@
 use Rattle.std.proofs.Common.{◌≡◌, map, take}
 use Rattle.etagere.specs.Choice as choice
-use Rattle.etagere.specs.Choice.{first_least}
+use Rattle.etagere_base.specs.Least.{first_least}
 use Rattle.etagere.proofs.choosing.best_shelf.Given as goal
 
 -- the best of the shelves so far

@@ -1,8 +1,8 @@
 use Rattle.std.proofs.Common.{arith, sym}
-use Rattle.etagere.proofs.AllocatedCount.{allocated_count-merged_before, allocated_count-freed, allocated_count-merged_at}
-use Rattle.etagere.proofs.MergedNear.{merged_items-freed}
-use Rattle.etagere.proofs.ReturnedShelf.{total_width-freed}
-use Rattle.etagere.proofs.ItemLemmas.{total_width-merged_at}
+use Rattle.etagere.proofs.Allocations.AllocatedCount.{allocated_count-merged_before, allocated_count-freed, allocated_count-merged_at}
+use Rattle.etagere.proofs.Returned.MergedNear.{merged_items-freed}
+use Rattle.etagere.proofs.Returned.ReturnedShelf.{total_width-freed}
+use Rattle.etagere.proofs.Steps.ItemLemmas.{total_width-merged_at}
 use Rattle.etagere.proofs.edits.free.Goals as goal
 
 pub return_place-requires-clause-room : goal.return_place-requires-clause-room

@@ -1,9 +1,9 @@
-use Rattle.std.proofs.Common.{ap, arith, ◌∙◌}
-use Rattle.etagere.specs.State.{Item}
-use Rattle.etagere.proofs.ItemLemmas.{set-whole}
+use Rattle.std.proofs.Common.{ap, arith}
+use Rattle.etagere.specs.Choice.{Placement}
+use Rattle.etagere.proofs.Steps.TakenEdits.{given-whole}
 use Rattle.etagere.proofs.items.give_whole.Goals as goal
 
 pub returns-clause-items : goal.returns-clause-items
 returns-clause-items c =
-    set-whole c.args.number c.args.items.now.items c.args.width c.args.id c.width.result c.index.result.now c.allocated.result
-    (omega arith) c.requires.whole (c.width.ensures ∙ ap (λ (item : Item). item.width) c.index.ensures) c.allocated.ensures
+    given-whole c.args.placement.now c.args.id c.placement.inside.item c.placement.inside.width c.args.items.now.items c.allocated.result
+    (ap (λ (p : Placement). p.item) c.placement.view_is) (ap (λ (p : Placement). p.width) c.placement.view_is) (omega (arith, ap (λ (p : Placement). p.item) c.placement.view_is)) c.requires.whole c.allocated.ensures

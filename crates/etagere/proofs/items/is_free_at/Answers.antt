@@ -1,5 +1,5 @@
 use Rattle.std.proofs.Common.{arith}
-use Rattle.etagere.proofs.ItemLemmas.{is_free_at-within, is_free_at-past}
+use Rattle.etagere.proofs.Steps.ItemLemmas.{is_free_at-within, is_free_at-past}
 use Rattle.etagere.proofs.items.is_free_at.Goals as goal
 
 pub returns-then-number-items : goal.returns-then-number-items

@@ -2,7 +2,7 @@ use Rattle.std.proofs.Common.{◌≡◌, ap, arith, add-one, sym, ◌∙◌, suc
 use Rattle.etagere.specs.Merging.{both_free, combined_items}
 use Rattle.etagere.specs.State.{Item}
 use Rattle.etagere_base.proofs.ListEdits.{merged_at-last, merged_at-apart}
-use Rattle.etagere.proofs.ItemLemmas.{merged_at-free, widths-le-total}
+use Rattle.etagere.proofs.Steps.ItemLemmas.{merged_at-free, widths-le-total}
 use Rattle.etagere.proofs.items.merge.Goals as goal
 
 both-read : {item next item' next' : Item} → item ≡ item' → next ≡ next' → both_free item next ≡ both_free item' next'

@@ -1,5 +1,5 @@
 use Rattle.std.proofs.Common.{arith}
-use Rattle.etagere.proofs.ItemLemmas.{total_width-take-le}
+use Rattle.etagere.proofs.Steps.ItemLemmas.{total_width-take-le}
 use Rattle.etagere.proofs.items.place_at.Goals as goal
 
 pub width_of_all-requires : goal.width_of_all-requires

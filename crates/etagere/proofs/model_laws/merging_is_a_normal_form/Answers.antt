@@ -1,10 +1,15 @@
 use Rattle.etagere_base.proofs.Merged.{merged_idempotent}
-use Rattle.etagere.proofs.MergedAllocated.{merged_items-allocations_along, merged_shelves-allocated}
-use Rattle.etagere.proofs.MergedNear.{items-merge, shelves-merge}
+use Rattle.etagere.proofs.Returned.MergedAllocated.{merged_items-allocations_along, merged_shelves-allocated}
+use Rattle.etagere.proofs.Returned.MergedNear.{items-merge, shelves-merge}
+use Rattle.etagere.proofs.Returned.MergedStates.{merged-all, merged-allocated, merged-once}
 use Rattle.etagere.proofs.model_laws.merging_is_a_normal_form.Goals as goal
 
 pub returns-clause-once : goal.returns-clause-once
-returns-clause-once c = (λ items. merged_idempotent _ _ items-merge items, λ shelves. merged_idempotent _ _ shelves-merge shelves)
+returns-clause-once c =
+    (λ items. merged_idempotent _ _ items-merge items, λ shelves. merged_idempotent _ _ shelves-merge shelves, merged-once)
+
+pub returns-clause-all : goal.returns-clause-all
+returns-clause-all c = merged-all
 
 pub returns-clause-allocated : goal.returns-clause-allocated
-returns-clause-allocated c = (merged_items-allocations_along, merged_shelves-allocated)
+returns-clause-allocated c = (merged_items-allocations_along, merged_shelves-allocated, merged-allocated)

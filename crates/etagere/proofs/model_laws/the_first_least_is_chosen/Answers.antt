@@ -1,4 +1,4 @@
-use Rattle.etagere.proofs.Least.{first_least-is, first_least-none}
+use Rattle.etagere_base.proofs.Least.{first_least-is, first_least-none}
 use Rattle.etagere.proofs.model_laws.the_first_least_is_chosen.Goals as goal
 
 pub returns-clause-least : goal.returns-clause-least

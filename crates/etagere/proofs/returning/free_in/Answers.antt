@@ -1,7 +1,7 @@
 use Rattle.std.proofs.Common.{sym, ap, length, arith}
 use Rattle.etagere.specs.State.{Shelf}
-use Rattle.etagere.proofs.Heights.{column_height-merged_at}
-use Rattle.etagere.proofs.ReturnedNear.{returned-fewer, returned-few, returned-short, returned-counted, returned-near}
+use Rattle.etagere.proofs.Places.Heights.{column_height-merged_at}
+use Rattle.etagere.proofs.Steps.ReturnedNear.{returned-fewer, returned-few, returned-short, returned-counted, returned-near}
 use Rattle.etagere.proofs.returning.free_in.Goals as goal
 
 pub overflow_sub-merged : goal.overflow_sub-merged

@@ -3,9 +3,9 @@ use Rattle.std.proofs.Common.{◌≡◌, ℕ, suc, ◌+◌, Some, length, refl, 
 use Rattle.std.proofs.lemmas.Option.{slice_get_read}
 use Rattle.etagere.specs.Merging.{both_empty, combined_shelves}
 use Rattle.etagere.specs.State.{Shelf}
-use Rattle.etagere.proofs.Heights.{heights-le}
-use Rattle.etagere_base.proofs.ListEdits.{merged_at-last}
-use Rattle.etagere.proofs.ShelfNumbers.{merged_at-kept, merged_at-raised, items_in_use-merged_at, two_read}
+use Rattle.etagere.proofs.Places.Heights.{heights-le}
+use Rattle.etagere_base.proofs.ListEdits.{merged_at-last, two_read}
+use Rattle.etagere.proofs.Steps.ShelfNumbers.{merged_at-kept, merged_at-raised, items_in_use-merged_at}
 use Rattle.etagere.proofs.returning.merge.Goals.{then-number-len-via-then-number-len, then-number-len-via-else-number-len+then-not-both_empty}
 use Rattle.etagere.proofs.returning.merge.Goals as goal
 

@@ -1,7 +1,7 @@
 use Rattle.std.proofs.Common.{◌≡◌, ◌∙◌, ap, add-one}
 use Rattle.etagere_base.specs.Frames.{across_side}
 use Rattle.etagere.specs.State.{empty_shelf}
-use Rattle.etagere.proofs.FreshLemmas.{columns-more}
+use Rattle.etagere.proofs.Places.FreshLemmas.{columns-more}
 use Rattle.etagere.proofs.starting.empty_columns.Goals as goal
 
 pub loop-column-preserved : goal.loop-column-preserved

@@ -1,7 +1,7 @@
 use Rattle.std.proofs.Common.{◌<◌, ◌∙◌, length, take, ap, add-one, arith}
 use Rattle.std.proofs.lemmas.List.{take_more_set}
 use Rattle.etagere.specs.State.{empty_shelf}
-use Rattle.etagere.proofs.FreshLemmas.{columns-more, columns-whole}
+use Rattle.etagere.proofs.Places.FreshLemmas.{columns-more, columns-whole}
 use Rattle.etagere.proofs.starting.reset_columns.Goals as goal
 
 pub loop-column-preserved : goal.loop-column-preserved

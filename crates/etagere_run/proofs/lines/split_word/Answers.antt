@@ -3,10 +3,12 @@ use Rattle.etagere_run.specs.Lines.{Lacks, words_of}
 use Rattle.etagere_run.proofs.Pieces.{parted-append, parted-one}
 use Rattle.etagere_run.proofs.lines.split_word.Goals as goal
 
+-- bytes without a space are one word
 one_word : (r : Option (Bor (List ℕ) × Bor (List ℕ))) (words : List ℕ) → IfNone r (Lacks 32 words) → IfNone r (words_of words ≡ words ∷ [])
 one_word None words lacks = parted-one 32 words lacks
 one_word (Some parts) words lacks = tt
 
+-- bytes parted at the first space are its word and those behind it
 more_words : (r : Option (Bor (List ℕ) × Bor (List ℕ))) (words : List ℕ) → IfSome r (λ parts. Lacks 32 parts.0.now) → IfSome r (λ parts. words ≡ parts.0.now ++ 32 ∷ parts.1.now) → IfSome r (λ parts. words_of words ≡ parts.0.now ∷ words_of parts.1.now)
 more_words None words before parts = tt
 more_words (Some (word, rest)) words before parts = ap words_of parts ∙ parted-append 32 ([] ∷ []) word.now rest.now before

@@ -1,4 +1,4 @@
-use Rattle.etagere_run.proofs.Replies.{cleared}
+use Rattle.etagere_run.proofs.AtlasAnswers.{cleared}
 use Rattle.etagere_run.proofs.running.answer.Goals as goal
 
 pub returns-in-Clear-clause-answer : goal.returns-in-Clear-clause-answer

@@ -1,4 +1,4 @@
-use Rattle.etagere_run.proofs.Replies.{placed}
+use Rattle.etagere_run.proofs.AtlasAnswers.{placed}
 use Rattle.etagere_run.proofs.running.place.Goals as goal
 
 pub returns-clause-answer : goal.returns-clause-answer

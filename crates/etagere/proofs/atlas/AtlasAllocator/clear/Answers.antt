@@ -1,14 +1,14 @@
 use Rattle.std.proofs.Common.{◌≡◌, List, ap, sym, subst, ◌∙◌, arith}
 use Rattle.etagere.specs.Atlas.{KeepsPromises}
-use Rattle.etagere.specs.Corners.{AreCorners}
+use Rattle.etagere.specs.Private.Corners.{AreCorners}
 use Rattle.etagere.specs.Fresh.{fresh}
-use Rattle.etagere.specs.Consistent.{state_in}
+use Rattle.etagere.specs.Private.Consistent.{state_in}
 use Rattle.etagere.specs.Places.{allocations}
 use Rattle.etagere.specs.Space.{space_in}
 use Rattle.etagere.specs.State.{AtlasState, Shelf, items_in_use}
 use Rattle.etagere.specs.Valid.{IsValid}
-use Rattle.etagere.proofs.ColumnShelves.{columns-le-shelves}
-use Rattle.etagere.proofs.FreshLemmas.{fresh-allocated, fresh-valid, items_in_use-empty_columns, space-fresh}
+use Rattle.etagere.proofs.Places.ColumnShelves.{columns-le-shelves}
+use Rattle.etagere.proofs.Places.FreshLemmas.{fresh-allocated, fresh-valid, items_in_use-empty_columns, space-fresh}
 use Rattle.etagere.proofs.Promises.{promises}
 use Rattle.etagere.proofs.atlas.AtlasAllocator.clear.Goals as goal
 
@@ -21,7 +21,7 @@ invariant_of-self c =
     let made : fresh frame ≡ record { frame = frame; shelves = c.reset_columns.new.shelves.items; records = frame.columns } =
     ap (λ (l : List Shelf). record { frame = frame; shelves = l; records = frame.columns }) (sym c.reset_columns.ensures) in
     record {
-      valid = subst IsValid made (fresh-valid frame c.self.invariant.valid.frame);
+      valid = subst IsValid made (fresh-valid frame c.self.invariant.valid.frame c.self.invariant.valid.columns);
       corners = subst (λ (state : AtlasState). AreCorners (allocations state)) made (subst AreCorners (sym (fresh-allocated frame)) tt);
       counted = sym (ap items_in_use c.reset_columns.ensures ∙ items_in_use-empty_columns frame 0 frame.columns);
       space = sym (ap space_in c.reset_columns.ensures ∙ space-fresh frame);
@@ -31,7 +31,7 @@ pub returns-clause-promises : goal.returns-clause-promises
 returns-clause-promises c =
     let frame = c.self.inside.frame in
     subst KeepsPromises (ap (λ (l : List Shelf). record { frame = frame; shelves = l; records = frame.columns }) (sym c.reset_columns.ensures))
-    (promises (fresh frame) (fresh-valid frame c.self.invariant.valid.frame))
+    (promises (fresh frame) (fresh-valid frame c.self.invariant.valid.frame c.self.invariant.valid.columns))
 
 pub returns-clause-empty : goal.returns-clause-empty
 returns-clause-empty c =

@@ -1,18 +1,19 @@
 use Rattle.std.proofs.Common.{◌≡◌, true, false, List, refl, ap, sym, ◌∙◌, subst, arith}
 use Rattle.etagere.specs.Atlas.{KeepsPromises, without_id}
-use Rattle.etagere.specs.Corners.{AreCorners}
-use Rattle.etagere.specs.Consistent.{state_in}
+use Rattle.etagere.specs.Private.Corners.{AreCorners}
+use Rattle.etagere.specs.Private.Consistent.{state_in}
 use Rattle.etagere.specs.Places.{allocations, is_allocated}
 use Rattle.etagere.specs.Returning.{returned}
-use Rattle.etagere.specs.Space.{space_in}
+use Rattle.etagere.specs.Space.{allocated_space}
 use Rattle.etagere.specs.State.{AtlasState, Shelf}
 use Rattle.etagere.specs.Valid.{IsValid}
-use Rattle.etagere.proofs.AllocatedIds.{found-allocated, not_found-not_allocated}
-use Rattle.etagere.proofs.Returnable.{returnable}
-use Rattle.etagere.proofs.ReturnedAllocated.{returned-allocated}
-use Rattle.etagere.proofs.ReturnedValid.{returned-valid}
+use Rattle.etagere.proofs.Allocations.AllocatedIds.{found-allocated, not_found-not_allocated}
+use Rattle.etagere.proofs.Steps.Returnable.{returnable}
+use Rattle.etagere.proofs.Returned.ReturnedAllocated.{returned-allocated}
+use Rattle.etagere.proofs.Returned.ReturnedValid.{returned-valid}
+use Rattle.etagere.proofs.Returned.ReturnedWhole.{returned-near}
 use Rattle.etagere.proofs.Promises.{returned-corners, promises}
-use Rattle.etagere.proofs.SpaceSteps.{allocated-small, space-freed}
+use Rattle.etagere.proofs.Steps.SpaceSteps.{allocated-small, space-freed}
 use Rattle.etagere.proofs.atlas.AtlasAllocator.deallocate.Goals as goal
 
 pub returns-in_default-clause-unknown : goal.returns-in_default-clause-unknown
@@ -31,7 +32,8 @@ free_in-merged-requires-clause-ready c = returnable (state_in c.self.inside) c.s
 after : (c : goal.After-self-2-1) → returned (state_in c.self.inside) c.args.id ≡ record { frame = c.self.inside.frame; shelves = c.free_in-merged.new.shelves.items; records = c.self.inside.records }
 after c =
     let old = state_in c.self.inside in
-    ap (λ (l : List Shelf). record { frame = old.frame; shelves = l; records = old.records }) (sym c.free_in-merged.ensures.shelves)
+    returned-near old c.args.id c.self.invariant.valid
+    ∙ ap (λ (l : List Shelf). record { frame = old.frame; shelves = l; records = old.records }) (sym c.free_in-merged.ensures.shelves)
 
 pub invariant_of-self : goal.invariant_of-self
 invariant_of-self c =
@@ -44,10 +46,13 @@ invariant_of-self c =
         arith,
         c.allocated_area-area.ensures,
         c.self.invariant.space,
-        ap space_in c.free_in-merged.ensures.shelves,
+        ap allocated_space (after c),
         space-freed old c.args.id c.in-Some.number c.index.result.now c.self.invariant.valid (sym (rw c.deref.ensures.value at c.shelf_of.ensures) ∙ c.in-Some.is) c.index.ensures,
       );
     }
+
+pub returns-clause-ok : goal.returns-clause-ok
+returns-clause-ok c = sym (after c) ∙ ap (λ (state : AtlasState). returned state c.args.id) c.self.view_is
 
 pub returns-clause-unknown : goal.returns-clause-unknown
 returns-clause-unknown c =

@@ -1,5 +1,5 @@
-use Rattle.etagere.specs.Consistent.{state_in}
-use Rattle.etagere.proofs.Returnable.{within}
+use Rattle.etagere.specs.Private.Consistent.{state_in}
+use Rattle.etagere.proofs.Steps.Returnable.{within}
 use Rattle.etagere.proofs.atlas.AtlasAllocator.get.Goals as goal
 
 pub rectangle_of-requires : goal.rectangle_of-requires

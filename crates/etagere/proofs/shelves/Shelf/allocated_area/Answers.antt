@@ -2,8 +2,8 @@ use Rattle.std.proofs.Common.{◌≡◌, ◌<◌, ◌≤◌, ◌*◌, ◌^◌, S
 use Rattle.std.proofs.Math.Nat.{mul-le-mul_right}
 use Rattle.etagere.specs.Returning.{number_of}
 use Rattle.etagere.specs.State.{Item, Shelf, total_width}
-use Rattle.etagere.specs.Steps.{allocated_area}
-use Rattle.etagere.proofs.ItemLemmas.{width-le-total, width_of-get}
+use Rattle.etagere.specs.Private.Steps.{allocated_area}
+use Rattle.etagere.proofs.Steps.ItemLemmas.{width-le-total, width_of-get}
 use Rattle.etagere.proofs.shelves.Shelf.allocated_area.Goals as goal
 
 pub overflow_mul-result : goal.overflow_mul-result

@@ -1,5 +1,5 @@
 use Rattle.std.proofs.Common.{sym, ◌∙◌}
-use Rattle.etagere.proofs.AllocatedItems.{number_of-allocated}
+use Rattle.etagere.proofs.Allocations.AllocatedItems.{number_of-allocated}
 use Rattle.etagere.proofs.shelves.Shelf.free.Goals as goal
 
 pub free-requires-clause-allocated : goal.free-requires-clause-allocated

@@ -1,7 +1,7 @@
 use Rattle.std.proofs.Common.{List, ap, arith, length}
 use Rattle.etagere.specs.State.{Item}
-use Rattle.etagere.specs.Steps.{allocated_count}
-use Rattle.etagere.proofs.AllocatedCount.{allocated_count-le}
+use Rattle.etagere.specs.Private.Steps.{allocated_count}
+use Rattle.etagere.proofs.Allocations.AllocatedCount.{allocated_count-le}
 use Rattle.etagere.proofs.shelves.ShelfClone.clone.Goals as goal
 
 pub invariant_of-result : goal.invariant_of-result

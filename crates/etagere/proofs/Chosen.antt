@@ -1,0 +1,5 @@
+-- What is known of a chosen place.
+pub mod ChosenByRule
+pub mod Placed
+pub mod PlacedLarge
+pub mod PlacedSizes

@@ -1,0 +1,52 @@
+-- The rectangle that a size is given is as large as the size, each side rounded up.
+use Rattle.std.proofs.Common.{◌≡◌, ℕ, ◌≤◌, Bool, true, false, Some, refl, ap, arith, cond}
+use Rattle.std.proofs.lemmas.Int.{ints}
+use Rattle.etagere_base.specs.Sides.{side, swapped_axes, up}
+use Rattle.etagere_base.specs.declared.frames.Frame.{Frame}
+use Rattle.etagere_base.specs.declared.geometry.Size.{Size}
+use Rattle.etagere_base.specs.declared.sides.Sides.{Sides}
+use Rattle.etagere.specs.Choice.{Placement, is_item_split, is_shelf_split, placement_of, rectangle_of_placement, shelf_height, width_at}
+use Rattle.etagere_base.specs.Places.{rectangle_at}
+use Rattle.etagere.specs.Places.{column_place}
+use Rattle.etagere_base.specs.Rectangles.{IsLarge}
+use Rattle.etagere.specs.State.{AtlasState}
+use Rattle.etagere.proofs.Chosen.Placed.{chosen-stands, placement_of-placed, shelf_height-tall}
+use Rattle.etagere.proofs.Chosen.PlacedSizes.{asked-is}
+
+-- what lies at a place is large where it is as wide along and as tall across as the size, rounded up
+large-at : (frame : Frame) (size : Size) (along across width height : ℕ)
+    → (swapped_axes frame.vertical (record { along = up (side size.width) frame.alignment_width; across = up (side size.height) frame.alignment_height })).along ≤ width
+    → (swapped_axes frame.vertical (record { along = up (side size.width) frame.alignment_width; across = up (side size.height) frame.alignment_height })).across ≤ height
+    → IsLarge frame size (rectangle_at frame along across width height)
+large-at frame size along across width height = by_turn frame.vertical refl
+  where
+    wide : ℕ
+    wide = up (side size.width) frame.alignment_width
+
+    tall : ℕ
+    tall = up (side size.height) frame.alignment_height
+
+    by_turn : (b : Bool) → frame.vertical ≡ b → (swapped_axes b (record { along = wide; across = tall })).along ≤ width → (swapped_axes b (record { along = wide; across = tall })).across ≤ height
+        → IsLarge frame size (rectangle_at frame along across width height)
+    by_turn true e w h = record { width = rw e (omega (arith, ints)); height = rw e (omega (arith, ints)) }
+    by_turn false e w h = record { width = rw e (omega (arith, ints)); height = rw e (omega (arith, ints)) }
+
+-- of two lengths of which one is at most the other, either is at least the lower
+either-le : (b : Bool) (n m : ℕ) → n ≤ m → n ≤ cond b n m
+either-le true n m h = omega arith
+either-le false n m h = h
+
+-- the rectangle that a placement of a size gives is as large as the size, each side rounded up
+pub given-is_large : (state : AtlasState) (size : Size) (placement : Placement)
+    → placement_of state size ≡ Some placement → IsLarge state.frame size (rectangle_of_placement state.frame placement)
+given-is_large state size placement h =
+    let placed = placement_of-placed state size placement h in
+    let choice = placed.chosen in
+    let is = asked-is state.frame size placed.sides placed.asked in
+    let item_width = width_at (column_place state.frame choice.shelf) choice.shelf.items placement.along in
+    let height = shelf_height state.frame placed.sides.across in
+    let wide = either-le (is_item_split placed.sides.along item_width) placed.sides.along item_width (chosen-stands state placed.sides placement choice).0 in
+    let tall = either-le (is_shelf_split height choice.shelf) height choice.shelf.height choice.tall in
+    large-at state.frame size placement.along placement.across placement.width placement.height
+    (omega (arith, ap (λ (s : Sides). s.along) is, ap (λ (p : Placement). p.width) choice.is, wide))
+    (omega (arith, ap (λ (s : Sides). s.across) is, ap (λ (p : Placement). p.height) choice.is, shelf_height-tall state.frame placed.sides.across, tall))

@@ -1,0 +1,4 @@
+-- The area that is allocated.
+pub mod SpaceBounds
+pub mod SpaceLemmas
+pub mod SpaceNone

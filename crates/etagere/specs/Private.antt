@@ -1,0 +1,5 @@
+-- What contracts of private functions and the invariants of private fields cite; no public clause does.
+pub mod Consistent
+pub mod Corners
+pub mod ShelfConsistent
+pub mod Steps

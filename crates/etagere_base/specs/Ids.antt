@@ -1,0 +1,5 @@
+use Rattle.std.specs.Prelude.{ℕ}
+
+-- an id modulo this is its index
+abbrev pub index_modulus : ℕ
+index_modulus = 65536

@@ -1,0 +1,178 @@
+-- On a shelf atlas each reply that is given is an answer to its command, and each answer keeps the promises of a run.
+use Rattle.std.proofs.Common.{◌≡◌, ℕ, ◌%◌, true, Some, List, [], ◌∷◌, ◌++◌, refl, ap, subst}
+use Rattle.etagere_base.specs.declared.geometry.Rectangle.{Rectangle}
+use Rattle.etagere_base.specs.declared.geometry.Size.{Size}
+use Rattle.etagere_base.specs.declared.frames.Frame.{Frame}
+use Rattle.etagere_base.specs.Ids.{index_modulus}
+use Rattle.etagere_base.specs.declared.ids.Allocation.{Allocation}
+use Rattle.etagere_base.specs.Lists.{Each}
+use Rattle.etagere_base.specs.Rectangles.{IsAligned, IsInside, IsLarge}
+use Rattle.etagere_base.proofs.EachLemmas.{Each-middle, Each-weaken}
+use Rattle.etagere.specs.Atlas.{Adds, Allocates, KeepsPromises, without_id}
+use Rattle.etagere.specs.Callers.{AreTied, IsFound}
+use Rattle.etagere.specs.Fresh.{fresh}
+use Rattle.etagere.specs.Places.{allocations, is_allocated, rectangle_of}
+use Rattle.etagere.specs.Returning.{returned}
+use Rattle.etagere.specs.State.{AtlasState}
+use Rattle.etagere.proofs.Callers.{found-allocated, found-new, found-rectangle, not_allocated-any, tied-added, tied-apart, tied-each, tied-empty, tied-ids, tied-none, tied-returned}
+use Rattle.etagere_run.specs.declared.commands.AtlasCommand.{AtlasCommand}
+use Rattle.etagere_run.specs.declared.commands.AtlasCommand.TheVariants.{Allocate, Return, Look, Clear}
+use Rattle.etagere_run.specs.declared.commands.Reply.{Reply}
+use Rattle.etagere_run.specs.declared.commands.Reply.TheVariants.{Placed, Returned, At, Cleared}
+use Rattle.etagere_run.specs.AtlasRuns.{AtlasStep, LiveKeepsPromises, RunKeepsPromises, atlas_effect, shelf_atlas}
+use Rattle.etagere_run.specs.Live as effects
+use Rattle.etagere_run.specs.Live.{Entry, allocation_at, live_allocations, without}
+use Rattle.etagere_run.specs.Private.Tied.{IsAnswer, IsTied, SameAlignments}
+use Rattle.etagere_run.proofs.LiveEntries.{last-adds, without-adds}
+use Rattle.etagere_run.proofs.RunsOn.{IsAsked, IsUnderWay}
+
+-- what is live at a position is found under its id
+found-at : (entries : List Entry) (state : AtlasState) (position : ℕ) (allocation : Allocation)
+    → IsTied entries state → allocation_at position entries ≡ Some allocation → IsFound (allocations state) allocation
+found-at entries state position allocation tied is =
+    let adds = without-adds position entries allocation is in
+    Each-middle (IsFound (allocations state)) adds.front allocation adds.back
+    (subst (Each (IsFound (allocations state))) adds.after tied.allocated.found)
+
+-- what is live at a position is allocated
+pub allocated-at : (entries : List Entry) (state : AtlasState) (position : ℕ) (allocation : Allocation)
+    → IsTied entries state → allocation_at position entries ≡ Some allocation → is_allocated state allocation.id ≡ true
+allocated-at entries state position allocation tied is =
+    found-allocated state allocation (found-at entries state position allocation tied is)
+
+-- what is live at a position is where it was given
+pub rectangle-at : (entries : List Entry) (state : AtlasState) (position : ℕ) (allocation : Allocation)
+    → IsTied entries state → allocation_at position entries ≡ Some allocation
+    → rectangle_of state allocation.id ≡ Some allocation.rectangle
+rectangle-at entries state position allocation tied is =
+    found-rectangle state allocation (found-at entries state position allocation tied is)
+
+-- nothing is live in a new or cleared atlas
+pub tied-cleared : (state : AtlasState) → allocations state ≡ [] → KeepsPromises state → IsTied [] state
+tied-cleared state none promises = record { promises = promises; allocated = tied-none (allocations state) none }
+
+-- an equal frame has the same alignments
+pub alignments-same : (old new : Frame) → new ≡ old → SameAlignments old new
+alignments-same old new is =
+    record { width = ap (λ (f : Frame). f.alignment_width) is; height = ap (λ (f : Frame). f.alignment_height) is }
+
+-- the size was placed
+pub placed : (position : ℕ) (size : Size) (allocation : Allocation) (entries later : List Entry) (old new : AtlasState)
+    → IsTied entries old
+    → Allocates old size allocation new
+    → Adds (allocations old) allocation (allocations new)
+    → IsLarge old.frame size allocation.rectangle
+    → KeepsPromises new
+    → later ≡ entries ++ record { position = position; allocation = allocation } ∷ []
+    → IsAnswer position (Allocate size) (Placed allocation) entries later old new
+placed position size allocation entries later old new tied allocates adds large promises later_is =
+    let entry : Entry = record { position = position; allocation = allocation } in
+    record {
+      step = record {
+        allocates = allocates;
+        valid = promises.valid;
+        rectangle = found-rectangle new allocation
+            (found-new (allocations old) (allocations new) allocation adds (not_allocated-any old allocation.id allocates.fresh_id));
+        large = large;
+      };
+      live_is = later_is;
+      alignments = alignments-same old.frame new.frame (ap (λ (s : AtlasState). s.frame) allocates.after);
+      tied = rw later_is (record {
+        promises = promises;
+        allocated = tied-added (live_allocations entries) (live_allocations (entries ++ entry ∷ [])) (allocations old)
+            (allocations new) allocation tied.allocated (last-adds entries entry) adds (not_allocated-any old allocation.id allocates.fresh_id);
+      });
+    }
+
+-- what was live at a position went back
+pub gone_back : (position other : ℕ) (allocation : Allocation) (entries later : List Entry) (old new : AtlasState)
+    → IsTied entries old
+    → allocation_at other entries ≡ Some allocation
+    → new ≡ returned old allocation.id
+    → allocations new ≡ without_id allocation.id (allocations old)
+    → KeepsPromises new
+    → later ≡ without other entries
+    → IsAnswer position (Return other) Returned entries later old new
+gone_back position other allocation entries later old new tied is new_is after promises later_is =
+    record {
+      step = record { allocation = allocation; live_is = is; after = new_is };
+      live_is = later_is;
+      alignments = alignments-same old.frame new.frame (ap (λ (s : AtlasState). s.frame) new_is);
+      tied = rw later_is (record {
+        promises = promises;
+        allocated = tied-returned (live_allocations entries) (live_allocations (without other entries)) (allocations old)
+            (allocations new) allocation tied.allocated (without-adds other entries allocation is) tied.promises.ids after;
+      });
+    }
+
+-- what is live at a position was looked up
+pub looked : (position other : ℕ) (allocation : Allocation) (rectangle : Rectangle) (index : ℕ) (entries : List Entry) (state : AtlasState)
+    → IsTied entries state
+    → allocation_at other entries ≡ Some allocation
+    → rectangle ≡ allocation.rectangle
+    → index ≡ allocation.id % index_modulus
+    → IsAnswer position (Look other) (At rectangle index) entries entries state state
+looked position other allocation rectangle index entries state tied is rectangle_is index_is =
+    record {
+      step = (record { allocation = allocation; live_is = is; rectangle_is = rectangle_is; index_is = index_is }, refl);
+      live_is = refl;
+      alignments = record { width = refl; height = refl };
+      tied = tied;
+    }
+
+-- the atlas was cleared
+pub cleared : (position : ℕ) (entries later : List Entry) (old new : AtlasState)
+    → new ≡ fresh old.frame → allocations new ≡ [] → KeepsPromises new → later ≡ []
+    → IsAnswer position Clear Cleared entries later old new
+cleared position entries later old new new_is none promises later_is =
+    record {
+      step = new_is;
+      live_is = later_is;
+      alignments = alignments-same old.frame new.frame (ap (λ (s : AtlasState). s.frame) new_is);
+      tied = rw later_is (tied-cleared new none promises);
+    }
+
+-- A step that adds an allocation has placed a size. This is all that proofs ask of the table of steps.
+pub AtlasStep-adds : (entries : List Entry) (old new : AtlasState) (command : AtlasCommand) (reply : Reply)
+    → AtlasStep entries old command reply new
+    → (allocation : Allocation) → atlas_effect command reply ≡ effects.Adds allocation
+    → IsAsked shelf_atlas old command reply allocation
+AtlasStep-adds entries old new (Allocate size) (Placed given) step allocation adds =
+    let same : given ≡ allocation = cc in
+    subst (IsAsked shelf_atlas old (Allocate size) (Placed given)) same
+    (record { size = size; command_is = refl; reply_is = refl; large = step.large })
+AtlasStep-adds entries old new (Return other) (Placed given) step allocation adds = absurd step
+AtlasStep-adds entries old new (Look other) (Placed given) step allocation adds = absurd step
+AtlasStep-adds entries old new Clear (Placed given) step allocation adds = absurd step
+AtlasStep-adds entries old new command reply step allocation adds = absurd (cc)
+
+-- what is live keeps its promises, where it is all that the atlas has allocated
+live-promises : (entries : List Entry) (state : AtlasState) → IsTied entries state
+    → LiveKeepsPromises state (live_allocations entries)
+live-promises entries state tied =
+    let live = live_allocations entries in
+    let all = allocations state in
+    let promises = tied.promises in
+    record {
+      laid_out = record {
+        inside = tied-each (λ (a : Allocation). IsInside state.frame a.rectangle) live all tied.allocated promises.inside;
+        apart = tied-apart live all tied.allocated promises.apart promises.ids;
+        ids = tied-ids live all tied.allocated promises.ids;
+      };
+      aligned = tied-each (λ (a : Allocation). IsAligned state.frame a.rectangle) live all tied.allocated promises.aligned;
+      kept = Each-weaken (IsFound all) (λ (a : Allocation). rectangle_of state a.id ≡ Some a.rectangle) live
+          (found-rectangle state) tied.allocated.found;
+      empty = λ none. promises.empty (tied-empty all (subst (λ (l : List Allocation). AreTied l all) none tied.allocated));
+    }
+
+-- a run that is under way keeps its promises
+pub run-promises : (frame : Frame) (entries : List Entry) (state : AtlasState) (commands : List AtlasCommand) (replies : List Reply)
+    → IsUnderWay shelf_atlas IsTied frame commands replies entries state → RunKeepsPromises frame commands replies
+run-promises frame entries state commands replies way =
+    record {
+      state = state;
+      run = way.run;
+      given = rw way.live_is at way.given;
+      live = subst (λ (l : List Entry). LiveKeepsPromises state (live_allocations l)) way.live_is
+          (live-promises entries state way.tied);
+    }

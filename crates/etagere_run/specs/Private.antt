@@ -1,0 +1,3 @@
+-- What contracts of private functions and the invariants of private fields cite; no public clause does.
+pub mod ScriptReading
+pub mod Tied

@@ -1,0 +1,14 @@
+-- What reading a script gives, of which the contracts of private functions speak.
+use Rattle.std.specs.Prelude.{◌≡◌, ℕ, Result, Ok, Err, ⊤}
+use Rattle.etagere_run.specs.declared.script.ScriptFault.{ScriptFault}
+use Rattle.etagere_run.specs.declared.script.ScriptFault.TheVariants.{BadLine, Memory}
+
+-- a fault is the one that the definition says, unless memory ran out
+abbrev pub Fails : {A : Type 0} → ScriptFault → Result A ℕ → Type 0
+Fails (BadLine number) meaning = meaning ≡ Err number
+Fails Memory meaning = ⊤
+
+-- what was read, as a view shows it, is what the definition says, unless memory ran out
+abbrev pub Gives : {A B : Type 0} → (A → B) → Result A ScriptFault → Result B ℕ → Type 0
+Gives view (Ok read) meaning = meaning ≡ Ok (view read)
+Gives view (Err fault) meaning = Fails fault meaning
