@@ -1,4 +1,5 @@
-//! Runs of commands, by the rectangles of their replies.
+//! Runs of commands: what each command is answered, and where it is placed. Ids are free to change, so
+//! replies are compared without them.
 
 use etagere::{AllocatorOptions, DEFAULT_OPTIONS, OptionsFault, Size, point2, size2};
 use etagere_run::{AtlasCommand, Reply, RunFault, run_atlas};
@@ -7,7 +8,7 @@ use std::test::Fail;
 
 /// A reply without its id and index.
 #[derive(Clone, Copy, Debug, PartialEq, Eq)]
-enum Shape {
+pub enum Shape {
     Placed([i32; 4]),
     Refused,
     Returned,
@@ -17,7 +18,7 @@ enum Shape {
     NoMemory,
 }
 
-fn shape_of(reply: Reply) -> Shape {
+pub fn shape_of(reply: Reply) -> Shape {
     match reply {
         Reply::Placed(allocation) => {
             let place = allocation.rectangle;
@@ -37,16 +38,17 @@ fn allocate(width: i32, height: i32) -> AtlasCommand {
 }
 
 /// Runs the commands, and holds each reply to the shape beside it.
-fn replies(
+pub fn replies(
     rt: &(impl AllocGlobal + Abort),
     size: Size,
+    options: &AllocatorOptions,
     table: &[(AtlasCommand, Shape)],
 ) -> Result<(), Fail> {
     let mut commands = Vec::new(rt.alloc());
     for (command, _) in table {
         commands.push(*command)?;
     }
-    let given = run_atlas(rt.alloc(), size, &DEFAULT_OPTIONS, commands.as_slice())?;
+    let given = run_atlas(rt.alloc(), size, options, commands.as_slice())?;
     assert_eq!(rt; given.len(), table.len());
     for (reply, (_, shape)) in given.iter().zip(table) {
         assert_eq!(rt; shape_of(*reply), *shape);
@@ -55,7 +57,7 @@ fn replies(
 }
 
 #[test]
-fn returned_runs_are_reused(rt: HostRuntime) -> Result<(), Fail> {
+fn returned_items_are_reused(rt: HostRuntime) -> Result<(), Fail> {
     let table = [
         (allocate(100, 300), Shape::Placed([0, 0, 100, 320])),
         (allocate(500, 200), Shape::Placed([100, 0, 600, 320])),
@@ -63,7 +65,7 @@ fn returned_runs_are_reused(rt: HostRuntime) -> Result<(), Fail> {
         (allocate(300, 200), Shape::Placed([600, 0, 900, 320])),
         (allocate(100, 200), Shape::Placed([0, 0, 100, 320])),
     ];
-    replies(&rt, size2(1024, 1024), &table)
+    replies(&rt, size2(1024, 1024), &DEFAULT_OPTIONS, &table)
 }
 
 #[test]
@@ -75,11 +77,11 @@ fn a_good_fit_goes_before_a_bad_one(rt: HostRuntime) -> Result<(), Fail> {
         (allocate(300, 200), Shape::Placed([0, 336, 300, 560])),
         (allocate(1000, 200), Shape::Placed([0, 560, 1000, 784])),
     ];
-    replies(&rt, size2(1000, 1000), &table)
+    replies(&rt, size2(1000, 1000), &DEFAULT_OPTIONS, &table)
 }
 
 #[test]
-fn returned_shelves_join(rt: HostRuntime) -> Result<(), Fail> {
+fn returned_shelves_are_merged(rt: HostRuntime) -> Result<(), Fail> {
     let table = [
         (allocate(600, 100), Shape::Placed([0, 0, 600, 112])),
         (AtlasCommand::Look(0), Shape::At([0, 0, 600, 112])),
@@ -89,7 +91,7 @@ fn returned_shelves_join(rt: HostRuntime) -> Result<(), Fail> {
         (allocate(1000, 1000), Shape::Placed([0, 0, 1000, 1000])),
         (allocate(1, 1), Shape::Refused),
     ];
-    replies(&rt, size2(1000, 1000), &table)
+    replies(&rt, size2(1000, 1000), &DEFAULT_OPTIONS, &table)
 }
 
 #[test]
@@ -100,7 +102,7 @@ fn nothing_is_live_after_a_clear(rt: HostRuntime) -> Result<(), Fail> {
         (AtlasCommand::Return(0), Shape::NotLive),
         (allocate(64, 64), Shape::Placed([0, 0, 64, 64])),
     ];
-    replies(&rt, size2(64, 64), &table)
+    replies(&rt, size2(64, 64), &DEFAULT_OPTIONS, &table)
 }
 
 #[test]
@@ -113,7 +115,7 @@ fn a_position_names_an_allocation_alone(rt: HostRuntime) -> Result<(), Fail> {
         (AtlasCommand::Look(usize::MAX), Shape::NotLive),
         (AtlasCommand::Return(1), Shape::Returned),
     ];
-    replies(&rt, size2(8, 8), &table)
+    replies(&rt, size2(8, 8), &DEFAULT_OPTIONS, &table)
 }
 
 #[test]

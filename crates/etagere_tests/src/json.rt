@@ -1,4 +1,5 @@
-//! The JSON text of each plain record, which is read again as the record.
+//! The JSON text of each plain record, which is read again as the record. Its fields stand under
+//! their names, in the order of the record; an id is its number.
 
 use etagere::{
     AllocId, Allocation, AllocatorOptions, DEFAULT_OPTIONS, Point, Rectangle, Size, point2, size2,
@@ -47,37 +48,4 @@ fn records_have_their_fields_by_name(rt: HostRuntime) -> Result<(), Fail> {
         &options,
         r#"{"alignment":{"width":1,"height":1},"vertical_shelves":false,"num_columns":1}"#,
     )
-}
-
-#[test]
-fn an_id_is_its_number(rt: HostRuntime) {
-    for number in [0, 1, 65536, 4294967295] {
-        assert_eq!(rt; AllocId::deserialize(number).serialize(), number);
-    }
-}
-
-#[test]
-fn default_options_are_the_constant(rt: HostRuntime) {
-    assert_eq!(rt; AllocatorOptions::default(), DEFAULT_OPTIONS);
-    assert_eq!(rt; DEFAULT_OPTIONS.alignment, size2(1, 1));
-    assert!(rt; !DEFAULT_OPTIONS.vertical_shelves);
-    assert_eq!(rt; DEFAULT_OPTIONS.num_columns, 1);
-}
-
-#[test]
-fn geometry_counts_sides_and_areas(rt: HostRuntime) {
-    let rectangle = Rectangle {
-        min: point2(2, 3),
-        max: point2(12, 7),
-    };
-    assert_eq!(rt; rectangle.size(), size2(10, 4));
-    assert_eq!(rt; rectangle.area(), 40);
-    assert_eq!(rt; size2(46341, 46340).area(), 2147441940);
-    for (size, is_empty) in [
-        (size2(1, 1), false),
-        (size2(0, 1), true),
-        (size2(5, -1), true),
-    ] {
-        assert_eq!(rt; size.is_empty(), is_empty);
-    }
 }

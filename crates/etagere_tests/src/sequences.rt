@@ -1,4 +1,5 @@
-//! Longer sequences of calls of one atlas, which end clean: nothing is held and no space counted.
+//! Longer sequences of calls of one atlas. Each ends clean: after all returns nothing is allocated, and
+//! no space is counted as allocated.
 
 use etagere::{
     Allocation, AllocatorOptions, AtlasAllocator, DEFAULT_OPTIONS, Rectangle, Size, size2,
@@ -29,18 +30,18 @@ fn is_as_large(place: Rectangle, width: i32, height: i32) -> bool {
 
 #[test]
 fn three_sizes_come_and_go(rt: HostRuntime) -> Result<(), Fail> {
-    let lying = AllocatorOptions {
+    let horizontal = AllocatorOptions {
         alignment: size2(4, 8),
         num_columns: 2,
         ..DEFAULT_OPTIONS
     };
-    let upright = AllocatorOptions {
+    let vertical = AllocatorOptions {
         alignment: size2(8, 16),
         vertical_shelves: true,
         ..DEFAULT_OPTIONS
     };
-    come_and_go(&rt, size2(2048, 2048), &lying)?;
-    come_and_go(&rt, size2(2000, 1000), &upright)
+    come_and_go(&rt, size2(2048, 2048), &horizontal)?;
+    come_and_go(&rt, size2(2000, 1000), &vertical)
 }
 
 fn come_and_go(

@@ -1,7 +1,8 @@
-//! Messages and numbers of the faults.
+//! Messages and numbers of the faults. A fault's message is the name of its variant; the numbers stand in
+//! the order in which faults are tested.
 
 use etagere::{OptionsFault, UnknownId};
-use etagere_run::{ReplayFault, RunFault};
+use etagere_run::{Outcome, ReplayFault, RunFault};
 use std::fmt::Display;
 use std::process::Abort;
 use std::test::Fail;
@@ -49,6 +50,23 @@ fn faults_of_runs_and_replays_are_numbered(rt: HostRuntime) -> Result<(), Fail> 
     for (fault, number, text) in table {
         assert_eq!(rt; fault.number(), number);
         says(&rt, fault, text)?;
+    }
+    Ok(())
+}
+
+#[test]
+fn the_program_ends_with_a_status_for_each_answer(rt: HostRuntime) -> Result<(), Fail> {
+    assert_eq!(rt; Outcome::Done.status(), 0);
+    assert_eq!(rt; Outcome::Options(5).status(), 1);
+    assert_eq!(rt; Outcome::BadLine(7).status(), 2);
+    let table = [
+        (ReplayFault::Read, "read fault"),
+        (ReplayFault::Write, "write fault"),
+        (ReplayFault::Memory, "no memory"),
+    ];
+    for (fault, words) in table {
+        assert_eq!(rt; fault.status(), 3);
+        assert_eq!(rt; fault.words(), words);
     }
     Ok(())
 }

@@ -1,0 +1,173 @@
+//! A clone of an atlas looks the same, answers the same later calls in the same way, and shares
+//! nothing: what is changed in one of the two leaves the other as it was. Each is shown on horizontal
+//! and on vertical shelves; lengths are given along the shelves first, then across.
+
+use crate::places::{corners, oriented, swapped};
+use etagere::{
+    AllocId, Allocation, AllocatorOptions, AtlasAllocator, DEFAULT_OPTIONS, Rectangle, Size, size2,
+};
+use std::process::Abort;
+use std::test::Fail;
+
+/// What is asked of a new atlas with two columns of 80, 100 across.
+const FIRST_SIZES: [(i32, i32); 8] = [
+    (16, 16),
+    (16, 16),
+    (16, 16),
+    (16, 16),
+    (16, 16),
+    (80, 40),
+    (30, 16),
+    (80, 20),
+];
+
+/// Which of these are returned, in this order. The first shelf has three free items then, of which the
+/// last one returned is tried first; the shelf in the second column is empty and merged.
+const RETURNED: [usize; 5] = [0, 2, 4, 5, 7];
+
+/// What is asked after that, and where it is placed.
+const LATER_SIZES: [((i32, i32), Option<[i32; 4]>); 7] = [
+    ((16, 16), Some([64, 0, 80, 16])),
+    ((16, 16), Some([32, 0, 48, 16])),
+    ((10, 10), Some([0, 0, 16, 16])),
+    ((20, 16), Some([30, 64, 50, 80])),
+    ((80, 40), Some([0, 16, 80, 64])),
+    ((81, 1), None),
+    ((40, 90), Some([80, 0, 120, 100])),
+];
+
+/// The atlas after the first sizes and their returns, and the ids of all that it gave.
+fn used_atlas(
+    rt: &impl AllocGlobal,
+    vertical: bool,
+) -> Result<(AtlasAllocator, Vec<AllocId>), Fail> {
+    let options = AllocatorOptions {
+        vertical_shelves: vertical,
+        num_columns: 2,
+        ..DEFAULT_OPTIONS
+    };
+    let size = oriented(vertical, (160, 100));
+    let mut atlas = AtlasAllocator::with_options(rt.alloc(), size, &options)?;
+    let mut ids = Vec::new(rt.alloc());
+    for first in FIRST_SIZES {
+        let given = atlas.allocate(oriented(vertical, first))?;
+        ids.push(given.ok_or("refused")?.id)?;
+    }
+    for number in RETURNED {
+        atlas.deallocate(*ids.get(number).ok_or("not asked")?)?;
+    }
+    Ok((atlas, ids))
+}
+
+/// What an atlas tells of itself and of these ids.
+#[derive(Debug, PartialEq, Drop)]
+struct Looks {
+    size: Size,
+    is_empty: bool,
+    spaces: (i32, i32),
+    rectangles: Vec<Option<Rectangle>>,
+}
+
+fn looks_of(rt: &impl AllocGlobal, atlas: &AtlasAllocator, ids: &[AllocId]) -> Result<Looks, Fail> {
+    let mut rectangles = Vec::new(rt.alloc());
+    for id in ids {
+        rectangles.push(atlas.get(*id))?;
+    }
+    Ok(Looks {
+        size: atlas.size(),
+        is_empty: atlas.is_empty(),
+        spaces: (atlas.allocated_space(), atlas.free_space()),
+        rectangles,
+    })
+}
+
+/// What a used atlas gives for the later sizes, each at its place.
+fn later_answers(
+    rt: &(impl AllocGlobal + Abort),
+    vertical: bool,
+    atlas: &mut AtlasAllocator,
+) -> Result<Vec<Option<Allocation>>, Fail> {
+    let mut answers = Vec::new(rt.alloc());
+    for (size, _) in &LATER_SIZES {
+        answers.push(atlas.allocate(oriented(vertical, *size))?)?;
+    }
+    are_placed(rt, vertical, answers.as_slice());
+    Ok(answers)
+}
+
+fn are_placed(rt: &impl Abort, vertical: bool, answers: &[Option<Allocation>]) {
+    for (given, (size, place)) in answers.iter().zip(&LATER_SIZES) {
+        let corners = given.map(|allocation| corners(allocation.rectangle));
+        let wanted = place.map(|place| swapped(vertical, place));
+        assert_eq!(rt; corners, wanted, "at {size:?}");
+    }
+}
+
+#[test]
+fn a_clone_looks_the_same(rt: HostRuntime) -> Result<(), Fail> {
+    for vertical in [false, true] {
+        let (atlas, ids) = used_atlas(&rt, vertical)?;
+        let clone = atlas.clone()?;
+        let told = looks_of(&rt, &clone, ids.as_slice())?;
+        assert_eq!(rt; told, looks_of(&rt, &atlas, ids.as_slice())?);
+        assert_eq!(rt; told.size, oriented(vertical, (160, 100)));
+        assert_eq!(rt; told.spaces, (992, 15008));
+    }
+    Ok(())
+}
+
+#[test]
+fn a_clone_answers_later_calls_as_the_first_does(rt: HostRuntime) -> Result<(), Fail> {
+    for vertical in [false, true] {
+        let (mut atlas, ids) = used_atlas(&rt, vertical)?;
+        let mut clone = atlas.clone()?;
+        let answers = later_answers(&rt, vertical, &mut atlas)?;
+        assert_eq!(rt; later_answers(&rt, vertical, &mut clone)?, answers);
+        for id in ids {
+            assert_eq!(rt; clone.deallocate(id), atlas.deallocate(id), "of {id:?}");
+        }
+        for allocation in answers.iter().flatten() {
+            let id = allocation.id;
+            assert_eq!(rt; clone.deallocate(id), atlas.deallocate(id), "of {id:?}");
+        }
+        assert!(rt; clone.is_empty());
+        assert!(rt; atlas.is_empty());
+    }
+    Ok(())
+}
+
+#[test]
+fn a_change_of_one_leaves_the_other(rt: HostRuntime) -> Result<(), Fail> {
+    for vertical in [false, true] {
+        let (atlas, ids) = used_atlas(&rt, vertical)?;
+        let clone = atlas.clone()?;
+        is_left(&rt, vertical, atlas, clone, ids.as_slice())?;
+        let (atlas, ids) = used_atlas(&rt, vertical)?;
+        let clone = atlas.clone()?;
+        is_left(&rt, vertical, clone, atlas, ids.as_slice())?;
+    }
+    Ok(())
+}
+
+/// Changes one of two atlases by each call that can, and then uses the other.
+fn is_left(
+    rt: &(impl AllocGlobal + Abort),
+    vertical: bool,
+    mut changed: AtlasAllocator,
+    mut other: AtlasAllocator,
+    ids: &[AllocId],
+) -> Result<(), Fail> {
+    let before = looks_of(rt, &other, ids)?;
+    let _ = later_answers(rt, vertical, &mut changed)?;
+    assert_eq!(rt; looks_of(rt, &other, ids)?, before);
+    for id in ids {
+        let _ = changed.deallocate(*id);
+    }
+    assert_eq!(rt; looks_of(rt, &other, ids)?, before);
+    changed.clear();
+    assert!(rt; changed.is_empty());
+    assert_eq!(rt; looks_of(rt, &other, ids)?, before);
+    let _ = later_answers(rt, vertical, &mut other)?;
+    assert!(rt; changed.is_empty());
+    Ok(())
+}
