@@ -1,0 +1,42 @@
+-- What inserting and taking out does to records, and to the link to a list's first.
+use Rattle.std.specs.Prelude.{ℕ, zero, suc, Option, None, Some, option_and_then, List, [], ◌∷◌, slice_get}
+use Rattle.etagere_links.specs.Families.{Family}
+
+-- the list with the element of this number changed
+abbrev pub changed_at : {T : Type 0} → ℕ → (T → T) → List T → List T
+changed_at number change [] = []
+changed_at zero change (x ∷ xs) = change x ∷ xs
+changed_at (suc number) change (x ∷ xs) = x ∷ changed_at number change xs
+
+-- the list with the element changed that a link names; the list itself where it names none
+abbrev pub changed_by : {T : Type 0} → Option ℕ → (T → T) → List T → List T
+changed_by None change xs = xs
+changed_by (Some number) change xs = changed_at number change xs
+
+-- a link of the record of this number; none where there is no such record
+abbrev pub link_at : {T : Type 0} → (T → Option ℕ) → List T → ℕ → Option ℕ
+link_at link records number = option_and_then link (slice_get records number)
+
+-- the records after the one of this number was taken out: its neighbours are linked to each other
+abbrev pub unlinked : {T : Type 0} → Family T → ℕ → List T → List T
+unlinked family number records =
+    let previous = link_at family.previous records number in
+    let next = link_at family.next records number in
+    changed_by next (family.with_previous previous) (changed_by previous (family.with_next next) records)
+
+-- the link to a list's first, where one with these neighbours was taken out
+abbrev pub first_without : Option ℕ → Option ℕ → Option ℕ → Option ℕ
+first_without None next first = next
+first_without (Some previous) next first = first
+
+-- the records after the one of this number was put between two neighbours
+abbrev pub linked_between : {T : Type 0} → Family T → Option ℕ → Option ℕ → ℕ → List T → List T
+linked_between family previous next number records =
+    changed_by next (family.with_previous (Some number))
+    (changed_by previous (family.with_next (Some number))
+    (changed_by (Some number) (family.with_previous previous)
+    (changed_by (Some number) (family.with_next next) records)))
+
+-- the records after the one of this number was put onto a pile with this top
+abbrev pub piled : {T : Type 0} → Family T → Option ℕ → ℕ → List T → List T
+piled family top number records = changed_by (Some number) (family.with_next top) records

@@ -1,0 +1,10 @@
+pub mod Chains
+pub mod Edits
+pub mod Families
+pub mod Links
+pub mod Lists
+pub mod RecordEdits
+pub mod RecordLists
+pub mod RecordMerges
+pub mod Records
+pub mod Walks

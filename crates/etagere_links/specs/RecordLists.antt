@@ -1,0 +1,113 @@
+-- The lists of the records of a shelf atlas: by walks, and by the links that spell them.
+use Rattle.std.specs.Prelude.{◌≡◌, ℕ, ◌≤◌, Option, None, List, [], ◌∷◌, ◌++◌, length, map, slice_get, nat_lt, if◌then◌else◌}
+use Rattle.std.specs.Option.{option_map_or}
+use Rattle.etagere_base.specs.Lists.{Each, times}
+use Rattle.etagere_links.specs.declared.records.ItemRecord.{ItemRecord}
+use Rattle.etagere_links.specs.declared.records.ShelfRecord.{ShelfRecord}
+use Rattle.etagere_links.specs.Chains.{IsChainIn, IsPileIn}
+use Rattle.etagere_links.specs.Links.{bits_of}
+use Rattle.etagere_links.specs.Records.{item_chain, free_list, shelf_chain}
+use Rattle.etagere_links.specs.Walks.{Walked, walk}
+
+-- the records of a shelf atlas, and the links to the first of its lists
+pub record Records : Type 0 where
+  pub shelves : List ShelfRecord
+  pub items : List ItemRecord
+  pub first_shelf : Option ℕ
+  pub free_items : Option ℕ
+  pub free_shelves : Option ℕ
+
+-- a field of the record of this number; where there is none, the other value
+abbrev pub field_at : {T X : Type 0} → (T → X) → X → List T → ℕ → X
+field_at field other records number = option_map_or field (slice_get records number) other
+
+-- the link to the first item of the shelf of this number
+abbrev pub first_item_of : List ShelfRecord → ℕ → Option ℕ
+first_item_of shelves number = field_at (λ (shelf : ShelfRecord). shelf.first_item) None shelves number
+
+-- the link to the first of the free list of the shelf of this number
+abbrev pub first_free_of : List ShelfRecord → ℕ → Option ℕ
+first_free_of shelves number = field_at (λ (shelf : ShelfRecord). shelf.first_unallocated) None shelves number
+
+-- the walk through records by one of their links
+abbrev pub walk_by : {T : Type 0} → (T → Option ℕ) → List T → Option ℕ → Walked
+walk_by link records start = walk (map (λ here. bits_of (link here)) records) (bits_of start)
+
+-- the shelves in use
+abbrev pub shelf_walk : Records → Walked
+shelf_walk records = walk_by shelf_chain.next records.shelves records.first_shelf
+
+-- the shelf records put aside
+abbrev pub unused_shelf_walk : Records → Walked
+unused_shelf_walk records = walk_by shelf_chain.next records.shelves records.free_shelves
+
+-- the item records put aside
+abbrev pub unused_item_walk : Records → Walked
+unused_item_walk records = walk_by item_chain.next records.items records.free_items
+
+-- the items of the shelf of this number
+abbrev pub item_walk : Records → ℕ → Walked
+item_walk records shelf = walk_by item_chain.next records.items (first_item_of records.shelves shelf)
+
+-- the free list of the shelf of this number
+abbrev pub free_walk : Records → ℕ → Walked
+free_walk records shelf = walk_by free_list.next records.items (first_free_of records.shelves shelf)
+
+-- the number of a shelf in use, and those of its items and of its free list
+pub record Entry : Type 0 where
+  pub number : ℕ
+  pub items : List ℕ
+  pub free_list : List ℕ
+
+-- all lists of records: the shelves in use with their items, and what was put aside
+pub record Lists : Type 0 where
+  pub entries : List Entry
+  pub unused_items : List ℕ
+  pub unused_shelves : List ℕ
+
+-- the numbers of the shelves in use
+abbrev pub shelf_numbers : List Entry → List ℕ
+shelf_numbers [] = []
+shelf_numbers (entry ∷ entries) = entry.number ∷ shelf_numbers entries
+
+-- the numbers of the items in use
+abbrev pub item_numbers : List Entry → List ℕ
+item_numbers [] = []
+item_numbers (entry ∷ entries) = entry.items ++ item_numbers entries
+
+-- the lists of the shelf of this number that walks meet
+abbrev pub walked_entry : Records → ℕ → Entry
+walked_entry records number =
+    record { number = number; items = (item_walk records number).met; free_list = (free_walk records number).met }
+
+-- the lists that walks meet
+abbrev pub walked_lists : Records → Lists
+walked_lists records =
+    record {
+      entries = map (walked_entry records) (shelf_walk records).met;
+      unused_items = (unused_item_walk records).met;
+      unused_shelves = (unused_shelf_walk records).met;
+    }
+
+-- each number below the count stands in the list once, and no other
+abbrev pub HasEachOnce : ℕ → List ℕ → Type 0
+HasEachOnce count numbers = (number : ℕ) → times number numbers ≡ (if nat_lt number count then 1 else 0)
+
+-- links spell the items of a shelf and its free list; these are items of it
+pub record IsEntry (records : Records) (entry : Entry) : Type 0 where
+  pub items : IsChainIn item_chain records.items (first_item_of records.shelves entry.number) entry.items
+  pub free_list : IsChainIn free_list records.items (first_free_of records.shelves entry.number) entry.free_list
+  pub members : (number : ℕ) → times number entry.free_list ≤ times number entry.items
+
+-- links spell all lists, and each record stands in one of them, once, or is one of those in no list
+pub record IsLinkedBut (records : Records) (lists : Lists) (loose_items loose_shelves : List ℕ) : Type 0 where
+  pub shelves : IsChainIn shelf_chain records.shelves records.first_shelf (shelf_numbers lists.entries)
+  pub entries : Each (IsEntry records) lists.entries
+  pub unused_items : IsPileIn item_chain records.items records.free_items lists.unused_items
+  pub unused_shelves : IsPileIn shelf_chain records.shelves records.free_shelves lists.unused_shelves
+  pub shelves_once : HasEachOnce (length records.shelves) (shelf_numbers lists.entries ++ lists.unused_shelves ++ loose_shelves)
+  pub items_once : HasEachOnce (length records.items) (item_numbers lists.entries ++ lists.unused_items ++ loose_items)
+
+-- links spell all lists, and each record stands in one of them, once
+abbrev pub IsLinked : Records → Lists → Type 0
+IsLinked records lists = IsLinkedBut records lists [] []

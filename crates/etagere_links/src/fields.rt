@@ -1,0 +1,111 @@
+//! Single fields of records by number. A number past the last record changes nothing.
+//!
+//! Definitions: `RecordEdits`. A field that a step writes gets its function here, and keeps all others.
+
+ghost use Rattle.std.specs.Prelude.{◌≡◌, Some};
+ghost use Rattle.etagere_links.specs.Edits.{changed_by};
+ghost use Rattle.etagere_links.specs.RecordEdits as edits;
+ghost use Rattle.etagere_links.specs.RecordLists.{first_item_of, first_free_of};
+
+use crate::links::Link;
+use crate::records::{ItemRecord, ShelfRecord};
+
+/// The link to the first item of the shelf of this number; none where there is no such shelf.
+pub fn first_item(shelves: &[ShelfRecord], shelf: usize) -> Link
+    ensures { result ≡ first_item_of shelves.now shelf }
+{
+    if shelf < shelves.len() {
+        shelves[shelf].first_item
+    } else {
+        Link::none()
+    }
+}
+
+/// The link to the first of the free list of the shelf of this number; none where there is no such shelf.
+pub fn first_free(shelves: &[ShelfRecord], shelf: usize) -> Link
+    ensures { result ≡ first_free_of shelves.now shelf }
+{
+    if shelf < shelves.len() {
+        shelves[shelf].first_unallocated
+    } else {
+        Link::none()
+    }
+}
+
+/// Changes the link to the first item of a shelf.
+pub fn set_first_item(shelves: &mut [ShelfRecord], shelf: usize, first: Link)
+    ensures { shelves.new ≡ edits.with_first_item shelf first shelves.old }
+{
+    if shelf < shelves.len() {
+        let here = &mut shelves[shelf];
+        here.first_item = first;
+    }
+}
+
+/// Changes the link to the first of the free list of a shelf.
+pub fn set_first_free(shelves: &mut [ShelfRecord], shelf: usize, first: Link)
+    ensures { shelves.new ≡ edits.with_first_free shelf first shelves.old }
+{
+    if shelf < shelves.len() {
+        let here = &mut shelves[shelf];
+        here.first_unallocated = first;
+    }
+}
+
+/// Changes the height of a shelf.
+pub fn set_height(shelves: &mut [ShelfRecord], shelf: usize, height: u16)
+    ensures { shelves.new ≡ edits.with_height shelf height shelves.old }
+{
+    if shelf < shelves.len() {
+        let here = &mut shelves[shelf];
+        here.height = height;
+    }
+}
+
+/// Says whether a shelf is empty.
+pub fn set_empty(shelves: &mut [ShelfRecord], shelf: usize, is_empty: bool)
+    ensures { shelves.new ≡ edits.with_empty shelf is_empty shelves.old }
+{
+    if shelf < shelves.len() {
+        let here = &mut shelves[shelf];
+        here.is_empty = is_empty;
+    }
+}
+
+/// Changes the width of an item.
+pub fn set_width(items: &mut [ItemRecord], number: usize, width: u16)
+    ensures { items.new ≡ edits.with_width number width items.old }
+{
+    if number < items.len() {
+        let here = &mut items[number];
+        here.width = width;
+    }
+}
+
+/// Says whether an item is allocated.
+pub fn set_allocated(items: &mut [ItemRecord], number: usize, allocated: bool)
+    ensures { items.new ≡ edits.with_allocated number allocated items.old }
+{
+    if number < items.len() {
+        let here = &mut items[number];
+        here.allocated = allocated;
+    }
+}
+
+/// Writes the record of an item anew.
+pub fn write_item(items: &mut [ItemRecord], number: usize, item: ItemRecord)
+    ensures { items.new ≡ changed_by (Some number) (λ _. item) items.old }
+{
+    if number < items.len() {
+        items[number] = item;
+    }
+}
+
+/// Writes the record of a shelf anew.
+pub fn write_shelf(shelves: &mut [ShelfRecord], number: usize, shelf: ShelfRecord)
+    ensures { shelves.new ≡ changed_by (Some number) (λ _. shelf) shelves.old }
+{
+    if number < shelves.len() {
+        shelves[number] = shelf;
+    }
+}

@@ -1,0 +1,136 @@
+//! Lists of records linked by number: inserting and taking out. A link that names no record changes
+//! nothing.
+//!
+//! Definitions: `Edits`, and `Chains` for what they mean. One body serves every list of `Linked`.
+
+ghost use Rattle.std.specs.Prelude.{◌≡◌, ◌<◌, IfSome, option_and_then};
+ghost use Rattle.etagere_links.specs.Links.{no_link};
+ghost use Rattle.etagere_links.specs.Edits as spec;
+
+use crate::chained::Linked;
+use crate::links::Link;
+
+/// The link to the record after the one of this number; none where there is no such record.
+pub fn next_of<List, T: Linked<List>>(records: &[T], number: usize) -> Link
+    ensures { result ≡ spec.link_at T.family.next records.now number }
+{
+    if number < records.len() {
+        records[number].next()
+    } else {
+        Link::none()
+    }
+}
+
+/// The link to the record before the one of this number; none where there is no such record.
+pub fn previous_of<List, T: Linked<List>>(records: &[T], number: usize) -> Link
+    ensures { result ≡ spec.link_at T.family.previous records.now number }
+{
+    if number < records.len() {
+        records[number].previous()
+    } else {
+        Link::none()
+    }
+}
+
+/// Changes the link to the next one in the record that `from` names.
+fn set_next_of<List, T: Linked<List>>(records: &mut [T], from: Link, next: Link)
+    ensures { records.new ≡ spec.changed_by from (T.family.with_next next) records.old }
+{
+    let Some(number) = from.number() else {
+        return;
+    };
+    if number < records.len() {
+        records[number].set_next(next);
+    }
+}
+
+/// Changes the link to the previous one in the record that `from` names.
+fn set_previous_of<List, T: Linked<List>>(records: &mut [T], from: Link, previous: Link)
+    ensures { records.new ≡ spec.changed_by from (T.family.with_previous previous) records.old }
+{
+    let Some(number) = from.number() else {
+        return;
+    };
+    if number < records.len() {
+        records[number].set_previous(previous);
+    }
+}
+
+/// Takes the record of this number out of its list, whose first record `first` names: its neighbours are
+/// linked to each other. Its own links stay.
+pub fn unlink<List, T: Linked<List>>(records: &mut [T], first: &mut Link, number: usize)
+    ensures records { records.new ≡ spec.unlinked T.family number records.old }
+    ensures first { first.new
+        ≡ spec.first_without
+        (spec.link_at T.family.previous records.old number)
+        (spec.link_at T.family.next records.old number)
+        first.old }
+{
+    let previous = previous_of::<List, T>(records, number);
+    let next = next_of::<List, T>(records, number);
+    set_next_of::<List, T>(records, previous, next);
+    set_previous_of::<List, T>(records, next, previous);
+    if previous.number().is_none() {
+        *first = next;
+    }
+}
+
+/// Puts the record of this number, which stands in no list, between two neighbours.
+fn link_between<List, T: Linked<List>>(records: &mut [T], previous: Link, next: Link, number: usize)
+    requires { number < no_link }
+    ensures { records.new ≡ spec.linked_between T.family previous next number records.old }
+{
+    let link = Link::to(number);
+    set_next_of::<List, T>(records, link, next);
+    set_previous_of::<List, T>(records, link, previous);
+    set_next_of::<List, T>(records, previous, link);
+    set_previous_of::<List, T>(records, next, link);
+}
+
+/// Puts the record of this number, which stands in no list, after another one.
+pub fn insert_after<List, T: Linked<List>>(records: &mut [T], previous: usize, number: usize)
+    requires previous { previous < no_link }
+    requires number { number < no_link }
+    ensures { records.new
+        ≡ spec.linked_between T.family (Some previous)
+        (spec.link_at T.family.next records.old previous)
+        number records.old }
+{
+    let next = next_of::<List, T>(records, previous);
+    link_between::<List, T>(records, Link::to(previous), next, number);
+}
+
+/// Puts the record of this number, which stands in no list, in front of the list whose first record
+/// `first` names.
+pub fn insert_front<List, T: Linked<List>>(records: &mut [T], first: &mut Link, number: usize)
+    requires { number < no_link }
+    ensures records { records.new ≡ spec.linked_between T.family None first.old number records.old }
+    ensures first { first.new ≡ Some number }
+{
+    link_between::<List, T>(records, Link::none(), *first, number);
+    *first = Link::to(number);
+}
+
+/// Puts the record of this number, which stands in no list, onto the pile whose top record `top` names. A
+/// pile is linked through `next` alone.
+pub fn put_aside<List, T: Linked<List>>(records: &mut [T], top: &mut Link, number: usize)
+    requires { number < no_link }
+    ensures records { records.new ≡ spec.piled T.family top.old number records.old }
+    ensures top { top.new ≡ Some number }
+{
+    let link = Link::to(number);
+    set_next_of::<List, T>(records, link, *top);
+    *top = link;
+}
+
+/// Takes the record that was put aside last off the pile whose top record `top` names; none where the pile
+/// is empty.
+pub fn take<List, T: Linked<List>>(records: &[T], top: &mut Link) -> Option<usize>
+    ensures number { result ≡ top.old }
+    ensures top { top.new ≡ option_and_then (spec.link_at T.family.next records.now) top.old }
+    ensures small { IfSome result (λ number. number < no_link) }
+{
+    let number = top.number()?;
+    *top = next_of::<List, T>(records, number);
+    Some(number)
+}

@@ -1,0 +1,11 @@
+pub mod AbsorbedItems
+pub mod EntryValues
+pub mod MergedAround
+pub mod RecordValues
+pub mod SpelledLists
+pub mod SpelledMerges
+pub mod SpelledShelves
+pub mod StackedMerges
+pub mod StandsForRows
+pub mod StandsLinked
+pub mod Witnesses

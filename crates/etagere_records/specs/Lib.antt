@@ -1,0 +1,3 @@
+pub mod AtlasRecords
+pub mod Laws
+pub mod StandsFor
