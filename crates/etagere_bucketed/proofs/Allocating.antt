@@ -1,0 +1,158 @@
+-- An allocation leads from a valid state to a valid one, keeps a ledger tied, and gives a rectangle that is large enough
+-- and aligned.
+use Rattle.std.proofs.Common.{◌≡◌, ℕ, ◌+◌, ◌*◌, ◌/◌, ◌%◌, ◌≤◌, Bool, true, false, List, [], ◌∷◌, ◌++◌, pos, refl, ap, arith, sym, ◌∙◌, subst, take}
+use Rattle.std.proofs.Math.Nat.{add-mul}
+use Rattle.std.proofs.lemmas.Int.{ints}
+use Rattle.std.proofs.lemmas.Nat.{div-add-mod'}
+use Rattle.etagere_base.specs.declared.frames.Frame.{Frame}
+use Rattle.etagere_base.specs.declared.geometry.Size.{Size}
+use Rattle.etagere_base.specs.declared.ids.Allocation.{Allocation}
+use Rattle.etagere_base.specs.declared.sides.Sides.{Sides}
+use Rattle.etagere_base.specs.Frames.{alignment_along}
+use Rattle.etagere_base.specs.Places.{rectangle_at}
+use Rattle.etagere_base.specs.Rectangles.{IsAligned, IsLarge}
+use Rattle.etagere_base.specs.Sides.{side, swapped_axes, up}
+use Rattle.etagere_base.proofs.ReplacedLists.{split-at}
+use Rattle.std.specs.Prelude.{slice_get, Some}
+use Rattle.etagere_bucketed.specs.Atlas.{Allocates, Grows}
+use Rattle.etagere_bucketed.specs.Laws.{CountsArea, CountsReturn}
+use Rattle.etagere_bucketed.specs.Returning.{bucket_returned, tag_of}
+use Rattle.etagere_bucketed.specs.Space.{allocated_space}
+use Rattle.etagere_bucketed.proofs.Spacing.Spaces.{space-grown, space-returned, space-taken}
+use Rattle.etagere_bucketed.proofs.Validity.Spots.{IsSpot}
+use Rattle.etagere_bucketed.specs.State.{Bucket, BucketShelf, BucketedState, column_height, column_place}
+use Rattle.etagere_bucketed.specs.Taking.{allocation_in, bucket_taken, prepared}
+use Rattle.etagere_bucketed.specs.Tied.{AreTied}
+use Rattle.etagere_bucketed.specs.Valid.{IsValid, StandBetween}
+use Rattle.etagere_bucketed.proofs.Asked.{asked-is}
+use Rattle.etagere_bucketed.proofs.Ledger.EntriesTaken.{begins-along, ends-along}
+use Rattle.etagere_bucketed.proofs.Validity.Placed.{IsPlaced, placement-placed}
+use Rattle.etagere_bucketed.proofs.Shelving.Shares.{aligned-sum}
+use Rattle.etagere_bucketed.proofs.Validity.Taken.{spot-valid}
+use Rattle.etagere_bucketed.proofs.Validity.TakenValid.{given-is, taken-valid}
+use Rattle.etagere_bucketed.proofs.Ledger.TiedTaken.{tied-taken}
+
+-- the placement of an allocation is ready
+allocates-placed : (old : BucketedState) (size : Size) (allocation : Allocation) (new : BucketedState) → IsValid old → (h : Allocates old size allocation new) → IsPlaced old size h.placement h.tags
+allocates-placed old size allocation new valid h = placement-placed old size h.placement h.tags valid h.placed h.new_tags
+
+-- the next state is valid
+pub allocates-valid : (old : BucketedState) (size : Size) (allocation : Allocation) (new : BucketedState) → IsValid old → Allocates old size allocation new → IsValid new
+allocates-valid old size allocation new valid h =
+    subst IsValid (sym h.after) (taken-valid old size h.placement h.tags valid (allocates-placed old size allocation new valid h))
+
+-- what was given is what the bucket of the placement gives next
+pub allocates-is : (old : BucketedState) (size : Size) (allocation : Allocation) (new : BucketedState) (h : Allocates old size allocation new) (placed : IsPlaced old size h.placement h.tags)
+    → allocation_in old.frame placed.sides.along (prepared old.frame old.shelves h.tags h.placement.place) placed.ready.spot ≡ allocation
+allocates-is old size allocation new h placed = let is = given-is old size h.placement h.tags placed in let gave = h.gives in cc
+
+-- a ledger stays tied with one entry more
+pub allocates-tied : (entries : List Allocation) (old : BucketedState) (size : Size) (allocation : Allocation) (new : BucketedState) → AreTied entries old → Allocates old size allocation new
+    → AreTied (entries ++ allocation ∷ []) new
+allocates-tied entries old size allocation new tied h =
+    let placed = allocates-placed old size allocation new tied.valid h in
+    subst (AreTied (entries ++ allocation ∷ [])) (sym h.after)
+    (subst (λ (a : Allocation). AreTied (entries ++ a ∷ []) (bucket_taken old h.placement h.tags)) (allocates-is old size allocation new h placed)
+    (tied-taken entries old size h.placement h.tags placed tied))
+
+-- what lies at a place is large where it is as wide along and as tall across as the size, rounded up
+large-at : (frame : Frame) (size : Size) (along across width height : ℕ)
+    → (swapped_axes frame.vertical (record { along = up (side size.width) frame.alignment_width; across = up (side size.height) frame.alignment_height })).along ≤ width
+    → (swapped_axes frame.vertical (record { along = up (side size.width) frame.alignment_width; across = up (side size.height) frame.alignment_height })).across ≤ height
+    → IsLarge frame size (rectangle_at frame along across width height)
+large-at frame size along across width height = by_turn frame.vertical refl
+  where
+    wide : ℕ
+    wide = up (side size.width) frame.alignment_width
+
+    tall : ℕ
+    tall = up (side size.height) frame.alignment_height
+
+    by_turn : (b : Bool) → frame.vertical ≡ b → (swapped_axes b (record { along = wide; across = tall })).along ≤ width → (swapped_axes b (record { along = wide; across = tall })).across ≤ height
+        → IsLarge frame size (rectangle_at frame along across width height)
+    by_turn true e w h = record { width = rw e (omega (arith, ints)); height = rw e (omega (arith, ints)) }
+    by_turn false e w h = record { width = rw e (omega (arith, ints)); height = rw e (omega (arith, ints)) }
+
+-- what is given is as large as the size
+pub allocates-large : (old : BucketedState) (size : Size) (allocation : Allocation) (new : BucketedState) → IsValid old → Allocates old size allocation new → IsLarge old.frame size allocation.rectangle
+allocates-large old size allocation new valid h =
+    let placed = allocates-placed old size allocation new valid h in
+    let spot = placed.ready.spot in
+    let shelves = prepared old.frame old.shelves h.tags h.placement.place in
+    let is = asked-is old.frame size placed.sides placed.asked_is in
+    subst (λ (a : Allocation). IsLarge old.frame size a.rectangle) (allocates-is old size allocation new h placed)
+    (large-at old.frame size (spot.bucket.place + spot.bucket.used) (column_height spot.shelf.column (take spot.number shelves)) placed.sides.along spot.shelf.height
+    (omega (arith, ap (λ (s : Sides). s.along) is)) (omega (arith, ap (λ (s : Sides). s.across) is, placed.ready.tall)))
+
+-- a bucket between others stands at an aligned place
+stand-aligned : (al width begin end : ℕ) (left : List Bucket) (b : Bucket) (right : List Bucket) → StandBetween al width begin end (left ++ b ∷ right) → b.place % al ≡ 0
+stand-aligned al width begin end [] b right stand = stand.0
+stand-aligned al width begin end (x ∷ left) b right stand = stand-aligned al width begin x.place left b right stand.2
+
+-- a length without a remainder is so many alignments
+multiple : (length alignment : ℕ) → length % alignment ≡ 0 → length ≡ length / alignment * alignment
+multiple length alignment even = omega (arith, div-add-mod' length alignment)
+
+-- a rectangle is aligned whose place and width are
+aligned-at : (frame : Frame) (along across width height : ℕ) → along % alignment_along frame ≡ 0 → width % alignment_along frame ≡ 0 → IsAligned frame (rectangle_at frame along across width height)
+aligned-at frame along across width height even even_width =
+    let al = alignment_along frame in
+    let begins = multiple along al even in
+    let wide = multiple width al even_width in
+    record {
+      place = along / al;
+      extent = width / al;
+      begins = begins-along frame along across width height ∙ ap pos begins;
+      ends = ends-along frame along across width height ∙ ap pos (omega (arith, begins, wide, add-mul (along / al) (width / al) al));
+    }
+
+-- what is given is aligned
+pub allocates-aligned : (old : BucketedState) (size : Size) (allocation : Allocation) (new : BucketedState) → IsValid old → Allocates old size allocation new → IsAligned old.frame allocation.rectangle
+allocates-aligned old size allocation new valid h =
+    let placed = allocates-placed old size allocation new valid h in
+    let frame = old.frame in
+    let al = alignment_along frame in
+    let spot = placed.ready.spot in
+    let at = placed.ready.can.at in
+    let shelves = prepared frame old.shelves h.tags h.placement.place in
+    let parts = spot-valid frame shelves spot at placed.ready.valid in
+    let begin = column_place frame spot.shelf.column in
+    let end = begin + frame.column_width in
+    let place = stand-aligned al spot.shelf.bucket_width begin end at.left spot.bucket at.right (subst (StandBetween al spot.shelf.bucket_width begin end) at.buckets parts.0.stand) in
+    subst (λ (a : Allocation). IsAligned frame a.rectangle) (allocates-is old size allocation new h placed)
+    (aligned-at frame (spot.bucket.place + spot.bucket.used) (column_height spot.shelf.column (take spot.number shelves)) placed.sides.along spot.shelf.height
+    (aligned-sum spot.bucket.place spot.bucket.used al place parts.1.aligned) placed.asks.aligned)
+
+-- an allocation adds the area that it gives
+pub allocates-space : (old : BucketedState) (size : Size) (allocation : Allocation) (new : BucketedState) → IsValid old → Allocates old size allocation new → CountsArea old allocation new
+allocates-space old size allocation new valid h =
+    let placed = allocates-placed old size allocation new valid h in
+    let spot = placed.ready.spot in
+    let shelves = prepared old.frame old.shelves h.tags h.placement.place in
+    record {
+      along = spot.bucket.place + spot.bucket.used;
+      across = column_height spot.shelf.column (take spot.number shelves);
+      width = placed.sides.along;
+      height = spot.shelf.height;
+      rectangle = ap (λ (a : Allocation). a.rectangle) (sym (allocates-is old size allocation new h placed));
+      space = ap allocated_space h.after ∙ space-taken old size h.placement h.tags placed valid;
+    }
+
+-- a growth changes no space
+pub grows-space : (old : BucketedState) (size : Size) (new : BucketedState) → IsValid old → Grows old size new → allocated_space new ≡ allocated_space old
+grows-space old size new valid h = ap allocated_space h.after ∙ space-grown old size h.tags valid h.fits h.new_tags
+
+-- a bucket that is read stands at a spot
+read-spot : (shelves : List BucketShelf) (number : ℕ) (shelf : BucketShelf) (place : ℕ) (bucket : Bucket) → slice_get shelves number ≡ Some shelf → slice_get shelf.buckets place ≡ Some bucket
+    → IsSpot shelves (record { number = number; shelf = shelf; bucket = bucket })
+read-spot shelves number shelf place bucket h k =
+    let one = split-at shelves number shelf h in
+    let other = split-at shelf.buckets place bucket k in
+    record { front = one.front; back = one.back; left = other.front; right = other.back; before = one.before; whole = one.whole; buckets = other.whole }
+
+-- a return gives back what its bucket has used where that is emptied
+pub returns-space : (state : BucketedState) (id number : ℕ) (shelf : BucketShelf) (place : ℕ) (bucket : Bucket) → IsValid state
+    → slice_get state.shelves number ≡ Some shelf → slice_get shelf.buckets place ≡ Some bucket → bucket.tag.number ≡ (tag_of id).number
+    → CountsReturn state (record { number = number; shelf = shelf; bucket = bucket }) (bucket_returned state id)
+returns-space state id number shelf place bucket valid h k same =
+    space-returned state id (record { number = number; shelf = shelf; bucket = bucket }) valid (read-spot state.shelves number shelf place bucket h k) (sym same)

@@ -1,0 +1,3 @@
+-- The area that is allocated.
+pub mod Spaces
+pub mod SpacesBounded
