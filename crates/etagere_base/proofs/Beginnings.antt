@@ -1,3 +1,4 @@
+-- A beginning of a text, and then a beginning of its rest, is a beginning of the whole.
 use Rattle.std.proofs.Common.{◌≡◌, ℕ, ◌+◌, ◌-◌, List, ◌++◌, Option, None, Some, take, drop, length, sym, ◌∙◌, ap}
 use Rattle.std.proofs.Math.Seq.{take-add, take-length}
 use Rattle.std.proofs.lemmas.List.{append_assoc, length-drop}

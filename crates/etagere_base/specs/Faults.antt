@@ -1,3 +1,4 @@
+-- The numbers of the faults of options, which scripts and programs answer.
 use Rattle.std.specs.Prelude.{ℕ}
 use Rattle.etagere_base.specs.declared.faults.OptionsFault.{OptionsFault}
 use Rattle.etagere_base.specs.declared.faults.OptionsFault.TheVariants.{Size, Area, Alignment, Columns, ColumnTooNarrow, Memory}

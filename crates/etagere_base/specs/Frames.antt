@@ -1,3 +1,5 @@
+-- Sizes and options: which make an atlas, the frame that is kept of them, and what a size asks of
+-- the shelves.
 use Rattle.std.specs.Prelude.{◌≡◌, ℕ, ◌-◌, ◌*◌, ◌/◌, ◌%◌, ◌^◌, ◌<◌, ◌≤◌, ℤ, Bool, ◌&&◌, ◌||◌, not, nat_le, nat_lt, ◌==◌, Option, Some, None, if◌then◌else◌}
 use Rattle.etagere_base.specs.declared.faults.OptionsFault.{OptionsFault}
 use Rattle.etagere_base.specs.declared.faults.OptionsFault.TheVariants as faults
@@ -11,6 +13,10 @@ use Rattle.etagere_base.specs.Sides.{side, swapped_axes, up, down}
 abbrev pub longest_side : ℕ
 longest_side = 65535
 
+-- the greatest area of an atlas
+abbrev pub largest_area : ℕ
+largest_area = 2 ^ 31 - 1
+
 -- a side of an atlas or of a size asked for: at least 1, and no longer than the longest
 abbrev pub is_side : ℕ → ℤ → Bool
 is_side longest length = nat_lt 0 (side length) && nat_le (side length) longest
@@ -18,7 +24,8 @@ is_side longest length = nat_lt 0 (side length) && nat_le (side length) longest
 -- the sides of an atlas along and across its shelves
 abbrev pub sides_of : Size → AllocatorOptions → Sides
 sides_of size options =
-    swapped_axes options.vertical_shelves (record { along = side size.width; across = side size.height })
+    swapped_axes options.vertical_shelves
+    (record { along = side size.width; across = side size.height })
 
 -- the alignments along and across the shelves
 abbrev pub alignments_of : AllocatorOptions → Sides
@@ -35,8 +42,9 @@ column_width_of size options =
 abbrev pub options_fault : ℕ → Size → AllocatorOptions → Option OptionsFault
 options_fault longest size options =
     if not (is_side longest size.width && is_side longest size.height) then Some faults.Size
-    else (if nat_lt (2 ^ 31 - 1) (side size.width * side size.height) then Some faults.Area
-    else (if side options.alignment.width == 0 || side options.alignment.height == 0 then Some faults.Alignment
+    else (if nat_lt largest_area (side size.width * side size.height) then Some faults.Area
+    else (if side options.alignment.width == 0 || side options.alignment.height == 0
+    then Some faults.Alignment
     else (if side options.num_columns == 0 then Some faults.Columns
     else (if column_width_of size options == 0 then Some faults.ColumnTooNarrow
     else None))))
@@ -60,24 +68,29 @@ atlas_frame size options =
 
 -- the side of the atlas along its shelves
 abbrev pub along_side : Frame → ℕ
-along_side frame = (swapped_axes frame.vertical (record { along = frame.width; across = frame.height })).along
+along_side frame =
+    (swapped_axes frame.vertical (record { along = frame.width; across = frame.height })).along
 
 -- the side of the atlas across its shelves
 abbrev pub across_side : Frame → ℕ
-across_side frame = (swapped_axes frame.vertical (record { along = frame.width; across = frame.height })).across
+across_side frame =
+    (swapped_axes frame.vertical (record { along = frame.width; across = frame.height })).across
 
 -- the alignment along the shelves
 abbrev pub alignment_along : Frame → ℕ
 alignment_along frame =
-    (swapped_axes frame.vertical (record { along = frame.alignment_width; across = frame.alignment_height })).along
+    (swapped_axes frame.vertical
+    (record { along = frame.alignment_width; across = frame.alignment_height })).along
 
 -- the sides if they fit a column
 abbrev pub fitting : Frame → Sides → Option Sides
 fitting frame sides =
-    if nat_le sides.along frame.column_width && nat_le sides.across (across_side frame) then Some sides else None
+    if nat_le sides.along frame.column_width && nat_le sides.across (across_side frame)
+    then Some sides
+    else None
 
--- what a size asks of the shelves: each side rounded up by its own axis, then swapped; none where the size
--- is empty, has a side above the longest or is larger than a column
+-- what a size asks of the shelves: each side rounded up by its own axis, then swapped; none where
+-- the size is empty, has a side above the longest or is larger than a column
 abbrev pub asked : Frame → Size → Option Sides
 asked frame size =
     if is_side longest_side size.width && is_side longest_side size.height
@@ -88,7 +101,8 @@ asked frame size =
     }))
     else None
 
--- a frame's sides, area and alignments keep their ranges, and its columns are aligned and lie within its side
+-- a frame's sides, area and alignments keep their ranges, and its columns are aligned and lie
+-- within its side
 pub record IsFrame (longest : ℕ) (frame : Frame) : Type 0 where
   pub width : (1 ≤ frame.width) × (frame.width ≤ longest)
   pub height : (1 ≤ frame.height) × (frame.height ≤ longest)

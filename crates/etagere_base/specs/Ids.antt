@@ -1,3 +1,4 @@
+-- How an id spells the number of a record.
 use Rattle.std.specs.Prelude.{ℕ}
 
 -- an id modulo this is its index

@@ -1,3 +1,4 @@
+-- The first of least rank in a list, and how a search in any order finds it.
 use Rattle.std.specs.Prelude.{◌≡◌, ℕ, suc, ◌<◌, ◌≤◌, Option, None, Some, option_map, List, [], ◌∷◌, slice_get, nat_le, nat_lt, if◌then◌else◌}
 
 -- what was found in a list of ranks: its number in the list, and its rank
@@ -9,10 +10,12 @@ pub record Found : Type 0 where
 abbrev pub one_later : Found → Found
 one_later found = record { number = suc found.number; rank = found.rank }
 
--- a rank that stands first against what was found after it: the lower one, and the first among equals
+-- a rank that stands first against what was found after it: the lower one, and the first among
+-- equals
 abbrev pub first_or : ℕ → Option Found → Found
 first_or rank None = record { number = 0; rank = rank }
-first_or rank (Some later) = if nat_le rank later.rank then record { number = 0; rank = rank } else one_later later
+first_or rank (Some later) =
+    if nat_le rank later.rank then record { number = 0; rank = rank } else one_later later
 
 -- the first of least rank
 abbrev pub first_least : List (Option ℕ) → Option Found

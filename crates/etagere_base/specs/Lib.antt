@@ -1,5 +1,8 @@
+pub mod Deciding
+pub mod Drawing
 pub mod Faults
 pub mod Frames
+pub mod Gathering
 pub mod Ids
 pub mod Least
 pub mod Lists
@@ -8,5 +11,6 @@ pub mod MergingAt
 pub mod Options
 pub mod Places
 pub mod Rectangles
+pub mod RestoreFaults
 pub mod Sending
 pub mod Sides

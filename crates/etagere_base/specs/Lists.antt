@@ -1,3 +1,4 @@
+-- Plain lists: totals, edits at one place, and facts of neighbours and pairs.
 use Rattle.std.specs.Prelude.{◌≡◌, ℕ, zero, suc, ◌+◌, Bool, false, not, List, [], ◌∷◌, ◌++◌, filter, map, ◌==◌, if◌then◌else◌}
 
 -- a measure of the elements, added up
@@ -7,7 +8,8 @@ total measure (x ∷ xs) = measure x + total measure xs
 
 -- a measure of the elements of one column, added up
 abbrev pub column_total : {X : Type 0} → (X → ℕ) → (X → ℕ) → ℕ → List X → ℕ
-column_total column_of measure column xs = total (λ x. if column_of x == column then measure x else 0) xs
+column_total column_of measure column xs =
+    total (λ x. if column_of x == column then measure x else 0) xs
 
 -- the lists of the elements end to end, where each element sees what stands before it
 abbrev pub gathered : {C X Y : Type 0} → (C → X → C) → (C → X → List Y) → C → List X → List Y

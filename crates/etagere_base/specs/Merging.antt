@@ -1,3 +1,4 @@
+-- Merging in whole lists: each longest block of neighbours that touch becomes one.
 use Rattle.std.specs.Prelude.{Bool, List, [], ◌∷◌, if◌then◌else◌}
 
 -- an element in front of a merged list: one with the first where the two touch

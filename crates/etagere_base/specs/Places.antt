@@ -1,3 +1,4 @@
+-- From places along and across the shelves to points and rectangles of the atlas.
 use Rattle.std.specs.Prelude.{ℕ, ◌+◌, pos}
 use Rattle.etagere_base.specs.declared.frames.Frame.{Frame}
 use Rattle.etagere_base.specs.declared.geometry.Point.{Point}
@@ -13,4 +14,7 @@ point_at frame along across =
 -- what lies at a place along and across, this wide along and this tall across
 abbrev pub rectangle_at : Frame → ℕ → ℕ → ℕ → ℕ → Rectangle
 rectangle_at frame along across width height =
-    record { min = point_at frame along across; max = point_at frame (along + width) (across + height) }
+    record {
+      min = point_at frame along across;
+      max = point_at frame (along + width) (across + height);
+    }

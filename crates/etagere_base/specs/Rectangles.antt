@@ -1,3 +1,5 @@
+-- When rectangles lie inside, are large enough, aligned, and share no unit square: what the
+-- promises to users are made of.
 use Rattle.std.specs.Prelude.{◌≡◌, ℕ, ◌+◌, ◌*◌, Bool, true, false, ℤ, pos, ◌+ℤ◌, ◌≤ℤ◌, ◌<ℤ◌, List, [], ◌∷◌}
 use Rattle.etagere_base.specs.Frames.{alignment_along}
 use Rattle.etagere_base.specs.declared.frames.Frame.{Frame}
@@ -30,8 +32,10 @@ pub record IsInside (frame : Frame) (rectangle : Rectangle) : Type 0 where
 
 -- a rectangle is at least as large as a size asks for in a frame: each side rounded up
 pub record IsLarge (frame : Frame) (size : Size) (rectangle : Rectangle) : Type 0 where
-  pub width : (rectangle.min.x +ℤ pos (up (side size.width) frame.alignment_width)) ≤ℤ rectangle.max.x
-  pub height : (rectangle.min.y +ℤ pos (up (side size.height) frame.alignment_height)) ≤ℤ rectangle.max.y
+  pub width : (rectangle.min.x +ℤ pos (up (side size.width) frame.alignment_width))
+      ≤ℤ rectangle.max.x
+  pub height : (rectangle.min.y +ℤ pos (up (side size.height) frame.alignment_height))
+      ≤ℤ rectangle.max.y
 
 -- of a point's coordinates the one along the shelves, which may be vertical
 abbrev pub place_along : Bool → Point → ℤ
@@ -43,10 +47,12 @@ pub record IsAligned (frame : Frame) (rectangle : Rectangle) : Type 0 where
   pub place : ℕ
   pub extent : ℕ
   pub begins : place_along frame.vertical rectangle.min ≡ pos (place * alignment_along frame)
-  pub ends : place_along frame.vertical rectangle.max ≡ pos ((place + extent) * alignment_along frame)
+  pub ends : place_along frame.vertical rectangle.max
+      ≡ pos ((place + extent) * alignment_along frame)
 
 -- any two of the allocations share no unit square
 abbrev pub AreApart : List Allocation → Type 0
 AreApart [] = Unit {0}
 AreApart (allocation ∷ others) =
-    Each (λ (other : Allocation). SharesNone allocation.rectangle other.rectangle) others × AreApart others
+    Each (λ (other : Allocation). SharesNone allocation.rectangle other.rectangle) others
+    × AreApart others

@@ -1,3 +1,4 @@
+-- What a writer has after a text was sent: all of it, or a beginning.
 use Rattle.std.specs.Prelude.{ℕ, ◌≤◌, List, Option, length, take}
 use Rattle.std.specs.Io.KnownBytes.{Appends}
 

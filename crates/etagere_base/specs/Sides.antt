@@ -1,3 +1,4 @@
+-- Lengths: rounding by an alignment, the steps of heights of shelves, and swapping the axes.
 use Rattle.std.specs.Prelude.{ℕ, ◌+◌, ◌-◌, ◌*◌, ◌/◌, Bool, true, false, ℤ, pos, negsuc, nat_lt, if◌then◌else◌}
 use Rattle.etagere_base.specs.declared.sides.Sides.{Sides}
 
@@ -22,7 +23,8 @@ down length alignment = length / alignment * alignment
 -- how coarsely the heights of shelves are stepped
 abbrev pub coarseness : ℕ → ℕ
 coarseness height =
-    if nat_lt height 32 then 8 else (if nat_lt height 128 then 16 else (if nat_lt height 512 then 32 else 64))
+    if nat_lt height 32 then 8
+    else (if nat_lt height 128 then 16 else (if nat_lt height 512 then 32 else 64))
 
 -- the height of a shelf that is made for items of this height
 abbrev pub step : ℕ → ℕ

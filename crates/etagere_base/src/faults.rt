@@ -1,10 +1,11 @@
-//! Why a size and options make no atlas, and why an id can't be given back.
+//! Why a size and options make no atlas, why an id can't be given back, and why a snapshot is none.
 //!
-//! Definitions: `Faults`. Numbers and messages are public: a new fault gets a new number, and
+//! Definitions: `Faults`, `RestoreFaults`. Numbers and messages are public: a new fault gets a new number, and
 //! `frames` says where in the order it is tested.
 
 ghost use Rattle.std.specs.Prelude.{◌≡◌};
 ghost use Rattle.etagere_base.specs.Faults.{options_fault_number};
+ghost use Rattle.etagere_base.specs.RestoreFaults.{restore_fault_number};
 
 use thiserror::Error;
 
@@ -43,6 +44,67 @@ impl OptionsFault {
             OptionsFault::Columns => 4,
             OptionsFault::ColumnTooNarrow => 5,
             OptionsFault::Memory => 6,
+        }
+    }
+}
+
+/// Why no atlas can be restored from a snapshot: a rule of snapshots that it breaks. Where it breaks several,
+/// any of them is returned.
+#[derive(Clone, Copy, Debug, PartialEq, Eq, Error)]
+pub enum RestoreFault {
+    /// A side, the area, an alignment or the width of a column is out of its range.
+    #[error("Frame")]
+    Frame,
+    /// There are too few or too many records of a kind.
+    #[error("Counts")]
+    Counts,
+    /// A link names no record, a link back is another than the one before, or a record names another shelf
+    /// than the one in whose list it is.
+    #[error("Link")]
+    Link,
+    /// The shelves don't fill each column, column after column.
+    #[error("Shelves")]
+    Shelves,
+    /// The items of a shelf, or its buckets, don't fill it as they must.
+    #[error("Runs")]
+    Runs,
+    /// Two free items stand side by side, or two empty shelves of a column.
+    #[error("Neighbours")]
+    Neighbours,
+    /// The free list of a shelf hasn't each of its free items once.
+    #[error("FreeList")]
+    FreeList,
+    /// A record is in no list or in two, or a list doesn't end.
+    #[error("Sharing")]
+    Sharing,
+    /// A record that was put aside is marked as allocated.
+    #[error("Unused")]
+    Unused,
+    /// The allocated space is not that of what is allocated.
+    #[error("Space")]
+    Space,
+    /// There was no memory.
+    #[error("Memory")]
+    Memory,
+}
+
+impl RestoreFault {
+    /// The fault's number, from 1 to 11.
+    pub fn number(self) -> u32
+        ensures { result ≡ restore_fault_number self }
+    {
+        match self {
+            RestoreFault::Frame => 1,
+            RestoreFault::Counts => 2,
+            RestoreFault::Link => 3,
+            RestoreFault::Shelves => 4,
+            RestoreFault::Runs => 5,
+            RestoreFault::Neighbours => 6,
+            RestoreFault::FreeList => 7,
+            RestoreFault::Sharing => 8,
+            RestoreFault::Unused => 9,
+            RestoreFault::Space => 10,
+            RestoreFault::Memory => 11,
         }
     }
 }

@@ -17,6 +17,9 @@ use crate::sides::{Sides, side, swapped_axes, up};
 /// No side of a shelf atlas is longer, in pixels, nor one that is asked of any.
 pub const LONGEST_SIDE: u16 = 65535;
 
+/// No atlas has a larger area, in square pixels.
+pub const LARGEST_AREA: u64 = 2147483647;
+
 /// What an atlas keeps of its size and options: lengths in pixels, the direction of its shelves, and the
 /// number of its columns.
 #[derive(Clone, Copy, Debug, PartialEq, Eq)]
@@ -51,7 +54,7 @@ pub fn options_fault(longest: u16, size: Size, options: &AllocatorOptions) -> Op
         return Some(OptionsFault::Size);
     }
     let area = u64::from(side(size.width)) * u64::from(side(size.height));
-    if area > i32::MAX as u64 {
+    if area > LARGEST_AREA {
         return Some(OptionsFault::Area);
     }
     if side(options.alignment.width) == 0 || side(options.alignment.height) == 0 {
@@ -115,7 +118,9 @@ pub fn asked(frame: &Frame, size: Size) -> Option<Sides>
     }
 }
 
-fn column_width(size: Size, options: &AllocatorOptions) -> u32
+/// The width of a column in pixels: an equal share of the side along the shelves, rounded down to its
+/// alignment.
+pub fn column_width(size: Size, options: &AllocatorOptions) -> u32
     requires along { 0 < (alignments_of options.now).along }
     requires columns { 0 < side options.now.num_columns }
     ensures { result ≡ column_width_of size options.now }
@@ -128,7 +133,8 @@ fn column_width(size: Size, options: &AllocatorOptions) -> u32
     along / side(options.num_columns) / alignment * alignment
 }
 
-fn is_side(longest: u16, length: i32) -> bool
+/// Whether an atlas may have a side of this length, where none may be longer than `longest`.
+pub fn is_side(longest: u16, length: i32) -> bool
     ensures { result ≡ spec.is_side longest length }
 {
     0 < side(length) && side(length) <= u32::from(longest)

@@ -4,18 +4,28 @@
 //! clause or definition that changes here is checked again in all of them.
 #![tactic(auto)]
 
+mod drawing;
 mod faults;
 mod frames;
+mod gathering;
 mod geometry;
 mod ids;
 mod options;
+mod places;
 mod sending;
 mod sides;
 
-pub use faults::{OptionsFault, UnknownId};
-pub use frames::{Frame, LONGEST_SIDE, asked, atlas_frame, options_fault};
+pub use drawing::{
+    Colour, Drawn, background, drawn_at, has_area, push_document_begin, push_drawn, push_part_begin,
+};
+pub use faults::{OptionsFault, RestoreFault, UnknownId};
+pub use frames::{
+    Frame, LARGEST_AREA, LONGEST_SIDE, asked, atlas_frame, column_width, is_side, options_fault,
+};
+pub use gathering::GatheredText;
 pub use geometry::{Point, Rectangle, Size, point2, size2};
 pub use ids::{AllocId, Allocation, INDEX_MODULUS};
 pub use options::{AllocatorOptions, DEFAULT_OPTIONS};
+pub use places::rectangle_at;
 pub use sending::send;
 pub use sides::{Sides, side, step, swapped_axes, up};

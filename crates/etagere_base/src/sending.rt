@@ -1,6 +1,6 @@
 //! Writing a whole text to a writer that may take less at a time, or fail.
 //!
-//! Definitions: `Sending`. Nothing is tried again: one fault of the writer ends the call.
+//! Definitions: `Sending`. Nothing is retried: one fault of the writer ends the call.
 
 ghost use Rattle.std.specs.Prelude.{OnOk, OnErr};
 ghost use Rattle.std.specs.Io.KnownBytes.{Appends};

@@ -1,0 +1,88 @@
+-- Tests that decide a fact: both of two, one for each element, and one for the rest of a list that a loop has left.
+use Rattle.std.proofs.Common.{◌≡◌, ℕ, ◌+◌, ◌<◌, ◌≤◌, Bool, true, false, ◌&&◌, not, List, [], ◌∷◌, length, drop, get_or, refl, ap, subst, sym, arith, ◌∙◌}
+use Rattle.std.proofs.lemmas.List.{drop_more, drop_all}
+use Rattle.std.specs.Prelude.{◌==◌}
+use Rattle.etagere_base.specs.Deciding.{Decides}
+
+-- a yes is a proof
+pub granted : (b : Bool) (P : Type 0) → Decides b P → b ≡ true → P
+granted true P decides e = decides
+granted false P decides e = absurd (cc)
+
+-- a no is a refutation
+pub denied : (b : Bool) (P : Type 0) → Decides b P → b ≡ false → P → ⊥
+denied true P decides e = absurd (cc)
+denied false P decides e = decides
+
+-- a fact that holds is decided by a yes
+pub yes : (b : Bool) (P : Type 0) → b ≡ true → P → Decides b P
+yes true P e p = p
+yes false P e p = absurd (cc)
+
+-- a fact that does not hold is decided by a no
+pub no : (b : Bool) (P : Type 0) → b ≡ false → (P → ⊥) → Decides b P
+no true P e p = absurd (cc)
+no false P e p = p
+
+-- the same test decides a fact that holds where the first does
+pub decides-map : (b : Bool) (P Q : Type 0) → (P → Q) → (Q → P) → Decides b P → Decides b Q
+decides-map true P Q to from decides = to decides
+decides-map false P Q to from decides = λ q. decides (from q)
+
+-- two tests decide two facts
+pub decides-both : (b c : Bool) (P Q : Type 0) → Decides b P → Decides c Q → Decides (b && c) (P × Q)
+decides-both true true P Q p q = (p, q)
+decides-both true false P Q p q = λ both. q both.1
+decides-both false c P Q p q = λ both. p both.0
+
+-- whether two numbers are equal decides a fact that holds where they are
+pub decides-equal : (m n : ℕ) (P : Type 0) → (m ≡ n → P) → (P → m ≡ n) → Decides (m == n) P
+decides-equal m n P to from = by_test (m == n) refl
+  where
+    by_test : (b : Bool) → (m == n) ≡ b → Decides b P
+    by_test true e = to (grind arith)
+    by_test false e = λ p. let same : m ≡ n = from p in grind arith
+
+-- a test is decided by itself
+pub decides-true : (b : Bool) → Decides b (b ≡ true)
+decides-true true = refl
+decides-true false = λ e. cc
+
+-- a test is refuted by itself
+pub decides-false : (b : Bool) → Decides (not b) (b ≡ false)
+decides-false true = λ e. cc
+decides-false false = refl
+
+-- a loop has left the rest of a list: a fact of this rest is as much as the fact of the whole
+pub record IsLeft {X : Type 0} (whole : Type 0) (Rest : List X → Type 0) (i : ℕ) (xs : List X) : Type 0 where
+  pub to : whole → Rest (drop i xs)
+  pub from : Rest (drop i xs) → whole
+
+-- at first all is left
+pub left-all : {X : Type 0} (Rest : List X → Type 0) (xs : List X) → IsLeft (Rest xs) Rest 0 xs
+left-all Rest xs = record { to = λ rest. rest; from = λ rest. rest }
+
+-- where one more keeps its fact, less is left
+pub left-less : {X : Type 0} (whole : Type 0) (Rest Next : List X → Type 0) (Here : Type 0) (i : ℕ) (xs : List X) (d x : X)
+    → ((rest : List X) → Rest (x ∷ rest) → Here × Next rest) → ((rest : List X) → Here × Next rest → Rest (x ∷ rest))
+    → i < length xs → x ≡ get_or xs i d → Here → IsLeft whole Rest i xs → IsLeft whole Next (i + 1) xs
+left-less whole Rest Next Here i xs d x to from below is here left =
+    let more : drop i xs ≡ x ∷ drop (i + 1) xs = drop_more xs i d below ∙ ap (λ y. y ∷ drop (i + 1) xs) (sym is) in
+    record {
+      to = λ all. (to (drop (i + 1) xs) (subst Rest more (left.to all))).1;
+      from = λ rest. left.from (subst Rest (sym more) (from (drop (i + 1) xs) (here, rest)));
+    }
+
+-- where one breaks its fact, the whole is broken
+pub left-broken : {X : Type 0} (whole : Type 0) (Rest Next : List X → Type 0) (Here : Type 0) (i : ℕ) (xs : List X) (d x : X)
+    → ((rest : List X) → Rest (x ∷ rest) → Here × Next rest)
+    → i < length xs → x ≡ get_or xs i d → (Here → ⊥) → IsLeft whole Rest i xs → whole → ⊥
+left-broken whole Rest Next Here i xs d x to below is broken left all =
+    let more : drop i xs ≡ x ∷ drop (i + 1) xs = drop_more xs i d below ∙ ap (λ y. y ∷ drop (i + 1) xs) (sym is) in
+    broken (to (drop (i + 1) xs) (subst Rest more (left.to all))).0
+
+-- at the end nothing is left
+pub left-none : {X : Type 0} (whole : Type 0) (Rest : List X → Type 0) (i : ℕ) (xs : List X) → length xs ≤ i → Rest [] → IsLeft whole Rest i xs → whole
+left-none whole Rest i xs past rest left =
+    let none : drop i xs ≡ [] = drop_all i xs past in
+    left.from (subst Rest (sym none) rest)
