@@ -7,4 +7,5 @@ pub mod LinkedMerges
 pub mod LinkedShelves
 pub mod LinkedSplits
 pub mod LinkedUnused
+pub mod LinkedUses
 pub mod LinkedWalks

@@ -24,11 +24,6 @@ pub Leads-start : (next : ℕ → Option ℕ) (xs : List ℕ) (start end : Optio
 Leads-start next [] start end leads = leads
 Leads-start next (x ∷ xs) start end leads = leads.0
 
--- the first part of a list that links spell
-pub Leads-front : (next : ℕ → Option ℕ) (xs ys : List ℕ) (start end : Option ℕ) → Leads next start (xs ++ ys) end → Leads next start xs (first_or end ys)
-Leads-front next [] ys start end leads = Leads-start next ys start end leads
-Leads-front next (x ∷ xs) ys start end leads = (leads.0, Leads-front next xs ys (next x) end leads.1)
-
 -- the last part of a list that links spell
 pub Leads-back : (next : ℕ → Option ℕ) (xs ys : List ℕ) (start end : Option ℕ) → Leads next start (xs ++ ys) end → Leads next (first_or end ys) ys end
 Leads-back next [] ys start end leads = rw (← Leads-start next ys start end leads) leads
@@ -43,16 +38,6 @@ Leads-append next (x ∷ xs) ys start middle end front back = (front.0, Leads-ap
 pub LeadsBack-back : (previous : ℕ → Option ℕ) (xs ys : List ℕ) (before : Option ℕ) → LeadsBack previous before (xs ++ ys) → LeadsBack previous (last_or before xs) ys
 LeadsBack-back previous [] ys before leads = leads
 LeadsBack-back previous (x ∷ xs) ys before leads = LeadsBack-back previous xs ys (Some x) leads.1
-
--- the first parts
-pub LeadsBack-front : (previous : ℕ → Option ℕ) (xs ys : List ℕ) (before : Option ℕ) → LeadsBack previous before (xs ++ ys) → LeadsBack previous before xs
-LeadsBack-front previous [] ys before leads = tt
-LeadsBack-front previous (x ∷ xs) ys before leads = (leads.0, LeadsBack-front previous xs ys (Some x) leads.1)
-
--- two lists that links spell backward one after the other
-pub LeadsBack-append : (previous : ℕ → Option ℕ) (xs ys : List ℕ) (before : Option ℕ) → LeadsBack previous before xs → LeadsBack previous (last_or before xs) ys → LeadsBack previous before (xs ++ ys)
-LeadsBack-append previous [] ys before front back = back
-LeadsBack-append previous (x ∷ xs) ys before front back = (front.0, LeadsBack-append previous xs ys (Some x) front.1 back)
 
 -- what a member's link is: the one after it
 pub next-is : (next : ℕ → Option ℕ) (xs ys : List ℕ) (x : ℕ) (start end : Option ℕ) → Leads next start (xs ++ x ∷ ys) end → next x ≡ first_or end ys

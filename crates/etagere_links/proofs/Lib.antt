@@ -1,4 +1,4 @@
-mod EditLemmas
+pub mod EditLemmas
 mod WalkRows
 mod WalkSteps
 pub mod AllLists
@@ -6,9 +6,13 @@ pub mod ChainEdits
 pub mod Chains
 pub mod Families
 pub mod FirstLinks
+pub mod LinkBits
 pub mod ListEnds
+mod MetPlaces
+pub mod MarkLemmas
 pub mod RecordChanges
 pub mod RecordFrames
 pub mod RecordLists
 pub mod Tallies
+pub mod UsedRecords
 pub mod WalkChains

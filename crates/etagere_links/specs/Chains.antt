@@ -24,7 +24,8 @@ pub record IsChain (next previous : ℕ → Option ℕ) (first : Option ℕ) (xs
 
 -- the links of one kind in these records spell this list
 abbrev pub IsChainIn : {T : Type 0} → Family T → List T → Option ℕ → List ℕ → Type 0
-IsChainIn family records first xs = IsChain (link_at family.next records) (link_at family.previous records) first xs
+IsChainIn family records first xs =
+    IsChain (link_at family.next records) (link_at family.previous records) first xs
 
 -- the links to the next one in these records spell this list
 abbrev pub IsPileIn : {T : Type 0} → Family T → List T → Option ℕ → List ℕ → Type 0

@@ -1,6 +1,7 @@
 -- What inserting and taking out does to records, and to the link to a list's first.
-use Rattle.std.specs.Prelude.{ℕ, zero, suc, Option, None, Some, option_and_then, List, [], ◌∷◌, slice_get}
+use Rattle.std.specs.Prelude.{◌≡◌, ℕ, zero, suc, Option, None, Some, option_and_then, List, [], ◌∷◌, slice_get}
 use Rattle.etagere_links.specs.Families.{Family}
+use Rattle.etagere_links.specs.Links.{bits_of, link_of}
 
 -- the list with the element of this number changed
 abbrev pub changed_at : {T : Type 0} → ℕ → (T → T) → List T → List T
@@ -17,12 +18,17 @@ changed_by (Some number) change xs = changed_at number change xs
 abbrev pub link_at : {T : Type 0} → (T → Option ℕ) → List T → ℕ → Option ℕ
 link_at link records number = option_and_then link (slice_get records number)
 
+-- the links of these records fit their bits: none of them names the number whose bits stand for none
+abbrev pub AreFitting : {T : Type 0} → (T → Option ℕ) → List T → Type 0
+AreFitting link records = (k : ℕ) → link_of (bits_of (link_at link records k)) ≡ link_at link records k
+
 -- the records after the one of this number was taken out: its neighbours are linked to each other
 abbrev pub unlinked : {T : Type 0} → Family T → ℕ → List T → List T
 unlinked family number records =
     let previous = link_at family.previous records number in
     let next = link_at family.next records number in
-    changed_by next (family.with_previous previous) (changed_by previous (family.with_next next) records)
+    changed_by next (family.with_previous previous)
+    (changed_by previous (family.with_next next) records)
 
 -- the link to a list's first, where one with these neighbours was taken out
 abbrev pub first_without : Option ℕ → Option ℕ → Option ℕ → Option ℕ
@@ -38,5 +44,5 @@ linked_between family previous next number records =
     (changed_by (Some number) (family.with_next next) records)))
 
 -- the records after the one of this number was put onto a pile with this top
-abbrev pub piled : {T : Type 0} → Family T → Option ℕ → ℕ → List T → List T
-piled family top number records = changed_by (Some number) (family.with_next top) records
+abbrev pub put_aside : {T : Type 0} → Family T → Option ℕ → ℕ → List T → List T
+put_aside family top number records = changed_by (Some number) (family.with_next top) records

@@ -17,5 +17,7 @@ pub record IsUnchanged {T X : Type 0} (family : Family T) (f : T → X) : Type 0
 pub record IsFamily {T : Type 0} (family : Family T) : Type 0 where
   pub next : (link : Option ℕ) (x : T) → family.next (family.with_next link x) ≡ link
   pub previous : (link : Option ℕ) (x : T) → family.previous (family.with_previous link x) ≡ link
-  pub next_stays : (link : Option ℕ) (x : T) → family.next (family.with_previous link x) ≡ family.next x
-  pub previous_stays : (link : Option ℕ) (x : T) → family.previous (family.with_next link x) ≡ family.previous x
+  pub next_stays : (link : Option ℕ) (x : T)
+      → family.next (family.with_previous link x) ≡ family.next x
+  pub previous_stays : (link : Option ℕ) (x : T)
+      → family.previous (family.with_next link x) ≡ family.previous x

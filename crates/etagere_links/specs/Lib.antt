@@ -3,8 +3,12 @@ pub mod Edits
 pub mod Families
 pub mod Links
 pub mod Lists
+pub mod Marks
+pub mod Private
 pub mod RecordEdits
 pub mod RecordLists
 pub mod RecordMerges
+pub mod RecordUses
 pub mod Records
+pub mod WalkFaults
 pub mod Walks

@@ -1,35 +1,41 @@
 -- What the steps of an allocation and of a return do to the records of a shelf atlas.
-use Rattle.std.specs.Prelude.{ℕ, Bool, Option, None, Some, option_and_then, List, [], ◌∷◌, ◌++◌}
+use Rattle.std.specs.Prelude.{ℕ, Bool, Option, None, Some, option_and_then, List, [], ◌∷◌, ◌++◌, take}
 use Rattle.etagere_links.specs.declared.records.ItemRecord.{ItemRecord}
 use Rattle.etagere_links.specs.declared.records.ShelfRecord.{ShelfRecord}
-use Rattle.etagere_links.specs.Edits.{changed_by, link_at, unlinked, first_without, linked_between, piled}
+use Rattle.etagere_links.specs.Edits.{changed_by, link_at, unlinked, first_without, linked_between, put_aside}
 use Rattle.etagere_links.specs.RecordLists.{Records, first_item_of, first_free_of}
 use Rattle.etagere_links.specs.Records.{item_chain, free_list, shelf_chain}
 
 -- the shelves with another first item in the one of this number
 abbrev pub with_first_item : ℕ → Option ℕ → List ShelfRecord → List ShelfRecord
-with_first_item shelf link shelves = changed_by (Some shelf) (λ (here : ShelfRecord). record here { first_item = link }) shelves
+with_first_item shelf link shelves =
+    changed_by (Some shelf) (λ (here : ShelfRecord). record here { first_item = link }) shelves
 
 -- the shelves with another first of the free list in the one of this number
 abbrev pub with_first_free : ℕ → Option ℕ → List ShelfRecord → List ShelfRecord
 with_first_free shelf link shelves =
-    changed_by (Some shelf) (λ (here : ShelfRecord). record here { first_unallocated = link }) shelves
+    changed_by (Some shelf) (λ (here : ShelfRecord). record here { first_unallocated = link })
+    shelves
 
 -- the shelves with another height of the one of this number
 abbrev pub with_height : ℕ → ℕ → List ShelfRecord → List ShelfRecord
-with_height shelf height shelves = changed_by (Some shelf) (λ (here : ShelfRecord). record here { height = height }) shelves
+with_height shelf height shelves =
+    changed_by (Some shelf) (λ (here : ShelfRecord). record here { height = height }) shelves
 
 -- the shelves where the one of this number says whether it is empty
 abbrev pub with_empty : ℕ → Bool → List ShelfRecord → List ShelfRecord
-with_empty shelf is_empty shelves = changed_by (Some shelf) (λ (here : ShelfRecord). record here { is_empty = is_empty }) shelves
+with_empty shelf is_empty shelves =
+    changed_by (Some shelf) (λ (here : ShelfRecord). record here { is_empty = is_empty }) shelves
 
 -- the items with another width of the one of this number
 abbrev pub with_width : ℕ → ℕ → List ItemRecord → List ItemRecord
-with_width number width items = changed_by (Some number) (λ (here : ItemRecord). record here { width = width }) items
+with_width number width items =
+    changed_by (Some number) (λ (here : ItemRecord). record here { width = width }) items
 
 -- the items where the one of this number says whether it is allocated
 abbrev pub with_allocated : ℕ → Bool → List ItemRecord → List ItemRecord
-with_allocated number allocated items = changed_by (Some number) (λ (here : ItemRecord). record here { allocated = allocated }) items
+with_allocated number allocated items =
+    changed_by (Some number) (λ (here : ItemRecord). record here { allocated = allocated }) items
 
 -- an item taken out of its shelf
 abbrev pub item_unlinked : ℕ → ℕ → Records → Records
@@ -38,7 +44,8 @@ item_unlinked shelf number records =
       items = unlinked item_chain number records.items;
       shelves =
           with_first_item shelf
-          (first_without (link_at item_chain.previous records.items number) (link_at item_chain.next records.items number) (first_item_of records.shelves shelf))
+          (first_without (link_at item_chain.previous records.items number)
+          (link_at item_chain.next records.items number) (first_item_of records.shelves shelf))
           records.shelves;
     }
 
@@ -46,7 +53,9 @@ item_unlinked shelf number records =
 abbrev pub item_inserted_after : ℕ → ℕ → Records → Records
 item_inserted_after previous number records =
     record records {
-      items = linked_between item_chain (Some previous) (link_at item_chain.next records.items previous) number records.items;
+      items =
+          linked_between item_chain (Some previous) (link_at item_chain.next records.items previous)
+          number records.items;
     }
 
 -- an item taken out of the free list of its shelf
@@ -56,7 +65,8 @@ free_unlinked shelf number records =
       items = unlinked free_list number records.items;
       shelves =
           with_first_free shelf
-          (first_without (link_at free_list.previous records.items number) (link_at free_list.next records.items number) (first_free_of records.shelves shelf))
+          (first_without (link_at free_list.previous records.items number)
+          (link_at free_list.next records.items number) (first_free_of records.shelves shelf))
           records.shelves;
     }
 
@@ -64,7 +74,8 @@ free_unlinked shelf number records =
 abbrev pub free_inserted_front : ℕ → ℕ → Records → Records
 free_inserted_front shelf number records =
     record records {
-      items = linked_between free_list None (first_free_of records.shelves shelf) number records.items;
+      items =
+          linked_between free_list None (first_free_of records.shelves shelf) number records.items;
       shelves = with_first_free shelf (Some number) records.shelves;
     }
 
@@ -72,18 +83,26 @@ free_inserted_front shelf number records =
 abbrev pub free_inserted_after : ℕ → ℕ → Records → Records
 free_inserted_after previous number records =
     record records {
-      items = linked_between free_list (Some previous) (link_at free_list.next records.items previous) number records.items;
+      items =
+          linked_between free_list (Some previous) (link_at free_list.next records.items previous)
+          number records.items;
     }
 
 -- an item record put aside
 abbrev pub item_put_aside : ℕ → Records → Records
 item_put_aside number records =
-    record records { items = piled item_chain records.free_items number records.items; free_items = Some number }
+    record records {
+      items = put_aside item_chain records.free_items number records.items;
+      free_items = Some number;
+    }
 
 -- the item record taken that was put aside last
 abbrev pub item_taken : Records → Records
 item_taken records =
-    record records { free_items = option_and_then (link_at item_chain.next records.items) records.free_items }
+    record records {
+      free_items = option_and_then (link_at item_chain.next records.items)
+          records.free_items;
+    }
 
 -- a shelf taken out of the chain of shelves
 abbrev pub shelf_unlinked : ℕ → Records → Records
@@ -91,33 +110,44 @@ shelf_unlinked number records =
     record records {
       shelves = unlinked shelf_chain number records.shelves;
       first_shelf =
-          first_without (link_at shelf_chain.previous records.shelves number) (link_at shelf_chain.next records.shelves number) records.first_shelf;
+          first_without (link_at shelf_chain.previous records.shelves number)
+          (link_at shelf_chain.next records.shelves number) records.first_shelf;
     }
 
 -- a shelf put after another one
 abbrev pub shelf_inserted_after : ℕ → ℕ → Records → Records
 shelf_inserted_after previous number records =
     record records {
-      shelves = linked_between shelf_chain (Some previous) (link_at shelf_chain.next records.shelves previous) number records.shelves;
+      shelves =
+          linked_between shelf_chain (Some previous)
+          (link_at shelf_chain.next records.shelves previous) number records.shelves;
     }
 
 -- a shelf record put aside
 abbrev pub shelf_put_aside : ℕ → Records → Records
 shelf_put_aside number records =
-    record records { shelves = piled shelf_chain records.free_shelves number records.shelves; free_shelves = Some number }
+    record records {
+      shelves = put_aside shelf_chain records.free_shelves number records.shelves;
+      free_shelves = Some number;
+    }
 
 -- the shelf record taken that was put aside last
 abbrev pub shelf_taken : Records → Records
 shelf_taken records =
-    record records { free_shelves = option_and_then (link_at shelf_chain.next records.shelves) records.free_shelves }
+    record records {
+      free_shelves = option_and_then (link_at shelf_chain.next records.shelves)
+          records.free_shelves;
+    }
 
 -- an item record changed
 abbrev pub item_changed : ℕ → (ItemRecord → ItemRecord) → Records → Records
-item_changed number change records = record records { items = changed_by (Some number) change records.items }
+item_changed number change records =
+    record records { items = changed_by (Some number) change records.items }
 
 -- a shelf record changed
 abbrev pub shelf_changed : ℕ → (ShelfRecord → ShelfRecord) → Records → Records
-shelf_changed number change records = record records { shelves = changed_by (Some number) change records.shelves }
+shelf_changed number change records =
+    record records { shelves = changed_by (Some number) change records.shelves }
 
 -- an item record made
 abbrev pub item_made : ItemRecord → Records → Records
@@ -126,3 +156,12 @@ item_made item records = record records { items = records.items ++ item ∷ [] }
 -- a shelf record made
 abbrev pub shelf_made : ShelfRecord → Records → Records
 shelf_made shelf records = record records { shelves = records.shelves ++ shelf ∷ [] }
+
+-- so many records of each kind
+abbrev pub truncated : ℕ → Records → Records
+truncated count records =
+    record records { shelves = take count records.shelves; items = take count records.items }
+
+-- records that begin with the shelf of number 0, and none of which is put aside
+abbrev pub restarted : Records → Records
+restarted records = record records { first_shelf = Some 0; free_items = None; free_shelves = None }

@@ -23,11 +23,13 @@ field_at field other records number = option_map_or field (slice_get records num
 
 -- the link to the first item of the shelf of this number
 abbrev pub first_item_of : List ShelfRecord → ℕ → Option ℕ
-first_item_of shelves number = field_at (λ (shelf : ShelfRecord). shelf.first_item) None shelves number
+first_item_of shelves number =
+    field_at (λ (shelf : ShelfRecord). shelf.first_item) None shelves number
 
 -- the link to the first of the free list of the shelf of this number
 abbrev pub first_free_of : List ShelfRecord → ℕ → Option ℕ
-first_free_of shelves number = field_at (λ (shelf : ShelfRecord). shelf.first_unallocated) None shelves number
+first_free_of shelves number =
+    field_at (λ (shelf : ShelfRecord). shelf.first_unallocated) None shelves number
 
 -- the walk through records by one of their links
 abbrev pub walk_by : {T : Type 0} → (T → Option ℕ) → List T → Option ℕ → Walked
@@ -47,7 +49,8 @@ unused_item_walk records = walk_by item_chain.next records.items records.free_it
 
 -- the items of the shelf of this number
 abbrev pub item_walk : Records → ℕ → Walked
-item_walk records shelf = walk_by item_chain.next records.items (first_item_of records.shelves shelf)
+item_walk records shelf =
+    walk_by item_chain.next records.items (first_item_of records.shelves shelf)
 
 -- the free list of the shelf of this number
 abbrev pub free_walk : Records → ℕ → Walked
@@ -78,7 +81,11 @@ item_numbers (entry ∷ entries) = entry.items ++ item_numbers entries
 -- the lists of the shelf of this number that walks meet
 abbrev pub walked_entry : Records → ℕ → Entry
 walked_entry records number =
-    record { number = number; items = (item_walk records number).met; free_list = (free_walk records number).met }
+    record {
+      number = number;
+      items = (item_walk records number).met;
+      free_list = (free_walk records number).met;
+    }
 
 -- the lists that walks meet
 abbrev pub walked_lists : Records → Lists
@@ -91,22 +98,30 @@ walked_lists records =
 
 -- each number below the count stands in the list once, and no other
 abbrev pub HasEachOnce : ℕ → List ℕ → Type 0
-HasEachOnce count numbers = (number : ℕ) → times number numbers ≡ (if nat_lt number count then 1 else 0)
+HasEachOnce count numbers =
+    (number : ℕ) → times number numbers ≡ (if nat_lt number count then 1 else 0)
 
 -- links spell the items of a shelf and its free list; these are items of it
 pub record IsEntry (records : Records) (entry : Entry) : Type 0 where
-  pub items : IsChainIn item_chain records.items (first_item_of records.shelves entry.number) entry.items
-  pub free_list : IsChainIn free_list records.items (first_free_of records.shelves entry.number) entry.free_list
+  pub items : IsChainIn item_chain records.items (first_item_of records.shelves entry.number)
+      entry.items
+  pub free_list : IsChainIn free_list records.items (first_free_of records.shelves entry.number)
+      entry.free_list
   pub members : (number : ℕ) → times number entry.free_list ≤ times number entry.items
 
 -- links spell all lists, and each record stands in one of them, once, or is one of those in no list
-pub record IsLinkedBut (records : Records) (lists : Lists) (loose_items loose_shelves : List ℕ) : Type 0 where
-  pub shelves : IsChainIn shelf_chain records.shelves records.first_shelf (shelf_numbers lists.entries)
+pub record IsLinkedBut (records : Records) (lists : Lists) (loose_items loose_shelves : List ℕ)
+    : Type 0 where
+  pub shelves : IsChainIn shelf_chain records.shelves records.first_shelf
+      (shelf_numbers lists.entries)
   pub entries : Each (IsEntry records) lists.entries
   pub unused_items : IsPileIn item_chain records.items records.free_items lists.unused_items
-  pub unused_shelves : IsPileIn shelf_chain records.shelves records.free_shelves lists.unused_shelves
-  pub shelves_once : HasEachOnce (length records.shelves) (shelf_numbers lists.entries ++ lists.unused_shelves ++ loose_shelves)
-  pub items_once : HasEachOnce (length records.items) (item_numbers lists.entries ++ lists.unused_items ++ loose_items)
+  pub unused_shelves : IsPileIn shelf_chain records.shelves records.free_shelves
+      lists.unused_shelves
+  pub shelves_once : HasEachOnce (length records.shelves)
+      (shelf_numbers lists.entries ++ lists.unused_shelves ++ loose_shelves)
+  pub items_once : HasEachOnce (length records.items)
+      (item_numbers lists.entries ++ lists.unused_items ++ loose_items)
 
 -- links spell all lists, and each record stands in one of them, once
 abbrev pub IsLinked : Records → Lists → Type 0

@@ -16,7 +16,8 @@ abbrev pub allocated_absorbed : ℕ → ℕ → ℕ → ℕ → Records → Reco
 allocated_absorbed shelf number next width records =
     item_changed number (λ (item : ItemRecord). record item { width = width })
     (item_put_aside next
-    (item_changed next (λ (item : ItemRecord). record item { allocated = false }) (item_unlinked shelf next records)))
+    (item_changed next (λ (item : ItemRecord). record item { allocated = false })
+    (item_unlinked shelf next records)))
 
 -- an allocated item becomes free, in front of the free list
 abbrev pub item_freed : ℕ → ℕ → Records → Records
@@ -33,16 +34,19 @@ shelf_absorbed shelf next item height records =
 -- a free item is given whole
 abbrev pub item_given : ℕ → ℕ → Records → Records
 item_given shelf number records =
-    item_changed number (λ (item : ItemRecord). record item { allocated = true }) (free_unlinked shelf number records)
+    item_changed number (λ (item : ItemRecord). record item { allocated = true })
+    (free_unlinked shelf number records)
 
 -- the front of a free item is given; the rest, another record, takes its place in the free list
 abbrev pub front_given : ℕ → ℕ → ℕ → ℕ → Records → Records
 front_given shelf number rest width records =
     item_changed number (λ (item : ItemRecord). record item { width = width; allocated = true })
-    (free_unlinked shelf number (free_inserted_after number rest (item_inserted_after number rest records)))
+    (free_unlinked shelf number
+    (free_inserted_after number rest (item_inserted_after number rest records)))
 
 -- the lower part of an empty shelf stays, and the rest, other records, stands after it
 abbrev pub shelf_split : ℕ → ℕ → ℕ → ℕ → ShelfRecord → ItemRecord → Records → Records
 shelf_split shelf rest rest_item height rest_shelf item records =
     shelf_changed shelf (λ (here : ShelfRecord). record here { height = height })
-    (shelf_inserted_after shelf rest (shelf_changed rest (λ _. rest_shelf) (item_changed rest_item (λ _. item) records)))
+    (shelf_inserted_after shelf rest
+    (shelf_changed rest (λ _. rest_shelf) (item_changed rest_item (λ _. item) records)))

@@ -2,7 +2,7 @@
 //!
 //! Definitions: `RecordEdits`. A field that a step writes gets its function here, and keeps all others.
 
-ghost use Rattle.std.specs.Prelude.{◌≡◌, Some};
+ghost use Rattle.std.specs.Prelude.{◌≡◌, true, Some};
 ghost use Rattle.etagere_links.specs.Edits.{changed_by};
 ghost use Rattle.etagere_links.specs.RecordEdits as edits;
 ghost use Rattle.etagere_links.specs.RecordLists.{first_item_of, first_free_of};
@@ -89,6 +89,19 @@ pub fn set_allocated(items: &mut [ItemRecord], number: usize, allocated: bool)
     if number < items.len() {
         let here = &mut items[number];
         here.allocated = allocated;
+    }
+}
+
+/// Changes the width of an item, and says that it is allocated.
+pub fn set_given(items: &mut [ItemRecord], number: usize, width: u16)
+    ensures { items.new
+        ≡ changed_by (Some number)
+        (λ here. record here { width = width; allocated = true }) items.old }
+{
+    if number < items.len() {
+        let here = &mut items[number];
+        here.width = width;
+        here.allocated = true;
     }
 }
 

@@ -56,9 +56,17 @@ impl Link {
         }
     }
 
+    /// The link that these bits stand for: to the record of this number, or to none at 65535.
+    pub fn from_bits(bits: u16) -> Link
+        ensures { result ≡ link_of bits }
+    {
+        Link { bits }
+    }
+
     /// The bits that stand for the link.
     pub fn bits(self) -> u16
-        ensures { result ≡ bits_of self }
+        ensures value { result ≡ bits_of self }
+        ensures link { link_of result ≡ self }
     {
         self.bits
     }

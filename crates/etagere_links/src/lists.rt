@@ -3,12 +3,14 @@
 //!
 //! Definitions: `Edits`, and `Chains` for what they mean. One body serves every list of `Linked`.
 
-ghost use Rattle.std.specs.Prelude.{◌≡◌, ◌<◌, IfSome, option_and_then};
-ghost use Rattle.etagere_links.specs.Links.{no_link};
+ghost use Rattle.std.specs.Prelude.{◌≡◌, ◌<◌, IfSome, IfOk, OnOk, map, option_and_then};
+ghost use Rattle.etagere_links.specs.Links.{no_link, bits_of};
+ghost use Rattle.etagere_links.specs.Edits.{AreFitting};
 ghost use Rattle.etagere_links.specs.Edits as spec;
 
 use crate::chained::Linked;
 use crate::links::Link;
+use std::alloc::{AllocError, Global};
 
 /// The link to the record after the one of this number; none where there is no such record.
 pub fn next_of<List, T: Linked<List>>(records: &[T], number: usize) -> Link
@@ -30,6 +32,24 @@ pub fn previous_of<List, T: Linked<List>>(records: &[T], number: usize) -> Link
     } else {
         Link::none()
     }
+}
+
+/// The bits of the links to the next one, of all records in order of their numbers: what a walk follows.
+///
+/// Takes two bytes of memory for each record. The error comes only where a growth was refused.
+pub fn next_bits<List, T: Linked<List>>(
+    alloc: Global,
+    records: &[T],
+) -> Result<Vec<u16>, AllocError>
+    ensures bits { IfOk result
+        (λ bits. bits.items ≡ map (λ here. bits_of (T.family.next here)) records.now) }
+    ensures fit { OnOk result (AreFitting T.family.next records.now) }
+{
+    let mut bits = Vec::new(alloc);
+    for number in 0..records.len() {
+        bits.push(next_of::<List, T>(records, number).bits())?;
+    }
+    Ok(bits)
 }
 
 /// Changes the link to the next one in the record that `from` names.
@@ -115,7 +135,7 @@ pub fn insert_front<List, T: Linked<List>>(records: &mut [T], first: &mut Link, 
 /// pile is linked through `next` alone.
 pub fn put_aside<List, T: Linked<List>>(records: &mut [T], top: &mut Link, number: usize)
     requires { number < no_link }
-    ensures records { records.new ≡ spec.piled T.family top.old number records.old }
+    ensures records { records.new ≡ spec.put_aside T.family top.old number records.old }
     ensures top { top.new ≡ Some number }
 {
     let link = Link::to(number);

@@ -3,13 +3,14 @@
 //! Definitions: `RecordLists`, `RecordEdits`, `RecordMerges`. A step is one call for each list or field
 //! that it changes.
 
-ghost use Rattle.std.specs.Prelude.{◌≡◌, ◌<◌, [], OnOk, OnErr};
+ghost use Rattle.std.specs.Prelude.{◌≡◌, ◌+◌, ◌<◌, ◌≤◌, true, [], length, IfOk, OnOk, OnErr, if◌then◌else◌};
 ghost use Rattle.etagere_links.specs.Links.{no_link};
 
 use crate::chained::{Chain, FreeList};
 use crate::links::Link;
 use crate::records::{ItemRecord, ShelfRecord};
-use crate::{fields, lists};
+use crate::uses::Rests;
+use crate::{fields, lists, uses};
 use std::alloc::{AllocError, Global};
 use std::marker::Model;
 
@@ -41,6 +42,9 @@ impl Model for Records {
 
 impl Records {
     ghost use Rattle.etagere_links.specs.RecordEdits as edits;
+    ghost use Rattle.etagere_links.specs.RecordMerges as merges;
+    ghost use Rattle.etagere_links.specs.RecordUses as using;
+    ghost use Rattle.etagere_links.specs.RecordUses.{AreSmall};
 
     /// No records. Takes no memory.
     pub fn new(alloc: Global) -> Records
@@ -60,6 +64,58 @@ impl Records {
             unused_items: Link::none(),
             unused_shelves: Link::none(),
         }
+    }
+
+    /// These records, by number, where the lists of them begin at these links. Takes no memory.
+    pub fn of_lists(
+        shelves: Vec<ShelfRecord>,
+        items: Vec<ItemRecord>,
+        first_shelf: Link,
+        free_items: Link,
+        free_shelves: Link,
+    ) -> Records
+        ensures { result
+            ≡ record {
+              shelves = shelves.items;
+              items = items.items;
+              first_shelf = first_shelf;
+              free_items = free_items;
+              free_shelves = free_shelves;
+            } }
+    {
+        Records {
+            shelf_records: shelves,
+            item_records: items,
+            first: first_shelf,
+            unused_items: free_items,
+            unused_shelves: free_shelves,
+        }
+    }
+
+    /// Takes memory for so many further shelf records, and as many item records.
+    pub fn reserve(&mut self, more: usize) -> Result<(), AllocError>
+        ensures { self.new ≡ self.old }
+    {
+        self.shelf_records.reserve(more)?;
+        self.item_records.reserve(more)?;
+        Ok(())
+    }
+
+    /// Forgets all records but so many of each kind. Keeps the memory, and all links.
+    pub fn truncate(&mut self, count: usize)
+        ensures { self.new ≡ edits.truncated count self.old }
+    {
+        self.shelf_records.truncate(count);
+        self.item_records.truncate(count);
+    }
+
+    /// Makes the shelf of number 0 the first one, and forgets what was put aside.
+    pub fn restart(&mut self)
+        ensures { self.new ≡ edits.restarted self.old }
+    {
+        self.first = Link::to(0);
+        self.unused_items = Link::none();
+        self.unused_shelves = Link::none();
     }
 
     /// The item records, by number.
@@ -83,6 +139,34 @@ impl Records {
         self.first
     }
 
+    /// The link to the item record that was put aside last.
+    pub fn unused_items(&self) -> Link
+        ensures { result ≡ self.now.free_items }
+    {
+        self.unused_items
+    }
+
+    /// The link to the shelf record that was put aside last.
+    pub fn unused_shelves(&self) -> Link
+        ensures { result ≡ self.now.free_shelves }
+    {
+        self.unused_shelves
+    }
+
+    /// A copy of the item records. Takes memory for all of them.
+    pub fn copied_items(&self) -> Result<Vec<ItemRecord>, AllocError>
+        ensures { IfOk result (λ items. items.items ≡ self.now.items) }
+    {
+        self.item_records.clone()
+    }
+
+    /// A copy of the shelf records. Takes memory for all of them.
+    pub fn copied_shelves(&self) -> Result<Vec<ShelfRecord>, AllocError>
+        ensures { IfOk result (λ shelves. shelves.items ≡ self.now.shelves) }
+    {
+        self.shelf_records.clone()
+    }
+
     /// Makes an item record, whose number is that of the records before it. The error comes only where a
     /// growth was refused, and then nothing has changed.
     pub fn make_item(&mut self, item: ItemRecord) -> Result<(), AllocError>
@@ -101,6 +185,31 @@ impl Records {
     {
         self.shelf_records.push(shelf)?;
         Ok(())
+    }
+
+    /// Puts the records to use that the rests of a split need: those put aside last, and new ones where
+    /// there are too few, for the rest of a shelf before the rest of an item. The error comes only where a
+    /// growth was refused, and then nothing has changed.
+    pub fn use_rests(&mut self, of_shelf: bool, of_item: bool) -> Result<Rests, AllocError>
+        requires items { length (using.rests_used of_shelf of_item self.old).items ≤ no_link }
+        requires shelves { length (using.rests_used of_shelf of_item self.old).shelves ≤ no_link }
+        ensures rests { IfOk result (λ rests. rests ≡ using.rests_of of_shelf of_item self.old) }
+        ensures small { IfOk result AreSmall }
+        ensures ok { OnOk result (self.new ≡ using.rests_used of_shelf of_item self.old) }
+        ensures err { OnErr result (self.new ≡ self.old) }
+        ensures split { OnErr result
+            (0 < (if of_shelf then 1 else 0) + (if of_item then 1 else 0)) }
+    {
+        uses::reserve_items(&mut self.item_records, self.unused_items, of_shelf, of_item)?;
+        uses::reserve_shelf(&mut self.shelf_records, self.unused_shelves, of_shelf)?;
+        let shelf_item = uses::use_item(&mut self.item_records, &mut self.unused_items, of_shelf);
+        let shelf = uses::use_shelf(&mut self.shelf_records, &mut self.unused_shelves, of_shelf);
+        let item = uses::use_item(&mut self.item_records, &mut self.unused_items, of_item);
+        Ok(Rests {
+            shelf,
+            shelf_item,
+            item,
+        })
     }
 
     /// Takes an item out of its shelf. Its own links stay.
@@ -161,14 +270,6 @@ impl Records {
         );
     }
 
-    /// Takes the item record that was put aside last; none where there is none.
-    pub fn take_item(&mut self) -> Option<usize>
-        ensures number { result ≡ self.old.free_items }
-        ensures records { self.new ≡ edits.item_taken self.old }
-    {
-        lists::take::<Chain, ItemRecord>(&self.item_records, &mut self.unused_items)
-    }
-
     /// Takes a shelf out of the chain of shelves. Its own links stay.
     pub fn unlink_shelf(&mut self, number: usize)
         ensures { self.new ≡ edits.shelf_unlinked number self.old }
@@ -197,14 +298,6 @@ impl Records {
         );
     }
 
-    /// Takes the shelf record that was put aside last; none where there is none.
-    pub fn take_shelf(&mut self) -> Option<usize>
-        ensures number { result ≡ self.old.free_shelves }
-        ensures records { self.new ≡ edits.shelf_taken self.old }
-    {
-        lists::take::<Chain, ShelfRecord>(&self.shelf_records, &mut self.unused_shelves)
-    }
-
     /// Changes the width of an item.
     pub fn set_width(&mut self, number: usize, width: u16)
         ensures { self.new
@@ -219,6 +312,15 @@ impl Records {
             ≡ edits.item_changed number (λ here. record here { allocated = allocated }) self.old }
     {
         fields::set_allocated(&mut self.item_records, number, allocated);
+    }
+
+    /// Changes the width of an item, and says that it is allocated.
+    fn set_given(&mut self, number: usize, width: u16)
+        ensures { self.new
+            ≡ edits.item_changed number
+            (λ here. record here { width = width; allocated = true }) self.old }
+    {
+        fields::set_given(&mut self.item_records, number, width);
     }
 
     /// Writes the record of an item anew.
@@ -249,5 +351,63 @@ impl Records {
         ensures { self.new ≡ edits.shelf_changed number (λ _. shelf) self.old }
     {
         fields::write_shelf(&mut self.shelf_records, number, shelf);
+    }
+
+    /// Gives the whole of a free item of a shelf.
+    pub fn give_item(&mut self, shelf: usize, number: usize)
+        ensures { self.new ≡ merges.item_given shelf number self.old }
+    {
+        self.unlink_free(shelf, number);
+        self.set_allocated(number, true);
+    }
+
+    /// Gives the front of a free item of a shelf, of this width. The rest, an item that stands in no list,
+    /// comes after it and takes its place in the free list.
+    pub fn give_front(&mut self, shelf: usize, number: usize, rest: usize, width: u16)
+        requires number { number < no_link }
+        requires rest { rest < no_link }
+        ensures { self.new ≡ merges.front_given shelf number rest width self.old }
+    {
+        self.insert_item_after(number, rest);
+        self.insert_free_after(number, rest);
+        self.unlink_free(shelf, number);
+        self.set_given(number, width);
+    }
+
+    /// Keeps the lower part of a shelf, of this height. The rest, a shelf and an item that stand in no list,
+    /// gets these records and comes after it.
+    pub fn split_shelf(
+        &mut self,
+        shelf: usize,
+        height: u16,
+        rest: usize,
+        rest_shelf: ShelfRecord,
+        rest_item: usize,
+        item: ItemRecord,
+    )
+        requires shelf { shelf < no_link }
+        requires rest { rest < no_link }
+        ensures { self.new
+            ≡ merges.shelf_split shelf rest rest_item height rest_shelf item self.old }
+    {
+        self.write_item(rest_item, item);
+        self.write_shelf(rest, rest_shelf);
+        self.insert_shelf_after(shelf, rest);
+        self.set_height(shelf, height);
+    }
+}
+
+impl Clone for Records {
+    ghost is_clone = { λ records other. other ≡ records };
+
+    /// Equal records that share nothing with these. Takes memory for all of them.
+    fn clone(&self) -> Result<Records, AllocError> {
+        Ok(Records {
+            shelf_records: self.shelf_records.clone()?,
+            item_records: self.item_records.clone()?,
+            first: self.first,
+            unused_items: self.unused_items,
+            unused_shelves: self.unused_shelves,
+        })
     }
 }

@@ -1,20 +1,65 @@
 //! Following links through records, whatever they are: in linear time, also where links go in circles.
 //!
-//! Definitions: `Walks`.
+//! Definitions: `Walks`, and `Marks` for what many walks met. A `WalkRoom` is never cleared: what an earlier
+//! walk left in it is told apart by what the present one has met.
 
-ghost use Rattle.std.specs.Prelude.{◌≡◌, ◌≤◌, IfOk, length, vec_len};
+ghost use Rattle.std.specs.Prelude.{◌≡◌, ◌<◌, ◌≤◌, ◌==◌, IfOk, length, vec_len};
+ghost use Rattle.std.specs.List.{list_any};
 ghost use Rattle.etagere_links.specs.Links.{no_link};
 ghost use Rattle.etagere_links.specs.Walks as spec;
+ghost use Rattle.etagere_links.specs.Private.Places.{ArePlaced};
 
 pub mod walks;
 
 use std::alloc::{AllocError, Global};
+use std::marker::Model;
 use walks::Walk;
+
+/// Room for many walks through so many records. Each walk takes time linear in what it meets, however many
+/// records there are.
+#[derive(Drop)]
+pub struct WalkRoom {
+    places: Vec<u16>,
+}
+
+impl Model for WalkRoom {
+    ghost use Rattle.std.specs.Prelude.{ℕ, vec_len};
+
+    ghost Value = { ℕ };
+
+    ghost view = { λ room. vec_len room.places };
+}
+
+impl WalkRoom {
+    /// Room for walks through so many records, at most 65535. Takes two bytes of memory for each.
+    pub fn new(alloc: Global, count: usize) -> Result<WalkRoom, AllocError>
+        ensures { IfOk result (λ room. room ≡ count) }
+    {
+        let places = vec![in alloc; 0u16; count]?;
+        Ok(WalkRoom { places })
+    }
+
+    /// Follows links from `start` on, as `walk` does, where there are no more links than the room is for.
+    ///
+    /// Takes two bytes of memory for each record met. The error comes only where a growth was refused. The
+    /// time is linear in the number of records met.
+    pub fn walk(&mut self, alloc: Global, links: &[u16], start: u16) -> Result<Walk, AllocError>
+        requires few { length links.now ≤ no_link }
+        requires room { length links.now ≤ self.old }
+        ensures room { self.new ≡ self.old }
+        ensures met { IfOk result (λ walk. walk.met.items ≡ (spec.walk links.now start).met) }
+        ensures end { IfOk result (λ walk. walk.end ≡ (spec.walk links.now start).end) }
+        ensures steps { IfOk result (λ walk. walk.steps ≡ vec_len walk.met) }
+        ensures bound { IfOk result (λ walk. walk.steps ≤ length links.now) }
+    {
+        walk_within(alloc, &mut self.places, links, start)
+    }
+}
 
 /// Follows links from `start` on: `links` has the link of each record, in order of their numbers, which are
 /// at most 65535. The walk stops at a link that is no record's number, and before a record that it has met.
 ///
-/// Takes a byte of memory for each record and two for each record met. The error comes only where a growth
+/// Takes two bytes of memory for each record and for each record met. The error comes only where a growth
 /// was refused. The time is linear in the number of records.
 pub fn walk(alloc: Global, links: &[u16], start: u16) -> Result<Walk, AllocError>
     requires { length links.now ≤ no_link }
@@ -23,16 +68,41 @@ pub fn walk(alloc: Global, links: &[u16], start: u16) -> Result<Walk, AllocError
     ensures steps { IfOk result (λ walk. walk.steps ≡ vec_len walk.met) }
     ensures bound { IfOk result (λ walk. walk.steps ≤ length links.now) }
 {
-    let mut is_met = vec![in alloc; false; links.len()]?;
+    WalkRoom::new(alloc, links.len())?.walk(alloc, links, start)
+}
+
+// a record was met where the place noted for it is one of those that were met, and has it
+fn is_met(places: &[u16], met: &[u16], at: u16) -> bool
+    requires within { at < length places.now }
+    requires placed { ArePlaced places.now met.now }
+    ensures { result ≡ list_any (λ number. number == at) met.now }
+{
+    let place = usize::from(places[usize::from(at)]);
+    place < met.len() && met[place] == at
+}
+
+fn walk_within(
+    alloc: Global,
+    places: &mut [u16],
+    links: &[u16],
+    start: u16,
+) -> Result<Walk, AllocError>
+    requires few { length links.now ≤ no_link }
+    requires room { length links.now ≤ length places.old }
+    ensures met { IfOk result (λ walk. walk.met.items ≡ (spec.walk links.now start).met) }
+    ensures end { IfOk result (λ walk. walk.end ≡ (spec.walk links.now start).end) }
+    ensures steps { IfOk result (λ walk. walk.steps ≡ vec_len walk.met) }
+    ensures bound { IfOk result (λ walk. walk.steps ≤ length links.now) }
+{
     let mut met = Vec::new(alloc);
     let mut at = start;
-    for _step in 0..links.len() {
+    for step in 0..links.len() {
         let number = usize::from(at);
-        if number >= links.len() || is_met[number] {
+        if number >= links.len() || is_met(places, &met, at) {
             break;
         }
+        places[number] = step as u16;
         met.push(at)?;
-        is_met[number] = true;
         at = links[number];
     }
     Ok(Walk {

@@ -132,7 +132,7 @@ shelf_written-linked records number change entries unused_items unused_shelves l
     }
 
 -- the records that were there before one was made
-get-made : {T : Type 0} (xs : List T) (x : T) (k : ℕ) → k < length xs → slice_get (xs ++ x ∷ []) k ≡ slice_get xs k
+pub get-made : {T : Type 0} (xs : List T) (x : T) (k : ℕ) → k < length xs → slice_get (xs ++ x ∷ []) k ≡ slice_get xs k
 get-made [] x k within = absurd (omega arith)
 get-made (y ∷ ys) x zero within = refl
 get-made (y ∷ ys) x (suc k) within = get-made ys x k (omega arith)

@@ -4,7 +4,7 @@ use Rattle.etagere_base.proofs.TimesLemmas.{times-append}
 use Rattle.etagere_base.specs.Lists.{times}
 use Rattle.etagere_links.specs.declared.records.ItemRecord.{ItemRecord}
 use Rattle.etagere_links.specs.declared.records.ShelfRecord.{ShelfRecord}
-use Rattle.etagere_links.specs.Edits.{piled}
+use Rattle.etagere_links.specs.Edits.{put_aside}
 use Rattle.etagere_links.specs.RecordEdits.{item_put_aside, item_taken, shelf_put_aside, shelf_taken}
 use Rattle.etagere_links.specs.RecordLists.{Records, Entry, Lists, shelf_numbers, item_numbers, HasEachOnce, IsLinkedBut}
 use Rattle.etagere_links.specs.Records.{item_chain, shelf_chain}
@@ -13,8 +13,8 @@ use Rattle.etagere_links.proofs.FirstLinks.{field_at-kept}
 use Rattle.etagere_links.proofs.AllLists.LinkedFrames.{chain-frame, entries-frame}
 use Rattle.etagere_links.proofs.AllLists.LinkedWalks.{once-part}
 use Rattle.etagere_links.proofs.ListEnds.{times-here}
-use Rattle.etagere_links.proofs.RecordFrames.{length-piled, get-piled}
-use Rattle.etagere_links.proofs.RecordLists.{piled-spells}
+use Rattle.etagere_links.proofs.RecordFrames.{length-put_aside, get-put_aside}
+use Rattle.etagere_links.proofs.RecordLists.{put_aside-spells}
 
 -- lists of shelves, and of what was put aside
 abbrev pub lists_of : List Entry → List ℕ → List ℕ → Lists
@@ -51,18 +51,18 @@ differs n k xs absent stands e = let again : 1 ≤ times n xs = rw e stands in o
 pub item_put_aside-linked : (records : Records) (entries : List Entry) (number : ℕ) (unused_items unused_shelves loose loose_shelves : List ℕ) → IsLinkedBut records (lists_of entries unused_items unused_shelves) (number ∷ loose) loose_shelves → IsLinkedBut (item_put_aside number records) (lists_of entries (number ∷ unused_items) unused_shelves) loose loose_shelves
 item_put_aside-linked records entries number unused_items unused_shelves loose loose_shelves linked =
     let items : List ItemRecord = records.items in
-    let new : List ItemRecord = piled item_chain records.free_items number items in
+    let new : List ItemRecord = put_aside item_chain records.free_items number items in
     let used : List ℕ = item_numbers entries in
     let is : IsLoose (length items) used unused_items number = loose-of (length items) used unused_items loose number linked.items_once in
     record {
       shelves = linked.shelves;
       entries = entries-frame records (item_put_aside number records) entries
-          (λ k stands. get-piled item_chain items records.free_items number k (differs number k used is.no_used stands))
+          (λ k stands. get-put_aside item_chain items records.free_items number k (differs number k used is.no_used stands))
           (λ k stands. (refl, refl)) linked.entries;
-      unused_items = piled-spells item_chain item_chain-laws items records.free_items unused_items number is.within is.no_unused linked.unused_items;
+      unused_items = put_aside-spells item_chain item_chain-laws items records.free_items unused_items number is.within is.no_unused linked.unused_items;
       unused_shelves = linked.unused_shelves;
       shelves_once = linked.shelves_once;
-      items_once = λ k. rw (length-piled item_chain items records.free_items number) (moved k ∙ linked.items_once k);
+      items_once = λ k. rw (length-put_aside item_chain items records.free_items number) (moved k ∙ linked.items_once k);
     }
   where
     moved : (k : ℕ) → times k (item_numbers entries ++ (number ∷ unused_items) ++ loose) ≡ times k (item_numbers entries ++ unused_items ++ number ∷ loose)
@@ -85,12 +85,12 @@ item_taken-linked records entries number unused_items unused_shelves loose loose
 pub shelf_put_aside-linked : (records : Records) (entries : List Entry) (number : ℕ) (unused_items unused_shelves loose loose_shelves : List ℕ) → IsLinkedBut records (lists_of entries unused_items unused_shelves) loose (number ∷ loose_shelves) → IsLinkedBut (shelf_put_aside number records) (lists_of entries unused_items (number ∷ unused_shelves)) loose loose_shelves
 shelf_put_aside-linked records entries number unused_items unused_shelves loose loose_shelves linked =
     let shelves : List ShelfRecord = records.shelves in
-    let new : List ShelfRecord = piled shelf_chain records.free_shelves number shelves in
+    let new : List ShelfRecord = put_aside shelf_chain records.free_shelves number shelves in
     let used : List ℕ = shelf_numbers entries in
     let is : IsLoose (length shelves) used unused_shelves number = loose-of (length shelves) used unused_shelves loose_shelves number linked.shelves_once in
     record {
       shelves = chain-frame shelf_chain shelves new records.first_shelf used
-          (λ k stands. get-piled shelf_chain shelves records.free_shelves number k (differs number k used is.no_used stands)) linked.shelves;
+          (λ k stands. get-put_aside shelf_chain shelves records.free_shelves number k (differs number k used is.no_used stands)) linked.shelves;
       entries = entries-frame records (shelf_put_aside number records) entries (λ k stands. refl)
           (λ k stands. (
             field_at-kept (λ (x : ShelfRecord). x.first_item) None (shelf_chain.with_next records.free_shelves) shelves number k (λ x. refl),
@@ -98,8 +98,8 @@ shelf_put_aside-linked records entries number unused_items unused_shelves loose 
           ))
           linked.entries;
       unused_items = linked.unused_items;
-      unused_shelves = piled-spells shelf_chain shelf_chain-laws shelves records.free_shelves unused_shelves number is.within is.no_unused linked.unused_shelves;
-      shelves_once = λ k. rw (length-piled shelf_chain shelves records.free_shelves number) (moved k ∙ linked.shelves_once k);
+      unused_shelves = put_aside-spells shelf_chain shelf_chain-laws shelves records.free_shelves unused_shelves number is.within is.no_unused linked.unused_shelves;
+      shelves_once = λ k. rw (length-put_aside shelf_chain shelves records.free_shelves number) (moved k ∙ linked.shelves_once k);
       items_once = linked.items_once;
     }
   where

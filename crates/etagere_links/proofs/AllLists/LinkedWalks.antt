@@ -6,7 +6,7 @@ use Rattle.std.specs.Prelude.{nat_lt, slice_index}
 use Rattle.etagere_base.proofs.TimesLemmas.{times-append}
 use Rattle.etagere_base.specs.Lists.{Each, times}
 use Rattle.etagere_links.specs.Chains.{IsPile, Leads}
-use Rattle.etagere_links.specs.Edits.{link_at}
+use Rattle.etagere_links.specs.Edits.{AreFitting, link_at}
 use Rattle.etagere_links.specs.Links.{no_link, bits_of, link_of}
 use Rattle.etagere_links.specs.Records.{item_chain, free_list, shelf_chain}
 use Rattle.etagere_links.specs.RecordLists.{Records, Entry, Lists, first_item_of, first_free_of, walk_by, shelf_walk, unused_shelf_walk, unused_item_walk, item_walk, free_walk, walked_entry, walked_lists, shelf_numbers, item_numbers, HasEachOnce, IsEntry, IsLinked}
@@ -14,7 +14,7 @@ use Rattle.etagere_links.specs.Walks.{Walked}
 use Rattle.etagere_links.proofs.WalkChains.{pile-walk, IsWalked, walk-leads}
 
 -- the bits of the link of a record
-bits-read : {T : Type 0} (link : T → Option ℕ) (xs : List T) (k : ℕ) → k < length (map (λ (here : T). bits_of (link here)) xs) → slice_index (map (λ (here : T). bits_of (link here)) xs) k ≡ bits_of (link_at link xs k)
+pub bits-read : {T : Type 0} (link : T → Option ℕ) (xs : List T) (k : ℕ) → k < length (map (λ (here : T). bits_of (link here)) xs) → slice_index (map (λ (here : T). bits_of (link here)) xs) k ≡ bits_of (link_at link xs k)
 bits-read link [] k within = absurd (omega arith)
 bits-read link (x ∷ xs) zero within = refl
 bits-read link (x ∷ xs) (suc k) within = bits-read link xs k (omega arith)
@@ -116,12 +116,8 @@ linked-lists records lists walks =
     ∙ ap (λ (w : Walked). record { entries = lists.entries; unused_items = w.met; unused_shelves = (unused_shelf_walk records).met }) walks.unused_items
     ∙ ap (λ (w : Walked). record { entries = lists.entries; unused_items = lists.unused_items; unused_shelves = w.met }) walks.unused_shelves
 
--- the links of these records fit their bits: none of them names the number whose bits stand for none
-abbrev pub LinksFit : {T : Type 0} → (T → Option ℕ) → List T → Type 0
-LinksFit link records = (k : ℕ) → link_of (bits_of (link_at link records k)) ≡ link_at link records k
-
 -- a walk that ends at none meets a list that links spell
-pub walk_by-leads : {T : Type 0} (link : T → Option ℕ) (records : List T) (start : Option ℕ) → LinksFit link records → link_of (bits_of start) ≡ start → length records ≤ no_link → (walk_by link records start).end ≡ no_link → IsPile (link_at link records) start (walk_by link records start).met
+pub walk_by-leads : {T : Type 0} (link : T → Option ℕ) (records : List T) (start : Option ℕ) → AreFitting link records → link_of (bits_of start) ≡ start → length records ≤ no_link → (walk_by link records start).end ≡ no_link → IsPile (link_at link records) start (walk_by link records start).met
 walk_by-leads {T} link records start fit start_fits few ends =
     let links : List ℕ = map (λ (here : T). bits_of (link here)) records in
     let long : length links ≡ length records = length-map records (λ (here : T). bits_of (link here)) in

@@ -1,0 +1,92 @@
+-- Marks after one more record was marked, and what it means that one was marked before.
+use Rattle.std.proofs.Common.{◌≡◌, ◌≢◌, ℕ, zero, suc, ◌+◌, ◌<◌, ◌≤◌, Bool, true, false, List, [], ◌∷◌, ◌++◌, length, get_or, take, drop, refl, ap, arith, sym, subst, append_assoc, ◌∙◌}
+use Rattle.std.proofs.Math.ListN.{set}
+use Rattle.std.proofs.Math.Seq.{split_at}
+use Rattle.std.proofs.lemmas.List.{get_or-set_same, get_or-set_other, get_or_past, take_more}
+use Rattle.std.specs.Prelude.{◌==◌, nat_lt, if◌then◌else◌}
+use Rattle.etagere_base.proofs.TimesLemmas.{times-append}
+use Rattle.etagere_base.specs.Lists.{Each, times}
+use Rattle.etagere_links.specs.Marks.{HasTwice, IsMarkedBy}
+use Rattle.etagere_links.specs.RecordLists.{HasEachOnce}
+use Rattle.etagere_links.proofs.ListEnds.{times-here, times-other}
+use Rattle.etagere_links.proofs.Tallies.{length-once}
+
+-- what each number of a list keeps, the one at a place does
+pub Each-at : (P : ℕ → Type 0) (xs : List ℕ) (i : ℕ) → i < length xs → Each P xs → P (get_or xs i 0)
+Each-at P [] i within each = absurd (omega arith)
+Each-at P (x ∷ xs) zero within each = each.0
+Each-at P (x ∷ xs) (suc i) within each = Each-at P xs i (omega arith) each.1
+
+-- the marks once one more is marked, which was not
+pub marked-more : (marks : List Bool) (numbers : List ℕ) (at : ℕ) → at < length marks → get_or marks at false ≡ false
+    → IsMarkedBy marks numbers → IsMarkedBy (set marks at true) (numbers ++ at ∷ [])
+marked-more marks numbers at within unmarked marked k = by_test (at == k) refl
+  where
+    by_test : (b : Bool) → (at == k) ≡ b
+        → times k (numbers ++ at ∷ []) ≡ (if get_or (set marks at true) k false then 1 else 0)
+    by_test true e =
+        let same : at ≡ k = grind arith in
+        let now : get_or (set marks at true) k false ≡ true = rw (← same) (get_or-set_same marks at true false within) in
+        let before : get_or marks k false ≡ false = rw (← same) unmarked in
+        let none : times k numbers ≡ 0 = marked k ∙ ap (λ (b : Bool). if b then 1 else 0) before in
+        let here : times k (at ∷ []) ≡ 1 = rw same (times-here k []) in
+        rw now (omega (arith, times-append k numbers (at ∷ []), none, here))
+    by_test false e =
+        let other : k ≢ at = grind arith in
+        let stays : get_or (set marks at true) k false ≡ get_or marks k false = get_or-set_other marks at k true false other in
+        let count : times k (numbers ++ at ∷ []) ≡ times k numbers = grind (arith, times-append k numbers (at ∷ []), times-other k at [] (λ e. other (sym e))) in
+        rw stays (count ∙ marked k)
+
+-- the same, where the one is the next of a list
+pub marked-next : (marks : List Bool) (numbers met : List ℕ) (i at : ℕ) → i < length met → at ≡ get_or met i 0
+    → at < length marks → get_or marks at false ≡ false
+    → IsMarkedBy marks (numbers ++ take i met) → IsMarkedBy (set marks at true) (numbers ++ take (i + 1) met)
+marked-next marks numbers met i at below is within unmarked marked =
+    let more : numbers ++ take (i + 1) met ≡ (numbers ++ take i met) ++ at ∷ [] =
+    ap (λ (xs : List ℕ). numbers ++ xs) (take_more met i 0 below ∙ ap (λ (n : ℕ). take i met ++ n ∷ []) (sym is)) ∙ sym (append_assoc numbers (take i met) (at ∷ [])) in
+    subst (IsMarkedBy (set marks at true)) (sym more) (marked-more marks (numbers ++ take i met) at within unmarked marked)
+
+-- the next of a list, where it was marked, stands twice
+pub marked-twice : (marks : List Bool) (numbers met : List ℕ) (i at : ℕ) → i < length met → at ≡ get_or met i 0
+    → get_or marks at false ≡ true → IsMarkedBy marks (numbers ++ take i met) → HasTwice (numbers ++ met)
+marked-twice marks numbers met i at below is was marked =
+    let once : times at (numbers ++ take i met) ≡ 1 = marked at ∙ ap (λ (b : Bool). if b then 1 else 0) was in
+    let split : met ≡ take i met ++ at ∷ drop (suc i) met = split_at met i 0 below ∙ ap (λ (n : ℕ). take i met ++ n ∷ drop (suc i) met) (sym is) in
+    let count : times at met ≡ times at (take i met) + times at (at ∷ drop (suc i) met) = ap (times at) split ∙ times-append at (take i met) (at ∷ drop (suc i) met) in
+    (at, omega (arith, once, count, times-append at numbers (take i met), times-append at numbers met, times-here at (drop (suc i) met)))
+
+-- where all are marked, each stands once
+pub marked-all : (marks : List Bool) (numbers : List ℕ) → ((k : ℕ) → k < length marks → get_or marks k false ≡ true)
+    → IsMarkedBy marks numbers → HasEachOnce (length marks) numbers
+marked-all marks numbers all marked k = by_test (nat_lt k (length marks)) refl
+  where
+    by_test : (b : Bool) → nat_lt k (length marks) ≡ b → times k numbers ≡ (if b then 1 else 0)
+    by_test true e = marked k ∙ ap (λ (b : Bool). if b then 1 else 0) (all k (grind arith))
+    by_test false e = marked k ∙ ap (λ (b : Bool). if b then 1 else 0) (get_or_past marks k false (grind arith))
+
+-- where one is not marked, it does not stand there
+pub marked-missing : (marks : List Bool) (numbers : List ℕ) (k : ℕ) → k < length marks → get_or marks k false ≡ false
+    → IsMarkedBy marks numbers → HasEachOnce (length marks) numbers → ⊥
+marked-missing marks numbers k within unmarked marked once =
+    let none : times k numbers ≡ 0 = marked k ∙ ap (λ (b : Bool). if b then 1 else 0) unmarked in
+    grind (arith, once k)
+
+-- what is marked is no more than all
+pub marked-length : (marks : List Bool) (numbers : List ℕ) → IsMarkedBy marks numbers → length numbers ≤ length marks
+marked-length marks numbers marked = length-once (length marks) numbers once within
+  where
+    once : (k : ℕ) → times k numbers ≤ 1
+    once k = at (get_or marks k false) (marked k)
+      where
+        at : (b : Bool) → times k numbers ≡ (if b then 1 else 0) → times k numbers ≤ 1
+        at true e = omega arith
+        at false e = omega arith
+
+    within : (k : ℕ) → 1 ≤ times k numbers → k < length marks
+    within k stands = by_test (nat_lt k (length marks)) refl
+      where
+        by_test : (b : Bool) → nat_lt k (length marks) ≡ b → k < length marks
+        by_test true e = grind arith
+        by_test false e =
+            let none : times k numbers ≡ 0 = marked k ∙ ap (λ (b : Bool). if b then 1 else 0) (get_or_past marks k false (grind arith)) in
+            absurd (omega (arith, none, stands))

@@ -1,0 +1,115 @@
+//! Marks of the records that walks met, so that no list has one that another has.
+//!
+//! Definitions: `Marks`, and `WalkFaults` for what a walk is refused for.
+
+ghost use Rattle.std.specs.Prelude.{◌≡◌, ℕ, ◌+◌, ◌^◌, ◌++◌, ◌<◌, ◌≤◌, false, List, [], IsTrue, IfOk, IfErr, OnOk, length};
+ghost use Rattle.etagere_base.specs.Lists.{Each};
+ghost use Rattle.etagere_links.specs.Links.{no_link};
+ghost use Rattle.etagere_links.specs.Marks.{HasTwice, IsMarkedBy};
+ghost use Rattle.etagere_links.specs.RecordLists.{HasEachOnce};
+ghost use Rattle.etagere_links.specs.WalkFaults.{BreaksOff};
+ghost use Rattle.etagere_links.specs.Walks as spec;
+
+use crate::walking::WalkRoom;
+use std::alloc::{AllocError, Global};
+
+/// Why what a walk meets is no list of records of its own.
+#[derive(Clone, Copy, Debug, PartialEq, Eq, Drop)]
+pub enum WalkFault {
+    /// It stops at a number that is no record's, and that isn't the one of no link.
+    OutOfRange,
+    /// It meets a record that was marked before.
+    Marked,
+    /// It comes back to a record that it has met.
+    Circular,
+    /// There was no memory.
+    Memory,
+}
+
+/// Follows links from `start` on and marks what it meets, which is a list of records that ends at none and
+/// of which none was marked before. Adds the links that were read to `steps`.
+///
+/// Returns the first fault, in the order of `WalkFault`, where what was met is no such list; then the marks
+/// are of no use. Takes two bytes of memory for each record met. The time is linear in their number.
+pub fn walk_marking(
+    alloc: Global,
+    room: &mut WalkRoom,
+    marks: &mut [bool],
+    links: &[u16],
+    start: u16,
+    steps: &mut u64,
+) -> Result<Vec<u16>, WalkFault>
+    requires few { length links.now ≤ no_link }
+    requires room { length links.now ≤ room.old }
+    requires marks { length marks.old ≡ length links.now }
+    requires steps { steps.old < 2 ^ 32 }
+    ensures room { room.new ≡ room.old }
+    ensures met { IfOk result (λ met. met.items ≡ (spec.walk links.now start).met) }
+    ensures end { OnOk result ((spec.walk links.now start).end ≡ no_link) }
+    ensures marked { OnOk result ((numbers : List ℕ) → IsMarkedBy marks.old numbers →
+        IsMarkedBy marks.new (numbers ++ (spec.walk links.now start).met)) }
+    ensures fault { IfErr result
+        (BreaksOff marks.old (length links.now) (spec.walk links.now start)) }
+    ensures steps { OnOk result
+        (steps.new ≡ steps.old + length (spec.walk links.now start).met) }
+    ensures bound { steps.new ≤ steps.old + length links.now }
+{
+    let Ok(walk) = room.walk(alloc, links, start) else {
+        return Err(WalkFault::Memory);
+    };
+    *steps += u64::from(walk.steps);
+    let end = usize::from(walk.end);
+    if walk.end != u16::MAX && links.len() <= end {
+        return Err(WalkFault::OutOfRange);
+    }
+    if !mark_all(marks, &walk.met) {
+        return Err(WalkFault::Marked);
+    }
+    if walk.end != u16::MAX {
+        return Err(WalkFault::Circular);
+    }
+    Ok(walk.met)
+}
+
+/// No marks, for so many records. Takes a byte of memory for each.
+pub fn unmarked(alloc: Global, count: usize) -> Result<Vec<bool>, AllocError>
+    ensures none { IfOk result (λ marks. IsMarkedBy marks.items []) }
+    ensures count { IfOk result (λ marks. length marks.items ≡ count) }
+{
+    vec![in alloc; false; count]
+}
+
+/// Marks these records. Whether none of them was marked before, nor stands there twice.
+///
+/// The time is linear in the number of records to be marked.
+pub fn mark_all(marks: &mut [bool], met: &[u16]) -> bool
+    requires { Each (λ number. number < length marks.old) met.now }
+    ensures marked { IsTrue result → (numbers : List ℕ) →
+        IsMarkedBy marks.old numbers → IsMarkedBy marks.new (numbers ++ met.now) }
+    ensures twice { result ≡ false → (numbers : List ℕ) →
+        IsMarkedBy marks.old numbers → HasTwice (numbers ++ met.now) }
+{
+    for number in met {
+        let at = usize::from(*number);
+        if marks[at] {
+            return false;
+        }
+        marks[at] = true;
+    }
+    true
+}
+
+/// Whether all records are marked. The time is linear in their number.
+pub fn all_marked(marks: &[bool]) -> bool
+    ensures all { IsTrue result → (numbers : List ℕ) →
+        IsMarkedBy marks.now numbers → HasEachOnce (length marks.now) numbers }
+    ensures missing { result ≡ false → (numbers : List ℕ) →
+        IsMarkedBy marks.now numbers → HasEachOnce (length marks.now) numbers → ⊥ }
+{
+    for is_marked in marks {
+        if !*is_marked {
+            return false;
+        }
+    }
+    true
+}
