@@ -1,8 +1,7 @@
 -- An allocation leads from a valid state to a valid one, keeps a ledger tied, and gives a rectangle that is large enough
 -- and aligned.
-use Rattle.std.proofs.Common.{◌≡◌, ℕ, ◌+◌, ◌*◌, ◌/◌, ◌%◌, ◌≤◌, Bool, true, false, List, [], ◌∷◌, ◌++◌, pos, refl, ap, arith, sym, ◌∙◌, subst, take}
+use Rattle.std.proofs.Common.{◌≡◌, ℕ, ◌+◌, ◌*◌, ◌/◌, ◌%◌, List, [], ◌∷◌, ◌++◌, pos, refl, ap, arith, sym, ◌∙◌, subst, take}
 use Rattle.std.proofs.Math.Nat.{add-mul}
-use Rattle.std.proofs.lemmas.Int.{ints}
 use Rattle.std.proofs.lemmas.Nat.{div-add-mod'}
 use Rattle.etagere_base.specs.declared.frames.Frame.{Frame}
 use Rattle.etagere_base.specs.declared.geometry.Size.{Size}
@@ -11,9 +10,10 @@ use Rattle.etagere_base.specs.declared.sides.Sides.{Sides}
 use Rattle.etagere_base.specs.Frames.{alignment_along}
 use Rattle.etagere_base.specs.Places.{rectangle_at}
 use Rattle.etagere_base.specs.Rectangles.{IsAligned, IsLarge}
-use Rattle.etagere_base.specs.Sides.{side, swapped_axes, up}
 use Rattle.etagere_base.proofs.ReplacedLists.{split-at}
 use Rattle.std.specs.Prelude.{slice_get, Some}
+use Rattle.etagere_base.proofs.AskedSides.{asked-is, large-at}
+use Rattle.etagere_bucketed.specs.Adding.{AreNewTags}
 use Rattle.etagere_bucketed.specs.Atlas.{Allocates, Grows}
 use Rattle.etagere_bucketed.specs.Laws.{CountsArea, CountsReturn}
 use Rattle.etagere_bucketed.specs.Returning.{bucket_returned, tag_of}
@@ -21,10 +21,10 @@ use Rattle.etagere_bucketed.specs.Space.{allocated_space}
 use Rattle.etagere_bucketed.proofs.Spacing.Spaces.{space-grown, space-returned, space-taken}
 use Rattle.etagere_bucketed.proofs.Validity.Spots.{IsSpot}
 use Rattle.etagere_bucketed.specs.State.{Bucket, BucketShelf, BucketedState, column_height, column_place}
-use Rattle.etagere_bucketed.specs.Taking.{allocation_in, bucket_taken, prepared}
+use Rattle.etagere_bucketed.specs.Placing.{BucketPlacement, placement_of}
+use Rattle.etagere_bucketed.specs.Taking.{allocation_in, bucket_taken, needed_buckets, prepared}
 use Rattle.etagere_bucketed.specs.Tied.{AreTied}
 use Rattle.etagere_bucketed.specs.Valid.{IsValid, StandBetween}
-use Rattle.etagere_bucketed.proofs.Asked.{asked-is}
 use Rattle.etagere_bucketed.proofs.Ledger.EntriesTaken.{begins-along, ends-along}
 use Rattle.etagere_bucketed.proofs.Validity.Placed.{IsPlaced, placement-placed}
 use Rattle.etagere_bucketed.proofs.Shelving.Shares.{aligned-sum}
@@ -55,23 +55,28 @@ allocates-tied entries old size allocation new tied h =
     (subst (λ (a : Allocation). AreTied (entries ++ a ∷ []) (bucket_taken old h.placement h.tags)) (allocates-is old size allocation new h placed)
     (tied-taken entries old size h.placement h.tags placed tied))
 
--- what lies at a place is large where it is as wide along and as tall across as the size, rounded up
-large-at : (frame : Frame) (size : Size) (along across width height : ℕ)
-    → (swapped_axes frame.vertical (record { along = up (side size.width) frame.alignment_width; across = up (side size.height) frame.alignment_height })).along ≤ width
-    → (swapped_axes frame.vertical (record { along = up (side size.width) frame.alignment_width; across = up (side size.height) frame.alignment_height })).across ≤ height
-    → IsLarge frame size (rectangle_at frame along across width height)
-large-at frame size along across width height = by_turn frame.vertical refl
-  where
-    wide : ℕ
-    wide = up (side size.width) frame.alignment_width
+-- no tags for no new buckets
+pub no-tags : (state : BucketedState) (needed : ℕ) → IsValid state → needed ≡ 0 → AreNewTags state.shelves needed []
+no-tags state needed valid none =
+    record { count = sym none; each = tt; numbers = λ n. omega (arith, valid.shelves.numbers n) }
 
-    tall : ℕ
-    tall = up (side size.height) frame.alignment_height
-
-    by_turn : (b : Bool) → frame.vertical ≡ b → (swapped_axes b (record { along = wide; across = tall })).along ≤ width → (swapped_axes b (record { along = wide; across = tall })).across ≤ height
-        → IsLarge frame size (rectangle_at frame along across width height)
-    by_turn true e w h = record { width = rw e (omega (arith, ints)); height = rw e (omega (arith, ints)) }
-    by_turn false e w h = record { width = rw e (omega (arith, ints)); height = rw e (omega (arith, ints)) }
+-- a place that needs no new buckets can be taken
+pub placed-allocates : (state : BucketedState) (size : Size) (placement : BucketPlacement) → IsValid state
+    → placement_of state size ≡ Some placement → needed_buckets placement.place ≡ 0
+    → (allocation : Allocation) × Allocates state size allocation (bucket_taken state placement [])
+placed-allocates state size placement valid placed_is none =
+    let new_tags = no-tags state (needed_buckets placement.place) valid none in
+    let placed = placement-placed state size placement [] valid placed_is new_tags in (
+      allocation_in state.frame placed.sides.along (prepared state.frame state.shelves [] placement.place) placed.ready.spot,
+      record {
+        placement = placement;
+        tags = [];
+        placed = placed_is;
+        new_tags = new_tags;
+        gives = given-is state size placement [] placed;
+        after = refl;
+      },
+    )
 
 -- what is given is as large as the size
 pub allocates-large : (old : BucketedState) (size : Size) (allocation : Allocation) (new : BucketedState) → IsValid old → Allocates old size allocation new → IsLarge old.frame size allocation.rectangle

@@ -1,8 +1,13 @@
 pub mod Allocating
-pub mod Asked
+pub mod Callers
+pub mod Drawn
+pub mod Emptying
+pub mod Judged
 pub mod Ledger
 pub mod Promises
 pub mod Shelving
 pub mod Spacing
+pub mod Spelling
 pub mod Validity
+pub mod Widening
 pub mod WorkedRows

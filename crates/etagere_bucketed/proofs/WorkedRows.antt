@@ -1,6 +1,9 @@
 -- The definitions alone, with no program, give the answers of worked examples.
 use Rattle.std.specs.Prelude.{◌≡◌, ℕ, zero, suc, ◌+◌, ◌-◌, ◌*◌, Bool, true, false, pos, Option, None, Some, List, [], ◌∷◌, ◌++◌, refl, option_map, map, replicate}
 use Rattle.std.specs.Option.{option_map_or}
+use Rattle.etagere_base.specs.declared.drawing.Colour.{Colour}
+use Rattle.etagere_base.specs.declared.drawing.Colour.TheVariants.{Background, Allocated, Free}
+use Rattle.etagere_base.specs.declared.drawing.Drawn.{Drawn}
 use Rattle.etagere_base.specs.declared.geometry.Rectangle.{Rectangle}
 use Rattle.etagere_base.specs.declared.geometry.Size.{Size}
 use Rattle.etagere_base.specs.declared.ids.Allocation.{Allocation}
@@ -12,6 +15,7 @@ use Rattle.etagere_bucketed.specs.Growing.{grown, growth_counts, grow_fault}
 use Rattle.etagere_bucketed.specs.Placing.{BucketPlace, BucketPlacement, InBucket, InAdded, InMerged, placement_of}
 use Rattle.etagere_bucketed.specs.Returning.{bucket_returned, is_known}
 use Rattle.etagere_bucketed.specs.State.{BucketShelf, BucketedState, Tag, buckets_in_use, fresh}
+use Rattle.etagere_bucketed.specs.Svg.{picture}
 use Rattle.etagere_bucketed.specs.Taking.{bucket_taken, given}
 
 abbrev size : ℕ → ℕ → Size
@@ -271,3 +275,19 @@ a_filler_leaves_a_bucket-first = refl
 -- where one bucket is left and a filler is needed, the size is refused; the filler of the first column still serves
 pub a_filler_leaves_a_bucket : rectangles (many_columns 9 (filled_shelves 2046)) (Ask 1 8 ∷ Ask 1 8 ∷ Ask 1 1 ∷ []) ≡ at 2047 0 2048 8 ∷ None ∷ at 1 8 2 9 ∷ []
 a_filler_leaves_a_bucket = refl
+
+-- what pictures show: the whole atlas, and then of each bucket what is used and what is free
+abbrev drawn : Colour → ℕ → ℕ → ℕ → ℕ → Drawn
+drawn colour x y width height = record { colour = colour; x = x; y = y; width = width; height = height }
+
+pub picture_of_a_bucket : picture (after (plain_atlas 16 16) (Ask 10 8 ∷ []))
+    ≡ drawn Background 0 0 16 16 ∷ drawn Allocated 0 0 10 8 ∷ drawn Free 10 0 6 8 ∷ []
+picture_of_a_bucket = refl
+
+pub picture_of_a_bucket_without_items : picture (after (plain_atlas 40 8) (Ask 3 8 ∷ []))
+    ≡ drawn Background 0 0 40 8 ∷ drawn Allocated 20 0 3 8 ∷ drawn Free 23 0 17 8 ∷ drawn Allocated 0 0 0 8 ∷ drawn Free 0 0 20 8 ∷ []
+picture_of_a_bucket_without_items = refl
+
+pub picture_of_vertical_buckets : picture (after (new_atlas (size 16 16) (options 1 1 true 1)) (Ask 8 10 ∷ []))
+    ≡ drawn Background 0 0 16 16 ∷ drawn Allocated 0 0 8 10 ∷ drawn Free 0 10 8 6 ∷ []
+picture_of_vertical_buckets = refl

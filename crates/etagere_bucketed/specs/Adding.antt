@@ -1,15 +1,31 @@
+-- New shelves: where one is added, how tall it is, and which buckets it gets.
 use Rattle.std.specs.Prelude.{◌≡◌, ℕ, zero, suc, ◌+◌, ◌-◌, ◌*◌, ◌/◌, ◌<◌, ◌≤◌, min, max, Bool, Option, None, Some, ◌&&◌, ◌||◌, List, [], ◌∷◌, ◌++◌, length, take, drop, nat_le, nat_lt, ◌==◌, if◌then◌else◌}
-pub use Rattle.etagere_bucketed.specs.declared.adding.Left.{Left}
-pub use Rattle.etagere_bucketed.specs.declared.adding.NewShelf.{NewShelf}
-pub use Rattle.etagere_bucketed.specs.declared.adding.NewShelves.{NewShelves}
 use Rattle.etagere_base.specs.declared.frames.Frame.{Frame}
 use Rattle.etagere_base.specs.declared.sides.Sides.{Sides}
 use Rattle.etagere_base.specs.Frames.{across_side, alignment_along}
 use Rattle.etagere_base.specs.Sides.{down, step}
 use Rattle.etagere_base.specs.Lists.{Each, times}
-use Rattle.etagere_bucketed.specs.State.{Tag, Bucket, BucketShelf, available_height, bucket_numbers, buckets_left, column_place, current_column, most_buckets, tag_numbers}
+use Rattle.etagere_bucketed.specs.State.{Tag, Bucket, BucketShelf, available_height, bucket_numbers, buckets_left, column_place, current_column, generations, most_buckets, tag_numbers}
 
--- what shelves leave: the current column, the height that is available in it, and how many buckets can be made
+-- what shelves leave: the current column, the height that is available in it, and how many buckets
+-- can be made
+pub record Left : Type 0 where
+  pub column : ℕ
+  pub height : ℕ
+  pub buckets : ℕ
+
+-- a shelf to be made: its column, its height and how many buckets it gets
+pub record NewShelf : Type 0 where
+  pub column : ℕ
+  pub height : ℕ
+  pub count : ℕ
+
+-- the shelf asked for, and the filler before it where one is needed
+pub record NewShelves : Type 0 where
+  pub filler : Option NewShelf
+  pub asked : NewShelf
+
+-- what these shelves leave
 abbrev pub left_to : Frame → List BucketShelf → Left
 left_to frame shelves =
     record {
@@ -23,12 +39,17 @@ abbrev pub doubled : ℕ → ℕ → ℕ → ℕ
 doubled zero power n = power
 doubled (suc steps) power n = if nat_le n power then power else doubled steps (power + power) n
 
--- into how many buckets a shelf is divided that is so many times as long as the larger of its height and its item's
--- width; no power above 4096 is needed
+-- the least power of two, up to 4096, that is not below a number
+abbrev pub least_power_of_two : ℕ → ℕ
+least_power_of_two n = doubled 12 1 n
+
+-- into how many buckets a shelf is divided that is so many times as long as the larger of its
+-- height and its item's width; no power above 4096 is needed
 abbrev pub bucket_count : ℕ → ℕ
 bucket_count items =
     if nat_le items 4 then 1
-    else (if nat_le items 16 then 2 else (if nat_le items 32 then 4 else doubled 12 1 (items / 16 - 1)))
+    else (if nat_le items 16 then 2
+    else (if nat_le items 32 then 4 else least_power_of_two (items / 16 - 1)))
 
 -- how many buckets a new shelf gets for items this wide, where so many are left
 abbrev pub new_count : Frame → ℕ → ℕ → ℕ → ℕ
@@ -43,7 +64,8 @@ abbrev pub needs_filler : Frame → Left → ℕ → Bool
 needs_filler frame left height =
     nat_lt 0 left.height && (nat_lt left.height height && has_later_column frame left)
 
--- a shelf this tall can be added: there is height or another column, and a bucket for each shelf that is made
+-- a shelf this tall can be added: there is height or another column, and a bucket for each shelf
+-- that is made
 abbrev pub can_add : Frame → Left → ℕ → Bool
 can_add frame left height =
     (nat_le height left.height || has_later_column frame left)
@@ -70,7 +92,8 @@ new_shelves frame left sides =
     let next = left.column + 1 in
     let filling = filler frame left in
     if needs_filler frame left sides.across
-    then filling ∷ asked_shelf frame next (across_side frame) (left.buckets - filling.count) sides ∷ []
+    then filling
+    ∷ asked_shelf frame next (across_side frame) (left.buckets - filling.count) sides ∷ []
     else (if left.height == 0
     then asked_shelf frame next (across_side frame) left.buckets sides ∷ []
     else asked_shelf frame left.column left.height left.buckets sides ∷ [])
@@ -95,7 +118,8 @@ new_bucket place tag = record { place = place; used = 0; live = 0; given = 0; ta
 -- new buckets side by side from a place on, the rightmost first
 abbrev pub new_buckets : ℕ → ℕ → List Tag → List Bucket
 new_buckets place width [] = []
-new_buckets place width (tag ∷ tags) = new_bucket (place + length tags * width) tag ∷ new_buckets place width tags
+new_buckets place width (tag ∷ tags) =
+    new_bucket (place + length tags * width) tag ∷ new_buckets place width tags
 
 -- the width of a bucket: an equal share of the column, rounded down to the alignment
 abbrev pub width_of_share : Frame → ℕ → ℕ
@@ -120,14 +144,16 @@ made_shelves frame (new ∷ news) tags =
 
 -- the shelves with those added that these sides need
 abbrev pub added : Frame → List BucketShelf → Sides → List Tag → List BucketShelf
-added frame shelves sides tags = shelves ++ made_shelves frame (new_shelves frame (left_to frame shelves) sides) tags
+added frame shelves sides tags =
+    shelves ++ made_shelves frame (new_shelves frame (left_to frame shelves) sides) tags
 
 -- a tag's number and generation fit an id
 pub record IsTag (tag : Tag) : Type 0 where
   pub number : tag.number < most_buckets
-  pub generation : tag.generation < 256
+  pub generation : tag.generation < generations
 
--- tags for so many new buckets: as many as that, their numbers differ and are those of no bucket of the shelves
+-- tags for so many new buckets: as many as that, their numbers differ and are those of no bucket of
+-- the shelves
 pub record AreNewTags (shelves : List BucketShelf) (needed : ℕ) (tags : List Tag) : Type 0 where
   pub count : length tags ≡ needed
   pub each : Each IsTag tags

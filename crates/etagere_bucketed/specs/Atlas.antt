@@ -1,3 +1,4 @@
+-- What the public calls of a bucketed atlas answer and change, and the promises it keeps.
 use Rattle.std.specs.Prelude.{◌≡◌, ◌*◌, ◌<◌, ◌≤◌, true, Some, None, List}
 use Rattle.std.specs.List.{list_all}
 use Rattle.etagere_base.specs.declared.geometry.Size.{Size}
@@ -10,9 +11,10 @@ use Rattle.etagere_bucketed.specs.State.{BucketedState, Tag, fresh, is_idle}
 use Rattle.etagere_bucketed.specs.Taking.{bucket_taken, given, needed_buckets}
 use Rattle.etagere_bucketed.specs.Valid.{IsValid}
 
--- an allocation of a size leads from one state to the next: the place of the size was taken and what it gives was given,
--- under new tags where buckets were made
-pub record Allocates (old : BucketedState) (size : Size) (allocation : Allocation) (new : BucketedState) : Type 0 where
+-- an allocation of a size leads from one state to the next: the place of the size was taken and
+-- what it gives was given, under new tags where buckets were made
+pub record Allocates (old : BucketedState) (size : Size) (allocation : Allocation)
+    (new : BucketedState) : Type 0 where
   pub placement : BucketPlacement
   pub tags : List Tag
   pub placed : placement_of old size ≡ Some placement
@@ -27,7 +29,8 @@ pub record NeedsShelf (state : BucketedState) (size : Size) : Type 0 where
   pub placed : placement_of state size ≡ Some placement
   pub adds : placement.place ≡ InAdded news
 
--- a growth to a size leads from one state to the next: it has no fault, and new buckets have new tags
+-- a growth to a size leads from one state to the next: it has no fault, and new buckets have new
+-- tags
 pub record Grows (old : BucketedState) (size : Size) (new : BucketedState) : Type 0 where
   pub tags : List Tag
   pub fits : grow_fault old.frame size ≡ None
@@ -39,8 +42,9 @@ pub record NeedsBuckets (state : BucketedState) (size : Size) : Type 0 where
   pub fits : grow_fault state.frame size ≡ None
   pub some : 0 < total (growth_counts state.frame size state.shelves)
 
--- what each state of a bucketed atlas keeps: it is valid, has allocated no more than its area and something exactly where
--- something is live, and with nothing live it is that of a new atlas of its frame
+-- what each state of a bucketed atlas keeps: it is valid, has allocated no more than its area and
+-- something exactly where something is live, and with nothing live it is that of a new atlas of its
+-- frame
 pub record KeepsPromises (state : BucketedState) : Type 0 where
   pub valid : IsValid state
   pub space : allocated_space state ≤ state.frame.width * state.frame.height

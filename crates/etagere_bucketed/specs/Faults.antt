@@ -1,3 +1,4 @@
+-- The numbers of the faults of a growth.
 use Rattle.std.specs.Prelude.{ℕ}
 use Rattle.etagere_bucketed.specs.declared.faults.GrowFault.{GrowFault}
 use Rattle.etagere_bucketed.specs.declared.faults.GrowFault.TheVariants.{Size, Smaller, Area, Memory}

@@ -1,3 +1,4 @@
+-- The frame of a bucketed atlas, which has as many columns as are asked for.
 use Rattle.std.specs.Prelude.{ℕ}
 use Rattle.etagere_base.specs.declared.frames.Frame.{Frame}
 use Rattle.etagere_base.specs.declared.geometry.Size.{Size}

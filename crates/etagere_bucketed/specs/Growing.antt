@@ -1,7 +1,8 @@
-use Rattle.std.specs.Prelude.{ℕ, ◌+◌, ◌-◌, ◌*◌, ◌/◌, ◌^◌, min, ◌&&◌, ◌||◌, not, Option, None, Some, List, [], ◌∷◌, ◌++◌, take, drop, nat_lt, ◌==◌, if◌then◌else◌}
+-- Growing: the first fault of a new size, and the state after a growth.
+use Rattle.std.specs.Prelude.{ℕ, ◌+◌, ◌-◌, ◌*◌, ◌/◌, min, ◌&&◌, ◌||◌, not, Option, None, Some, List, [], ◌∷◌, ◌++◌, take, drop, nat_lt, ◌==◌, if◌then◌else◌}
 use Rattle.etagere_base.specs.declared.frames.Frame.{Frame}
 use Rattle.etagere_base.specs.declared.geometry.Size.{Size}
-use Rattle.etagere_base.specs.Frames.{along_side, alignment_along, is_side}
+use Rattle.etagere_base.specs.Frames.{along_side, alignment_along, is_side, largest_area}
 use Rattle.etagere_base.specs.Sides.{down, side}
 use Rattle.etagere_bucketed.specs.Adding.{new_buckets}
 use Rattle.etagere_bucketed.specs.declared.faults.GrowFault.{GrowFault}
@@ -12,9 +13,11 @@ use Rattle.etagere_bucketed.specs.State.{BucketShelf, BucketedState, Tag, bucket
 -- the first fault of a growth to a size
 abbrev pub grow_fault : Frame → Size → Option GrowFault
 grow_fault frame size =
-    if not (is_side longest_bucketed_side size.width && is_side longest_bucketed_side size.height) then Some faults.Size
-    else (if nat_lt (side size.width) frame.width || nat_lt (side size.height) frame.height then Some faults.Smaller
-    else (if nat_lt (2 ^ 31 - 1) (side size.width * side size.height) then Some faults.Area
+    if not (is_side longest_bucketed_side size.width && is_side longest_bucketed_side size.height)
+    then Some faults.Size
+    else (if nat_lt (side size.width) frame.width || nat_lt (side size.height) frame.height
+    then Some faults.Smaller
+    else (if nat_lt largest_area (side size.width * side size.height) then Some faults.Area
     else None))
 
 -- the frame with other sides, and other columns
@@ -53,9 +56,11 @@ total (n ∷ ns) = n + total ns
 -- the buckets that a growth adds to each shelf
 abbrev pub growth_counts : Frame → Size → List BucketShelf → List ℕ
 growth_counts frame size shelves =
-    grown_counts ((grown_frame frame size).column_width - frame.column_width) (buckets_left shelves) shelves
+    grown_counts ((grown_frame frame size).column_width - frame.column_width) (buckets_left shelves)
+    shelves
 
--- the shelves with so many new buckets each, which stand side by side from a place on and are tried first
+-- the shelves with so many new buckets each, which stand side by side from a place on and are
+-- searched first
 abbrev pub widened : ℕ → List ℕ → List Tag → List BucketShelf → List BucketShelf
 widened place (count ∷ counts) tags (shelf ∷ shelves) =
     with_buckets (new_buckets place shelf.bucket_width (take count tags) ++ shelf.buckets) shelf
@@ -68,5 +73,6 @@ abbrev pub grown : BucketedState → Size → List Tag → BucketedState
 grown state size tags =
     record {
       frame = grown_frame state.frame size;
-      shelves = widened state.frame.column_width (growth_counts state.frame size state.shelves) tags state.shelves;
+      shelves = widened state.frame.column_width (growth_counts state.frame size state.shelves) tags
+          state.shelves;
     }

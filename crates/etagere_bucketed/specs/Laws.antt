@@ -1,3 +1,5 @@
+-- Laws of the model, proved of all its states: each step keeps a state valid and a ledger tied to
+-- it, and counts the space that is allocated.
 use Rattle.std.specs.Prelude.{◌≡◌, ℕ, ◌+◌, ◌*◌, ◌≤◌, true, Some, slice_get, List, [], ◌∷◌, ◌++◌, map}
 use Rattle.etagere_base.specs.declared.geometry.Size.{Size}
 use Rattle.etagere_base.specs.declared.frames.Frame.{Frame}
@@ -25,29 +27,35 @@ StepsKeepValid =
     × ((old : BucketedState) (size : Size) (allocation : Allocation) (new : BucketedState)
     → IsValid old → Allocates old size allocation new → IsValid new)
     × ((state : BucketedState) (id : ℕ) → IsValid state → IsValid (bucket_returned state id))
-    × ((old : BucketedState) (size : Size) (new : BucketedState) → IsValid old → Grows old size new → IsValid new)
+    × ((old : BucketedState) (size : Size) (new : BucketedState) → IsValid old → Grows old size new
+    → IsValid new)
 
 -- what is given is as large as the size, and aligned
 abbrev pub GivesEnough : Type 0
 GivesEnough =
-    (old : BucketedState) (size : Size) (allocation : Allocation) (new : BucketedState) → IsValid old
-    → Allocates old size allocation new
+    (old : BucketedState) (size : Size) (allocation : Allocation) (new : BucketedState)
+    → IsValid old → Allocates old size allocation new
     → IsLarge old.frame size allocation.rectangle × IsAligned old.frame allocation.rectangle
 
--- a ledger stays tied: to a new atlas with no entry, by an allocation with one more, by a return with one less, and by a
--- growth with the same
+-- a ledger stays tied: to a new atlas with no entry, by an allocation with one more, by a return
+-- with one less, and by a growth with the same
 abbrev pub StepsKeepTied : Type 0
 StepsKeepTied =
     ((frame : Frame) → IsBucketedFrame frame → AreTied [] (fresh frame))
-    × ((entries : List Allocation) (old : BucketedState) (size : Size) (allocation : Allocation) (new : BucketedState)
-    → AreTied entries old → Allocates old size allocation new → AreTied (entries ++ allocation ∷ []) new)
-    × ((one : List Allocation) (entry : Allocation) (other : List Allocation) (state : BucketedState)
-    → AreTied (one ++ entry ∷ other) state → AreTied (one ++ other) (bucket_returned state entry.id))
+    × ((entries : List Allocation) (old : BucketedState) (size : Size) (allocation : Allocation)
+    (new : BucketedState)
+    → AreTied entries old → Allocates old size allocation new
+    → AreTied (entries ++ allocation ∷ []) new)
+    × ((one : List Allocation) (entry : Allocation) (other : List Allocation)
+    (state : BucketedState)
+    → AreTied (one ++ entry ∷ other) state
+    → AreTied (one ++ other) (bucket_returned state entry.id))
     × ((entries : List Allocation) (old : BucketedState) (size : Size) (new : BucketedState)
     → AreTied entries old → Grows old size new → AreTied entries new)
 
 -- an allocation adds the area that it gives to the space that is allocated
-pub record CountsArea (old : BucketedState) (allocation : Allocation) (new : BucketedState) : Type 0 where
+pub record CountsArea (old : BucketedState) (allocation : Allocation) (new : BucketedState)
+    : Type 0 where
   pub along : ℕ
   pub across : ℕ
   pub width : ℕ
@@ -66,24 +74,29 @@ abbrev pub StepsCountSpace : Type 0
 StepsCountSpace =
     ((old : BucketedState) (size : Size) (allocation : Allocation) (new : BucketedState)
     → IsValid old → Allocates old size allocation new → CountsArea old allocation new)
-    × ((state : BucketedState) (id number : ℕ) (shelf : BucketShelf) (place : ℕ) (bucket : Bucket) → IsValid state
+    × ((state : BucketedState) (id number : ℕ) (shelf : BucketShelf) (place : ℕ) (bucket : Bucket)
+    → IsValid state
     → slice_get state.shelves number ≡ Some shelf → slice_get shelf.buckets place ≡ Some bucket
     → bucket.tag.number ≡ (tag_of id).number
-    → CountsReturn state (record { number = number; shelf = shelf; bucket = bucket }) (bucket_returned state id))
+    → CountsReturn state (record { number = number; shelf = shelf; bucket = bucket })
+    (bucket_returned state id))
     × ((old : BucketedState) (size : Size) (new : BucketedState) → IsValid old → Grows old size new
     → allocated_space new ≡ allocated_space old)
 
--- what a tied ledger has lies within the atlas, apart, under ids that differ and are known, as many in each bucket as are
--- live; with no entry the atlas is as new
+-- what a tied ledger has lies within the atlas, apart, under ids that differ and are known, as many
+-- in each bucket as are live; with no entry the atlas is as new
 pub record TiedIsSafe (entries : List Allocation) (state : BucketedState) : Type 0 where
   pub inside : Each (λ (entry : Allocation). IsInside state.frame entry.rectangle) entries
   pub apart : AreApart entries
   pub ids : (id : ℕ) → times id (map (λ (entry : Allocation). entry.id) entries) ≤ 1
   pub known : Each (λ (entry : Allocation). is_known state entry.id ≡ true) entries
   pub counts : Each
-      (λ (shelf : BucketShelf). Each (λ (bucket : Bucket). entries_of bucket.tag entries ≡ bucket.live) shelf.buckets)
+      (λ (shelf : BucketShelf).
+      Each (λ (bucket : Bucket). entries_of bucket.tag entries ≡ bucket.live) shelf.buckets)
       state.shelves
   pub empty : entries ≡ [] → state ≡ fresh state.frame
 
 abbrev pub TiedIsAlwaysSafe : Type 0
-TiedIsAlwaysSafe = (entries : List Allocation) (state : BucketedState) → AreTied entries state → TiedIsSafe entries state
+TiedIsAlwaysSafe =
+    (entries : List Allocation) (state : BucketedState) → AreTied entries state
+    → TiedIsSafe entries state

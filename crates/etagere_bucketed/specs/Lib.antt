@@ -1,5 +1,6 @@
 pub mod Adding
 pub mod Atlas
+pub mod BucketRecords
 pub mod Faults
 pub mod Frames
 pub mod Growing
@@ -7,9 +8,13 @@ pub mod Laws
 pub mod Merging
 pub mod Picking
 pub mod Placing
+pub mod Private
+pub mod Restoring
 pub mod Returning
 pub mod Space
+pub mod StandsFor
 pub mod State
+pub mod Svg
 pub mod Taking
 pub mod Tied
 pub mod Valid

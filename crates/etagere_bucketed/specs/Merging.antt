@@ -1,3 +1,4 @@
+-- Merging idle shelves for a size that no shelf serves: which ones, and what becomes of them.
 use Rattle.std.specs.Prelude.{ℕ, zero, suc, ◌+◌, Bool, ◌&&◌, Option, None, Some, List, [], ◌∷◌, ◌++◌, length, map, take, drop, nat_le, ◌==◌, if◌then◌else◌}
 use Rattle.std.specs.List.{list_all}
 use Rattle.etagere_base.specs.declared.sides.Sides.{Sides}
@@ -17,16 +18,18 @@ total_height (shelf ∷ shelves) = shelf.height + total_height shelves
 abbrev pub is_idle_in : ℕ → BucketShelf → Bool
 is_idle_in column shelf = shelf.column == column && is_idle shelf
 
--- a shelf and as many after it serve these sides: idle shelves of one column, tall enough together, with wide buckets
--- in the first
+-- a shelf and as many after it serve these sides: idle shelves of one column, tall enough together,
+-- with wide buckets in the first
 abbrev pub serves : Sides → ℕ → BucketShelf → List BucketShelf → Bool
 serves sides others shelf shelves =
     let next = take others shelves in
     length next == others
     && (is_idle shelf && list_all (is_idle_in shelf.column) next)
-    && (nat_le sides.along shelf.bucket_width && nat_le sides.across (shelf.height + total_height next))
+    && (nat_le sides.along shelf.bucket_width
+    && nat_le sides.across (shelf.height + total_height next))
 
--- the first shelf, of which the first one here has this number, that serves with the next or the next two
+-- the first shelf, of which the first one here has this number, that serves with the next or the
+-- next two
 abbrev pub mergeable_shelves : Sides → ℕ → List BucketShelf → Option Group
 mergeable_shelves sides number [] = None
 mergeable_shelves sides number (shelf ∷ shelves) =

@@ -1,3 +1,4 @@
+-- Which bucket is picked for a size: the shelf of least waste, or an exact bucket.
 use Rattle.std.specs.Prelude.{ℕ, suc, ◌-◌, Bool, ◌&&◌, not, Option, None, Some, option_map, option_and_then, unwrap_or, List, [], ◌∷◌, find, map, drop, slice_get, nat_le, nat_lt, ◌==◌, if◌then◌else◌}
 use Rattle.etagere_base.specs.declared.sides.Sides.{Sides}
 use Rattle.etagere_base.specs.Least.{first_least}
@@ -15,18 +16,20 @@ free_width shelf bucket = shelf.bucket_width - bucket.used
 
 -- a bucket can give an item this wide
 abbrev pub has_room : ℕ → BucketShelf → Bucket → Bool
-has_room width shelf bucket = nat_le width (free_width shelf bucket) && nat_lt bucket.given most_given
+has_room width shelf bucket =
+    nat_le width (free_width shelf bucket) && nat_lt bucket.given most_given
 
--- the first bucket with room that a shelf tries
+-- the first bucket of a shelf that has room
 abbrev pub roomy_bucket : ℕ → BucketShelf → Option Bucket
 roomy_bucket width shelf = find (has_room width shelf) shelf.buckets
 
--- a shelf is tall enough, its buckets are wide enough, and it isn't more than twice as tall as asked while a shelf
--- can be added
+-- a shelf is tall enough, its buckets are wide enough, and it isn't more than twice as tall as
+-- asked while a shelf can be added
 abbrev pub is_eligible : Bool → Sides → BucketShelf → Bool
 is_eligible adds sides shelf =
     nat_le sides.across shelf.height
-    && (nat_le sides.along shelf.bucket_width && not (adds && nat_lt sides.across (shelf.height - sides.across)))
+    && (nat_le sides.along shelf.bucket_width
+    && not (adds && nat_lt sides.across (shelf.height - sides.across)))
 
 -- the height that an eligible shelf with a roomy bucket wastes; none for any other shelf
 abbrev pub waste : Bool → Sides → BucketShelf → Option ℕ
@@ -39,7 +42,8 @@ waste adds sides shelf =
 abbrev pub spot_in : (BucketShelf → Option Bucket) → ℕ → List BucketShelf → Option Spot
 spot_in choose number shelves =
     option_and_then
-    (λ shelf. option_map (λ bucket. record { number = number; shelf = shelf; bucket = bucket }) (choose shelf))
+    (λ shelf. option_map (λ bucket. record { number = number; shelf = shelf; bucket = bucket })
+    (choose shelf))
     (slice_get shelves number)
 
 -- the first bucket with room in the shelf of least waste
@@ -68,14 +72,17 @@ abbrev pub first_spot : (BucketShelf → Option Bucket) → ℕ → List BucketS
 first_spot choose number [] = None
 first_spot choose number (shelf ∷ shelves) =
     or_else
-    (option_map (λ bucket. record { number = number; shelf = shelf; bucket = bucket }) (choose shelf))
+    (option_map (λ bucket. record { number = number; shelf = shelf; bucket = bucket })
+    (choose shelf))
     (first_spot choose (suc number) shelves)
 
--- a spot that wastes height or width gives way to none; one that wastes width alone to the first exact bucket after it
+-- a spot that wastes height or width gives way to none; one that wastes width alone to the first
+-- exact bucket after it
 abbrev pub exact_or : Sides → List BucketShelf → Spot → Spot
 exact_or sides shelves spot =
     if spot.shelf.height == sides.across && not (free_width spot.shelf spot.bucket == sides.along)
-    then unwrap_or (first_spot (exact_bucket sides) (suc spot.number) (drop (suc spot.number) shelves)) spot
+    then unwrap_or
+    (first_spot (exact_bucket sides) (suc spot.number) (drop (suc spot.number) shelves)) spot
     else spot
 
 -- the bucket that is picked for these sides

@@ -1,3 +1,4 @@
+-- Where a size goes: into a bucket that is there, an added shelf, or merged ones.
 use Rattle.std.specs.Prelude.{◌≡◌, ℕ, Option, None, Some, option_map, option_and_then, List, if◌then◌else◌}
 use Rattle.etagere_base.specs.declared.frames.Frame.{Frame}
 use Rattle.etagere_base.specs.declared.geometry.Size.{Size}
@@ -8,7 +9,8 @@ use Rattle.etagere_bucketed.specs.Merging.{Group, mergeable_shelves}
 use Rattle.etagere_bucketed.specs.Picking.{Spot, or_else, pick}
 use Rattle.etagere_bucketed.specs.State.{BucketShelf, BucketedState}
 
--- where an item goes: into a bucket that is there, or into the first bucket of a shelf that is added or merged
+-- where an item goes: into a bucket that is there, or into the first bucket of a shelf that is
+-- added or merged
 pub data BucketPlace : Type 0 where
   InBucket : (spot : Spot) → BucketPlace
   InAdded : (news : List NewShelf) → BucketPlace
@@ -19,7 +21,8 @@ pub record BucketPlacement : Type 0 where
   pub width : ℕ
   pub place : BucketPlace
 
--- the place for these sides: the bucket that is picked, else a shelf to be added, else shelves to be merged
+-- the place for these sides: the bucket that is picked, else a shelf to be added, else shelves to
+-- be merged
 abbrev pub bucket_place : Frame → List BucketShelf → Sides → Option BucketPlace
 bucket_place frame shelves sides =
     let adds = can_add frame (left_to frame shelves) sides.across in

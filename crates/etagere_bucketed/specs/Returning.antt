@@ -1,6 +1,7 @@
+-- The state after a return: a bucket is emptied with its last item, and idle shelves at the end go.
 use Rattle.std.specs.Prelude.{ℕ, ◌+◌, ◌-◌, ◌/◌, ◌%◌, Bool, ◌&&◌, List, [], ◌∷◌, nat_le, nat_lt, ◌==◌, if◌then◌else◌}
 use Rattle.std.specs.List.{list_any}
-use Rattle.etagere_bucketed.specs.State.{Bucket, BucketShelf, BucketedState, Tag, changed_bucket, is_idle, given_unit, generation_unit}
+use Rattle.etagere_bucketed.specs.State.{Bucket, BucketShelf, BucketedState, Tag, changed_bucket, generations, is_idle, given_unit, generation_unit}
 
 -- the tag that an id names
 abbrev pub tag_of : ℕ → Tag
@@ -32,7 +33,11 @@ emptied_bucket bucket =
       used = 0;
       live = 0;
       given = 0;
-      tag = record { number = bucket.tag.number; generation = (bucket.tag.generation + 1) % 256 };
+      tag =
+          record {
+            number = bucket.tag.number;
+            generation = (bucket.tag.generation + 1) % generations;
+          };
     }
 
 -- a bucket with one item less that is live, which gives nothing back of the width
@@ -48,7 +53,8 @@ lessened_bucket bucket =
 
 -- a bucket after one of its items was returned: it is emptied with the last one
 abbrev pub returned_bucket : Bucket → Bucket
-returned_bucket bucket = if nat_le bucket.live 1 then emptied_bucket bucket else lessened_bucket bucket
+returned_bucket bucket =
+    if nat_le bucket.live 1 then emptied_bucket bucket else lessened_bucket bucket
 
 -- a shelf before others, unless it is the last one and holds nothing live
 abbrev pub kept_before : BucketShelf → List BucketShelf → List BucketShelf

@@ -1,3 +1,4 @@
+-- The area that is allocated: what the buckets have used.
 use Rattle.std.specs.Prelude.{ℕ, ◌+◌, ◌*◌, List, [], ◌∷◌}
 use Rattle.etagere_bucketed.specs.State.{Bucket, BucketShelf, BucketedState}
 

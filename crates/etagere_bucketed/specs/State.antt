@@ -1,3 +1,4 @@
+-- The model of a bucketed atlas: shelves of buckets, as callers see it.
 use Rattle.std.specs.Prelude.{ℕ, ◌+◌, ◌-◌, ◌*◌, Bool, List, [], ◌∷◌, ◌++◌, length, map, ◌==◌, if◌then◌else◌}
 use Rattle.std.specs.List.{list_all}
 use Rattle.etagere_base.specs.declared.frames.Frame.{Frame}
@@ -10,6 +11,10 @@ most_buckets = 4095
 -- most items that a bucket gives before it is empty again
 abbrev pub most_given : ℕ
 most_given = 4095
+
+-- the generations of a bucket, after which they begin anew
+abbrev pub generations : ℕ
+generations = 256
 
 -- an id counts what a bucket has given by this many
 abbrev pub given_unit : ℕ
@@ -24,8 +29,8 @@ pub record Tag : Type 0 where
   pub number : ℕ
   pub generation : ℕ
 
--- a part of a shelf, filled from its front: its place along, the width used, how many of its items are live,
--- and how many it has given since it was empty
+-- a part of a shelf, filled from its front: its place along, the width used, how many of its items
+-- are live, and how many it has given since it was empty
 pub record Bucket : Type 0 where
   pub place : ℕ
   pub used : ℕ
@@ -33,7 +38,7 @@ pub record Bucket : Type 0 where
   pub given : ℕ
   pub tag : Tag
 
--- a strip across a column: its buckets, all equally wide, in the order in which they are tried
+-- a strip across a column: its buckets, all equally wide, in the order of search
 pub record BucketShelf : Type 0 where
   pub column : ℕ
   pub height : ℕ
@@ -96,17 +101,28 @@ tag_numbers tags = map (λ (tag : Tag). tag.number) tags
 -- the numbers of the buckets of shelves
 abbrev pub bucket_numbers : List BucketShelf → List ℕ
 bucket_numbers [] = []
-bucket_numbers (shelf ∷ shelves) = map (λ (bucket : Bucket). bucket.tag.number) shelf.buckets ++ bucket_numbers shelves
+bucket_numbers (shelf ∷ shelves) =
+    map (λ (bucket : Bucket). bucket.tag.number) shelf.buckets ++ bucket_numbers shelves
 
 -- the shelf with other buckets
 abbrev pub with_buckets : List Bucket → BucketShelf → BucketShelf
 with_buckets buckets shelf =
-    record { column = shelf.column; height = shelf.height; bucket_width = shelf.bucket_width; buckets = buckets }
+    record {
+      column = shelf.column;
+      height = shelf.height;
+      bucket_width = shelf.bucket_width;
+      buckets = buckets;
+    }
 
 -- the shelf with another height
 abbrev pub with_height : ℕ → BucketShelf → BucketShelf
 with_height height shelf =
-    record { column = shelf.column; height = height; bucket_width = shelf.bucket_width; buckets = shelf.buckets }
+    record {
+      column = shelf.column;
+      height = height;
+      bucket_width = shelf.bucket_width;
+      buckets = shelf.buckets;
+    }
 
 -- a bucket changed where it has this number
 abbrev pub changed_at : ℕ → (Bucket → Bucket) → Bucket → Bucket

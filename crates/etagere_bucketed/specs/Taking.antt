@@ -1,3 +1,4 @@
+-- The state after a placement was taken, and what is given.
 use Rattle.std.specs.Option.{option_map_or}
 use Rattle.std.specs.Prelude.{ℕ, ◌+◌, ◌-◌, ◌*◌, Option, Some, option_map, List, ◌++◌, length, take, slice_get}
 use Rattle.etagere_base.specs.declared.frames.Frame.{Frame}
@@ -21,11 +22,12 @@ prepared frame shelves tags (InBucket spot) = shelves
 prepared frame shelves tags (InAdded news) = shelves ++ made_shelves frame news tags
 prepared frame shelves tags (InMerged group) = merged_shelves group.first group.others shelves
 
--- the first bucket that the shelf of a number tries
+-- the first bucket of the shelf of a number
 abbrev pub first_bucket : ℕ → List BucketShelf → Option Spot
 first_bucket number shelves = spot_in (λ shelf. slice_get shelf.buckets 0) number shelves
 
--- the bucket of a place in shelves that were made ready for it: the first of the last shelf where one was added
+-- the bucket of a place in shelves that were made ready for it: the first of the last shelf where
+-- one was added
 abbrev pub spot_of : List BucketShelf → BucketPlace → Option Spot
 spot_of shelves (InBucket spot) = Some spot
 spot_of shelves (InAdded news) = first_bucket (length shelves - 1) shelves
@@ -46,7 +48,8 @@ taken_bucket width bucket =
       tag = bucket.tag;
     }
 
--- what a bucket gives next: after what it has used, as tall as its shelf, which lies after those before it in its column
+-- what a bucket gives next: after what it has used, as tall as its shelf, which lies after those
+-- before it in its column
 abbrev pub allocation_in : Frame → ℕ → List BucketShelf → Spot → Allocation
 allocation_in frame width shelves spot =
     record {

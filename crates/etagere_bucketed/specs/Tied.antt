@@ -1,3 +1,4 @@
+-- A ledger of what callers have, tied to the buckets that hold it.
 use Rattle.std.specs.Prelude.{◌≡◌, ℕ, ◌+◌, ◌<◌, ◌≤◌, ◌≤ℤ◌, ◌⊎◌, List, [], ◌∷◌, ◌++◌, if◌then◌else◌}
 use Rattle.etagere_base.specs.declared.frames.Frame.{Frame}
 use Rattle.etagere_base.specs.declared.ids.Allocation.{Allocation}
@@ -19,7 +20,8 @@ abbrev pub busy_along : ℕ → ℕ → List Bucket → List BusyBucket
 busy_along across height [] = []
 busy_along across height (bucket ∷ buckets) =
     if is_idle_bucket bucket then busy_along across height buckets
-    else record { bucket = bucket; across = across; height = height } ∷ busy_along across height buckets
+    else record { bucket = bucket; across = across; height = height }
+    ∷ busy_along across height buckets
 
 -- the buckets that hold something live, of shelves that stand after others
 abbrev pub busy_after : List BucketShelf → List BucketShelf → List BusyBucket
@@ -35,12 +37,14 @@ busy_buckets shelves = busy_after [] shelves
 -- how many items are live in the buckets of a tag
 abbrev pub live_of : Tag → List BusyBucket → ℕ
 live_of tag [] = 0
-live_of tag (busy ∷ others) = (if is_same_tag tag busy.bucket.tag then busy.bucket.live else 0) + live_of tag others
+live_of tag (busy ∷ others) =
+    (if is_same_tag tag busy.bucket.tag then busy.bucket.live else 0) + live_of tag others
 
 -- how many entries name a tag
 abbrev pub entries_of : Tag → List Allocation → ℕ
 entries_of tag [] = 0
-entries_of tag (entry ∷ entries) = (if is_same_tag tag (tag_of entry.id) then 1 else 0) + entries_of tag entries
+entries_of tag (entry ∷ entries) =
+    (if is_same_tag tag (tag_of entry.id) then 1 else 0) + entries_of tag entries
 
 -- an element is one of a list
 abbrev pub StandsIn : {X : Type 0} → X → List X → Type 0
@@ -67,18 +71,21 @@ pub record IsInABucket (frame : Frame) (busy : List BusyBucket) (entry : Allocat
 -- of two entries of one bucket the later one was given later, and lies behind the earlier one
 pub record Precedes (frame : Frame) (entry later : Allocation) : Type 0 where
   pub given : given_of entry.id < given_of later.id
-  pub place : place_along frame.vertical entry.rectangle.max ≤ℤ place_along frame.vertical later.rectangle.min
+  pub place : place_along frame.vertical entry.rectangle.max
+      ≤ℤ place_along frame.vertical later.rectangle.min
 
 -- the entries of each bucket stand in the order in which they were given
 abbrev pub AreInOrder : Frame → List Allocation → Type 0
 AreInOrder frame [] = Unit {0}
 AreInOrder frame (entry ∷ entries) =
-    Each (λ (later : Allocation). tag_of entry.id ≡ tag_of later.id → Precedes frame entry later) entries
+    Each (λ (later : Allocation). tag_of entry.id ≡ tag_of later.id → Precedes frame entry later)
+    entries
     × AreInOrder frame entries
 
--- the entries of a ledger are what the busy buckets of shelves hold: as many for each tag as are live, each in its bucket,
--- in the order in which they were given
-pub record AreInBuckets (frame : Frame) (busy : List BusyBucket) (entries : List Allocation) : Type 0 where
+-- the entries of a ledger are what the busy buckets of shelves hold: as many for each tag as are
+-- live, each in its bucket, in the order in which they were given
+pub record AreInBuckets (frame : Frame) (busy : List BusyBucket) (entries : List Allocation)
+    : Type 0 where
   pub counted : (tag : Tag) → entries_of tag entries ≡ live_of tag busy
   pub placed : Each (IsInABucket frame busy) entries
   pub ordered : AreInOrder frame entries

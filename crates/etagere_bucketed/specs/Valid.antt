@@ -1,3 +1,4 @@
+-- Which states a bucketed atlas can be in.
 use Rattle.std.specs.Prelude.{◌≡◌, ℕ, suc, ◌+◌, ◌*◌, ◌%◌, ◌<◌, ◌≤◌, ◌⊎◌, Bool, false, List, [], ◌∷◌}
 use Rattle.etagere_base.specs.declared.frames.Frame.{Frame}
 use Rattle.etagere_base.specs.Frames.{across_side, alignment_along}
@@ -6,8 +7,8 @@ use Rattle.etagere_bucketed.specs.Adding.{IsTag}
 use Rattle.etagere_bucketed.specs.Frames.{IsBucketedFrame}
 use Rattle.etagere_bucketed.specs.State.{Bucket, BucketShelf, BucketedState, bucket_numbers, buckets_in_use, column_height, column_place, is_idle, most_buckets, most_given}
 
--- a bucket of a shelf this wide and tall: what it has used, aligned, is at least its items' least widths; with
--- nothing live it is as new
+-- a bucket of a shelf this wide and tall: what it has used, aligned, is at least its items' least
+-- widths; with nothing live it is as new
 pub record IsBucket (alignment width height : ℕ) (bucket : Bucket) : Type 0 where
   pub tag : IsTag bucket.tag
   pub used : bucket.used ≤ width
@@ -30,11 +31,14 @@ pub record IsShelf (frame : Frame) (shelf : BucketShelf) : Type 0 where
   pub column : shelf.column < frame.columns
   pub aligned : shelf.bucket_width % alignment_along frame ≡ 0
   pub width : frame.columns ≡ 1 → 1 ≤ shelf.bucket_width
-  pub buckets : Each (IsBucket (alignment_along frame) shelf.bucket_width shelf.height) shelf.buckets
-  pub stand : StandBetween (alignment_along frame) shelf.bucket_width (column_place frame shelf.column)
+  pub buckets : Each (IsBucket (alignment_along frame) shelf.bucket_width shelf.height)
+      shelf.buckets
+  pub stand : StandBetween (alignment_along frame) shelf.bucket_width
+      (column_place frame shelf.column)
       (column_place frame shelf.column + frame.column_width) shelf.buckets
 
--- shelves go on where so many columns are opened: each in the last opened one, or it opens the next and has a height
+-- shelves go on where so many columns are opened: each in the last opened one, or it opens the next
+-- and has a height
 abbrev pub OpenColumns : ℕ → List BucketShelf → Type 0
 OpenColumns opened [] = Unit {0}
 OpenColumns opened (shelf ∷ shelves) =
@@ -47,7 +51,8 @@ ends_idle [] = false
 ends_idle (shelf ∷ []) = is_idle shelf
 ends_idle (shelf ∷ next ∷ shelves) = ends_idle (next ∷ shelves)
 
--- shelves stand in the columns of a frame, column after column, no column too tall, and each bucket has a number of its own
+-- shelves stand in the columns of a frame, column after column, no column too tall, and each bucket
+-- has a number of its own
 pub record AreShelves (frame : Frame) (shelves : List BucketShelf) : Type 0 where
   pub each : Each (IsShelf frame) shelves
   pub columns : OpenColumns 0 shelves
@@ -55,7 +60,8 @@ pub record AreShelves (frame : Frame) (shelves : List BucketShelf) : Type 0 wher
   pub numbers : (n : ℕ) → times n (bucket_numbers shelves) ≤ 1
   pub few : buckets_in_use shelves ≤ most_buckets
 
--- what a bucketed atlas can be in: its shelves stand in the frame, and the last one holds something live
+-- what a bucketed atlas can be in: its shelves stand in the frame, and the last one holds something
+-- live
 pub record IsValid (state : BucketedState) : Type 0 where
   pub frame : IsBucketedFrame state.frame
   pub shelves : AreShelves state.frame state.shelves

@@ -2,40 +2,93 @@
 //!
 //! Definitions: `Adding`. Whether a shelf can be added is asked first, by `can_add`.
 
-ghost use Rattle.std.specs.Prelude.{◌≡◌, true, ◌<◌, ◌^◌};
+ghost use Rattle.std.specs.Prelude.{◌≡◌, true, ◌<◌, ◌^◌, length};
 ghost use Rattle.etagere_base.specs.Frames as frames;
 ghost use Rattle.etagere_bucketed.specs.Adding as spec;
 ghost use Rattle.etagere_bucketed.specs.Frames.{IsBucketedFrame};
 
 use etagere_base::{Frame, Sides, step};
+use std::marker::Model;
 
 /// A shelf to be made: its column, its height in pixels and how many buckets it gets.
-#[derive(Clone, Copy, Debug, PartialEq, Eq)]
+#[derive(Clone, Copy)]
 pub(crate) struct NewShelf {
     pub column: u32,
     pub height: u32,
     pub count: u32,
 }
 
+impl Model for NewShelf {
+    ghost use Rattle.etagere_bucketed.specs.Adding as adding;
+
+    ghost Value = { adding.NewShelf };
+
+    ghost view = { λ new. record { column = new.column; height = new.height; count = new.count } };
+
+    ghost inverse = { λ new. record {
+      column = new.column;
+      height = new.height;
+      count = new.count;
+    } };
+}
+
 /// What the shelves leave: the column in which shelves are added, the height that is available there, and how many
 /// buckets can still be made.
-#[derive(Clone, Copy, Debug, PartialEq, Eq)]
+#[derive(Clone, Copy)]
 pub(crate) struct Left {
     pub column: u32,
     pub height: u32,
     pub buckets: u32,
 }
 
+impl Model for Left {
+    ghost use Rattle.etagere_bucketed.specs.Adding as adding;
+
+    ghost Value = { adding.Left };
+
+    ghost view = { λ left. record {
+      column = left.column;
+      height = left.height;
+      buckets = left.buckets;
+    } };
+
+    ghost inverse = { λ left. record {
+      column = left.column;
+      height = left.height;
+      buckets = left.buckets;
+    } };
+}
+
 /// The shelf asked for, and the filler before it where one is needed.
-#[derive(Clone, Copy, Debug, PartialEq, Eq)]
+#[derive(Clone, Copy)]
 pub(crate) struct NewShelves {
     pub filler: Option<NewShelf>,
     pub asked: NewShelf,
 }
 
+impl Model for NewShelves {
+    ghost use Rattle.etagere_bucketed.specs.Adding as adding;
+
+    ghost Value = { adding.NewShelves };
+
+    ghost view = { λ news. record { filler = news.filler; asked = news.asked } };
+
+    ghost inverse = { λ news. record { filler = news.filler; asked = news.asked } };
+}
+
 impl NewShelves {
+    /// How many they are.
+    pub(crate) fn shelf_count(&self) -> usize
+        ensures { result ≡ length (spec.news_of self.now) }
+    {
+        match &self.filler {
+            Some(_) => 2,
+            None => 1,
+        }
+    }
+
     /// How many buckets the new shelves get together.
-    pub(crate) fn count(&self) -> u32
+    pub(crate) fn total_count(&self) -> u32
         requires { spec.total_count (spec.news_of self.now) < 2 ^ 32 }
         ensures { result ≡ spec.total_count (spec.news_of self.now) }
     {
@@ -61,7 +114,7 @@ pub(crate) fn bucket_count(items: u32) -> u32
 /// The least power of two, up to 4096, that is not below a number.
 fn least_power_of_two(number: u32) -> u32
     requires { number < 2 ^ 31 }
-    ensures { result ≡ spec.doubled 12 1 number }
+    ensures { result ≡ spec.least_power_of_two number }
 {
     let mut power = 1;
     for _ in 0..12_u32 {

@@ -2,35 +2,18 @@
 //!
 //! Definitions: `Frames`, `Growing`.
 
-ghost use Rattle.std.specs.Prelude.{◌≡◌, ◌<◌, ◌^◌, ◌+◌, None};
-ghost use Rattle.etagere_base.specs.Frames as frames;
-ghost use Rattle.etagere_base.specs.Frames.{IsAccepted, alignments_of, column_width_of};
-ghost use Rattle.etagere_base.specs.Places as places;
-ghost use Rattle.etagere_base.specs.Sides as sides;
+ghost use Rattle.std.specs.Prelude.{◌≡◌, None};
+ghost use Rattle.etagere_base.specs.Frames.{IsAccepted};
 ghost use Rattle.etagere_bucketed.specs.Frames as spec;
 ghost use Rattle.etagere_bucketed.specs.Frames.{IsBucketedFrame, longest_bucketed_side};
 ghost use Rattle.etagere_bucketed.specs.Growing as growing;
 
 use crate::adding::alignment_along;
 use crate::faults::GrowFault;
-use etagere_base::{AllocatorOptions, Frame, Point, Rectangle, Sides, Size, side, swapped_axes};
+use etagere_base::{AllocatorOptions, Frame, LARGEST_AREA, Size, column_width, is_side, side};
 
 /// The longest side of a bucketed atlas, in pixels.
 pub(crate) const LONGEST_BUCKETED_SIDE: u16 = 65534;
-
-/// The width of a column: an equal share of the atlas, rounded down to the alignment.
-fn column_width(size: Size, options: &AllocatorOptions) -> u32
-    requires along { 0 < (alignments_of options.now).along }
-    requires columns { 0 < sides.side options.now.num_columns }
-    ensures { result ≡ column_width_of size options.now }
-{
-    let (along, alignment) = if options.vertical_shelves {
-        (side(size.height), side(options.alignment.height))
-    } else {
-        (side(size.width), side(options.alignment.width))
-    };
-    along / side(options.num_columns) / alignment * alignment
-}
 
 /// The frame of a bucketed atlas of a size and options that have no fault.
 pub(crate) fn bucketed_frame(size: Size, options: &AllocatorOptions) -> Frame
@@ -50,56 +33,20 @@ pub(crate) fn bucketed_frame(size: Size, options: &AllocatorOptions) -> Frame
     }
 }
 
-/// What lies at a place along and across, this wide along and this tall across.
-pub(crate) fn rectangle_at(
-    frame: &Frame,
-    along: u32,
-    across: u32,
-    width: u32,
-    height: u32,
-) -> Rectangle
-    requires right { along + width < 2 ^ 31 }
-    requires bottom { across + height < 2 ^ 31 }
-    ensures { result ≡ places.rectangle_at frame.now along across width height }
-{
-    let min = swapped_axes(frame.vertical, Sides { along, across });
-    let max = swapped_axes(
-        frame.vertical,
-        Sides {
-            along: along + width,
-            across: across + height,
-        },
-    );
-    Rectangle {
-        min: Point {
-            x: min.along as i32,
-            y: min.across as i32,
-        },
-        max: Point {
-            x: max.along as i32,
-            y: max.across as i32,
-        },
-    }
-}
-
-fn is_side(length: i32) -> bool
-    ensures { result ≡ frames.is_side longest_bucketed_side length }
-{
-    0 < side(length) && side(length) <= u32::from(LONGEST_BUCKETED_SIDE)
-}
-
 /// The first fault of a growth to a size, memory aside.
 pub(crate) fn grow_fault(frame: &Frame, size: Size) -> Option<GrowFault>
     ensures { result ≡ growing.grow_fault frame.now size }
 {
-    if !(is_side(size.width) && is_side(size.height)) {
+    if !(is_side(LONGEST_BUCKETED_SIDE, size.width)
+        && is_side(LONGEST_BUCKETED_SIDE, size.height))
+    {
         return Some(GrowFault::Size);
     }
     if side(size.width) < frame.width || side(size.height) < frame.height {
         return Some(GrowFault::Smaller);
     }
     let area = u64::from(side(size.width)) * u64::from(side(size.height));
-    if area > i32::MAX as u64 {
+    if area > LARGEST_AREA {
         return Some(GrowFault::Area);
     }
     None

@@ -71,7 +71,7 @@ busy-around front x left b right back h =
     ∙ sym (append_assoc (busy_buckets front) (along left) (along (b ∷ []) ++ (along right ++ after)))
 
 -- buckets with other numbers don't change
-same-buckets : (n : ℕ) (change : Bucket → Bucket) (bs : List Bucket) → Each (IsOther n) bs → map (changed_at n change) bs ≡ bs
+pub same-buckets : (n : ℕ) (change : Bucket → Bucket) (bs : List Bucket) → Each (IsOther n) bs → map (changed_at n change) bs ≡ bs
 same-buckets n change [] others = refl
 same-buckets n change (b ∷ bs) others = first (b.tag.number == n) refl (same-buckets n change bs others.1)
   where
@@ -80,7 +80,7 @@ same-buckets n change (b ∷ bs) others = first (b.tag.number == n) refl (same-b
     first false e rest = ap (λ (cs : List Bucket). b ∷ cs) rest
 
 -- nor do shelves of such
-same-shelves : (n : ℕ) (change : Bucket → Bucket) (xs : List BucketShelf) → Each (λ (x : BucketShelf). Each (IsOther n) x.buckets) xs → changed_bucket n change xs ≡ xs
+pub same-shelves : (n : ℕ) (change : Bucket → Bucket) (xs : List BucketShelf) → Each (λ (x : BucketShelf). Each (IsOther n) x.buckets) xs → changed_bucket n change xs ≡ xs
 same-shelves n change [] others = refl
 same-shelves n change (x ∷ xs) others =
     ap (λ (bs : List Bucket). with_buckets bs x ∷ changed_bucket n change xs) (same-buckets n change x.buckets others.0)
@@ -108,7 +108,7 @@ change-here change b = first (b.tag.number == b.tag.number) (eq-eqb b.tag.number
     first false e = absurd (cc)
 
 -- the shelf of a spot after its bucket was changed
-shelf-here : (change : Bucket → Bucket) (shelf : BucketShelf) (left : List Bucket) (b : Bucket) (right : List Bucket) → shelf.buckets ≡ left ++ b ∷ right
+pub shelf-here : (change : Bucket → Bucket) (shelf : BucketShelf) (left : List Bucket) (b : Bucket) (right : List Bucket) → shelf.buckets ≡ left ++ b ∷ right
     → Each (IsOther b.tag.number) left → Each (IsOther b.tag.number) right → (changed_in b.tag.number change shelf).buckets ≡ left ++ change b ∷ right
 shelf-here change shelf left b right h others_left others_right =
     let n = b.tag.number in

@@ -4,6 +4,7 @@ use Rattle.std.proofs.lemmas.Bool.{and_parts, eqb-true, leb-true, ltb-true}
 use Rattle.std.proofs.lemmas.List.{length-take-le, length-drop}
 use Rattle.std.specs.List.{list_all}
 use Rattle.std.specs.Prelude.{nat_le, nat_lt, ◌==◌}
+use Rattle.etagere_base.proofs.AskedSides.{IsAsked, step-tall}
 use Rattle.etagere_base.proofs.TimesLemmas.{times-append}
 use Rattle.etagere_base.specs.declared.frames.Frame.{Frame}
 use Rattle.etagere_base.specs.declared.sides.Sides.{Sides}
@@ -14,9 +15,8 @@ use Rattle.etagere_bucketed.specs.Adding.{AreNewTags, IsTag, NewShelf, asked_she
 use Rattle.etagere_bucketed.specs.Frames.{IsBucketedFrame}
 use Rattle.etagere_bucketed.specs.State.{BucketShelf, Tag, available_height, bucket_numbers, buckets_in_use, buckets_left, column_height, current_column, is_idle, is_idle_bucket, last_column, most_buckets, tag_numbers}
 use Rattle.etagere_bucketed.specs.Valid.{AreShelves, IsShelf, OpenColumns}
-use Rattle.etagere_bucketed.proofs.Asked.{IsAsked}
 use Rattle.etagere_bucketed.proofs.Shelving.Made.{length-new, numbers-new, shelf-made}
-use Rattle.etagere_bucketed.proofs.Shelving.Shares.{alignment-positive, bucket_count-le, share-wide, step-tall}
+use Rattle.etagere_bucketed.proofs.Shelving.Shares.{alignment-positive, bucket_count-le, share-wide}
 use Rattle.etagere_bucketed.proofs.Shelving.Shelves.{bucket_numbers-append, column_height-unopened, numbers_of, opened_by, opened-current, shelf-added, OpenColumns-append, buckets_in_use-append}
 
 -- a shelf but for its buckets
@@ -60,8 +60,20 @@ pub record Adds (frame : Frame) (shelves : List BucketShelf) (sides : Sides) (ne
   pub wide : sides.along ≤ width_of_share frame new.count
   pub tall : sides.across ≤ new.height
 
+-- new shelves fit behind others: the one asked for, wide and tall enough, or a filler and then that one
+abbrev pub FitsNews : Frame → List BucketShelf → Sides → List NewShelf → Type 0
+FitsNews frame shelves sides [] = ⊥
+FitsNews frame shelves sides (new ∷ []) =
+    FitsBehind frame shelves new × (sides.along ≤ width_of_share frame new.count) × (sides.across ≤ new.height)
+FitsNews frame shelves sides (filling ∷ new ∷ []) =
+    FitsBehind frame shelves filling
+    × ((own : List Tag) → length own ≡ filling.count → FitsBehind frame (shelves ++ made_shelf frame filling own ∷ []) new)
+    × (sides.along ≤ width_of_share frame new.count)
+    × (sides.across ≤ new.height)
+FitsNews frame shelves sides (filling ∷ new ∷ other ∷ news) = ⊥
+
 -- the current column is one of the frame
-current-below : (frame : Frame) (column : ℕ) (shelves : List BucketShelf) → column < frame.columns → Each (IsShelf frame) shelves → last_column column shelves < frame.columns
+pub current-below : (frame : Frame) (column : ℕ) (shelves : List BucketShelf) → column < frame.columns → Each (IsShelf frame) shelves → last_column column shelves < frame.columns
 current-below frame column [] h each = h
 current-below frame column (x ∷ xs) h each = current-below frame x.column xs each.0.column each.1
 
@@ -227,25 +239,26 @@ fits-filler frame y ys valid tall below more =
       wide = λ h. absurd (omega (arith, h));
     }
 
--- where a filler is needed, it and the shelf asked for are added
-adds-filled : (frame : Frame) (y : BucketShelf) (ys : List BucketShelf) (sides : Sides) (tags : List Tag) → IsBucketedFrame frame → IsAsked frame sides → AreShelves frame (y ∷ ys)
+-- where a filler is needed, it and the shelf asked for fit
+fits-filled : (frame : Frame) (y : BucketShelf) (ys : List BucketShelf) (sides : Sides) → IsBucketedFrame frame → IsAsked frame sides → AreShelves frame (y ∷ ys)
     → 1 ≤ available_height frame (y ∷ ys) → current_column (y ∷ ys) + 1 < frame.columns → 2 ≤ buckets_left (y ∷ ys)
-    → AreNewTags (y ∷ ys) (total_count (filler frame (left_to frame (y ∷ ys)) ∷ asked_shelf frame (current_column (y ∷ ys) + 1) (across_side frame) (buckets_left (y ∷ ys) - (filler frame (left_to frame (y ∷ ys))).count) sides ∷ [])) tags
-    → Adds frame (y ∷ ys) sides (filler frame (left_to frame (y ∷ ys)) ∷ asked_shelf frame (current_column (y ∷ ys) + 1) (across_side frame) (buckets_left (y ∷ ys) - (filler frame (left_to frame (y ∷ ys))).count) sides ∷ []) tags
-adds-filled frame y ys sides tags is_frame asks valid tall below more are_new =
+    → FitsNews frame (y ∷ ys) sides (filler frame (left_to frame (y ∷ ys)) ∷ asked_shelf frame (current_column (y ∷ ys) + 1) (across_side frame) (buckets_left (y ∷ ys) - (filler frame (left_to frame (y ∷ ys))).count) sides ∷ [])
+fits-filled frame y ys sides is_frame asks valid tall below more =
     let shelves = y ∷ ys in
     let filling = filler frame (left_to frame shelves) in
     let column = current_column shelves + 1 in
     let left = buckets_left shelves - filling.count in
     let range = count-range frame 0 (available_height frame shelves) (buckets_left shelves - 1) (omega arith) in
     let fits = fits-filler frame y ys valid tall below more in
-    let enough = asked-enough frame column (across_side frame) left sides is_frame asks asks.short (omega (arith, range.1)) in
-    adds-two frame shelves sides filling (asked_shelf frame column (across_side frame) left sides) tags is_frame valid fits
-    (λ own same. fits-next frame (shelves ++ made_shelf frame filling own ∷ []) column sides left is_frame asks
-    (OpenColumns-append 0 shelves (made_shelf frame filling own ∷ []) valid.columns fits.opens)
-    (omega (arith, opened-append 0 shelves (made_shelf frame filling own))) below (omega (arith, range.1))
-    (omega (arith, buckets_in_use-append shelves (made_shelf frame filling own ∷ []), length-new (filling.column * frame.column_width) (width_of_share frame filling.count) own, same, range.1)))
-    enough.wide enough.tall are_new
+    let enough = asked-enough frame column (across_side frame) left sides is_frame asks asks.short (omega (arith, range.1)) in (
+      fits,
+      (λ own same. fits-next frame (shelves ++ made_shelf frame filling own ∷ []) column sides left is_frame asks
+          (OpenColumns-append 0 shelves (made_shelf frame filling own ∷ []) valid.columns fits.opens)
+          (omega (arith, opened-append 0 shelves (made_shelf frame filling own))) below (omega (arith, range.1))
+          (omega (arith, buckets_in_use-append shelves (made_shelf frame filling own ∷ []), length-new (filling.column * frame.column_width) (width_of_share frame filling.count) own, same, range.1))),
+      enough.wide,
+      enough.tall,
+    )
 
 -- what the tests show where a filler is needed
 filler-tests : (height available left : ℕ) (later : Bool) → (nat_lt 0 available && (nat_lt available height && later)) ≡ true → nat_le 2 left ≡ true
@@ -265,75 +278,76 @@ current-tests : (height available : ℕ) (later : Bool) → 1 ≤ available → 
 current-tests height available true some none h = grind arith
 current-tests height available false some none h = grind arith
 
--- where there is a shelf, what can be added is
-adds-behind : (frame : Frame) (y : BucketShelf) (ys : List BucketShelf) (sides : Sides) (tags : List Tag) → IsBucketedFrame frame → IsAsked frame sides → AreShelves frame (y ∷ ys)
-    → can_add frame (left_to frame (y ∷ ys)) sides.across ≡ true → AreNewTags (y ∷ ys) (total_count (new_shelves frame (left_to frame (y ∷ ys)) sides)) tags
-    → Adds frame (y ∷ ys) sides (new_shelves frame (left_to frame (y ∷ ys)) sides) tags
-adds-behind frame y ys sides tags is_frame asks valid can are_new =
-    by_tests (needs_filler frame (left_to frame (y ∷ ys)) sides.across) (available_height frame (y ∷ ys) == 0) refl refl can (new_shelves frame (left_to frame (y ∷ ys)) sides) refl are_new
+-- where there is a shelf, what can be added fits
+fits-behind : (frame : Frame) (y : BucketShelf) (ys : List BucketShelf) (sides : Sides) → IsBucketedFrame frame → IsAsked frame sides → AreShelves frame (y ∷ ys)
+    → can_add frame (left_to frame (y ∷ ys)) sides.across ≡ true → FitsNews frame (y ∷ ys) sides (new_shelves frame (left_to frame (y ∷ ys)) sides)
+fits-behind frame y ys sides is_frame asks valid can =
+    by_tests (needs_filler frame (left_to frame (y ∷ ys)) sides.across) (available_height frame (y ∷ ys) == 0) refl refl can
   where
     by_tests : (b c : Bool) → needs_filler frame (left_to frame (y ∷ ys)) sides.across ≡ b → (available_height frame (y ∷ ys) == 0) ≡ c
         → ((nat_le sides.across (available_height frame (y ∷ ys)) || has_later_column frame (left_to frame (y ∷ ys))) && nat_le (cond b 2 1) (buckets_left (y ∷ ys))) ≡ true
-        → (news : List NewShelf)
-        → cond b (filler frame (left_to frame (y ∷ ys)) ∷ asked_shelf frame (current_column (y ∷ ys) + 1) (across_side frame) (buckets_left (y ∷ ys) - (filler frame (left_to frame (y ∷ ys))).count) sides ∷ [])
+        → FitsNews frame (y ∷ ys) sides
+        (cond b (filler frame (left_to frame (y ∷ ys)) ∷ asked_shelf frame (current_column (y ∷ ys) + 1) (across_side frame) (buckets_left (y ∷ ys) - (filler frame (left_to frame (y ∷ ys))).count) sides ∷ [])
         (cond c (asked_shelf frame (current_column (y ∷ ys) + 1) (across_side frame) (buckets_left (y ∷ ys)) sides ∷ [])
-        (asked_shelf frame (current_column (y ∷ ys)) (available_height frame (y ∷ ys)) (buckets_left (y ∷ ys)) sides ∷ [])) ≡ news
-        → AreNewTags (y ∷ ys) (total_count news) tags → Adds frame (y ∷ ys) sides news tags
-    by_tests true c e k can news same are_new =
+        (asked_shelf frame (current_column (y ∷ ys)) (available_height frame (y ∷ ys)) (buckets_left (y ∷ ys)) sides ∷ [])))
+    by_tests true c e k can =
         let room = and_parts (nat_le sides.across (available_height frame (y ∷ ys)) || has_later_column frame (left_to frame (y ∷ ys))) (nat_le 2 (buckets_left (y ∷ ys))) can in
         let tests = filler-tests sides.across (available_height frame (y ∷ ys)) (buckets_left (y ∷ ys)) (has_later_column frame (left_to frame (y ∷ ys))) e room.1 in
-        subst (λ (news : List NewShelf). AreNewTags (y ∷ ys) (total_count news) tags → Adds frame (y ∷ ys) sides news tags) same
-        (adds-filled frame y ys sides tags is_frame asks valid tests.0 (ltb-true (current_column (y ∷ ys) + 1) frame.columns tests.2) tests.3) are_new
-    by_tests false true e k can news same are_new =
+        fits-filled frame y ys sides is_frame asks valid tests.0 (ltb-true (current_column (y ∷ ys) + 1) frame.columns tests.2) tests.3
+    by_tests false true e k can =
         let room = and_parts (nat_le sides.across (available_height frame (y ∷ ys)) || has_later_column frame (left_to frame (y ∷ ys))) (nat_le 1 (buckets_left (y ∷ ys))) can in
         let later = next-tests sides.across (available_height frame (y ∷ ys)) (has_later_column frame (left_to frame (y ∷ ys))) asks.across (eqb-true (available_height frame (y ∷ ys)) 0 k) room.0 in
         let more : 1 ≤ buckets_left (y ∷ ys) = leb-true 1 (buckets_left (y ∷ ys)) room.1 in
         let column = current_column (y ∷ ys) + 1 in
         let enough = asked-enough frame column (across_side frame) (buckets_left (y ∷ ys)) sides is_frame asks asks.short more in
-        subst (λ (news : List NewShelf). AreNewTags (y ∷ ys) (total_count news) tags → Adds frame (y ∷ ys) sides news tags) same
-        (adds-one frame (y ∷ ys) sides (asked_shelf frame column (across_side frame) (buckets_left (y ∷ ys)) sides) tags is_frame valid
-        (fits-next frame (y ∷ ys) column sides (buckets_left (y ∷ ys)) is_frame asks valid.columns (omega (arith, opened-current y ys)) (ltb-true column frame.columns later) more (omega (arith, valid.few)))
-        enough.wide enough.tall) are_new
-    by_tests false false e k can news same are_new =
+        (fits-next frame (y ∷ ys) column sides (buckets_left (y ∷ ys)) is_frame asks valid.columns (omega (arith, opened-current y ys)) (ltb-true column frame.columns later) more (omega (arith, valid.few)), enough.wide, enough.tall)
+    by_tests false false e k can =
         let room = and_parts (nat_le sides.across (available_height frame (y ∷ ys)) || has_later_column frame (left_to frame (y ∷ ys))) (nat_le 1 (buckets_left (y ∷ ys))) can in
         let some : 1 ≤ available_height frame (y ∷ ys) = grind arith in
         let tall = current-tests sides.across (available_height frame (y ∷ ys)) (has_later_column frame (left_to frame (y ∷ ys))) some e room.0 in
         let more : 1 ≤ buckets_left (y ∷ ys) = leb-true 1 (buckets_left (y ∷ ys)) room.1 in
         let enough = asked-enough frame (current_column (y ∷ ys)) (available_height frame (y ∷ ys)) (buckets_left (y ∷ ys)) sides is_frame asks tall more in
-        subst (λ (news : List NewShelf). AreNewTags (y ∷ ys) (total_count news) tags → Adds frame (y ∷ ys) sides news tags) same
-        (adds-one frame (y ∷ ys) sides (asked_shelf frame (current_column (y ∷ ys)) (available_height frame (y ∷ ys)) (buckets_left (y ∷ ys)) sides) tags is_frame valid
-        (fits-current frame (y ∷ ys) sides is_frame asks valid tall more)
-        enough.wide enough.tall) are_new
+        (fits-current frame (y ∷ ys) sides is_frame asks valid tall more, enough.wide, enough.tall)
 
--- a first shelf is added to a new atlas
-adds-first : (frame : Frame) (sides : Sides) (tags : List Tag) → IsBucketedFrame frame → IsAsked frame sides → AreShelves frame []
-    → AreNewTags [] (total_count (new_shelves frame (left_to frame []) sides)) tags → Adds frame [] sides (new_shelves frame (left_to frame []) sides) tags
-adds-first frame sides tags is_frame asks valid are_new =
-    by_tests (needs_filler frame (left_to frame []) sides.across) (available_height frame [] == 0) refl refl (new_shelves frame (left_to frame []) sides) refl are_new
+-- a first shelf fits a new atlas
+fits-first : (frame : Frame) (sides : Sides) → IsBucketedFrame frame → IsAsked frame sides → AreShelves frame [] → FitsNews frame [] sides (new_shelves frame (left_to frame []) sides)
+fits-first frame sides is_frame asks valid =
+    by_tests (needs_filler frame (left_to frame []) sides.across) (available_height frame [] == 0) refl refl
   where
     by_tests : (b c : Bool) → needs_filler frame (left_to frame []) sides.across ≡ b → (available_height frame [] == 0) ≡ c
-        → (news : List NewShelf)
-        → cond b (filler frame (left_to frame []) ∷ asked_shelf frame (current_column [] + 1) (across_side frame) (buckets_left [] - (filler frame (left_to frame [])).count) sides ∷ [])
+        → FitsNews frame [] sides
+        (cond b (filler frame (left_to frame []) ∷ asked_shelf frame (current_column [] + 1) (across_side frame) (buckets_left [] - (filler frame (left_to frame [])).count) sides ∷ [])
         (cond c (asked_shelf frame (current_column [] + 1) (across_side frame) (buckets_left []) sides ∷ [])
-        (asked_shelf frame (current_column []) (available_height frame []) (buckets_left []) sides ∷ [])) ≡ news
-        → AreNewTags [] (total_count news) tags → Adds frame [] sides news tags
-    by_tests true c e k news same are_new =
+        (asked_shelf frame (current_column []) (available_height frame []) (buckets_left []) sides ∷ [])))
+    by_tests true c e k =
         let parts = and_parts (nat_lt 0 (available_height frame [])) (nat_lt (available_height frame []) sides.across && has_later_column frame (left_to frame [])) e in
         let inner = and_parts (nat_lt (available_height frame []) sides.across) (has_later_column frame (left_to frame [])) parts.1 in
         absurd (omega (arith, ltb-true (available_height frame []) sides.across inner.0, asks.short))
-    by_tests false true e k news same are_new =
+    by_tests false true e k =
         absurd (omega (arith, eqb-true (available_height frame []) 0 k, asks.short, asks.across))
-    by_tests false false e k news same are_new =
+    by_tests false false e k =
         let tall : sides.across ≤ available_height frame [] = omega (arith, asks.short) in
         let enough = asked-enough frame 0 (available_height frame []) (buckets_left []) sides is_frame asks tall (omega arith) in
-        subst (λ (news : List NewShelf). AreNewTags [] (total_count news) tags → Adds frame [] sides news tags) same
-        (adds-one frame [] sides (asked_shelf frame 0 (available_height frame []) (buckets_left []) sides) tags is_frame valid
-        (fits-current frame [] sides is_frame asks valid tall (omega arith))
-        enough.wide enough.tall) are_new
+        (fits-current frame [] sides is_frame asks valid tall (omega arith), enough.wide, enough.tall)
+
+-- where a shelf can be added, what is added fits
+pub added-fits : (frame : Frame) (shelves : List BucketShelf) (sides : Sides) → IsBucketedFrame frame → IsAsked frame sides → AreShelves frame shelves
+    → can_add frame (left_to frame shelves) sides.across ≡ true → FitsNews frame shelves sides (new_shelves frame (left_to frame shelves) sides)
+added-fits frame [] sides is_frame asks valid can = fits-first frame sides is_frame asks valid
+added-fits frame (y ∷ ys) sides is_frame asks valid can = fits-behind frame y ys sides is_frame asks valid can
+
+-- what fits is added
+fits-adds : (frame : Frame) (shelves : List BucketShelf) (sides : Sides) (news : List NewShelf) (tags : List Tag) → IsBucketedFrame frame → AreShelves frame shelves
+    → FitsNews frame shelves sides news → AreNewTags shelves (total_count news) tags → Adds frame shelves sides news tags
+fits-adds frame shelves sides [] tags is_frame valid fits are_new = absurd fits
+fits-adds frame shelves sides (new ∷ []) tags is_frame valid fits are_new = adds-one frame shelves sides new tags is_frame valid fits.0 fits.1 fits.2 are_new
+fits-adds frame shelves sides (filling ∷ new ∷ []) tags is_frame valid fits are_new =
+    adds-two frame shelves sides filling new tags is_frame valid fits.0 fits.1 fits.2 fits.3 are_new
+fits-adds frame shelves sides (filling ∷ new ∷ other ∷ news) tags is_frame valid fits are_new = absurd fits
 
 -- where a shelf can be added, it is
 pub added-adds : (frame : Frame) (shelves : List BucketShelf) (sides : Sides) (tags : List Tag) → IsBucketedFrame frame → IsAsked frame sides → AreShelves frame shelves
     → can_add frame (left_to frame shelves) sides.across ≡ true → AreNewTags shelves (total_count (new_shelves frame (left_to frame shelves) sides)) tags
     → Adds frame shelves sides (new_shelves frame (left_to frame shelves) sides) tags
-added-adds frame [] sides tags is_frame asks valid can are_new = adds-first frame sides tags is_frame asks valid are_new
-added-adds frame (y ∷ ys) sides tags is_frame asks valid can are_new = adds-behind frame y ys sides tags is_frame asks valid can are_new
+added-adds frame shelves sides tags is_frame asks valid can are_new =
+    fits-adds frame shelves sides (new_shelves frame (left_to frame shelves) sides) tags is_frame valid (added-fits frame shelves sides is_frame asks valid can) are_new

@@ -6,7 +6,7 @@ use Rattle.std.proofs.lemmas.Nat.Gcd.{dvd_of_mod-eq-zero, mod-eq-zero_of_dvd}
 use Rattle.std.specs.Prelude.{nat_le}
 use Rattle.etagere_base.specs.declared.frames.Frame.{Frame}
 use Rattle.etagere_base.specs.Frames.{alignment_along}
-use Rattle.etagere_base.specs.Sides.{coarseness, down, step, up}
+use Rattle.etagere_base.specs.Sides.{down}
 use Rattle.etagere_bucketed.specs.Adding.{bucket_count, doubled, new_count, width_of_share}
 use Rattle.etagere_bucketed.specs.Frames.{IsBucketedFrame}
 
@@ -87,10 +87,3 @@ alignment-positive frame is_frame = by_turn frame.vertical refl
     by_turn : (b : Bool) → frame.vertical ≡ b → 1 ≤ alignment_along frame
     by_turn true e = rw e (is_frame.alignment_height.0)
     by_turn false e = rw e (is_frame.alignment_width.0)
-
--- a height is at most what it is stepped to
-pub step-tall : (height : ℕ) → height ≤ step height
-step-tall height = up-le height (coarseness height) (grind arith)
-  where
-    up-le : (length alignment : ℕ) → 1 ≤ alignment → length ≤ up length alignment
-    up-le length alignment h = omega arith

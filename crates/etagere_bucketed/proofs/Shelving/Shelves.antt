@@ -1,5 +1,5 @@
 -- Shelves end to end: their heights, the columns that they goes, and the numbers of their buckets.
-use Rattle.std.proofs.Common.{◌≡◌, ℕ, suc, ◌+◌, ◌≤◌, ◌≢◌, Bool, true, false, cond, List, [], ◌∷◌, ◌++◌, length, map, refl, arith, ⊎_elim, ◌==◌}
+use Rattle.std.proofs.Common.{◌≡◌, ℕ, suc, ◌+◌, ◌≤◌, ◌≢◌, Bool, true, false, cond, List, [], ◌∷◌, ◌++◌, length, map, refl, ap, arith, ◌∙◌, ⊎_elim, ◌==◌}
 use Rattle.std.proofs.lemmas.Bool.{eqb-true}
 use Rattle.etagere_base.proofs.EachLemmas.{Each-append, Each-front}
 use Rattle.etagere_base.proofs.TimesLemmas.{times-append}
@@ -109,3 +109,11 @@ shelves-front frame xs ys shelves = record {
   numbers = λ n. omega (arith, bucket_numbers-append n xs ys, shelves.numbers n);
   few = omega (arith, buckets_in_use-append xs ys, shelves.few);
 }
+
+-- the heights of the column of the last shelf
+pub own-height : (front : List BucketShelf) (x : BucketShelf) → column_height x.column (front ++ x ∷ []) ≡ column_height x.column front + x.height
+own-height front x =
+    column_height-append x.column front (x ∷ []) ∙ ap (λ (t : Bool). column_height x.column front + (cond t x.height 0 + 0)) (equal x.column) ∙ omega arith
+  where
+    equal : (n : ℕ) → (n == n) ≡ true
+    equal n = grind arith

@@ -3,6 +3,7 @@ use Rattle.std.proofs.Common.{◌≡◌, ℕ, ◌+◌, ◌-◌, ◌*◌, ◌≤�
 use Rattle.std.proofs.lemmas.Bool.{and_parts, eqb-true}
 use Rattle.std.specs.List.{list_all}
 use Rattle.std.specs.Prelude.{option_map, slice_get}
+use Rattle.etagere_base.proofs.AskedSides.{IsAsked, asked-sides}
 use Rattle.etagere_base.proofs.EachLemmas.{Each-middle}
 use Rattle.etagere_base.proofs.ReplacedLists.{split-at, slice_get-append}
 use Rattle.etagere_base.specs.declared.frames.Frame.{Frame}
@@ -19,7 +20,6 @@ use Rattle.etagere_bucketed.specs.Taking.{first_bucket, needed_buckets, prepared
 use Rattle.etagere_bucketed.specs.Tied.{busy_buckets}
 use Rattle.etagere_bucketed.specs.Valid.{AreShelves, IsShelf, IsValid, StandBetween, ends_idle}
 use Rattle.etagere_bucketed.proofs.Shelving.Added.{Adds, added-adds, idle-new}
-use Rattle.etagere_bucketed.proofs.Asked.{IsAsked, asked-sides}
 use Rattle.etagere_bucketed.proofs.Ledger.Busy.{busy-idle_end, busy-merged}
 use Rattle.etagere_bucketed.proofs.Shelving.Groups.{Merges, mergeable-merges, merged-behind}
 use Rattle.etagere_bucketed.proofs.Shelving.Merged.{ends-merged, shelves-merged}
@@ -226,7 +226,7 @@ placement-placed state size placement tags valid h are_new =
     let outer = and_then-parts (λ (sides : Sides). option_map (made sides) (bucket_place state.frame state.shelves sides)) (asked state.frame size) placement h in
     let sides = outer.0 in
     let inner = map-parts (made sides) (bucket_place state.frame state.shelves sides) placement outer.2 in
-    let asks = asked-sides state.frame size sides valid.frame outer.1 in
+    let asks = asked-sides 65534 state.frame size sides valid.frame outer.1 in
     let same : made sides inner.0 ≡ placement = inner.2 in
     subst (λ (p : BucketPlacement). AreNewTags state.shelves (needed_buckets p.place) tags → IsPlaced state size p tags) same
     (λ (are_new : AreNewTags state.shelves (needed_buckets inner.0) tags).

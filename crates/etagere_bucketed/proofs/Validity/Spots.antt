@@ -62,7 +62,7 @@ others-shelves n (x ∷ xs) h =
     (others-buckets n x.buckets (omega (arith, sum, h)), others-shelves n xs (omega (arith, sum, h)))
 
 -- how often the number of a bucket between others stands among theirs
-times-here : (left : List Bucket) (b : Bucket) (right : List Bucket)
+pub times-here : (left : List Bucket) (b : Bucket) (right : List Bucket)
     → times b.tag.number (numbers_of (left ++ b ∷ right)) ≡ suc (times b.tag.number (numbers_of left) + times b.tag.number (numbers_of right))
 times-here [] b right = one b.tag.number (times b.tag.number (numbers_of right))
   where

@@ -1,0 +1,252 @@
+-- The tests of the buckets of a shelf decide its rules, and what is added up over them is what the shelf has.
+use Rattle.std.proofs.Common.{◌≡◌, ℕ, ◌+◌, ◌-◌, ◌*◌, ◌/◌, ◌%◌, ◌<◌, ◌≤◌, Bool, true, false, ◌&&◌, ◌||◌, not, cond, Option, None, Some, List, [], ◌∷◌, length, map, max, refl, ap, arith, sym, ◌∙◌, subst, ⊎_elim, ◌==◌}
+use Rattle.std.proofs.lemmas.Bool.{eqb-true}
+use Rattle.std.proofs.lemmas.Nat.{div-add-mod'}
+use Rattle.std.proofs.lemmas.Option.{slice_get_cases}
+use Rattle.std.specs.List.{list_all}
+use Rattle.std.specs.Option.{option_map_or}
+use Rattle.std.specs.Prelude.{nat_le, nat_lt, option_and_then, slice_get}
+use Rattle.etagere_base.proofs.DecidingLemmas.{decides-both, decides-map, denied, granted}
+use Rattle.etagere_base.specs.declared.frames.Frame.{Frame}
+use Rattle.etagere_base.specs.Deciding.{Decides}
+use Rattle.etagere_base.specs.Frames.{alignment_along}
+use Rattle.etagere_base.specs.Lists.{Each}
+use Rattle.etagere_bucketed.specs.declared.records.BucketRecord.{BucketRecord}
+use Rattle.etagere_bucketed.specs.declared.records.BucketShelfRecord.{BucketShelfRecord}
+use Rattle.etagere_bucketed.specs.BucketRecords.{bucket_at, spelled_bucket}
+use Rattle.etagere_bucketed.specs.Private.Judging.{ends_at, has_buckets, is_owned, is_sound, is_sound_at, is_unused, last_stand, row_shelf, live_by, stand_at, used_by, widest_by}
+use Rattle.etagere_bucketed.specs.Private.Searching.{record_room}
+use Rattle.etagere_bucketed.specs.Private.Store.{live_items, room_of, widest_room}
+use Rattle.etagere_bucketed.specs.Space.{used_width}
+use Rattle.etagere_bucketed.specs.StandsFor.{free_of, live_of, shelf_of}
+use Rattle.etagere_bucketed.specs.State.{Bucket, column_place, generations, most_buckets, most_given}
+use Rattle.etagere_bucketed.specs.Valid.{IsBucket, IsShelf, StandBetween}
+use Rattle.etagere_bucketed.proofs.Judged.FrameTests.{decides-eq, decides-le, decides-lt}
+
+-- a record that is there
+pub record IsThere (buckets : List BucketRecord) (n : ℕ) : Type 0 where
+  pub bucket : BucketRecord
+  pub here : slice_get buckets n ≡ Some bucket
+
+pub there : (buckets : List BucketRecord) (n : ℕ) → n < length buckets → IsThere buckets n
+there buckets n within =
+    ⊎_elim (λ found. record { bucket = found.0; here = found.2 }) (λ none. absurd (omega (arith, within, none.0))) (slice_get_cases buckets n).1
+
+-- a test of each of some numbers, where a test of the record decides a fact
+pub all-decided : (buckets : List BucketRecord) (test : ℕ → Bool) (P : ℕ → Type 0) (ns : List ℕ) → ((n : ℕ) → n < length buckets → Decides (test n) (P n))
+    → Each (λ (n : ℕ). n < length buckets) ns → Decides (list_all test ns) (Each P ns)
+all-decided buckets test P [] one within = tt
+all-decided buckets test P (n ∷ ns) one within =
+    decides-both (test n) (list_all test ns) (P n) (Each P ns) (one n within.0) (all-decided buckets test P ns one within.1)
+
+-- the record of a number names a shelf
+owned-one : (buckets : List BucketRecord) (shelf n : ℕ) → n < length buckets → Decides (is_owned buckets shelf n) (shelf_of buckets n ≡ shelf)
+owned-one buckets shelf n within =
+    let is = there buckets n within in
+    subst (λ (o : Option BucketRecord). Decides (option_map_or (λ (b : BucketRecord). b.shelf == shelf) o false) (option_map_or (λ (b : BucketRecord). b.shelf) o 0 ≡ shelf))
+    (sym is.here) (decides-eq is.bucket.shelf shelf)
+
+-- those of some numbers do
+pub owned-decided : (buckets : List BucketRecord) (shelf : ℕ) (ns : List ℕ) → Each (λ (n : ℕ). n < length buckets) ns
+    → Decides (list_all (is_owned buckets shelf) ns) (Each (λ (n : ℕ). shelf_of buckets n ≡ shelf) ns)
+owned-decided buckets shelf ns within = all-decided buckets (is_owned buckets shelf) (λ (n : ℕ). shelf_of buckets n ≡ shelf) ns (owned-one buckets shelf) within
+
+-- nothing of the record of a number is live
+unused-one : (buckets : List BucketRecord) (n : ℕ) → n < length buckets → Decides (is_unused buckets n) (live_of buckets n ≡ 0)
+unused-one buckets n within =
+    let is = there buckets n within in
+    subst (λ (o : Option BucketRecord). Decides (option_map_or (λ (b : BucketRecord). b.refcount == 0) o false) (option_map_or (λ (b : BucketRecord). b.refcount) o 0 ≡ 0))
+    (sym is.here) (decides-eq is.bucket.refcount 0)
+
+pub unused-decided : (buckets : List BucketRecord) (ns : List ℕ) → Each (λ (n : ℕ). n < length buckets) ns
+    → Decides (list_all (is_unused buckets) ns) (Each (λ (n : ℕ). live_of buckets n ≡ 0) ns)
+unused-decided buckets ns within = all-decided buckets (is_unused buckets) (λ (n : ℕ). live_of buckets n ≡ 0) ns (unused-one buckets) within
+
+-- what a bucket has used, by how many items are live
+abbrev Uses : ℕ → ℕ → ℕ → ℕ → ℕ → Type 0
+Uses alignment height live given used = (live ≡ 0 → (given ≡ 0) × (used ≡ 0)) × (1 ≤ live → (given * alignment ≤ used) × (1 ≤ height))
+
+-- a bucket with nothing live is as new, and another one has used what its items need
+uses-decided : (alignment height live given used : ℕ)
+    → Decides (cond (live == 0) (given == 0 && used == 0) (nat_le (given * alignment) used && nat_le 1 height))
+    ((live ≡ 0 → (given ≡ 0) × (used ≡ 0)) × (1 ≤ live → (given * alignment ≤ used) × (1 ≤ height)))
+uses-decided alignment height live given used = by_test (live == 0) refl
+  where
+    by_test : (t : Bool) → (live == 0) ≡ t → Decides (cond t (given == 0 && used == 0) (nat_le (given * alignment) used && nat_le 1 height)) (Uses alignment height live given used)
+    by_test true e =
+        let none : live ≡ 0 = eqb-true live 0 e in
+        decides-map (given == 0 && used == 0) ((given ≡ 0) × (used ≡ 0)) (Uses alignment height live given used)
+        (λ p. (λ _. p, λ some. absurd (omega (arith, none, some)))) (λ uses. uses.0 none)
+        (decides-both (given == 0) (used == 0) (given ≡ 0) (used ≡ 0) (decides-eq given 0) (decides-eq used 0))
+    by_test false e =
+        let some : 1 ≤ live = grind arith in
+        decides-map (nat_le (given * alignment) used && nat_le 1 height) ((given * alignment ≤ used) × (1 ≤ height)) (Uses alignment height live given used)
+        (λ p. (λ none. absurd (omega (arith, none, some)), λ _. p)) (λ uses. uses.1 some)
+        (decides-both (nat_le (given * alignment) used) (nat_le 1 height) (given * alignment ≤ used) (1 ≤ height) (decides-le (given * alignment) used) (decides-le 1 height))
+
+-- what the tests of a bucket record tell
+sound-record : (alignment width height n : ℕ) (r : BucketRecord) → n < most_buckets
+    → Decides (is_sound alignment width height r) (IsBucket alignment width height (spelled_bucket width n r) × (r.free_space ≤ width))
+sound-record alignment width height n r few =
+    let used : ℕ = width - r.free_space in
+    let uses : Type 0 = (r.refcount ≡ 0 → (r.item_count ≡ 0) × (used ≡ 0)) × (1 ≤ r.refcount → (r.item_count * alignment ≤ used) × (1 ≤ height)) in
+    let counts : Type 0 = (r.refcount ≤ r.item_count) × (r.item_count ≤ most_given) in
+    let filled : Type 0 = (r.free_space ≤ width) × ((used % alignment ≡ 0) × (counts × uses)) in
+    decides-map (is_sound alignment width height r) (filled × (r.generation < generations))
+    (IsBucket alignment width height (spelled_bucket width n r) × (r.free_space ≤ width))
+    (λ p. (
+      record {
+        tag = record { number = few; generation = p.1 };
+        used = omega arith;
+        aligned = p.0.1.0;
+        live = p.0.1.1.0.0;
+        given = p.0.1.1.0.1;
+        idle = p.0.1.1.1.0;
+        busy = p.0.1.1.1.1;
+      },
+      p.0.0,
+    ))
+    (λ q. ((q.1, (q.0.aligned, ((q.0.live, q.0.given), (q.0.idle, q.0.busy)))), q.0.tag.generation))
+    (decides-both _ _ filled (r.generation < generations)
+    (decides-both (nat_le r.free_space width) _ (r.free_space ≤ width) ((used % alignment ≡ 0) × (counts × uses)) (decides-le r.free_space width)
+    (decides-both (used % alignment == 0) _ (used % alignment ≡ 0) (counts × uses) (decides-eq (used % alignment) 0)
+    (decides-both (nat_le r.refcount r.item_count && nat_le r.item_count most_given) _ counts uses
+    (decides-both (nat_le r.refcount r.item_count) (nat_le r.item_count most_given) (r.refcount ≤ r.item_count) (r.item_count ≤ most_given) (decides-le r.refcount r.item_count) (decides-le r.item_count most_given))
+    (uses-decided alignment height r.refcount r.item_count used))))
+    (decides-lt r.generation generations))
+
+module _ (buckets : List BucketRecord) (few : length buckets ≤ most_buckets) where
+  sound-one : (alignment width height n : ℕ) → n < length buckets
+      → Decides (is_sound_at alignment width height buckets n) (IsBucket alignment width height (bucket_at buckets width n) × (free_of buckets n ≤ width))
+  sound-one alignment width height n within =
+      let is = there buckets n within in
+      subst
+      (λ (o : Option BucketRecord). Decides (option_map_or (is_sound alignment width height) o false)
+      (IsBucket alignment width height (option_map_or (spelled_bucket width n) o (record { place = 0; used = 0; live = 0; given = 0; tag = record { number = n; generation = 0 } }))
+      × (option_map_or (λ (b : BucketRecord). b.free_space) o 0 ≤ width)))
+      (sym is.here) (sound-record alignment width height n is.bucket (omega (arith, within, few)))
+
+  -- two facts of each number, one of which is of its bucket
+  unzip : (P : Bucket → Type 0) (Q : ℕ → Type 0) (f : ℕ → Bucket) (ns : List ℕ) → Each (λ (n : ℕ). P (f n) × Q n) ns → Each P (map f ns) × Each Q ns
+  unzip P Q f [] each = (tt, tt)
+  unzip P Q f (n ∷ ns) each = let rest = unzip P Q f ns each.1 in ((each.0.0, rest.0), (each.0.1, rest.1))
+
+  zip : (P : Bucket → Type 0) (Q : ℕ → Type 0) (f : ℕ → Bucket) (ns : List ℕ) → Each P (map f ns) × Each Q ns → Each (λ (n : ℕ). P (f n) × Q n) ns
+  zip P Q f [] each = tt
+  zip P Q f (n ∷ ns) each = ((each.0.0, each.1.0), zip P Q f ns (each.0.1, each.1.1))
+
+  -- the tests of the buckets of a shelf decide whether each keeps its rule
+  pub sound-decided : (alignment width height : ℕ) (ns : List ℕ) → Each (λ (n : ℕ). n < length buckets) ns
+      → Decides (list_all (is_sound_at alignment width height buckets) ns)
+      (Each (IsBucket alignment width height) (map (bucket_at buckets width) ns) × Each (λ (n : ℕ). free_of buckets n ≤ width) ns)
+  sound-decided alignment width height ns within =
+      let P : Bucket → Type 0 = IsBucket alignment width height in
+      let Q : ℕ → Type 0 = λ n. free_of buckets n ≤ width in
+      decides-map (list_all (is_sound_at alignment width height buckets) ns) (Each (λ (n : ℕ). P (bucket_at buckets width n) × Q n) ns)
+      (Each P (map (bucket_at buckets width) ns) × Each Q ns)
+      (unzip P Q (bucket_at buckets width) ns) (zip P Q (bucket_at buckets width) ns)
+      (all-decided buckets (is_sound_at alignment width height buckets) (λ (n : ℕ). P (bucket_at buckets width n) × Q n) ns (sound-one alignment width height) within)
+
+  -- the last bucket stands where it must, and each other one before the one tried before it
+  stand-decided : (alignment width begin end : ℕ) (ns : List ℕ) → Each (λ (n : ℕ). n < length buckets) ns
+      → Decides (ends_at begin (last_stand alignment width buckets end ns)) (StandBetween alignment width begin end (map (bucket_at buckets width) ns))
+  stand-decided alignment width begin end [] within = decides-eq end begin
+  stand-decided alignment width begin end (n ∷ ns) within =
+      let is = there buckets n within.0 in
+      let r = is.bucket in
+      subst
+      (λ (o : Option BucketRecord). Decides (ends_at begin (option_and_then (λ (place : ℕ). last_stand alignment width buckets place ns) (option_and_then (stand_at alignment width end) o)))
+      (((option_map_or (spelled_bucket width n) o (record { place = 0; used = 0; live = 0; given = 0; tag = record { number = n; generation = 0 } })).place % alignment ≡ 0)
+      × ((option_map_or (spelled_bucket width n) o (record { place = 0; used = 0; live = 0; given = 0; tag = record { number = n; generation = 0 } })).place + width ≤ end)
+      × StandBetween alignment width begin (option_map_or (spelled_bucket width n) o (record { place = 0; used = 0; live = 0; given = 0; tag = record { number = n; generation = 0 } })).place (map (bucket_at buckets width) ns)))
+      (sym is.here)
+      (by_test r.x (r.x % alignment == 0 && nat_le (r.x + width) end) refl
+      (decides-both (r.x % alignment == 0) (nat_le (r.x + width) end) (r.x % alignment ≡ 0) (r.x + width ≤ end) (decides-eq (r.x % alignment) 0) (decides-le (r.x + width) end))
+      (stand-decided alignment width begin r.x ns within.1))
+    where
+      by_test : (x : ℕ) (t : Bool) → (x % alignment == 0 && nat_le (x + width) end) ≡ t
+          → Decides (x % alignment == 0 && nat_le (x + width) end) ((x % alignment ≡ 0) × (x + width ≤ end))
+          → Decides (ends_at begin (last_stand alignment width buckets x ns)) (StandBetween alignment width begin x (map (bucket_at buckets width) ns))
+          → Decides (ends_at begin (option_and_then (λ (place : ℕ). last_stand alignment width buckets place ns) (cond t (Some x) None)))
+          ((x % alignment ≡ 0) × (x + width ≤ end) × StandBetween alignment width begin x (map (bucket_at buckets width) ns))
+      by_test x true e both later =
+          let here : (x % alignment ≡ 0) × (x + width ≤ end) = granted (x % alignment == 0 && nat_le (x + width) end) ((x % alignment ≡ 0) × (x + width ≤ end)) both e in
+          decides-map (ends_at begin (last_stand alignment width buckets x ns)) (StandBetween alignment width begin x (map (bucket_at buckets width) ns))
+          ((x % alignment ≡ 0) × (x + width ≤ end) × StandBetween alignment width begin x (map (bucket_at buckets width) ns))
+          (λ rest. (here.0, here.1, rest)) (λ all. all.2) later
+      by_test x false e both later =
+          λ all. denied (x % alignment == 0 && nat_le (x + width) end) ((x % alignment ≡ 0) × (x + width ≤ end)) both e (all.0, all.1)
+
+  -- with one column buckets are wide
+  wide-decided : (columns width : ℕ) → Decides (not (columns == 1) || nat_le 1 width) (columns ≡ 1 → 1 ≤ width)
+  wide-decided columns width = by_test (columns == 1) refl
+    where
+      by_test : (t : Bool) → (columns == 1) ≡ t → Decides (not t || nat_le 1 width) (columns ≡ 1 → 1 ≤ width)
+      by_test true e =
+          decides-map (nat_le 1 width) (1 ≤ width) (columns ≡ 1 → 1 ≤ width) (λ p _. p) (λ wide. wide (eqb-true columns 1 e)) (decides-le 1 width)
+      by_test false e = λ same. let here : (columns == 1) ≡ true = rw same refl in absurd (cc)
+
+  -- the tests decide whether these are the buckets of a shelf
+  pub buckets-decided : (frame : Frame) (shelf : BucketShelfRecord) (ns : List ℕ) → Each (λ (n : ℕ). n < length buckets) ns
+      → shelf.x % frame.column_width ≡ 0 → shelf.x / frame.column_width < frame.columns
+      → Decides (has_buckets frame buckets shelf ns) (IsShelf frame (row_shelf frame buckets shelf ns) × Each (λ (n : ℕ). free_of buckets n ≤ shelf.bucket_width) ns)
+  buckets-decided frame shelf ns within aligned column =
+      let al : ℕ = alignment_along frame in
+      let width : ℕ = shelf.bucket_width in
+      let row : List Bucket = map (bucket_at buckets width) ns in
+      let begins : column_place frame (shelf.x / frame.column_width) ≡ shelf.x = omega (arith, div-add-mod' shelf.x frame.column_width, aligned) in
+      let P : Type 0 = (width % al ≡ 0) × (frame.columns ≡ 1 → 1 ≤ width) in
+      let Q : Type 0 = Each (IsBucket al width shelf.height) row × Each (λ (n : ℕ). free_of buckets n ≤ width) ns in
+      let R : ℕ → Type 0 = λ x. StandBetween al width x (x + frame.column_width) row in
+      decides-map (has_buckets frame buckets shelf ns) (P × (Q × R shelf.x))
+      (IsShelf frame (row_shelf frame buckets shelf ns) × Each (λ (n : ℕ). free_of buckets n ≤ width) ns)
+      (λ p. (
+        record {
+          column = column;
+          aligned = p.0.0;
+          width = p.0.1;
+          buckets = p.1.0.0;
+          stand = subst R (sym begins) p.1.1;
+        },
+        p.1.0.1,
+      ))
+      (λ q. ((q.0.aligned, q.0.width), ((q.0.buckets, q.1), subst R begins q.0.stand)))
+      (decides-both _ _ P (Q × R shelf.x)
+      (decides-both (width % al == 0) _ (width % al ≡ 0) (frame.columns ≡ 1 → 1 ≤ width) (decides-eq (width % al) 0) (wide-decided frame.columns width))
+      (decides-both _ _ Q (R shelf.x) (sound-decided al width shelf.height ns within) (stand-decided al width shelf.x (shelf.x + frame.column_width) ns within)))
+
+-- what records have used is what their buckets have used
+pub used-spelled : (buckets : List BucketRecord) (width : ℕ) (ns : List ℕ) → used_by width buckets ns ≡ used_width (map (bucket_at buckets width) ns)
+used-spelled buckets width [] = refl
+used-spelled buckets width (n ∷ ns) = omega (arith, one (slice_get buckets n), used-spelled buckets width ns)
+  where
+    one : (o : Option BucketRecord) → option_map_or (λ (b : BucketRecord). width - b.free_space) o 0
+        ≡ (option_map_or (spelled_bucket width n) o (record { place = 0; used = 0; live = 0; given = 0; tag = record { number = n; generation = 0 } })).used
+    one None = refl
+    one (Some r) = refl
+
+-- so many are live
+pub live-spelled : (buckets : List BucketRecord) (width : ℕ) (ns : List ℕ) → live_by buckets ns ≡ live_items (map (bucket_at buckets width) ns)
+live-spelled buckets width [] = refl
+live-spelled buckets width (n ∷ ns) = omega (arith, one (slice_get buckets n), live-spelled buckets width ns)
+  where
+    one : (o : Option BucketRecord) → option_map_or (λ (b : BucketRecord). b.refcount) o 0
+        ≡ (option_map_or (spelled_bucket width n) o (record { place = 0; used = 0; live = 0; given = 0; tag = record { number = n; generation = 0 } })).live
+    one None = refl
+    one (Some r) = refl
+
+-- and so much one of them can give
+pub widest-spelled : (buckets : List BucketRecord) (width : ℕ) (ns : List ℕ) → Each (λ (n : ℕ). n < length buckets) ns → Each (λ (n : ℕ). free_of buckets n ≤ width) ns
+    → widest_by buckets ns ≡ widest_room width (map (bucket_at buckets width) ns)
+widest-spelled buckets width [] within frees = refl
+widest-spelled buckets width (n ∷ ns) within frees =
+    let is = there buckets n within.0 in
+    ap (λ (m : ℕ). max m (widest_by buckets ns))
+    (subst
+    (λ (o : Option BucketRecord). option_map_or (λ (b : BucketRecord). b.free_space) o 0 ≤ width → option_map_or record_room o 0
+    ≡ room_of width (option_map_or (spelled_bucket width n) o (record { place = 0; used = 0; live = 0; given = 0; tag = record { number = n; generation = 0 } })))
+    (sym is.here) (λ fits. same is.bucket.item_count is.bucket.free_space fits) frees.0)
+    ∙ ap (λ (m : ℕ). max (room_of width (bucket_at buckets width n)) m) (widest-spelled buckets width ns within.1 frees.1)
+  where
+    same : (given free : ℕ) → free ≤ width → cond (nat_lt given most_given) free 0 ≡ cond (nat_lt given most_given) (width - (width - free)) 0
+    same given free fits = ap (λ (f : ℕ). cond (nat_lt given most_given) f 0) (omega (arith, fits))

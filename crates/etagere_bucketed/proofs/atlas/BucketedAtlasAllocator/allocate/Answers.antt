@@ -1,0 +1,210 @@
+use Rattle.std.specs.Prelude.{OnErr, Result, Ok, Err, option_map, slice_get, ◌^◌}
+use Rattle.std.proofs.Common.{◌≡◌, ℕ, ◌+◌, ◌-◌, ◌*◌, ◌<◌, Option, Some, length, ap, sym, subst, ◌∙◌, arith}
+use Rattle.std.proofs.Math.Nat.{le-mul_of_pos_right}
+use Rattle.etagere_base.proofs.FrameSides.{sides_low}
+use Rattle.etagere_base.specs.declared.frames.Frame.{Frame}
+use Rattle.etagere_base.specs.declared.geometry.Size.{Size}
+use Rattle.etagere_base.specs.declared.sides.Sides.{Sides}
+use Rattle.etagere_base.specs.Frames.{asked}
+use Rattle.etagere_base.specs.Rectangles.{IsAligned, IsLarge}
+use Rattle.etagere_bucketed.specs.declared.atlas.BucketedAtlasAllocator.TheInside.{Inside}
+use Rattle.etagere_bucketed.specs.declared.placing.Place as code
+use Rattle.etagere_bucketed.specs.Adding.{Left, left_to}
+use Rattle.etagere_bucketed.specs.Atlas.{Allocates, KeepsPromises, NeedsShelf}
+use Rattle.etagere_bucketed.specs.Placing.{IsBucketRefused}
+use Rattle.etagere_bucketed.specs.Private.Consistent.{IsConsistent, state_in}
+use Rattle.etagere_bucketed.specs.Private.Searching.{Found, Place, kept_place, place_seen}
+use Rattle.etagere_bucketed.specs.Private.Store.{Stored, stored_state}
+use Rattle.etagere_bucketed.specs.Private.StoreEdits.{CanGive, IsShort, end_of, found_of, height_of, kept_allocation, live_items_of, stored_ready, stored_taken}
+use Rattle.etagere_bucketed.specs.Private.StoreEdits as store
+use Rattle.etagere_bucketed.specs.Private.Witnessed.{HasTotals, Witnessed}
+use Rattle.etagere_bucketed.specs.State.{BucketedState, available_height, current_column, most_buckets}
+use Rattle.etagere_bucketed.proofs.Allocating.{allocates-aligned, allocates-large, allocates-valid}
+use Rattle.etagere_bucketed.proofs.Promises.{valid-promises}
+use Rattle.etagere_bucketed.proofs.Shelving.Added.{current-below}
+use Rattle.etagere_bucketed.proofs.Spelling.AllocatedRecords.{IsAllocation, Makes, allocation-is, makes, needed-few, needs-shelf, refused}
+use Rattle.etagere_bucketed.proofs.Spelling.Fresh.{space-small}
+use Rattle.etagere_bucketed.proofs.atlas.BucketedAtlasAllocator.allocate.Goals as goal
+
+on_err : {T E P : Type 0} (r : Result T E) → P → OnErr r P
+on_err (Ok x) p = tt
+on_err (Err e) p = p
+
+-- what the shelves leave, by the totals
+abbrev left_in : Inside → Left
+left_in inside =
+    record { column = inside.current_column; height = inside.available_height; buckets = most_buckets - inside.buckets_in_use }
+
+left-is : (inside : Inside) → IsConsistent inside → left_in inside ≡ left_to inside.frame (state_in inside).shelves
+left-is inside is =
+    ap (λ (n : ℕ). let left : Left = record { column = n; height = inside.available_height; buckets = most_buckets - inside.buckets_in_use } in left) is.totals.column
+    ∙ ap (λ (n : ℕ). let left : Left = record { column = current_column (state_in inside).shelves; height = n; buckets = most_buckets - inside.buckets_in_use } in left) is.totals.height
+    ∙ ap (λ (n : ℕ). let left : Left = record { column = current_column (state_in inside).shelves; height = (left_to inside.frame (state_in inside).shelves).height; buckets = most_buckets - n } in left) is.totals.in_use
+
+-- the place that is found
+made : (inside : Inside) → IsConsistent inside → (size : Size) (sides : Sides) (result : Option code.Place) (place : code.Place) → asked inside.frame size ≡ Some sides
+    → option_map place_seen result ≡ kept_place inside.frame (left_in inside) sides inside.store.shelves inside.store.buckets → result ≡ Some place
+    → Makes (state_in inside) size sides inside.store (place_seen place)
+made inside is size sides result place asks found some =
+    makes (state_in inside) size sides inside.store is.unused (place_seen place) is.witnessed.valid is.witnessed.spells asks
+    (ap (λ (left : Left). kept_place inside.frame left sides inside.store.shelves inside.store.buckets) (sym (left-is inside is)) ∙ sym found ∙ ap (option_map place_seen) some)
+
+-- the bucket that is made ready
+allocation : (inside : Inside) → IsConsistent inside → (size : Size) (sides : Sides) (place : Place) (after : Stored) (found : Found) → Makes (state_in inside) size sides inside.store place
+    → after ≡ stored_ready inside.frame place inside.store → found_of place after ≡ Some found → IsAllocation (state_in inside) size sides inside.store place found
+allocation inside is size sides place after found makes_ ready h =
+    allocation-is (state_in inside) size sides inside.store place found is.witnessed.valid makes_ (ap (found_of place) (sym ready) ∙ h)
+
+pub returns-in_default-clause-promises : goal.returns-in_default-clause-promises
+returns-in_default-clause-promises c = subst KeepsPromises c.self.view_is (valid-promises (state_in c.self.inside) c.self.invariant.witnessed.valid)
+
+pub place_of-requires-clause-column : goal.place_of-requires-clause-column
+place_of-requires-clause-column c =
+    let valid = c.self.invariant.witnessed.valid in
+    let frame = c.self.inside.frame in
+    omega (
+      arith,
+      c.self.invariant.totals.column,
+      current-below frame 0 (state_in c.self.inside).shelves valid.frame.columns.0 valid.shelves.each,
+      valid.frame.columns.1,
+      (sides_low 65534 frame valid.frame).0,
+      le-mul_of_pos_right frame.columns valid.frame.column_width,
+    )
+
+pub returns-in_default-place_of-clause-refused : goal.returns-in_default-place_of-clause-refused
+returns-in_default-place_of-clause-refused c =
+    let inside = c.self.inside in
+    let is = c.self.invariant in
+    subst (λ (state : BucketedState). IsBucketRefused state c.args.size) c.self.view_is
+    (refused (state_in inside) c.args.size c.in-Some.sides inside.store is.unused is.witnessed.valid is.witnessed.spells (sym c.asked.ensures ∙ c.in-Some.is)
+    (ap (λ (left : Left). kept_place inside.frame left c.in-Some.sides inside.store.shelves inside.store.buckets) (sym (left-is inside is)) ∙ sym c.place_of.ensures ∙ ap (option_map place_seen) c.in_default-place_of.is))
+
+pub returns-in_default-place_of-clause-promises : goal.returns-in_default-place_of-clause-promises
+returns-in_default-place_of-clause-promises c = subst KeepsPromises c.self.view_is (valid-promises (state_in c.self.inside) c.self.invariant.witnessed.valid)
+
+pub prepare-requires-clause-place : goal.prepare-requires-clause-place
+prepare-requires-clause-place c =
+    subst (λ (in_use : ℕ). store.CanPrepare c.self.inside.frame (place_seen c.in-Some-place_of.place) in_use c.self.inside.store) (sym c.self.invariant.totals.in_use)
+    (made c.self.inside c.self.invariant c.args.size c.in-Some.sides c.place_of.result c.in-Some-place_of.place (sym c.asked.ensures ∙ c.in-Some.is) c.place_of.ensures c.in-Some-place_of.is).can
+
+pub returns-in_err-found-clause-shelf : goal.returns-in_err-found-clause-shelf
+returns-in_err-found-clause-shelf c =
+    let m = made c.self.inside c.self.invariant c.args.size c.in-Some.sides c.place_of.result c.in-Some-place_of.place (sym c.asked.ensures ∙ c.in-Some.is) c.place_of.ensures c.in-Some-place_of.is in
+    on_err c.from_residual.result
+    (subst (λ (state : BucketedState). NeedsShelf state c.args.size) c.self.view_is
+    (needs-shelf (state_in c.self.inside) c.args.size c.in-Some.sides c.self.inside.store (place_seen c.in-Some-place_of.place) m c.in_err-found.ensures.adds))
+
+pub returns-in_err-found-clause-promises : goal.returns-in_err-found-clause-promises
+returns-in_err-found-clause-promises c =
+    subst (λ (stored : Stored). KeepsPromises (stored_state c.self.inside.frame stored)) (sym c.in_err-found.ensures.err) (valid-promises (state_in c.self.inside) c.self.invariant.witnessed.valid)
+
+pub allocation-allocation-requires : goal.allocation-allocation-requires
+allocation-allocation-requires c =
+    let m = made c.self.inside c.self.invariant c.args.size c.in-Some.sides c.place_of.result c.in-Some-place_of.place (sym c.asked.ensures ∙ c.in-Some.is) c.place_of.ensures c.in-Some-place_of.is in
+    let ready = c.in_ok-found.ensures.ok in
+    let a = allocation c.self.inside c.self.invariant c.args.size c.in-Some.sides (place_seen c.in-Some-place_of.place) c.prepare.new.self c.in_ok-found.found m ready c.in_ok-found.ensures.found in
+    subst (CanGive c.self.inside.frame c.in-Some.sides.along c.in_ok-found.found) (sym ready) a.give
+
+pub take-area-requires-clause-shelf : goal.take-area-requires-clause-shelf
+take-area-requires-clause-shelf c =
+    let m = made c.self.inside c.self.invariant c.args.size c.in-Some.sides c.place_of.result c.in-Some-place_of.place (sym c.asked.ensures ∙ c.in-Some.is) c.place_of.ensures c.in-Some-place_of.is in
+    let ready = c.in_ok-found.ensures.ok in
+    let a = allocation c.self.inside c.self.invariant c.args.size c.in-Some.sides (place_seen c.in-Some-place_of.place) c.prepare.new.self c.in_ok-found.found m ready c.in_ok-found.ensures.found in
+    subst (λ (stored : Stored). c.in_ok-found.found.shelf < length stored.shelves) (sym ready) a.shelf
+
+pub take-area-requires-clause-fits : goal.take-area-requires-clause-fits
+take-area-requires-clause-fits c =
+    let m = made c.self.inside c.self.invariant c.args.size c.in-Some.sides c.place_of.result c.in-Some-place_of.place (sym c.asked.ensures ∙ c.in-Some.is) c.place_of.ensures c.in-Some-place_of.is in
+    let ready = c.in_ok-found.ensures.ok in
+    let a = allocation c.self.inside c.self.invariant c.args.size c.in-Some.sides (place_seen c.in-Some-place_of.place) c.prepare.new.self c.in_ok-found.found m ready c.in_ok-found.ensures.found in
+    subst (λ (stored : Stored). store.CanTake c.in_ok-found.found.bucket c.in-Some.sides.along stored.buckets) (sym ready) a.take
+
+pub take-area-requires-clause-few : goal.take-area-requires-clause-few
+take-area-requires-clause-few c =
+    let m = made c.self.inside c.self.invariant c.args.size c.in-Some.sides c.place_of.result c.in-Some-place_of.place (sym c.asked.ensures ∙ c.in-Some.is) c.place_of.ensures c.in-Some-place_of.is in
+    let ready = c.in_ok-found.ensures.ok in
+    let a = allocation c.self.inside c.self.invariant c.args.size c.in-Some.sides (place_seen c.in-Some-place_of.place) c.prepare.new.self c.in_ok-found.found m ready c.in_ok-found.ensures.found in
+    subst (λ (stored : Stored). live_items_of stored.shelves c.in_ok-found.found.shelf + 1 < 2 ^ 32) (sym ready) a.few
+
+pub end-end-requires-clause-short : goal.end-end-requires-clause-short
+end-end-requires-clause-short c =
+    let m = made c.self.inside c.self.invariant c.args.size c.in-Some.sides c.place_of.result c.in-Some-place_of.place (sym c.asked.ensures ∙ c.in-Some.is) c.place_of.ensures c.in-Some-place_of.is in
+    let ready = c.in_ok-found.ensures.ok in
+    let a = allocation c.self.inside c.self.invariant c.args.size c.in-Some.sides (place_seen c.in-Some-place_of.place) c.prepare.new.self c.in_ok-found.found m ready c.in_ok-found.ensures.found in
+    let after = c.take-area.ensures.records ∙ ap (stored_taken c.in_ok-found.found.shelf c.in_ok-found.found.bucket c.in-Some.sides.along) ready in
+    subst (λ (stored : Stored). IsShort c.self.inside.frame stored.shelves) (sym after) a.short
+
+pub needed_buckets-requires : goal.needed_buckets-requires
+needed_buckets-requires c =
+    let m = made c.self.inside c.self.invariant c.args.size c.in-Some.sides c.place_of.result c.in-Some-place_of.place (sym c.asked.ensures ∙ c.in-Some.is) c.place_of.ensures c.in-Some-place_of.is in
+    omega (arith, needed-few (state_in c.self.inside) c.args.size c.in-Some.sides c.self.inside.store (place_seen c.in-Some-place_of.place) c.self.invariant.witnessed.valid m)
+
+pub overflow_add-self : goal.overflow_add-self
+overflow_add-self c =
+    let m = made c.self.inside c.self.invariant c.args.size c.in-Some.sides c.place_of.result c.in-Some-place_of.place (sym c.asked.ensures ∙ c.in-Some.is) c.place_of.ensures c.in-Some-place_of.is in
+    omega (
+      arith,
+      c.needed_buckets.ensures,
+      c.self.invariant.totals.in_use,
+      needed-few (state_in c.self.inside) c.args.size c.in-Some.sides c.self.inside.store (place_seen c.in-Some-place_of.place) c.self.invariant.witnessed.valid m,
+    )
+
+pub overflow_add-self-2 : goal.overflow_add-self-2
+overflow_add-self-2 c =
+    let m = made c.self.inside c.self.invariant c.args.size c.in-Some.sides c.place_of.result c.in-Some-place_of.place (sym c.asked.ensures ∙ c.in-Some.is) c.place_of.ensures c.in-Some-place_of.is in
+    let ready = c.in_ok-found.ensures.ok in
+    let a = allocation c.self.inside c.self.invariant c.args.size c.in-Some.sides (place_seen c.in-Some-place_of.place) c.prepare.new.self c.in_ok-found.found m ready c.in_ok-found.ensures.found in
+    let area = c.take-area.ensures.area ∙ ap (λ (stored : Stored). c.in-Some.sides.along * height_of stored.shelves c.in_ok-found.found.shelf) ready in
+    omega (arith, area, a.space, c.self.invariant.totals.space, space-small a.new a.valid)
+
+pub invariant_of-self-2 : goal.invariant_of-self-2
+invariant_of-self-2 c =
+    let m = made c.self.inside c.self.invariant c.args.size c.in-Some.sides c.place_of.result c.in-Some-place_of.place (sym c.asked.ensures ∙ c.in-Some.is) c.place_of.ensures c.in-Some-place_of.is in
+    let ready = c.in_ok-found.ensures.ok in
+    let a = allocation c.self.inside c.self.invariant c.args.size c.in-Some.sides (place_seen c.in-Some-place_of.place) c.prepare.new.self c.in_ok-found.found m ready c.in_ok-found.ensures.found in
+    let frame = c.self.inside.frame in
+    let after = c.take-area.ensures.records ∙ ap (stored_taken c.in_ok-found.found.shelf c.in_ok-found.found.bucket c.in-Some.sides.along) ready in
+    let area = c.take-area.ensures.area ∙ ap (λ (stored : Stored). c.in-Some.sides.along * height_of stored.shelves c.in_ok-found.found.shelf) ready in
+    let ends = c.end-end.ensures ∙ ap (λ (stored : Stored). end_of frame stored.shelves) after ∙ a.end in
+    let totals : HasTotals c.end-end.result.along c.end-end.result.across (c.self.inside.buckets_in_use + c.needed_buckets.result) (c.self.inside.allocated_space + c.take-area.result) a.new =
+    record {
+      column = ap (λ (sides : Sides). sides.along) ends;
+      height = ap (λ (sides : Sides). sides.across) ends ∙ ap (λ (f : Frame). available_height f a.new.shelves) (sym a.frame);
+      in_use = omega (arith, c.needed_buckets.ensures, c.self.invariant.totals.in_use, a.in_use);
+      space = omega (arith, area, a.space, c.self.invariant.totals.space);
+    } in
+    record {
+      unused = a.unused;
+      witnessed = subst (λ (stored : Stored). Witnessed stored a.unused (stored_state frame stored)) (sym after) a.witnessed;
+      totals = subst (HasTotals c.end-end.result.along c.end-end.result.across (c.self.inside.buckets_in_use + c.needed_buckets.result) (c.self.inside.allocated_space + c.take-area.result))
+          (sym (ap (stored_state frame) after ∙ a.read)) totals;
+    }
+
+-- what is given, and the state after it
+allocates : (c : goal.After-self-4-1) → Allocates (state_in c.self.inside) c.args.size c.allocation-allocation.result (stored_state c.self.inside.frame c.take-area.new.self)
+allocates c =
+    let m = made c.self.inside c.self.invariant c.args.size c.in-Some.sides c.place_of.result c.in-Some-place_of.place (sym c.asked.ensures ∙ c.in-Some.is) c.place_of.ensures c.in-Some-place_of.is in
+    let ready = c.in_ok-found.ensures.ok in
+    let a = allocation c.self.inside c.self.invariant c.args.size c.in-Some.sides (place_seen c.in-Some-place_of.place) c.prepare.new.self c.in_ok-found.found m ready c.in_ok-found.ensures.found in
+    let after = c.take-area.ensures.records ∙ ap (stored_taken c.in_ok-found.found.shelf c.in_ok-found.found.bucket c.in-Some.sides.along) ready in
+    subst (Allocates (state_in c.self.inside) c.args.size c.allocation-allocation.result) (sym (ap (stored_state c.self.inside.frame) after ∙ a.read))
+    (a.allocates c.allocation-allocation.result
+    (λ kept bucket k b. c.allocation-allocation.ensures kept bucket (ap (λ (stored : Stored). slice_get stored.shelves c.in_ok-found.found.shelf) ready ∙ k) (ap (λ (stored : Stored). slice_get stored.buckets c.in_ok-found.found.bucket) ready ∙ b)))
+
+pub returns-clause-placed : goal.returns-clause-placed
+returns-clause-placed c =
+    subst (λ (state : BucketedState). Allocates state c.args.size c.allocation-allocation.result (stored_state c.self.inside.frame c.take-area.new.self)) c.self.view_is (allocates c)
+
+pub returns-clause-large : goal.returns-clause-large
+returns-clause-large c =
+    subst (λ (state : BucketedState). IsLarge state.frame c.args.size c.allocation-allocation.result.rectangle) c.self.view_is
+    (allocates-large (state_in c.self.inside) c.args.size c.allocation-allocation.result (stored_state c.self.inside.frame c.take-area.new.self) c.self.invariant.witnessed.valid (allocates c))
+
+pub returns-clause-aligned : goal.returns-clause-aligned
+returns-clause-aligned c =
+    subst (λ (state : BucketedState). IsAligned state.frame c.allocation-allocation.result.rectangle) c.self.view_is
+    (allocates-aligned (state_in c.self.inside) c.args.size c.allocation-allocation.result (stored_state c.self.inside.frame c.take-area.new.self) c.self.invariant.witnessed.valid (allocates c))
+
+pub returns-clause-promises : goal.returns-clause-promises
+returns-clause-promises c =
+    valid-promises (stored_state c.self.inside.frame c.take-area.new.self) (allocates-valid (state_in c.self.inside) c.args.size c.allocation-allocation.result (stored_state c.self.inside.frame c.take-area.new.self) c.self.invariant.witnessed.valid (allocates c))

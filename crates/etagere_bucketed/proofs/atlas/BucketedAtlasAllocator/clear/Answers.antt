@@ -1,0 +1,15 @@
+use Rattle.std.proofs.Common.{ℕ, [], subst, sym}
+use Rattle.etagere_bucketed.specs.Private.Store.{Stored, stored_state}
+use Rattle.etagere_bucketed.specs.Private.Witnessed.{HasTotals, Witnessed}
+use Rattle.etagere_bucketed.proofs.Spelling.Fresh.{fresh-totals, fresh-witnessed, no_records}
+use Rattle.etagere_bucketed.proofs.atlas.BucketedAtlasAllocator.clear.Goals as goal
+
+pub invariant_of-self : goal.invariant_of-self
+invariant_of-self c =
+    let frame = c.self.inside.frame in
+    record {
+      unused = [];
+      witnessed = subst (λ (stored : Stored). Witnessed stored [] (stored_state frame stored)) (sym c.clear.ensures) (fresh-witnessed frame c.self.invariant.witnessed.valid.frame);
+      totals = subst (λ (stored : Stored). HasTotals 0 c.across_side-self-inside.result 0 0 (stored_state frame stored)) (sym c.clear.ensures)
+          (subst (λ (height : ℕ). HasTotals 0 height 0 0 (stored_state frame no_records)) (sym c.across_side-self-inside.ensures) (fresh-totals frame));
+    }

@@ -1,0 +1,80 @@
+use Rattle.std.proofs.Common.{◌+◌, refl, ap, arith, sym, ◌∙◌, subst}
+use Rattle.etagere_base.specs.declared.sides.Sides.{Sides}
+use Rattle.etagere_bucketed.specs.Atlas.{Grows, KeepsPromises, NeedsBuckets}
+use Rattle.etagere_bucketed.specs.Private.Consistent.{state_in}
+use Rattle.etagere_bucketed.specs.Private.Store.{stored_state}
+use Rattle.etagere_bucketed.specs.Private.Witnessed.{HasTotals, Witnessed}
+use Rattle.etagere_bucketed.specs.State.{BucketedState}
+use Rattle.etagere_bucketed.proofs.Emptying.EndTotals.{tells-end}
+use Rattle.etagere_bucketed.proofs.Promises.{valid-promises}
+use Rattle.etagere_bucketed.proofs.Widening.AtlasGrowths.{after-growth, atlas-grown, growth-needs, growth-uses}
+use Rattle.etagere_bucketed.proofs.Widening.Grown.{width-grows}
+use Rattle.etagere_bucketed.proofs.atlas.BucketedAtlasAllocator.grow.Goals as goal
+
+pub returns-in-Some-clause-promises : goal.returns-in-Some-clause-promises
+returns-in-Some-clause-promises c = subst KeepsPromises c.self.view_is (valid-promises (state_in c.self.inside) c.self.invariant.witnessed.valid)
+
+pub overflow_sub-frame : goal.overflow_sub-frame
+overflow_sub-frame c =
+    rw c.grown_frame-frame.ensures
+    (width-grows c.self.inside.frame c.args.size c.self.invariant.witnessed.valid.frame (sym c.grow_fault.ensures ∙ c.in_default.is))
+
+pub widen-requires-clause-shelves : goal.widen-requires-clause-shelves
+widen-requires-clause-shelves c = (tells-end c.self.inside.store c.self.invariant.unused (state_in c.self.inside) c.self.invariant.witnessed).few
+
+pub widen-requires-clause-used : goal.widen-requires-clause-used
+widen-requires-clause-used c =
+    omega (arith, (atlas-grown c.self.inside c.args.size c.self.invariant (sym c.grow_fault.ensures ∙ c.in_default.is)).used, c.self.invariant.totals.in_use)
+
+pub widen-requires-clause-records : goal.widen-requires-clause-records
+widen-requires-clause-records c =
+    growth-uses c.self.inside c.args.size c.grown_frame-frame.result c.self.invariant (sym c.grow_fault.ensures ∙ c.in_default.is) c.grown_frame-frame.ensures
+
+pub returns-in_default-widen-clause-memory : goal.returns-in_default-widen-clause-memory
+returns-in_default-widen-clause-memory c =
+    let needs = growth-needs c.self.inside c.args.size c.grown_frame-frame.result c.self.invariant (sym c.grow_fault.ensures ∙ c.in_default.is)
+    c.grown_frame-frame.ensures c.in_default-widen.ensures.some in
+    λ _. (refl, subst (λ (state : BucketedState). NeedsBuckets state c.args.size) c.self.view_is needs)
+
+pub returns-in_default-widen-clause-promises : goal.returns-in_default-widen-clause-promises
+returns-in_default-widen-clause-promises c =
+    subst KeepsPromises (ap (stored_state c.self.inside.frame) (sym c.in_default-widen.ensures.err)) (valid-promises (state_in c.self.inside) c.self.invariant.witnessed.valid)
+
+pub end-end-requires-clause-frame : goal.end-end-requires-clause-frame
+end-end-requires-clause-frame c =
+    (after-growth c.self.inside c.args.size c.grown_frame-frame.result c.widen.new.self c.in-Ok.made c.self.invariant (sym c.grow_fault.ensures ∙ c.in_default.is)
+    c.grown_frame-frame.ensures c.in-Ok.ensures.ok c.in-Ok.ensures.made).is_frame
+
+pub end-end-requires-clause-short : goal.end-end-requires-clause-short
+end-end-requires-clause-short c =
+    (after-growth c.self.inside c.args.size c.grown_frame-frame.result c.widen.new.self c.in-Ok.made c.self.invariant (sym c.grow_fault.ensures ∙ c.in_default.is)
+    c.grown_frame-frame.ensures c.in-Ok.ensures.ok c.in-Ok.ensures.made).tells.short
+
+pub invariant_of-self-2 : goal.invariant_of-self-2
+invariant_of-self-2 c =
+    let a = after-growth c.self.inside c.args.size c.grown_frame-frame.result c.widen.new.self c.in-Ok.made c.self.invariant (sym c.grow_fault.ensures ∙ c.in_default.is)
+    c.grown_frame-frame.ensures c.in-Ok.ensures.ok c.in-Ok.ensures.made in
+    record {
+      unused = a.unused;
+      witnessed = subst (Witnessed c.widen.new.self a.unused) (sym a.tells.read) a.witnessed;
+      totals = subst (HasTotals c.end-end.result.along c.end-end.result.across (c.self.inside.buckets_in_use + c.in-Ok.made) c.self.inside.allocated_space) (sym a.tells.read)
+          (record {
+            column = ap (λ (s : Sides). s.along) c.end-end.ensures ∙ a.tells.column;
+            height = ap (λ (s : Sides). s.across) c.end-end.ensures ∙ a.tells.height;
+            in_use = a.in_use;
+            space = a.space;
+          });
+    }
+
+pub returns-clause-ok : goal.returns-clause-ok
+returns-clause-ok c =
+    let a = after-growth c.self.inside c.args.size c.grown_frame-frame.result c.widen.new.self c.in-Ok.made c.self.invariant (sym c.grow_fault.ensures ∙ c.in_default.is)
+    c.grown_frame-frame.ensures c.in-Ok.ensures.ok c.in-Ok.ensures.made in
+    subst (λ (new : BucketedState). Grows c.args.self.now c.args.size new) (sym a.tells.read)
+    (subst (λ (old : BucketedState). Grows old c.args.size a.state) c.self.view_is a.grows)
+
+pub returns-clause-promises : goal.returns-clause-promises
+returns-clause-promises c =
+    let a = after-growth c.self.inside c.args.size c.grown_frame-frame.result c.widen.new.self c.in-Ok.made c.self.invariant (sym c.grow_fault.ensures ∙ c.in_default.is)
+    c.grown_frame-frame.ensures c.in-Ok.ensures.ok c.in-Ok.ensures.made in
+    subst KeepsPromises (sym a.tells.read) (valid-promises a.state a.witnessed.valid)

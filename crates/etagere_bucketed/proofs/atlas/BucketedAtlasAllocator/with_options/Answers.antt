@@ -1,0 +1,15 @@
+use Rattle.std.proofs.Common.{ℕ, [], subst, sym}
+use Rattle.etagere_bucketed.specs.Private.Store.{Stored, stored_state}
+use Rattle.etagere_bucketed.specs.Private.Witnessed.{HasTotals, Witnessed}
+use Rattle.etagere_bucketed.proofs.Spelling.Fresh.{fresh-totals, fresh-witnessed, no_records}
+use Rattle.etagere_bucketed.proofs.atlas.BucketedAtlasAllocator.with_options.Goals as goal
+
+pub invariant_of-result : goal.invariant_of-result
+invariant_of-result c =
+    let frame = c.bucketed_frame-frame.result in
+    record {
+      unused = [];
+      witnessed = subst (λ (stored : Stored). Witnessed stored [] (stored_state frame stored)) (sym c.new.ensures) (fresh-witnessed frame c.bucketed_frame-frame.ensures.frame);
+      totals = subst (λ (stored : Stored). HasTotals 0 c.across_side.result 0 0 (stored_state frame stored)) (sym c.new.ensures)
+          (subst (λ (height : ℕ). HasTotals 0 height 0 0 (stored_state frame no_records)) (sym c.across_side.ensures) (fresh-totals frame));
+    }

@@ -1,0 +1,29 @@
+use Rattle.std.proofs.Common.{length, ap, arith, subst, sym, ◌∙◌}
+use Rattle.etagere_bucketed.specs.Adding.{NewShelves, news_of}
+use Rattle.etagere_bucketed.specs.Private.Store.{Stored}
+use Rattle.etagere_bucketed.specs.Private.StoreEdits.{IsShort, stored_shelves}
+use Rattle.etagere_bucketed.proofs.Spelling.MadeLengths.{filler-keeps}
+use Rattle.etagere_bucketed.proofs.Spelling.MadeShelves.{first-short}
+use Rattle.etagere_bucketed.proofs.store.Store.add.Goals as goal
+
+pub add_shelf-requires-clause-bucket_room : goal.add_shelf-requires-clause-bucket_room
+add_shelf-requires-clause-bucket_room c =
+    let stored : Stored = record { shelves = c.self.inside.shelves.items; buckets = c.self.inside.buckets.items; unused = c.self.inside.unused } in
+    let fills = ap (λ (n : NewShelves). n.filler) (sym c.news.view_is) ∙ c.in-Some.is in
+    rw (c.reserve.ensures.items, c.in_ok-reserve_records.ensures.same)
+    (omega (
+      arith,
+      filler-keeps c.args.frame.now c.in-Some.filler c.args.news.now stored fills,
+      ap (λ (s : Stored). length (stored_shelves c.args.frame.now (news_of c.args.news.now) s).buckets) c.self.view_is,
+      ap (λ (s : Stored). length s.buckets) c.self.view_is,
+      c.requires.news.records,
+      c.total_count.ensures,
+      c.in_ok-reserve_records.ensures.room,
+      c.reserve_records.ensures.within,
+      ap (λ bs. length bs) c.in_ok-reserve_records.ensures.same,
+    ))
+
+pub add_shelf-requires-clause-short : goal.add_shelf-requires-clause-short
+add_shelf-requires-clause-short c =
+    rw c.reserve.ensures.items
+    (subst (λ (s : Stored). IsShort c.args.frame.now s.shelves) (sym c.self.view_is) (first-short c.args.frame.now c.args.news.now c.args.self.now c.requires.news.short))

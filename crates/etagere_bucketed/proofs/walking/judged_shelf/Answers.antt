@@ -1,0 +1,28 @@
+use Rattle.std.proofs.Common.{◌∙◌, ◌<◌, ◌≤◌, ℕ, List, ap, length, arith, subst, sym}
+use Rattle.etagere_base.proofs.EachLemmas.{Each-weaken}
+use Rattle.etagere_base.specs.Lists.{Each}
+use Rattle.etagere_links.proofs.WalkChains.{walk-leads}
+use Rattle.etagere_links.specs.Walks.{walk}
+use Rattle.etagere_bucketed.specs.Private.Walking.{BreaksWalk, links_of}
+use Rattle.etagere_bucketed.proofs.Judged.Breaches.{links-length, walk-breaks}
+use Rattle.etagere_bucketed.proofs.Spelling.StandsKept.{each-within}
+use Rattle.etagere_bucketed.proofs.walking.judged_shelf.Goals as goal
+
+pub judged_row-requires-clause-within : goal.judged_row-requires-clause-within
+judged_row-requires-clause-within c =
+    let links = c.args.links.now in
+    let few : length links ≤ 65535 = omega (arith, c.requires.buckets, links-length c.args.buckets.now, ap (λ (ls : List ℕ). length ls) c.requires.links) in
+    let within : Each (λ (n : ℕ). n < length links) (walk links c.bits-first.result).met =
+    each-within (length links) (walk links c.bits-first.result).met (walk-leads links c.bits-first.result few).within in
+    let there : Each (λ (n : ℕ). n < length c.args.buckets.now) (walk links c.bits-first.result).met =
+    Each-weaken (λ (n : ℕ). n < length links) (λ (n : ℕ). n < length c.args.buckets.now) (walk links c.bits-first.result).met
+    (λ n is. omega (arith, is, links-length c.args.buckets.now, ap (λ (ls : List ℕ). length ls) c.requires.links)) within in
+    subst (Each (λ (n : ℕ). n < length c.args.buckets.now)) (sym (c.deref.ensures.value ∙ c.in-Ok.ensures.met)) there
+
+pub returns-in-Err-clause-fault : goal.returns-in-Err-clause-fault
+returns-in-Err-clause-fault c =
+    let buckets = c.args.buckets.now in
+    let marks = c.args.marks.now in
+    walk-breaks c.args.frame.now buckets marks c.args.number c.args.shelf.now c.in-Err.fault
+    (subst (λ (first : ℕ). BreaksWalk (links_of buckets) marks (walk (links_of buckets) first) c.in-Err.fault) c.bits-first.ensures.value
+    (subst (λ (links : List ℕ). BreaksWalk links marks (walk links c.bits-first.result) c.in-Err.fault) c.requires.links c.in-Err.ensures.fault))

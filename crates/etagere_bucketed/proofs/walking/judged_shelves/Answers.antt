@@ -1,0 +1,50 @@
+use Rattle.std.proofs.Common.{◌≡◌, ◌+◌, ℕ, Some, List, [], ◌∷◌, ◌++◌, length, take, arith, refl, subst, sym, ◌∙◌}
+use Rattle.std.proofs.lemmas.Option.{slice_get_read}
+use Rattle.std.specs.Prelude.{slice_get}
+use Rattle.etagere_bucketed.specs.declared.records.BucketShelfRecord.{BucketShelfRecord}
+use Rattle.etagere_bucketed.specs.Private.Store.{KeptShelf}
+use Rattle.etagere_bucketed.specs.Private.Walking.{AreKeptSoFar, IsShelfJudged}
+use Rattle.etagere_bucketed.proofs.Judged.JudgedShelves.{breaks-at, length_of_take, more-kept, none-kept, steps-few, take-next}
+use Rattle.etagere_bucketed.proofs.walking.judged_shelves.Goals as goal
+
+pub loop-number-init : goal.loop-number-init
+loop-number-init c =
+    let none = none-kept c.args.frame.now c.args.buckets.now c.args.marks.now c.requires.unmarked in (
+      subst (λ (n : ℕ). AreKeptSoFar c.args.frame.now c.args.buckets.now [] c.new-kept.result.items c.args.marks.now n 0) (sym c.requires.steps)
+          (subst (λ (ks : List KeptShelf). AreKeptSoFar c.args.frame.now c.args.buckets.now [] ks c.args.marks.now 0 0) (sym c.new-kept.ensures.items) none),
+      refl,
+      c.requires.marks,
+      omega arith,
+      omega (arith, c.requires.steps),
+    )
+
+pub returns-in-Err-clause-fault : goal.returns-in-Err-clause-fault
+returns-in-Err-clause-fault c = λ atlas.
+    breaks-at c.args.frame.now c.args.buckets.now c.args.shelves.now atlas c.loop-number.number c.index-shelves-number.result c.loop-number.marks c.in-Err.fault
+    (slice_get_read c.args.shelves.now (length c.args.shelves.now) c.loop-number.number c.index-shelves-number.result refl (omega arith) c.index-shelves-number.is)
+    c.loop-number.invariant.0.marked c.in-Err.ensures.fault
+
+pub loop-number-preserved : goal.loop-number-preserved
+loop-number-preserved c =
+    let frame = c.args.frame.now in
+    let buckets = c.args.buckets.now in
+    let shelves = c.args.shelves.now in
+    let n = c.loop-number.number in
+    let x = c.index-shelves-number.result in
+    let told = c.in-Ok.told in
+    let marks = c.judged_shelf.new.marks in
+    let area : ℕ = c.loop-number.space + told.space in
+    let here : slice_get shelves n ≡ Some x = slice_get_read shelves (length shelves) n x refl (omega arith) c.index-shelves-number.is in
+    let before : length (take n shelves) ≡ n = length_of_take shelves n (omega arith) in
+    let one = subst (λ (k : ℕ). IsShelfJudged frame buckets k x told) (sym before) c.in-Ok.ensures.ok in
+    let all = more-kept frame buckets (take n shelves) x c.loop-number.kept.items told c.loop-number.marks marks c.loop-number.steps c.loop-number.space c.loop-number.invariant.0 one c.in-Ok.ensures.marked in
+    let counted = subst (λ (s : ℕ). AreKeptSoFar frame buckets (take n shelves ++ x ∷ []) (c.loop-number.kept.items ++ told.kept ∷ []) marks s area) (sym c.in-Ok.ensures.steps) all in
+    let kept = subst (λ (ks : List KeptShelf). AreKeptSoFar frame buckets (take n shelves ++ x ∷ []) ks marks c.judged_shelf.new.steps area) (sym c.in-Ok-push.ensures.items) counted in
+    let done = subst (λ (xs : List BucketShelfRecord). AreKeptSoFar frame buckets xs c.push.new.self.items marks c.judged_shelf.new.steps area) (sym (take-next shelves n x here)) kept in
+    let long : length marks ≡ length buckets = c.judged_shelf.auto.marks ∙ c.loop-number.invariant.2 in (
+      done,
+      c.judged_shelf.ensures.room ∙ c.loop-number.invariant.1,
+      long,
+      omega (arith, c.in-Ok.ensures.small, c.in-Ok.ensures.steps, c.loop-number.invariant.3),
+      omega (arith, long, steps-few frame buckets (take (n + 1) shelves) c.push.new.self.items marks c.judged_shelf.new.steps area done),
+    )

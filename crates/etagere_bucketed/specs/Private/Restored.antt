@@ -1,0 +1,47 @@
+-- What an atlas keeps that is made from records that stand for a state.
+use Rattle.std.specs.Prelude.{◌≡◌, ℕ, Option, List, []}
+use Rattle.etagere_base.specs.declared.frames.Frame.{Frame}
+use Rattle.etagere_base.specs.Lists.{Each}
+use Rattle.etagere_links.specs.Links.{bits_of, link_of}
+use Rattle.etagere_bucketed.specs.declared.records.BucketShelfRecord.{BucketShelfRecord}
+use Rattle.etagere_bucketed.specs.BucketRecords.{BucketRecords, bucket_walk, next_of}
+use Rattle.etagere_bucketed.specs.Private.Store.{KeptShelf, Stored, kept_shelves}
+use Rattle.etagere_bucketed.specs.Private.Witnessed.{HasTotals, Witnessed}
+use Rattle.etagere_bucketed.specs.Restoring.{state_of}
+use Rattle.etagere_bucketed.specs.StandsFor.{StandsFor}
+use Rattle.etagere_bucketed.specs.State.{BucketedState}
+
+-- a link fits its bits: it doesn't name the number that stands for none
+abbrev pub LinkFits : Option ℕ → Type 0
+LinkFits link = link_of (bits_of link) ≡ link
+
+-- the links of these records fit their bits
+pub record LinksFit (atlas : BucketRecords) : Type 0 where
+  pub next : (number : ℕ) → LinkFits (next_of atlas.buckets number)
+  pub first : Each (λ (shelf : BucketShelfRecord). LinkFits shelf.first_bucket) atlas.shelves
+  pub unused : LinkFits atlas.unused
+
+-- these records, with what is kept beside the shelves of a state
+abbrev pub stored_from : BucketRecords → BucketedState → Stored
+stored_from atlas state =
+    record {
+      shelves = kept_shelves state.frame [] state.shelves;
+      buckets = atlas.buckets;
+      unused = atlas.unused;
+    }
+
+-- records that keep each rule of a snapshot spell a valid state
+abbrev pub StandsWitnessed : Type 0
+StandsWitnessed =
+    (atlas : BucketRecords) (state : BucketedState) → LinksFit atlas → StandsFor atlas state
+    → Witnessed (stored_from atlas state) (bucket_walk atlas.buckets atlas.unused).met state
+
+-- a snapshot's records were judged, and this is what an atlas has beside them
+pub record IsSnapshotJudged (atlas : BucketRecords) (frame : Frame) (all : List KeptShelf)
+    (used area : ℕ) : Type 0 where
+  pub frame_is : frame ≡ atlas.frame
+  pub stands : StandsFor atlas (state_of atlas)
+  pub witnessed :
+      Witnessed (record { shelves = all; buckets = atlas.buckets; unused = atlas.unused })
+      (bucket_walk atlas.buckets atlas.unused).met (state_of atlas)
+  pub totals : HasTotals atlas.current_column atlas.available_height used area (state_of atlas)

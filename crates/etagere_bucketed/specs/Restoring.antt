@@ -1,0 +1,63 @@
+-- What a snapshot of a bucketed atlas stands for, and which of its rules a refusal names.
+use Rattle.std.specs.Prelude.{◌≡◌, false, pos}
+use Rattle.etagere_base.specs.declared.faults.RestoreFault.{RestoreFault}
+use Rattle.etagere_base.specs.declared.faults.RestoreFault.TheVariants.{Frame, Counts, Link, Shelves, Runs, Neighbours, FreeList, Sharing, Unused, Space, Memory}
+use Rattle.etagere_base.specs.Lists.{Each}
+use Rattle.etagere_base.specs.Sides.{side}
+use Rattle.etagere_bucketed.specs.declared.snapshots.BucketedSnapshot.{BucketedSnapshot}
+use Rattle.etagere_bucketed.specs.BucketRecords.{BucketRecords, bucket_walk, spelled_state}
+use Rattle.etagere_bucketed.specs.Frames.{IsBucketedFrame}
+use Rattle.etagere_bucketed.specs.Space.{allocated_space}
+use Rattle.etagere_bucketed.specs.StandsFor.{HasBuckets, HasCounts, HasLinks, HasShelves, IsShared, StandsFor, live_of}
+use Rattle.etagere_bucketed.specs.State.{BucketedState}
+use Rattle.etagere_bucketed.specs.Valid.{ends_idle}
+
+-- the records of a snapshot
+abbrev pub snapshot_records : BucketedSnapshot → BucketRecords
+snapshot_records snapshot =
+    record {
+      frame = record {
+        width = side snapshot.width;
+        height = side snapshot.height;
+        alignment_width = side snapshot.alignment_width;
+        alignment_height = side snapshot.alignment_height;
+        vertical = snapshot.vertical_shelves;
+        column_width = snapshot.column_width;
+        columns = snapshot.num_columns;
+      };
+      shelves = snapshot.shelves.items;
+      buckets = snapshot.buckets.items;
+      unused = snapshot.first_unallocated_bucket;
+      current_column = snapshot.current_column;
+      available_height = snapshot.available_height;
+      allocated_space = snapshot.allocated_space;
+    }
+
+-- the state that records spell
+abbrev pub state_of : BucketRecords → BucketedState
+state_of atlas = spelled_state atlas.frame atlas.shelves atlas.buckets
+
+-- the rule that a fault names holds; memory is no rule, nor is there one of free lists
+abbrev pub Keeps : BucketRecords → RestoreFault → Type 0
+Keeps atlas Frame = IsBucketedFrame atlas.frame
+Keeps atlas Counts = HasCounts atlas
+Keeps atlas Link = HasLinks atlas
+Keeps atlas Shelves = HasShelves atlas (state_of atlas)
+Keeps atlas Runs = Each (HasBuckets atlas) atlas.shelves
+Keeps atlas Neighbours = ends_idle (state_of atlas).shelves ≡ false
+Keeps atlas FreeList = Unit {0}
+Keeps atlas Sharing = IsShared atlas
+Keeps atlas Unused = Each (λ bucket. live_of atlas.buckets bucket ≡ 0) (bucket_walk atlas.buckets atlas.unused).met
+Keeps atlas Space = atlas.allocated_space ≡ pos (allocated_space (state_of atlas))
+Keeps atlas Memory = Unit {0}
+
+-- the rule that a fault names is broken, or memory was wanting
+abbrev pub Breaks : BucketRecords → RestoreFault → Type 0
+Breaks atlas Memory = Unit {0}
+Breaks atlas fault = Keeps atlas fault → ⊥
+
+-- records of which a rule is broken stand for no state
+abbrev pub BrokenStandsForNone : Type 0
+BrokenStandsForNone =
+    (atlas : BucketRecords) (state : BucketedState) (fault : RestoreFault) → Breaks atlas fault → StandsFor atlas state
+    → fault ≡ Memory

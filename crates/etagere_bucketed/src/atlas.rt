@@ -1,0 +1,395 @@
+//! The public calls of a bucketed atlas. Each is thin: it asks, and then changes the records by one call.
+//!
+//! Definitions: `Atlas` for what the clauses say, `State` for what they see, `Consistent` for what the
+//! fields keep. The clauses stay as they are: callers prove by them. Fields may change, with `state_in`
+//! and `IsConsistent`.
+
+ghost use Rattle.std.specs.Prelude.{◌≡◌, ◌↔◌, ◌*◌, ◌-◌, ◌+ℤ◌, Err, Some, true, false, pos, IfOk, IfErr, IfSome, IfNone, OnOk, OnErr, IsErr, IsTrue, option_map};
+ghost use Rattle.std.specs.Io.KnownBytes.{Appends};
+ghost use Rattle.std.specs.List.{list_all};
+ghost use Rattle.etagere_base.specs.Frames.{IsAccepted, options_fault};
+ghost use Rattle.etagere_base.specs.Options.{default_options};
+ghost use Rattle.etagere_base.specs.Rectangles.{IsAligned, IsLarge};
+ghost use Rattle.etagere_base.specs.Sending.{AppendsBeginning};
+ghost use Rattle.etagere_base.specs.declared.faults.OptionsFault.TheVariants as faults;
+ghost use Rattle.etagere_bucketed.specs.Atlas.{Allocates, Grows, KeepsPromises, NeedsBuckets, NeedsShelf};
+ghost use Rattle.etagere_bucketed.specs.Frames as frames;
+ghost use Rattle.etagere_bucketed.specs.Frames.{longest_bucketed_side};
+ghost use Rattle.etagere_bucketed.specs.Growing as growing;
+ghost use Rattle.etagere_bucketed.specs.Placing.{IsBucketRefused};
+ghost use Rattle.etagere_bucketed.specs.Private.Restored.{IsSnapshotJudged};
+ghost use Rattle.etagere_bucketed.specs.Restoring.{Breaks, snapshot_records, state_of};
+ghost use Rattle.etagere_bucketed.specs.Returning.{bucket_returned, is_known};
+ghost use Rattle.etagere_bucketed.specs.Space as space;
+ghost use Rattle.etagere_bucketed.specs.StandsFor.{StandsFor};
+ghost use Rattle.etagere_bucketed.specs.State.{fresh, is_idle};
+ghost use Rattle.etagere_bucketed.specs.Svg.{svg, svg_into};
+ghost use Rattle.etagere_bucketed.specs.declared.faults.GrowFault.TheVariants as grow_faults;
+
+use crate::adding::Left;
+use crate::drawing::{send_document, send_part, send_picture};
+use crate::faults::GrowFault;
+use crate::frames::{LONGEST_BUCKETED_SIDE, bucketed_frame, grow_fault, grown_frame};
+use crate::placing::place_of;
+use crate::restoring::{JudgedSnapshot, Said, restore_bucketed, snapshot_of};
+use crate::returning::bucket_number;
+use crate::searching::MOST_BUCKETS;
+use crate::snapshots::BucketedSnapshot;
+use crate::store::Store;
+use etagere_base::{
+    AllocId, Allocation, AllocatorOptions, DEFAULT_OPTIONS, Frame, OptionsFault, Rectangle,
+    RestoreFault, Size, UnknownId, asked, options_fault,
+};
+use std::alloc::{AllocError, Global};
+use std::io::{self, Write};
+use std::marker::Model;
+
+/// Places rectangles in the buckets of one atlas, and takes them back in any order. Good for many small items
+/// that go at about the same time.
+///
+/// Each shelf is a strip across a column of the atlas, divided into a few buckets side by side. A bucket is filled
+/// from its front, and what it gave is free again only when all of it was given back. A size goes to the shelf
+/// that wastes the least height. Where none has room a shelf is added; where none can be, two or three neighbouring
+/// shelves with nothing live become one.
+///
+/// ```text
+/// let mut atlas = BucketedAtlasAllocator::new(alloc, size2(32, 64))?;
+/// let a = atlas.allocate(size2(20, 16))?;     // Some: (0,0)-(20,16)
+/// let b = atlas.allocate(size2(24, 16))?;     // Some: (0,16)-(24,32)
+/// ```
+#[derive(Drop)]
+pub struct BucketedAtlasAllocator {
+    frame: Frame,
+    store: Store,
+    current_column: u32,
+    available_height: u32,
+    buckets_in_use: u32,
+    allocated_space: u32,
+}
+
+impl Model for BucketedAtlasAllocator {
+    ghost use Rattle.etagere_bucketed.specs.State.{BucketedState};
+
+    ghost Value = { BucketedState };
+
+    ghost use Rattle.etagere_bucketed.specs.Private.Consistent.{IsConsistent, state_in};
+
+    ghost view = { state_in };
+
+    ghost invariant = { IsConsistent };
+}
+
+impl BucketedAtlasAllocator {
+    /// An empty atlas of this size in pixels, with the default options.
+    ///
+    /// Returns the first fault; `Memory` only where there is no other and no memory. Takes no memory.
+    pub fn new(alloc: Global, size: Size) -> Result<BucketedAtlasAllocator, OptionsFault>
+        ensures ok { IfOk result
+            (λ atlas. atlas ≡ fresh (frames.bucketed_frame size default_options)) }
+        ensures accepted { OnOk result (IsAccepted longest_bucketed_side size default_options) }
+        ensures promises { IfOk result KeepsPromises }
+        ensures fault { IfSome (options_fault longest_bucketed_side size default_options)
+            (λ fault. result ≡ Err fault) }
+        ensures memory { IfErr result
+            (λ fault. IsAccepted longest_bucketed_side size default_options
+            → fault ≡ faults.Memory) }
+    {
+        BucketedAtlasAllocator::with_options(alloc, size, &DEFAULT_OPTIONS)
+    }
+
+    /// An empty atlas of this size in pixels.
+    ///
+    /// Returns the first fault; `Memory` only where there is no other and no memory. Takes no memory.
+    pub fn with_options(
+        alloc: Global,
+        size: Size,
+        options: &AllocatorOptions,
+    ) -> Result<BucketedAtlasAllocator, OptionsFault>
+        ensures ok { IfOk result (λ atlas. atlas ≡ fresh (frames.bucketed_frame size options.now)) }
+        ensures accepted { OnOk result (IsAccepted longest_bucketed_side size options.now) }
+        ensures promises { IfOk result KeepsPromises }
+        ensures fault { IfSome (options_fault longest_bucketed_side size options.now)
+            (λ fault. result ≡ Err fault) }
+        ensures memory { IfErr result
+            (λ fault. IsAccepted longest_bucketed_side size options.now → fault ≡ faults.Memory) }
+    {
+        if let Some(fault) = options_fault(LONGEST_BUCKETED_SIDE, size, options) {
+            return Err(fault);
+        }
+        let frame = bucketed_frame(size, options);
+        Ok(BucketedAtlasAllocator {
+            frame,
+            store: Store::new(alloc),
+            current_column: 0,
+            available_height: frame.across_side(),
+            buckets_in_use: 0,
+            allocated_space: 0,
+        })
+    }
+
+    /// Makes an atlas from a snapshot, whoever wrote it: where that keeps every rule, the atlas is the one for which
+    /// it stands.
+    ///
+    /// Returns a fault whose rule is broken; `Memory` only where there was no memory. The snapshot is used up either
+    /// way. Takes memory for what is kept beside the shelves, and some for each record while it runs. The time is
+    /// linear in the number of records.
+    pub fn restore(
+        alloc: Global,
+        snapshot: BucketedSnapshot,
+    ) -> Result<BucketedAtlasAllocator, RestoreFault>
+        ensures ok { IfOk result (λ atlas. StandsFor (snapshot_records snapshot) atlas) }
+        ensures fault { IfErr result (λ fault. Breaks (snapshot_records snapshot) fault) }
+    {
+        let mut steps = 0;
+        restore_bucketed(alloc, snapshot, &mut steps)
+    }
+
+    /// The atlas as plain records, to be saved and given to `restore`: the atlas that this makes has the same ids and
+    /// the same later answers.
+    ///
+    /// The error comes only where there was no memory. Takes memory for all records, and goes through them.
+    pub fn snapshot(&self) -> Result<BucketedSnapshot, AllocError>
+        ensures { IfOk result (λ snapshot. StandsFor (snapshot_records snapshot) self.now) }
+    {
+        let shelves = self.store.shelf_records()?;
+        let buckets = self.store.bucket_records()?;
+        let unused = self.store.first_unused();
+        let said = Said {
+            column: self.current_column,
+            height: self.available_height,
+            space: self.allocated_space,
+        };
+        Ok(snapshot_of(&self.frame, said, unused, shelves, buckets))
+    }
+
+    /// The atlas of a snapshot that was judged.
+    pub(crate) fn of_judged(
+        judged: JudgedSnapshot,
+        snapshot: BucketedSnapshot,
+    ) -> BucketedAtlasAllocator
+        requires { IsSnapshotJudged (snapshot_records snapshot) judged.frame judged.shelves.items
+            judged.in_use judged.space }
+        ensures { result ≡ state_of (snapshot_records snapshot) }
+    {
+        BucketedAtlasAllocator {
+            frame: judged.frame,
+            store: Store {
+                shelves: judged.shelves,
+                buckets: snapshot.buckets,
+                unused: snapshot.first_unallocated_bucket,
+            },
+            current_column: u32::from(snapshot.current_column),
+            available_height: u32::from(snapshot.available_height),
+            buckets_in_use: judged.in_use,
+            allocated_space: judged.space,
+        }
+    }
+
+    /// The size in pixels that the atlas was made with, or has grown to. Takes the same time always.
+    pub fn size(&self) -> Size
+        ensures { result
+            ≡ record { width = pos self.now.frame.width; height = pos self.now.frame.height } }
+    {
+        Size {
+            width: self.frame.width as i32,
+            height: self.frame.height as i32,
+        }
+    }
+
+    /// Gives a rectangle that is at least as large as the size in pixels, or none where there is no place.
+    ///
+    /// `Err` comes only where a shelf is to be added and there was no memory. Nothing changes after an
+    /// `Err` or none. An added shelf takes memory for its record, and for those of its buckets as far as
+    /// too few were put aside; a size that needs none takes none. Goes through all shelves a few times,
+    /// and looks only at buckets of shelves that are tall enough, have wide enough buckets and room.
+    pub fn allocate(&mut self, size: Size) -> Result<Option<Allocation>, AllocError>
+        ensures placed { IfOk result
+            (λ answer. IfSome answer (λ allocation. Allocates self.old size allocation self.new)) }
+        ensures refused { IfOk result (λ answer. IfNone answer (IsBucketRefused self.old size)) }
+        ensures none { IfOk result (λ answer. IfNone answer (self.new ≡ self.old)) }
+        ensures err { OnErr result (self.new ≡ self.old) }
+        ensures shelf { OnErr result (NeedsShelf self.old size) }
+        ensures large { IfOk result
+            (λ answer. IfSome answer
+            (λ allocation. IsLarge self.old.frame size allocation.rectangle)) }
+        ensures aligned { IfOk result
+            (λ answer. IfSome answer
+            (λ allocation. IsAligned self.old.frame allocation.rectangle)) }
+        ensures promises { KeepsPromises self.new }
+    {
+        let Some(sides) = asked(&self.frame, size) else {
+            return Ok(None);
+        };
+        let left = Left {
+            column: self.current_column,
+            height: self.available_height,
+            buckets: MOST_BUCKETS - self.buckets_in_use,
+        };
+        let frame = self.frame;
+        let Some(place) = place_of(&frame, &left, &sides, &self.store) else {
+            return Ok(None);
+        };
+        let found = self.store.prepare(&frame, &place, self.buckets_in_use)?;
+        let allocation = self.store.allocation(&frame, &found, sides.along);
+        let area = self.store.take(&found, sides.along);
+        let end = self.store.end(&frame);
+        self.current_column = end.along;
+        self.available_height = end.across;
+        self.buckets_in_use += place.needed_buckets();
+        self.allocated_space += area;
+        Ok(Some(allocation))
+    }
+
+    /// Takes back the rectangle that was given under an id. The last one of a bucket makes that empty, and shelves
+    /// at the end that hold nothing live are dropped.
+    ///
+    /// `Err` comes exactly where no bucket that holds something live has given an item under the id since it was
+    /// empty; then nothing changes. That an id comes back once is the caller's part: a second return of one is
+    /// taken for that of another item of its bucket. Takes no memory. Takes the same time always, but for the shelves
+    /// that are dropped.
+    pub fn deallocate(&mut self, id: AllocId) -> Result<(), UnknownId>
+        ensures ok { OnOk result (self.new ≡ bucket_returned self.old id) }
+        ensures unknown { IsErr result ↔ (is_known self.old id ≡ false) }
+        ensures err { OnErr result (self.new ≡ self.old) }
+        ensures promises { KeepsPromises self.new }
+    {
+        if !self.store.is_known(id) {
+            return Err(UnknownId);
+        }
+        let area = self.store.return_item(bucket_number(id));
+        let dropped = self.store.drop_idle_end();
+        let end = self.store.end(&self.frame);
+        self.current_column = end.along;
+        self.available_height = end.across;
+        self.buckets_in_use -= dropped;
+        self.allocated_space -= area;
+        Ok(())
+    }
+
+    /// Makes the atlas larger, in pixels. What is allocated keeps its place. With one column, shelves get further
+    /// buckets in the width that is added; with more, there are as many columns as fit.
+    ///
+    /// Returns the first fault; `Memory` only where there is no other, buckets are to be made and there
+    /// was no memory. Nothing changes after a fault. Takes memory for the records of buckets as far as too
+    /// few were put aside, and goes through all shelves.
+    pub fn grow(&mut self, size: Size) -> Result<(), GrowFault>
+        ensures ok { OnOk result (Grows self.old size self.new) }
+        ensures fault { IfSome (growing.grow_fault self.old.frame size)
+            (λ fault. result ≡ Err fault) }
+        ensures memory { IfErr result
+            (λ fault. growing.grow_fault self.old.frame size ≡ None
+            → (fault ≡ grow_faults.Memory) × NeedsBuckets self.old size) }
+        ensures err { OnErr result (self.new ≡ self.old) }
+        ensures promises { KeepsPromises self.new }
+    {
+        if let Some(fault) = grow_fault(&self.frame, size) {
+            return Err(fault);
+        }
+        let frame = grown_frame(&self.frame, size);
+        let place = self.frame.column_width;
+        let left = MOST_BUCKETS - self.buckets_in_use;
+        let Ok(made) = self.store.widen(place, frame.column_width - place, left) else {
+            return Err(GrowFault::Memory);
+        };
+        let end = self.store.end(&frame);
+        self.frame = frame;
+        self.current_column = end.along;
+        self.available_height = end.across;
+        self.buckets_in_use += made;
+        Ok(())
+    }
+
+    /// Takes everything back at once: the atlas is a new one of its present size.
+    ///
+    /// Takes no memory, and frees none but that of no record.
+    pub fn clear(&mut self)
+        ensures cleared { self.new ≡ fresh self.old.frame }
+        ensures promises { KeepsPromises self.new }
+    {
+        self.store.clear();
+        self.current_column = 0;
+        self.available_height = self.frame.across_side();
+        self.buckets_in_use = 0;
+        self.allocated_space = 0;
+    }
+
+    /// Whether nothing is allocated. Takes the same time always.
+    pub fn is_empty(&self) -> bool
+        ensures { IsTrue result ↔ (list_all is_idle self.now.shelves ≡ true) }
+    {
+        self.allocated_space == 0
+    }
+
+    /// The areas that buckets have used, added up, in square pixels. Takes the same time always.
+    pub fn allocated_space(&self) -> i32
+        ensures { result ≡ pos (space.allocated_space self.now) }
+    {
+        self.allocated_space as i32
+    }
+
+    /// The area of the atlas less what is allocated, in square pixels. Takes the same time always.
+    pub fn free_space(&self) -> i32
+        ensures free { result ≡ pos
+            (self.now.frame.width * self.now.frame.height - space.allocated_space self.now) }
+        ensures sum { result +ℤ pos (space.allocated_space self.now) ≡ pos
+            (self.now.frame.width * self.now.frame.height) }
+    {
+        (self.frame.width * self.frame.height - self.allocated_space) as i32
+    }
+
+    /// Writes an SVG document that shows the atlas and every bucket, in pixels: the part of a bucket
+    /// that is used is blue, also where it has no width, and then the part that is free, where there
+    /// is some, grey.
+    ///
+    /// A fault is the writer's, or `WriteZero` where it accepts no byte; then a beginning of the text
+    /// has gone out. Takes no memory. Goes through the buckets once.
+    pub fn dump_svg<W: Write>(&self, output: &mut W) -> io::Result<()>
+        ensures ok { OnOk result
+            (Appends (W.contents output.old) (W.contents output.new) (svg self.now)) }
+        ensures err { OnErr result
+            (AppendsBeginning (W.contents output.old) (W.contents output.new) (svg self.now)) }
+    {
+        send_document(&self.frame, &self.store, output)
+    }
+
+    /// Writes the picture of `dump_svg` for a place within a larger SVG document: at the origin, or
+    /// moved and scaled to fill a rectangle. Where a side of the rectangle isn't positive, nothing is
+    /// written.
+    ///
+    /// A fault is the writer's, or `WriteZero` where it accepts no byte; then a beginning of the text
+    /// has gone out. Takes no memory. Goes through the buckets once.
+    pub fn dump_into_svg<W: Write>(
+        &self,
+        rectangle: Option<&Rectangle>,
+        output: &mut W,
+    ) -> io::Result<()>
+        ensures ok { OnOk result
+            (Appends (W.contents output.old) (W.contents output.new)
+            (svg_into self.now (option_map (λ rectangle. rectangle.now) rectangle.entry))) }
+        ensures err { OnErr result
+            (AppendsBeginning (W.contents output.old) (W.contents output.new)
+            (svg_into self.now (option_map (λ rectangle. rectangle.now) rectangle.entry))) }
+    {
+        match rectangle {
+            None => send_picture(&self.frame, &self.store, output),
+            Some(rectangle) => send_part(&self.frame, &self.store, rectangle, output),
+        }
+    }
+}
+
+impl Clone for BucketedAtlasAllocator {
+    ghost is_clone = { λ atlas other. other ≡ atlas };
+
+    /// An atlas that equals this one, its ids and its later answers too, and shares nothing with it. Takes memory
+    /// for all records, and goes through them.
+    fn clone(&self) -> Result<BucketedAtlasAllocator, AllocError> {
+        Ok(BucketedAtlasAllocator {
+            frame: self.frame,
+            store: self.store.clone()?,
+            current_column: self.current_column,
+            available_height: self.available_height,
+            buckets_in_use: self.buckets_in_use,
+            allocated_space: self.allocated_space,
+        })
+    }
+}

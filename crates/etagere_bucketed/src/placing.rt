@@ -1,0 +1,58 @@
+//! Where an item goes, and what is made ready for it.
+//!
+//! Definitions: `Searching`, `StoreEdits`, and `Placing` for what they mean.
+
+ghost use Rattle.std.specs.Prelude.{◌≡◌, ◌<◌, ◌^◌};
+ghost use Rattle.std.specs.Option.{option_map};
+ghost use Rattle.etagere_bucketed.specs.Frames.{IsBucketedFrame};
+ghost use Rattle.etagere_bucketed.specs.Private.Searching as spec;
+ghost use Rattle.etagere_bucketed.specs.Private.StoreEdits as edits;
+
+use crate::adding::{Left, NewShelves, can_add, new_shelves};
+use crate::merging::{Group, mergeable_shelves};
+use crate::searching::{Found, pick};
+use crate::store::Store;
+use etagere_base::{Frame, Sides};
+
+/// Where an item goes.
+#[derive(Clone, Copy)]
+pub(crate) enum Place {
+    /// Into a bucket that is there.
+    InBucket(Found),
+    /// Into the first bucket of a shelf that is added.
+    InAdded(NewShelves),
+    /// Into the first bucket of shelves that are merged.
+    InMerged(Group),
+}
+
+impl Place {
+    /// How many buckets have to be made for it.
+    pub(crate) fn needed_buckets(&self) -> u32
+        requires { edits.needed_for (spec.place_seen self.now) < 2 ^ 32 }
+        ensures { result ≡ edits.needed_for (spec.place_seen self.now) }
+    {
+        match self {
+            Place::InAdded(news) => news.total_count(),
+            _ => 0,
+        }
+    }
+}
+
+/// The place for these sides: the bucket that is picked, else a shelf to be added, else shelves to be merged.
+pub(crate) fn place_of(frame: &Frame, left: &Left, sides: &Sides, store: &Store) -> Option<Place>
+    requires frame { IsBucketedFrame frame.now }
+    requires across { (0 < sides.now.across) × (sides.now.across < 2 ^ 31) }
+    requires column { left.now.column < 2 ^ 31 }
+    ensures { option_map spec.place_seen result
+        ≡ spec.kept_place frame.now left.now sides.now store.now.shelves store.now.buckets }
+{
+    let adds = can_add(frame, left, sides.across);
+    if let Some(found) = pick(adds, sides, &store.shelves, &store.buckets) {
+        return Some(Place::InBucket(found));
+    }
+    if adds {
+        return Some(Place::InAdded(new_shelves(frame, left, sides)));
+    }
+    let group = mergeable_shelves(sides, &store.shelves)?;
+    Some(Place::InMerged(group))
+}

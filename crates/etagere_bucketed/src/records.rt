@@ -1,0 +1,40 @@
+//! The records of a bucketed atlas, as a snapshot has them: their fields are those of the format.
+//!
+//! Definitions: `BucketRecords`, what they spell.
+
+use etagere_links::Link;
+use serde::{Deserialize, Serialize};
+
+/// A strip across a column. Lengths and places are in pixels.
+#[derive(Clone, Copy, Debug, PartialEq, Eq, Serialize, Deserialize)]
+pub struct BucketShelfRecord {
+    /// Where its column begins along the shelves.
+    pub x: u16,
+    /// Where the shelf begins across.
+    pub y: u16,
+    /// How high it is.
+    pub height: u16,
+    /// How wide each of its buckets is.
+    pub bucket_width: u16,
+    /// The bucket that is searched first.
+    pub first_bucket: Link,
+}
+
+/// A bucket of a shelf, or a record put aside for one. Lengths and places are in pixels.
+#[derive(Clone, Copy, Debug, PartialEq, Eq, Serialize, Deserialize)]
+pub struct BucketRecord {
+    /// Where the bucket begins along the shelf.
+    pub x: u16,
+    /// The width that it has left.
+    pub free_space: u16,
+    /// The bucket that is searched after it; of a record put aside, the one that is used after it.
+    pub next: Link,
+    /// How many of its items are live.
+    pub refcount: u16,
+    /// How many items it has given since it was empty.
+    pub item_count: u16,
+    /// The number of the shelf that it lies in.
+    pub shelf: u16,
+    /// How often it was emptied or put to use again, modulo 256.
+    pub generation: u8,
+}

@@ -1,0 +1,243 @@
+//! Which bucket gives an item: the first with room of the shelf that wastes the least height.
+//!
+//! Definitions: `Searching`, and `Picking` for what it means. No bucket is looked at of a shelf that one
+//! comparison tells has none that is wanted.
+
+ghost use Rattle.std.specs.Prelude.{◌≡◌, ◌<◌, ◌≤◌, IfSome, length, map, max, drop};
+ghost use Rattle.std.specs.Option.{option_map};
+ghost use Rattle.etagere_base.specs.Least.{first_least};
+ghost use Rattle.etagere_base.specs.Least as least;
+ghost use Rattle.etagere_bucketed.specs.Private.Searching as spec;
+ghost use Rattle.etagere_bucketed.specs.State.{most_buckets};
+
+use crate::records::BucketRecord;
+use crate::store::KeptShelf;
+use etagere_base::Sides;
+use etagere_links::Link;
+use std::marker::Model;
+
+/// No more buckets are in use at once, and no record has a greater number.
+pub(crate) const MOST_BUCKETS: u32 = 4095;
+
+/// No bucket gives more items before it is empty again.
+pub(crate) const MOST_GIVEN: u16 = 4095;
+
+/// What a bucket is looked for.
+#[derive(Clone, Copy, Debug, PartialEq, Eq)]
+pub(crate) enum Wanted {
+    /// At least this width is free, and another item can be given.
+    Roomy(u32),
+    /// Just this width is free, and another item can be given.
+    Exact(u32),
+}
+
+/// A bucket that was found: its number, and that of its shelf.
+#[derive(Clone, Copy, Debug, PartialEq, Eq)]
+pub(crate) struct Found {
+    pub shelf: usize,
+    pub bucket: usize,
+}
+
+/// A shelf that was found: its number, and the height that it wastes.
+#[derive(Clone, Copy)]
+pub(crate) struct Least {
+    pub number: usize,
+    pub rank: u32,
+}
+
+impl Model for Least {
+    ghost use Rattle.etagere_base.specs.Least.{Found};
+
+    ghost Value = { Found };
+
+    ghost view = { λ least. record { number = least.number; rank = least.rank } };
+
+    ghost inverse = { λ least. record { number = least.number; rank = least.rank } };
+}
+
+fn is_wanted(wanted: Wanted, bucket: &BucketRecord) -> bool
+    ensures { result ≡ spec.is_wanted wanted bucket.now }
+{
+    let free = u32::from(bucket.free_space);
+    let can_give = bucket.item_count < MOST_GIVEN;
+    match wanted {
+        Wanted::Roomy(width) => width <= free && can_give,
+        Wanted::Exact(width) => width <= free && can_give && free == width,
+    }
+}
+
+/// The number of the first bucket that is wanted, by the links from this one on.
+pub(crate) fn first_wanted(wanted: Wanted, buckets: &[BucketRecord], first: Link) -> Option<usize>
+    ensures number { result ≡ spec.first_from most_buckets wanted buckets.now first }
+    ensures within { IfSome result (λ number. number < length buckets.now) }
+{
+    let mut at = first;
+    for _step in 0..MOST_BUCKETS {
+        let Some(number) = at.number() else {
+            return None;
+        };
+        if number >= buckets.len() {
+            return None;
+        }
+        let bucket = &buckets[number];
+        if is_wanted(wanted, bucket) {
+            return Some(number);
+        }
+        at = bucket.next;
+    }
+    None
+}
+
+/// The greatest width that a bucket can give to one item, by the links from this one on.
+pub(crate) fn widest_room(buckets: &[BucketRecord], first: Link) -> u16
+    ensures { result ≡ spec.widest_from most_buckets buckets.now first }
+{
+    let mut widest = 0;
+    let mut at = first;
+    for _step in 0..MOST_BUCKETS {
+        let Some(number) = at.number() else {
+            break;
+        };
+        if number >= buckets.len() {
+            break;
+        }
+        let bucket = &buckets[number];
+        widest = wider(widest, record_room(bucket));
+        at = bucket.next;
+    }
+    widest
+}
+
+/// The greater of two widths.
+pub(crate) fn wider(one: u16, other: u16) -> u16
+    ensures { result ≡ max one other }
+{
+    one.max(other)
+}
+
+pub(crate) fn record_room(bucket: &BucketRecord) -> u16
+    ensures { result ≡ spec.record_room bucket.now }
+{
+    if bucket.item_count < MOST_GIVEN {
+        bucket.free_space
+    } else {
+        0
+    }
+}
+
+/// The height that a shelf wastes where it is eligible and has room.
+fn waste(adds: bool, sides: &Sides, kept: &KeptShelf) -> Option<u32>
+    ensures { result ≡ spec.kept_waste adds sides.now kept.now }
+{
+    let height = u32::from(kept.shelf.height);
+    if height < sides.across || u32::from(kept.shelf.bucket_width) < sides.along {
+        return None;
+    }
+    let waste = height - sides.across;
+    if (adds && sides.across < waste) || u32::from(kept.widest_room) < sides.along {
+        return None;
+    }
+    Some(waste)
+}
+
+/// The shelf that wastes the least height, the first of such.
+fn least_waste(adds: bool, sides: &Sides, shelves: &[KeptShelf]) -> Option<Least>
+    ensures least { result ≡ first_least (map (spec.kept_waste adds sides.now) shelves.now) }
+    ensures within { IfSome result (λ least. least.number < length shelves.now) }
+{
+    let mut best = None;
+    for (number, kept) in shelves.iter().enumerate() {
+        best = better(best, number, waste(adds, sides, kept));
+    }
+    best
+}
+
+/// What was found before, unless the next shelf wastes less.
+fn better(best: Option<Least>, number: usize, waste: Option<u32>) -> Option<Least>
+    ensures { result ≡ least.better best
+        (option_map (λ rank. record { number = number; rank = rank }) waste) }
+{
+    let Some(rank) = waste else {
+        return best;
+    };
+    match best {
+        Some(found) if found.rank <= rank => Some(found),
+        _ => Some(Least { number, rank }),
+    }
+}
+
+/// The first exact bucket of a shelf that wastes no height, from the shelf of this number on.
+fn exact_from(
+    sides: &Sides,
+    shelves: &[KeptShelf],
+    buckets: &[BucketRecord],
+    from: usize,
+) -> Option<Found>
+    requires { from ≤ length shelves.now }
+    ensures { result ≡ spec.exact_from sides.now buckets.now from (drop from shelves.now) }
+{
+    for number in from..shelves.len() {
+        let found = exact_in(sides, &shelves[number], buckets, number);
+        if found.is_some() {
+            return found;
+        }
+    }
+    None
+}
+
+fn exact_in(
+    sides: &Sides,
+    kept: &KeptShelf,
+    buckets: &[BucketRecord],
+    number: usize,
+) -> Option<Found>
+    ensures { result ≡ spec.exact_in sides.now buckets.now number kept.now }
+{
+    if u32::from(kept.shelf.height) != sides.across || u32::from(kept.widest_room) < sides.along {
+        return None;
+    }
+    let bucket = first_wanted(Wanted::Exact(sides.along), buckets, kept.shelf.first_bucket)?;
+    Some(Found {
+        shelf: number,
+        bucket,
+    })
+}
+
+/// What was found in the shelf of least waste, unless it wastes width alone, and there is an exact bucket in a
+/// later shelf.
+fn exact_or_found(
+    sides: &Sides,
+    shelves: &[KeptShelf],
+    buckets: &[BucketRecord],
+    least: Least,
+    bucket: usize,
+) -> Found
+    requires shelf { least.number < length shelves.now }
+    requires bucket { bucket < length buckets.now }
+    ensures { result ≡ spec.exact_or_found sides.now shelves.now buckets.now least bucket }
+{
+    let found = Found {
+        shelf: least.number,
+        bucket,
+    };
+    if least.rank != 0 || u32::from(buckets[bucket].free_space) == sides.along {
+        return found;
+    }
+    exact_from(sides, shelves, buckets, least.number + 1).unwrap_or(found)
+}
+
+/// The bucket that is picked for these sides.
+pub(crate) fn pick(
+    adds: bool,
+    sides: &Sides,
+    shelves: &[KeptShelf],
+    buckets: &[BucketRecord],
+) -> Option<Found>
+    ensures { result ≡ spec.picked adds sides.now shelves.now buckets.now }
+{
+    let least = least_waste(adds, sides, shelves)?;
+    let wanted = Wanted::Roomy(sides.along);
+    let first = shelves[least.number].shelf.first_bucket;
+    let bucket = first_wanted(wanted, buckets, first)?;
+    Some(exact_or_found(sides, shelves, buckets, least, bucket))
+}
