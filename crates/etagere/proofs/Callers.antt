@@ -1,21 +1,32 @@
 -- For callers: what they were given is found under its id, lies where and as what is allocated does, and stays so
--- through each allocation and return. A caller's proofs cite this file alone of these.
-use Rattle.std.proofs.Common.{◌≡◌, ℕ, ◌+◌, ◌≤◌, Bool, true, false, cond, ◌||◌, ◌==◌, not, Option, Some, List, [], ◌∷◌, ◌++◌, map, filter, refl, ap, sym, ◌∙◌, subst, arith}
+-- through each allocation and return; and each call can be answered. A caller's proofs cite this file alone of these.
+use Rattle.std.proofs.Common.{◌≡◌, ℕ, ◌+◌, ◌≤◌, Bool, true, false, cond, ◌||◌, ◌==◌, not, Option, Some, List, [], ◌∷◌, ◌++◌, length, map, filter, refl, ap, sym, ◌∙◌, subst, arith}
 use Rattle.std.specs.Prelude.{None, is_some, option_map}
 use Rattle.std.specs.List.{find, list_any}
 use Rattle.std.proofs.lemmas.Bool.{or_parts}
 use Rattle.std.proofs.lemmas.Bool.Decides.{nat_tests}
-use Rattle.std.proofs.lemmas.List.{map-append}
+use Rattle.std.proofs.lemmas.List.{length-map, map-append}
 use Rattle.etagere_base.specs.declared.ids.Allocation.{Allocation}
 use Rattle.etagere_base.specs.Lists.{Each, times}
 use Rattle.etagere_base.specs.Rectangles.{AreApart, SharesNone}
 use Rattle.etagere_base.proofs.FirstFound.{is_some-find}
 use Rattle.etagere_base.proofs.EachLemmas.{Each-append, Each-back, Each-both, Each-front, Each-remove_place, Each-weaken}
 use Rattle.etagere_base.proofs.TimesLemmas.{times-append}
-use Rattle.etagere.specs.Atlas.{Adds, without_id}
+use Rattle.etagere.proofs.Allocations.EqualCounts.{times-length}
+pub use Rattle.etagere.proofs.Taken.Allocated.{Allocated}
+pub use Rattle.etagere.proofs.Taken.FreeNumber.{CanAllocate, placed-can_allocate}
+pub use Rattle.etagere.proofs.Places.FreshLemmas.{fresh-allocated}
+pub use Rattle.etagere.proofs.Returned.ReturnedAllocated.{returned-allocated}
+use Rattle.etagere.proofs.Places.FreshLemmas.{fresh-valid}
+use Rattle.etagere.proofs.Promises.{promises}
+use Rattle.etagere.proofs.Returned.ReturnedValid.{returned-valid}
+use Rattle.etagere.specs.Atlas.{Adds, KeepsPromises, without_id}
 use Rattle.etagere.specs.Callers.{AreTied, IsFound}
 use Rattle.etagere.specs.Places.{allocations, is_allocated, rectangle_of}
+use Rattle.etagere.specs.Fresh.{fresh}
+use Rattle.etagere.specs.Returning.{returned}
 use Rattle.etagere.specs.State.{AtlasState}
+use Rattle.etagere.specs.Valid.{IsValid}
 
 -- an allocation has this id
 abbrev has_id : ℕ → Allocation → Bool
@@ -321,6 +332,12 @@ pub tied-apart : (kept all : List Allocation) → AreTied kept all → AreApart 
     → ((id : ℕ) → times id (ids_of all) ≤ 1) → AreApart kept
 tied-apart kept all tied apart once = found_all-apart all kept apart tied.found (tied-ids kept all tied once)
 
+-- as much is allocated as is kept
+pub tied-length : (kept all : List Allocation) → AreTied kept all → length all ≡ length kept
+tied-length kept all tied =
+    let id_of : Allocation → ℕ = λ a. a.id in
+    omega (arith, times-length (ids_of all) (ids_of kept) tied.counted, length-map all id_of, length-map kept id_of)
+
 -- nothing is allocated where nothing is kept
 pub tied-empty : (all : List Allocation) → AreTied [] all → all ≡ []
 tied-empty [] tied = refl
@@ -328,3 +345,10 @@ tied-empty (a ∷ all) tied = absurd (some (a.id == a.id) (times a.id (ids_of al
   where
     some : (b : Bool) (k : ℕ) → b ≡ true → cond b 1 0 + k ≡ 0 → ⊥
     some b k is none = grind arith
+
+-- promises are kept when an id is returned, and when all is
+pub promises-returned : (state : AtlasState) (id : ℕ) → IsValid state → KeepsPromises (returned state id)
+promises-returned state id valid = promises (returned state id) (returned-valid state id valid)
+
+pub promises-cleared : (state : AtlasState) → IsValid state → KeepsPromises (fresh state.frame)
+promises-cleared state valid = promises (fresh state.frame) (fresh-valid state.frame valid.frame valid.columns)

@@ -1,10 +1,14 @@
 pub mod Allocations
 pub mod Callers
 pub mod Chosen
+pub mod Judged
+pub mod Loaded
 pub mod Places
 pub mod Promises
+pub mod Recorded
 pub mod Returned
+pub mod Searched
 pub mod Spaces
-pub mod Steps
+pub mod Spelled
 pub mod Taken
 pub mod WorkedRows

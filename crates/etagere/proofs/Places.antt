@@ -1,8 +1,9 @@
 -- Where things lie: columns, heights, free places, and that all is inside, aligned and apart.
 pub mod Aligned
 pub mod ColumnShelves
-pub mod CornersApart
 pub mod FreePlaces
 pub mod FreshLemmas
 pub mod Heights
+pub mod ItemLemmas
 pub mod Tiling
+pub mod Within

@@ -2,3 +2,4 @@
 pub mod SpaceBounds
 pub mod SpaceLemmas
 pub mod SpaceNone
+pub mod SpaceSmall

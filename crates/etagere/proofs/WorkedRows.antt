@@ -1,6 +1,9 @@
 -- The definitions alone, with no program, give the rectangles of worked examples.
-use Rattle.std.specs.Prelude.{◌≡◌, ℕ, zero, suc, Bool, true, false, pos, None, Some, refl}
+use Rattle.std.specs.Prelude.{◌≡◌, ℕ, zero, suc, Bool, true, false, pos, None, Some, [], ◌∷◌, refl}
 use Rattle.std.specs.Option.{option_map_or}
+use Rattle.etagere_base.specs.declared.drawing.Colour.{Colour}
+use Rattle.etagere_base.specs.declared.drawing.Colour.TheVariants.{Allocated, Background, Free}
+use Rattle.etagere_base.specs.declared.drawing.Drawn.{Drawn}
 use Rattle.etagere_base.specs.declared.geometry.Rectangle.{Rectangle}
 use Rattle.etagere_base.specs.declared.geometry.Size.{Size}
 use Rattle.etagere_base.specs.declared.options.AllocatorOptions.{AllocatorOptions}
@@ -10,6 +13,7 @@ use Rattle.etagere.specs.Fresh.{fresh}
 use Rattle.etagere.specs.Places.{rectangle_of}
 use Rattle.etagere.specs.Returning.{returned}
 use Rattle.etagere.specs.State.{AtlasState}
+use Rattle.etagere.specs.Svg.{picture}
 use Rattle.etagere.specs.Taking.{taken}
 
 abbrev size : ℕ → ℕ → Size
@@ -164,3 +168,15 @@ aligned_columns-second = refl
 
 pub aligned_columns-third : rectangle_of (allocated aligned_two (size 20 30) 3) 3 ≡ Some (rectangle 20 0 40 32)
 aligned_columns-third = refl
+
+-- what pictures show: the whole atlas, and then every item
+abbrev drawn : Colour → ℕ → ℕ → ℕ → ℕ → Drawn
+drawn colour x y width height = record { colour = colour; x = x; y = y; width = width; height = height }
+
+pub picture_of_an_atlas : picture (allocated (plain_atlas 20 30) (size 6 8) 1)
+    ≡ drawn Background 0 0 20 30 ∷ drawn Allocated 0 0 6 8 ∷ drawn Free 6 0 14 8 ∷ drawn Free 0 8 20 22 ∷ []
+picture_of_an_atlas = refl
+
+pub picture_of_vertical_shelves : picture (allocated (new_atlas (size 30 20) (options 1 1 true 1)) (size 8 6) 1)
+    ≡ drawn Background 0 0 30 20 ∷ drawn Allocated 0 0 8 6 ∷ drawn Free 0 6 8 14 ∷ drawn Free 8 0 22 20 ∷ []
+picture_of_vertical_shelves = refl

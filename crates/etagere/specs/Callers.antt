@@ -5,9 +5,12 @@ use Rattle.etagere_base.specs.Lists.{Each, times}
 
 -- an allocation is the one that is found under its id
 abbrev pub IsFound : List Allocation → Allocation → Type 0
-IsFound allocations allocation = find (λ other. other.id == allocation.id) allocations ≡ Some allocation
+IsFound allocations allocation =
+    find (λ other. other.id == allocation.id) allocations ≡ Some allocation
 
--- what a caller keeps is all that is allocated: each is found under its id, and no other id is there
+-- what a caller keeps is all that is allocated: each is found under its id, and no other id is
+-- there
 pub record AreTied (kept allocations : List Allocation) : Type 0 where
   pub found : Each (IsFound allocations) kept
-  pub counted : (id : ℕ) → times id (map (λ allocation. allocation.id) allocations) ≡ times id (map (λ allocation. allocation.id) kept)
+  pub counted : (id : ℕ) → times id (map (λ allocation. allocation.id) allocations)
+      ≡ times id (map (λ allocation. allocation.id) kept)

@@ -1,3 +1,4 @@
+-- Which place a size gets: the shelf of least rank, and in it the first item wide enough.
 use Rattle.std.specs.Prelude.{ℕ, suc, ◌+◌, ◌*◌, ◌/◌, ◌≡◌, Bool, ◌&&◌, ◌||◌, Option, None, Some, option_map, option_and_then, List, [], ◌∷◌, map, find, slice_get, take, nat_le, nat_lt, ◌==◌, if◌then◌else◌}
 use Rattle.etagere_base.specs.declared.frames.Frame.{Frame}
 use Rattle.etagere_base.specs.declared.geometry.Rectangle.{Rectangle}
@@ -18,20 +19,25 @@ shelf_height frame height = if nat_le (step height) (across_side frame) then ste
 abbrev pub is_good_fit : ℕ → Shelf → Bool
 is_good_fit height shelf = is_empty shelf || nat_le shelf.height (height + height / 2)
 
--- the width of the item that begins at a place, where the first one begins here; 0 where none begins there
+-- the width of the item that begins at a place, where the first one begins here; 0 where none
+-- begins there
 abbrev pub width_at : ℕ → List Item → ℕ → ℕ
 width_at here [] place = 0
-width_at here (item ∷ items) place = if here == place then item.width else width_at (here + item.width) items place
+width_at here (item ∷ items) place =
+    if here == place then item.width else width_at (here + item.width) items place
 
--- the number of the item that begins at a place, the first one here; the number of items where none does
+-- the number of the item that begins at a place, the first one here; the number of items where none
+-- does
 abbrev pub number_at : ℕ → List Item → ℕ → ℕ
 number_at here [] place = 0
-number_at here (item ∷ items) place = if here == place then 0 else suc (number_at (here + item.width) items place)
+number_at here (item ∷ items) place =
+    if here == place then 0 else suc (number_at (here + item.width) items place)
 
 -- in a shelf the first place in the free list whose item is wide enough
 abbrev pub fitting_place : Frame → ℕ → Shelf → Option ℕ
 fitting_place frame width shelf =
-    find (λ place. nat_le width (width_at (column_place frame shelf) shelf.items place)) shelf.free_list
+    find (λ place. nat_le width (width_at (column_place frame shelf) shelf.items place))
+    shelf.free_list
 
 -- a shelf is split where more than this would be left of its height
 abbrev pub shelf_slack : ℕ
@@ -49,11 +55,13 @@ most_items = 65535
 abbrev pub bad_fit_rank : ℕ
 bad_fit_rank = 65536
 
--- the rank of a shelf that fits: a good fit by its height, a bad one after every good one; none where it doesn't fit
+-- the rank of a shelf that fits: a good fit by its height, a bad one after every good one; none
+-- where it doesn't fit
 abbrev pub rank : Frame → ℕ → ℕ → Shelf → Option ℕ
 rank frame width height shelf =
     if nat_le height shelf.height
-    then option_map (λ _. if is_good_fit height shelf then shelf.height else bad_fit_rank) (fitting_place frame width shelf)
+    then option_map (λ _. if is_good_fit height shelf then shelf.height else bad_fit_rank)
+    (fitting_place frame width shelf)
     else None
 
 -- an empty shelf is split where more than the slack would be left of it
@@ -64,8 +72,8 @@ is_shelf_split height shelf = is_empty shelf && nat_lt (height + shelf_slack) sh
 abbrev pub is_item_split : ℕ → ℕ → Bool
 is_item_split width item_width = nat_lt (width + item_slack) item_width
 
--- all that is found out of a place: the numbers of its shelf and of its item there, where they begin, the width
--- and the height that are given, and which of the two is split for it
+-- all that is found out of a place: the numbers of its shelf and of its item there, where they
+-- begin, the width and the height that are given, and which of the two is split for it
 pub record Placement : Type 0 where
   pub shelf : ℕ
   pub item : ℕ
@@ -76,8 +84,8 @@ pub record Placement : Type 0 where
   pub splits_shelf : Bool
   pub splits_item : Bool
 
--- what is found out of a place in the shelf of a number that begins there across, for this width and height:
--- what is split gives them, and what is not gives all of its own
+-- what is found out of a place in the shelf of a number that begins there across, for this width
+-- and height: what is split gives them, and what is not gives all of its own
 abbrev pub placement_in : Frame → ℕ → ℕ → ℕ → ℕ → Shelf → ℕ → Placement
 placement_in frame number across width height shelf place =
     let item_width = width_at (column_place frame shelf) shelf.items place in
@@ -103,7 +111,8 @@ area placement = placement.width * placement.height
 
 -- how many splits a placement makes, each of which needs a record for the rest
 abbrev pub splits : Placement → ℕ
-splits placement = (if placement.splits_shelf then 1 else 0) + (if placement.splits_item then 1 else 0)
+splits placement =
+    (if placement.splits_shelf then 1 else 0) + (if placement.splits_item then 1 else 0)
 
 -- the shelf of least rank, and in it the first place in the free list that is wide enough
 abbrev pub chosen : AtlasState → Sides → Option Placement
@@ -112,7 +121,8 @@ chosen state sides =
     option_and_then
     (λ found. option_and_then
     (λ shelf. option_map
-    (placement_in state.frame found.number (column_height shelf.column (take found.number state.shelves))
+    (placement_in state.frame found.number
+    (column_height shelf.column (take found.number state.shelves))
     sides.along height shelf)
     (fitting_place state.frame sides.along shelf))
     (slice_get state.shelves found.number))
@@ -123,7 +133,9 @@ abbrev pub placement_of : AtlasState → Size → Option Placement
 placement_of state size =
     option_and_then
     (λ sides. option_and_then
-    (λ placement. if nat_le (items_in_use state.shelves + splits placement) most_items then Some placement else None)
+    (λ placement.
+    if nat_le (items_in_use state.shelves + splits placement) most_items
+    then Some placement else None)
     (chosen state sides))
     (asked state.frame size)
 

@@ -1,27 +1,39 @@
+-- Laws of the model, proved of all its states: the choice in the words of its rule, merging as a
+-- normal form, and what a return restores.
 use Rattle.std.specs.Prelude.{◌≡◌, ℕ, ◌<◌, ◌≤◌, Bool, true, false, ◌&&◌, ◌||◌, Some, None, Option, List, ◌∷◌, ◌++◌, slice_get, nat_lt, ◌==◌, if◌then◌else◌}
+use Rattle.etagere_base.specs.declared.faults.RestoreFault.{RestoreFault}
+use Rattle.etagere_base.specs.declared.faults.RestoreFault.TheVariants.{Memory}
 use Rattle.etagere_base.specs.declared.frames.Frame.{Frame}
 use Rattle.etagere_base.specs.declared.geometry.Size.{Size}
 use Rattle.etagere_base.specs.declared.sides.Sides.{Sides}
 use Rattle.etagere.specs.Choice.{Placement, chosen, is_good_fit, placement_of, shelf_height, width_at}
 use Rattle.etagere.specs.Merging.{both_empty, both_free, merged, merged_items, merged_shelves}
+use Rattle.etagere.specs.AtlasRecords.{AtlasRecords}
 use Rattle.etagere.specs.Layout.{layout}
 use Rattle.etagere_base.specs.Least.{Found, IsFirstLeast, first_least}
 use Rattle.etagere_base.specs.Lists.{Each, NoNeighbours}
 use Rattle.etagere.specs.Places.{allocations, allocations_after, allocations_along, column_place, is_allocated}
 use Rattle.etagere.specs.Returning.{returned}
+use Rattle.etagere.specs.Snapshots.{IsBroken}
+use Rattle.etagere.specs.StandsFor.{StandsFor}
 use Rattle.etagere.specs.State.{Item, Shelf, AtlasState, is_free}
 use Rattle.etagere.specs.Taking.{taken}
 use Rattle.etagere.specs.Valid.{IsValid}
 
 -- what is found among ranks is the first of least rank
 abbrev pub FindsFirstLeast : Type 0
-FindsFirstLeast = (ranks : List (Option ℕ)) (found : Found) → first_least ranks ≡ Some found → IsFirstLeast ranks found
+FindsFirstLeast =
+    (ranks : List (Option ℕ)) (found : Found) → first_least ranks ≡ Some found
+    → IsFirstLeast ranks found
 
 -- nothing is found only where nothing has a rank
 abbrev pub FindsAny : Type 0
-FindsAny = (ranks : List (Option ℕ)) → first_least ranks ≡ None → (n r : ℕ) → slice_get ranks n ≡ Some (Some r) → ⊥
+FindsAny =
+    (ranks : List (Option ℕ)) → first_least ranks ≡ None → (n r : ℕ)
+    → slice_get ranks n ≡ Some (Some r) → ⊥
 
--- a shelf fits a width and a height: it is tall enough, and one of its items is free and wide enough
+-- a shelf fits a width and a height: it is tall enough, and one of its items is free and wide
+-- enough
 pub record FitsShelf (width height : ℕ) (shelf : Shelf) : Type 0 where
   pub tall : height ≤ shelf.height
   pub number : ℕ
@@ -30,7 +42,8 @@ pub record FitsShelf (width height : ℕ) (shelf : Shelf) : Type 0 where
   pub free : is_free item ≡ true
   pub wide : width ≤ item.width
 
--- a rank among the shelves: 0 for a good fit and 1 for a bad one, then the height of a good fit, then the position
+-- a rank among the shelves: 0 for a good fit and 1 for a bad one, then the height of a good fit,
+-- then the position
 pub record Rank : Type 0 where
   pub fit : ℕ
   pub height : ℕ
@@ -48,18 +61,20 @@ abbrev pub is_before : Rank → Rank → Bool
 is_before one other =
     nat_lt one.fit other.fit
     || (one.fit == other.fit
-    && (nat_lt one.height other.height || (one.height == other.height && nat_lt one.position other.position)))
+    && (nat_lt one.height other.height
+    || (one.height == other.height && nat_lt one.position other.position)))
 
 -- a place is the first of the free list whose item is wide enough
 pub record IsFirstWide (frame : Frame) (width place : ℕ) (shelf : Shelf) : Type 0 where
   pub front : List ℕ
   pub back : List ℕ
   pub list : shelf.free_list ≡ front ++ place ∷ back
-  pub narrow : Each (λ (other : ℕ). width_at (column_place frame shelf) shelf.items other < width) front
+  pub narrow : Each (λ (other : ℕ). width_at (column_place frame shelf) shelf.items other < width)
+      front
   pub wide : width ≤ width_at (column_place frame shelf) shelf.items place
 
--- a place is chosen by the rule: its shelf fits, no shelf that fits ranks before it, and in it the place is the
--- first that is wide enough
+-- a place is chosen by the rule: its shelf fits, no shelf that fits ranks before it, and in it the
+-- place is the first that is wide enough
 pub record IsByRule (state : AtlasState) (sides : Sides) (placement : Placement) : Type 0 where
   pub shelf : Shelf
   pub at : slice_get state.shelves placement.shelf ≡ Some shelf
@@ -74,7 +89,8 @@ pub record IsByRule (state : AtlasState) (sides : Sides) (placement : Placement)
 -- what is chosen in a valid state is chosen by the rule
 abbrev pub ChoosesByRule : Type 0
 ChoosesByRule =
-    (state : AtlasState) (sides : Sides) (placement : Placement) → IsValid state → chosen state sides ≡ Some placement
+    (state : AtlasState) (sides : Sides) (placement : Placement) → IsValid state
+    → chosen state sides ≡ Some placement
     → IsByRule state sides placement
 
 -- in a valid state none is chosen only where no shelf fits
@@ -109,7 +125,21 @@ MergesAll =
 abbrev pub MergingKeepsAllocated : Type 0
 MergingKeepsAllocated =
     ((frame : Frame) (across height here : ℕ) (items : List Item)
-    → allocations_along frame across height here (merged_items items) ≡ allocations_along frame across height here items)
+    → allocations_along frame across height here (merged_items items)
+    ≡ allocations_along frame across height here items)
     × ((frame : Frame) (before shelves : List Shelf)
-    → allocations_after frame before (merged_shelves shelves) ≡ allocations_after frame before shelves)
+    → allocations_after frame before (merged_shelves shelves)
+    ≡ allocations_after frame before shelves)
     × ((state : AtlasState) → allocations (merged state) ≡ allocations state)
+
+-- two states that the same records stand for are one
+abbrev pub StandsForOne : Type 0
+StandsForOne =
+    (atlas : AtlasRecords) (state other : AtlasState) → StandsFor atlas state
+    → StandsFor atlas other → state ≡ other
+
+-- records of which a rule is broken stand for no state
+abbrev pub BrokenStandsForNone : Type 0
+BrokenStandsForNone =
+    (atlas : AtlasRecords) (state : AtlasState) (fault : RestoreFault) → IsBroken atlas fault
+    → StandsFor atlas state → fault ≡ Memory

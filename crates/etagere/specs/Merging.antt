@@ -1,3 +1,4 @@
+-- Merging free items and empty shelves: what touches, what becomes of the two, and all merged.
 use Rattle.std.specs.Prelude.{◌+◌, Bool, ◌&&◌, None, List, map, ◌==◌}
 use Rattle.etagere_base.specs.Merging.{merged_by}
 use Rattle.etagere.specs.State.{Item, Shelf, AtlasState, is_free, is_empty}
@@ -17,7 +18,12 @@ both_empty shelf next = shelf.column == next.column && (is_empty shelf && is_emp
 
 abbrev pub combined_shelves : Shelf → Shelf → Shelf
 combined_shelves shelf next =
-    record { column = shelf.column; height = shelf.height + next.height; items = shelf.items; free_list = shelf.free_list }
+    record {
+      column = shelf.column;
+      height = shelf.height + next.height;
+      items = shelf.items;
+      free_list = shelf.free_list;
+    }
 
 -- empty neighbours of one column become one empty shelf of the summed height
 abbrev pub merged_shelves : List Shelf → List Shelf
@@ -33,7 +39,8 @@ merged_shelf shelf =
       free_list = shelf.free_list;
     }
 
--- the state with all merged: in each shelf its free neighbours, then in each column its empty shelves
+-- the state with all merged: in each shelf its free neighbours, then in each column its empty
+-- shelves
 abbrev pub merged : AtlasState → AtlasState
 merged state =
     record {

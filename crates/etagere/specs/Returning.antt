@@ -1,3 +1,4 @@
+-- The state after a return: the item is freed, and then all is merged.
 use Rattle.std.specs.Prelude.{ℕ, zero, suc, ◌+◌, Bool, false, Option, None, Some, List, [], ◌∷◌, map, position, take, ◌==◌, if◌then◌else◌}
 use Rattle.etagere_base.specs.declared.frames.Frame.{Frame}
 use Rattle.etagere.specs.Merging.{merged}
@@ -35,14 +36,16 @@ freed n [] = []
 freed zero (item ∷ items) = record { width = item.width; id = None } ∷ items
 freed (suc n) (item ∷ items) = item ∷ freed n items
 
--- the free list after the item of this number was freed: the place of a free next item goes out, and the item's own
--- goes to the front unless the item before it is free
+-- the free list after the item of this number was freed: the place of a free next item goes out,
+-- and the item's own goes to the front unless the item before it is free
 abbrev pub returned_free_list : ℕ → List Item → ℕ → List ℕ → List ℕ
 returned_free_list here items n free_list =
-    let others = if is_free_at (suc n) items then remove_place (place_at here items (suc n)) free_list else free_list in
+    let others = if is_free_at (suc n) items
+    then remove_place (place_at here items (suc n)) free_list else free_list in
     if is_free_before n items then others else place_at here items n ∷ others
 
--- the shelf with the item of this number free, and the free list that it has once its neighbours are merged
+-- the shelf with the item of this number free, and the free list that it has once its neighbours
+-- are merged
 abbrev pub freed_shelf : Frame → ℕ → Shelf → Shelf
 freed_shelf frame n shelf =
     record {

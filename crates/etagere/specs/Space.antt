@@ -1,3 +1,4 @@
+-- The area that is allocated.
 use Rattle.std.specs.Prelude.{ℕ, ◌*◌, List, if◌then◌else◌}
 use Rattle.etagere_base.specs.Lists.{total}
 use Rattle.etagere.specs.State.{Item, Shelf, AtlasState, is_free}

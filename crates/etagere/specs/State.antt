@@ -1,22 +1,23 @@
+-- The model of an atlas: shelves of items, as callers see it.
 use Rattle.std.specs.Prelude.{ℕ, ◌*◌, Bool, false, Option, None, is_none, List, [], ◌∷◌, length}
 use Rattle.etagere_base.specs.declared.frames.Frame.{Frame}
 use Rattle.etagere_base.specs.Lists.{total}
 
--- a stretch of a shelf: its width, and the id of the allocation that holds it; free where none does
+-- a stretch of a shelf: its width, and the id under which it is allocated; none where it is free
 pub record Item : Type 0 where
   pub width : ℕ
   pub id : Option ℕ
 
--- a strip across a column: its items lie side by side and fill it; the places along of the free ones
--- stand in its free list
+-- a strip across a column: its items lie side by side and fill it; the places along of the free
+-- ones stand in its free list
 pub record Shelf : Type 0 where
   pub column : ℕ
   pub height : ℕ
   pub items : List Item
   pub free_list : List ℕ
 
--- an atlas: its shelves column after column, in each by their place across; and how many items have been
--- in use at once since it was new or cleared
+-- an atlas: its shelves column after column, in each by their place across; and how many items have
+-- been in use at once since it was new or cleared
 pub record AtlasState : Type 0 where
   pub frame : Frame
   pub shelves : List Shelf

@@ -1,35 +1,49 @@
-//! The public calls of an atlas. Each is thin: it asks, and then changes the list of shelves by one call.
+//! The public calls of an atlas. Each is thin: it asks, and then changes the records by one call.
 //!
 //! Definitions: `Atlas` for what the clauses say, `State` for what they see, `Consistent` for what the
 //! fields keep. The clauses stay as they are: callers prove by them. Fields may change, with `state_in`
 //! and `IsConsistent`.
 
-ghost use Rattle.std.specs.Prelude.{◌≡◌, ◌↔◌, ◌*◌, ◌-◌, ◌+ℤ◌, [], Err, Some, false, pos, IfOk, IfErr, IfSome, IfNone, OnOk, OnErr, IsErr, IsTrue};
+ghost use Rattle.std.specs.Prelude.{◌≡◌, ◌↔◌, ◌*◌, ◌-◌, ◌+ℤ◌, [], Err, Some, false, pos, IfOk, IfErr, IfSome, IfNone, OnOk, OnErr, IsErr, IsTrue, map, option_map};
+ghost use Rattle.std.specs.Io.KnownBytes.{Appends};
 ghost use Rattle.etagere_base.specs.Frames as frames;
 ghost use Rattle.etagere_base.specs.Frames.{IsAccepted, longest_side, options_fault};
 ghost use Rattle.etagere_base.specs.Options.{default_options};
 ghost use Rattle.etagere_base.specs.declared.faults.OptionsFault.TheVariants as faults;
-ghost use Rattle.etagere.specs.Atlas.{Adds, Allocates, KeepsPromises, NeedsSplit, without_id};
+ghost use Rattle.etagere_base.specs.Sending.{AppendsBeginning};
+ghost use Rattle.etagere.specs.Atlas.{Adds, Allocates, KeepsPromises, NeedsSplit, Restores, without_id};
+ghost use Rattle.etagere.specs.Callers.{AreTied};
 ghost use Rattle.etagere.specs.Choice.{IsRefused};
 ghost use Rattle.etagere.specs.Fresh.{fresh};
+ghost use Rattle.etagere.specs.Listing.{RiseFrom, listed};
 ghost use Rattle.etagere.specs.Places as places;
 ghost use Rattle.etagere.specs.Places.{allocations, is_allocated};
 ghost use Rattle.etagere_base.specs.Rectangles.{IsLarge};
+ghost use Rattle.etagere.specs.Private.Kept.{AreKept};
 ghost use Rattle.etagere.specs.Returning.{returned};
+ghost use Rattle.etagere.specs.Snapshots.{IsBroken, snapshot_records, state_spelled};
 ghost use Rattle.etagere.specs.Space as space;
+ghost use Rattle.etagere.specs.StandsFor.{StandsFor};
+ghost use Rattle.etagere.specs.State as state;
+ghost use Rattle.etagere.specs.Svg.{svg, svg_into};
 
-use crate::choosing::placement_of;
-use crate::ids::corner_id;
-use crate::looking::rectangle_of;
-use crate::returning::{free_in, shelf_of};
-use crate::shelves::Shelf;
-use crate::starting::{empty_columns, reset_columns};
-use crate::taking::take_placement;
+use crate::linked::choosing::placement_of;
+use crate::linked::drawing::{send_document, send_part, send_picture};
+use crate::linked::looking::{index_of, number_of, recorded_area, rectangle_of};
+use crate::linked::returning::return_item;
+use crate::linked::starting::{fresh_records, reset_records};
+use crate::linked::taking::take_placement;
+use crate::listing::Iter;
+use crate::restoring::LoadedAtlas;
+use crate::restoring::restored::restore_atlas;
+use crate::snapshots::{AtlasSnapshot, snapshot_of};
 use etagere_base::{
     AllocId, Allocation, AllocatorOptions, DEFAULT_OPTIONS, Frame, LONGEST_SIDE, OptionsFault,
-    Rectangle, Size, UnknownId, atlas_frame, options_fault,
+    Rectangle, RestoreFault, Size, UnknownId, atlas_frame, options_fault, side,
 };
+use etagere_links::Records;
 use std::alloc::{AllocError, Global};
+use std::io::{self, Write};
 use std::marker::Model;
 
 /// Places rectangles on the shelves of one atlas, and takes them back in any order.
@@ -46,9 +60,8 @@ use std::marker::Model;
 #[derive(Drop)]
 pub struct AtlasAllocator {
     frame: Frame,
-    shelves: Vec<Shelf>,
+    records: Records,
     items_in_use: u32,
-    records: u32,
     allocated_space: u32,
 }
 
@@ -68,7 +81,7 @@ impl AtlasAllocator {
     /// An empty atlas of this size in pixels, with the default options.
     ///
     /// Returns the first fault; `Memory` only where there is no other and no memory. Takes
-    /// memory for one shelf.
+    /// memory for the records of one shelf and its item.
     pub fn new(alloc: Global, size: Size) -> Result<AtlasAllocator, OptionsFault>
         ensures ok { IfOk result
             (λ atlas. atlas ≡ fresh (frames.atlas_frame size default_options)) }
@@ -86,7 +99,7 @@ impl AtlasAllocator {
     /// An empty atlas of this size in pixels.
     ///
     /// Returns the first fault; `Memory` only where there is no other and no memory. Takes
-    /// memory for a shelf in each column.
+    /// memory for the records of a shelf and its item in each column.
     pub fn with_options(
         alloc: Global,
         size: Size,
@@ -105,16 +118,47 @@ impl AtlasAllocator {
             return Err(fault);
         }
         let frame = atlas_frame(size, options);
-        let Ok(shelves) = empty_columns(alloc, &frame) else {
+        let Ok(records) = fresh_records(alloc, &frame) else {
             return Err(OptionsFault::Memory);
         };
         Ok(AtlasAllocator {
             frame,
-            shelves,
+            records,
             items_in_use: frame.columns,
-            records: frame.columns,
             allocated_space: 0,
         })
+    }
+
+    /// Makes an atlas from a snapshot, whoever wrote it: where that keeps every rule, the atlas is the one for which
+    /// it stands.
+    ///
+    /// Returns a fault whose rule is broken; `Memory` only where there was no memory. The snapshot is used up either
+    /// way, and its records become those of the atlas. Takes some memory for each record while it runs. The time is
+    /// linear in the number of records.
+    pub fn restore(alloc: Global, snapshot: AtlasSnapshot) -> Result<AtlasAllocator, RestoreFault>
+        ensures ok { IfOk result (λ atlas. StandsFor (snapshot_records snapshot) atlas) }
+        ensures fault { IfErr result (IsBroken (snapshot_records snapshot)) }
+        ensures promises { IfOk result KeepsPromises }
+    {
+        let mut steps = 0;
+        restore_atlas(alloc, snapshot, &mut steps)
+    }
+
+    /// The atlas of a snapshot that keeps all rules, with so many items in use.
+    pub(crate) fn of_judged(atlas: LoadedAtlas, items_in_use: u32) -> AtlasAllocator
+        requires kept { AreKept atlas.frame atlas.lists }
+        requires space { atlas.allocated_space ≡ pos (space.space_in (state_spelled atlas).shelves) }
+        requires items { items_in_use ≡ state.items_in_use (state_spelled atlas).shelves }
+        ensures state { result ≡ state_spelled atlas }
+        ensures promises { KeepsPromises result }
+    {
+        let allocated_space = side(atlas.allocated_space);
+        AtlasAllocator {
+            frame: atlas.frame,
+            records: atlas.records,
+            items_in_use,
+            allocated_space,
+        }
     }
 
     /// The size in pixels that the atlas was made with. Takes the same time always.
@@ -131,9 +175,9 @@ impl AtlasAllocator {
     /// Gives a rectangle that is at least as large as the size in pixels, or none where there is no place.
     ///
     /// `Err` comes only where the place is to be split and there was no memory. Nothing changes after an `Err`
-    /// or none. Each split takes memory for an item and its place in the free list, or for a shelf; a size
-    /// that needs none takes none. Goes through all shelves, in each that is tall enough through its items
-    /// once for each free item in the free list, and again through the shelves before the chosen one.
+    /// or none. A split takes memory only where no record that was put aside is left for it; a size that needs
+    /// none takes none. Goes through the shelves once, in each that is tall enough through its free list up to
+    /// the first item that is wide enough, and then takes the same time always.
     pub fn allocate(&mut self, size: Size) -> Result<Option<Allocation>, AllocError>
         ensures placed { IfOk result
             (λ answer. IfSome answer (λ allocation. Allocates self.old size allocation self.new)) }
@@ -153,61 +197,91 @@ impl AtlasAllocator {
             (λ allocation. IsLarge self.old.frame size allocation.rectangle)) }
         ensures promises { KeepsPromises self.new }
     {
-        let Some(placement) = placement_of(&self.frame, &self.shelves, self.items_in_use, size)
+        let Some(placement) = placement_of(&self.frame, &self.records, self.items_in_use, size)
         else {
             return Ok(None);
         };
         let rectangle = placement.rectangle(&self.frame);
-        let id = corner_id(&rectangle);
-        take_placement(&self.frame, &mut self.shelves, &placement, id)?;
+        let column_width = self.frame.column_width as u16;
+        let id = take_placement(&mut self.records, &placement, column_width)?;
         self.items_in_use += placement.splits();
-        self.records = self.records.max(self.items_in_use);
         self.allocated_space += placement.area();
         Ok(Some(Allocation { id, rectangle }))
     }
 
     /// Takes back the rectangle that is allocated under an id, and merges what is free with its neighbours.
     ///
-    /// `Err` comes exactly where nothing is allocated under the id; then nothing changes. Takes no memory. Goes through the
-    /// items of all shelves up to that of the id, and a few times through the items of that one.
+    /// `Err` comes exactly where nothing is allocated under the id; then nothing changes. Takes no memory, and the
+    /// same time always: it looks at the record of the id, and at those beside it and its shelf.
     pub fn deallocate(&mut self, id: AllocId) -> Result<(), UnknownId>
         ensures ok { OnOk result (self.new ≡ returned self.old id) }
         ensures unknown { IsErr result ↔ (is_allocated self.old id ≡ false) }
         ensures err { OnErr result (self.new ≡ self.old) }
         ensures allocated { OnOk result
             (allocations self.new ≡ without_id id (allocations self.old)) }
+        ensures restores { OnOk result (Restores self.old id self.new) }
         ensures promises { KeepsPromises self.new }
     {
-        let Some(number) = shelf_of(&self.shelves, id) else {
+        let Some(number) = number_of(&self.records, id) else {
             return Err(UnknownId);
         };
-        let area = self.shelves[number].allocated_area(id);
-        let merged = free_in(&self.frame, &mut self.shelves, number, id);
-        self.items_in_use -= merged;
+        let area = recorded_area(&self.records, number);
+        let put_aside = return_item(&mut self.records, number);
+        self.items_in_use -= put_aside;
         self.allocated_space -= area;
         Ok(())
     }
 
     /// The rectangle that is allocated under an id, as it was given; none exactly where nothing is.
     ///
-    /// Takes no memory. Goes through the items of all shelves up to that of the id.
+    /// Takes no memory, and the same time always.
     pub fn get(&self, id: AllocId) -> Option<Rectangle>
         ensures { result ≡ places.rectangle_of self.now id }
     {
-        rectangle_of(&self.frame, &self.shelves, id)
+        rectangle_of(&self.frame, &self.records, id)
+    }
+
+    /// The record number of what is allocated under an id, which it keeps as long as it is allocated; none exactly
+    /// where nothing is. Record numbers are small: they are below the count of records.
+    ///
+    /// Takes no memory, and the same time always.
+    pub fn get_index(&self, id: AllocId) -> Option<u32>
+        ensures { result ≡ places.index_of self.now id }
+    {
+        index_of(&self.records, id)
+    }
+
+    /// The atlas as it is saved: its frame and all its records, those put aside too.
+    ///
+    /// Takes memory for all records. The error comes only where a growth was refused.
+    pub fn snapshot(&self) -> Result<AtlasSnapshot, AllocError>
+        ensures { IfOk result (λ snapshot. StandsFor (snapshot_records snapshot) self.now) }
+    {
+        snapshot_of(&self.frame, &self.records, self.allocated_space)
+    }
+
+    /// Everything that is allocated, each once, by rising record number, and then none for ever.
+    ///
+    /// Takes no memory. All steps together take time linear in the count of records.
+    pub fn iter(&self) -> Iter<'_>
+        ensures listed { result ≡ listed self.now }
+        ensures each { AreTied result (allocations self.now) }
+        ensures rising { RiseFrom 0
+            (map (λ allocation. places.record_number allocation.id) result) }
+    {
+        Iter::new(&self.frame, &self.records)
     }
 
     /// Takes everything back at once: the atlas is as it was when it was new.
     ///
-    /// Takes no memory. Goes through the shelves, and frees the memory of all but one in each column.
+    /// Takes no memory. Goes through the columns.
     pub fn clear(&mut self)
         ensures cleared { self.new ≡ fresh self.old.frame }
         ensures empty { allocations self.new ≡ [] }
         ensures promises { KeepsPromises self.new }
     {
-        reset_columns(&self.frame, &mut self.shelves);
+        reset_records(&self.frame, &mut self.records);
         self.items_in_use = self.frame.columns;
-        self.records = self.frame.columns;
         self.allocated_space = 0;
     }
 
@@ -234,20 +308,68 @@ impl AtlasAllocator {
     {
         (self.frame.width * self.frame.height - self.allocated_space) as i32
     }
+
+    /// Writes an SVG document that shows the atlas and every item, in pixels: what is allocated is blue, what is
+    /// free grey.
+    ///
+    /// A fault is the writer's, or `WriteZero` where it accepts no byte; then a beginning of the text has gone
+    /// out. Takes no memory. Goes through the items once.
+    pub fn dump_svg<W: Write>(&self, output: &mut W) -> io::Result<()>
+        ensures ok { OnOk result
+            (Appends (W.contents output.old) (W.contents output.new) (svg self.now)) }
+        ensures err { OnErr result
+            (AppendsBeginning (W.contents output.old) (W.contents output.new) (svg self.now)) }
+    {
+        send_document(&self.frame, &self.records, output)
+    }
+
+    /// Writes the picture of `dump_svg` for a place within a larger SVG document: at the origin, or moved and
+    /// scaled to fill a rectangle. Where a side of the rectangle isn't positive, nothing is written.
+    ///
+    /// A fault is the writer's, or `WriteZero` where it accepts no byte; then a beginning of the text has gone
+    /// out. Takes no memory. Goes through the items once.
+    pub fn dump_into_svg<W: Write>(
+        &self,
+        rectangle: Option<&Rectangle>,
+        output: &mut W,
+    ) -> io::Result<()>
+        ensures ok { OnOk result
+            (Appends (W.contents output.old) (W.contents output.new)
+            (svg_into self.now (option_map (λ rectangle. rectangle.now) rectangle.entry))) }
+        ensures err { OnErr result
+            (AppendsBeginning (W.contents output.old) (W.contents output.new)
+            (svg_into self.now (option_map (λ rectangle. rectangle.now) rectangle.entry))) }
+    {
+        match rectangle {
+            None => send_picture(&self.frame, &self.records, output),
+            Some(rectangle) => send_part(&self.frame, &self.records, rectangle, output),
+        }
+    }
 }
 
 impl Clone for AtlasAllocator {
     ghost is_clone = { λ atlas other. other ≡ atlas };
 
     /// An atlas that equals this one, its ids and its later answers too, and shares nothing with it. Takes
-    /// memory for each shelf, and goes through all items.
+    /// memory for all records.
     fn clone(&self) -> Result<AtlasAllocator, AllocError> {
         Ok(AtlasAllocator {
             frame: self.frame,
-            shelves: self.shelves.clone()?,
+            records: self.records.clone()?,
             items_in_use: self.items_in_use,
-            records: self.records,
             allocated_space: self.allocated_space,
         })
+    }
+}
+
+impl<'a> IntoIterator for &'a AtlasAllocator {
+    type Item = Allocation;
+
+    type IntoIter = Iter<'a>;
+
+    ghost into_iter_gives = { λ atlas iter. iter ≡ listed atlas.now };
+
+    fn into_iter(self) -> Iter<'a> {
+        self.iter()
     }
 }

@@ -1,27 +1,27 @@
 //! A texture atlas allocator: rectangles are placed on shelves and given back in any order.
 //!
-//! The calls stand in `atlas`, everything else is private. `choosing` finds a place, `taking` and
-//! `returning` change the list of shelves, `shelves`, `edits`, `items` and `free_lists` change one
-//! shelf.
+//! The calls stand in `atlas`, everything else is private: `linked` has what they do to the records,
+//! `placements` what was found out of a place.
 #![tactic(auto)]
 
 mod atlas;
-mod choosing;
-mod edits;
-mod free_lists;
-mod ids;
-mod items;
-mod looking;
+mod judging;
+pub mod laws;
+mod linked;
+mod listing;
 mod model_laws;
 mod placements;
-mod returning;
-mod shelves;
-mod starting;
-mod taking;
-mod vectors;
+mod restoring;
+mod snapshots;
 
 pub use atlas::AtlasAllocator;
 pub use etagere_base::{
-    AllocId, Allocation, AllocatorOptions, DEFAULT_OPTIONS, OptionsFault, Point, Rectangle, Size,
-    UnknownId, point2, size2,
+    AllocId, Allocation, AllocatorOptions, DEFAULT_OPTIONS, OptionsFault, Point, Rectangle,
+    RestoreFault, Size, UnknownId, point2, size2,
 };
+pub use etagere_bucketed::{
+    BucketRecord, BucketShelfRecord, BucketedAtlasAllocator, BucketedSnapshot, GrowFault,
+};
+pub use etagere_links::{ItemRecord, Link, ShelfRecord};
+pub use listing::Iter;
+pub use snapshots::AtlasSnapshot;

@@ -3,7 +3,7 @@
 //! Definitions: `Laws`. A law stands here where no clause of a call states it. The functions have
 //! no callers: they make the check prove the laws.
 
-ghost use Rattle.etagere.specs.Laws.{ChoosesAny, ChoosesByRule, FindsAny, FindsFirstLeast, MergesAll, MergesOnce, MergingKeepsAllocated, ReturnRestores};
+ghost use Rattle.etagere.specs.Laws.{BrokenStandsForNone, ChoosesAny, ChoosesByRule, FindsAny, FindsFirstLeast, MergesAll, MergesOnce, MergingKeepsAllocated, ReturnRestores, StandsForOne};
 
 /// The shelf that is chosen is the first of least rank, and there is one wherever any fits.
 pub(crate) fn the_first_least_is_chosen()
@@ -30,4 +30,14 @@ pub(crate) fn merging_is_a_normal_form()
 /// Taking a place and at once returning it gives back the layout.
 pub(crate) fn a_return_restores_the_layout()
     ensures { ReturnRestores }
+{}
+
+/// Records stand for one state at most.
+pub(crate) fn records_stand_for_one_state()
+    ensures { StandsForOne }
+{}
+
+/// A snapshot that is refused by a rule stands for no state.
+pub(crate) fn what_breaks_a_rule_stands_for_nothing()
+    ensures { BrokenStandsForNone }
 {}

@@ -1,18 +1,17 @@
 //! All that is found out of the place of a size, for those who take it.
 //!
-//! Definitions: `Placement` of `Choice`, and `Found` of `Least` in `etagere_base`. What is split and
-//! how much is given is decided once, in `shelves`; what is found out beside that gets a field here.
+//! Definitions: `Placement` of `Choice`. What is split and how much is given is decided once, in
+//! `choosing`; what is found out beside that gets a field here.
 
 ghost use Rattle.std.specs.Prelude.{◌≡◌, ◌+◌, ◌≤◌};
 ghost use Rattle.etagere_base.specs.Frames.{longest_side};
 ghost use Rattle.etagere.specs.Choice as choice;
 ghost use Rattle.etagere.specs.Choice.{rectangle_of_placement};
 
-use crate::choosing::rectangle_at;
-use etagere_base::{Frame, Rectangle};
+use etagere_base::{Frame, Rectangle, rectangle_at};
 use std::marker::Model;
 
-/// All that was found out of the place of a size: the numbers of its shelf and of its item there, where they
+/// All that was found out of the place of a size: the numbers of the records of its shelf and its item, where they
 /// begin, the width and the height that are given, and which of the two is split for it.
 #[derive(Clone, Copy)]
 pub(crate) struct Placement {
@@ -79,21 +78,4 @@ impl Placement {
     {
         u32::from(self.splits_shelf) + u32::from(self.splits_item)
     }
-}
-
-/// A shelf's number, and its rank for a size.
-#[derive(Clone, Copy)]
-pub(crate) struct Found {
-    pub(crate) number: usize,
-    pub(crate) rank: u32,
-}
-
-impl Model for Found {
-    ghost use Rattle.etagere_base.specs.Least.{Found};
-
-    ghost Value = { Found };
-
-    ghost view = { λ found. record { number = found.number; rank = found.rank } };
-
-    ghost inverse = { λ found. record { number = found.number; rank = found.rank } };
 }

@@ -12,7 +12,7 @@ use Rattle.etagere_base.specs.Lists.{times}
 use Rattle.etagere.specs.Places.{allocation_of, column_place, column_height, allocations_along, allocations_after, allocations, is_allocated}
 use Rattle.etagere.specs.Returning.{has_id}
 use Rattle.etagere.specs.State.{Item, Shelf, AtlasState}
-use Rattle.etagere.specs.Private.Steps.{is_allocated_in}
+use Rattle.etagere.proofs.Allocations.InShelves.{is_allocated_in}
 use Rattle.etagere.proofs.Allocations.IdLists.{item_ids, ids, id_list}
 use Rattle.etagere_base.proofs.FirstFound.{is_some-find}
 use Rattle.etagere_base.proofs.FirstPlace.{is_some-position}

@@ -1,4 +1,4 @@
--- The item of a shelf that an id holds, and the shelf with it returned.
+-- The item of a shelf that is allocated under an id, and the shelf with it returned.
 use Rattle.std.proofs.Common.{◌≡◌, ℕ, true, false, Option, None, Some, List, refl, ap, ◌∙◌, zero, suc, [], ◌∷◌, sym}
 use Rattle.std.proofs.lemmas.Bool.{eqb-true}
 use Rattle.std.specs.Prelude.{slice_get, is_some}
@@ -6,15 +6,16 @@ use Rattle.etagere_base.specs.declared.frames.Frame.{Frame}
 use Rattle.etagere.specs.Merging.{merged_shelf}
 use Rattle.etagere.specs.Returning.{has_id, number_of, freed_shelf, is_free_at}
 use Rattle.etagere.specs.State.{Item, Shelf, is_free}
-use Rattle.etagere.specs.Private.Steps.{returned_shelf}
+use Rattle.etagere.proofs.Allocations.InShelves.{returned_shelf}
 use Rattle.etagere_base.proofs.FirstPlace.{first-at}
+use Rattle.etagere_base.proofs.ReplacedLists.{IsAt}
 
--- what is known where an id holds an item of a shelf: the item's number, and the item
+-- the item of a shelf that is allocated under an id, and where it stands
 pub record AllocatedItem (id : ℕ) (items : List Item) : Type 0 where
   pub number : ℕ
   pub item : Item
   pub found : number_of id items ≡ Some number
-  pub get : slice_get items number ≡ Some item
+  pub at : IsAt items number item
   pub owner : item.id ≡ Some id
 
 -- an item that an id's test finds is allocated by the id
@@ -30,7 +31,7 @@ allocated_item_at id items n found =
       number = n;
       item = split.first;
       found = found;
-      get = split.at.get;
+      at = split.at;
       owner = has_id-true id split.first.id split.passes;
     }
 
@@ -79,5 +80,5 @@ number_of-allocated id n items h =
     let there : is_some (number_of id items) ≡ true = ap is_some h in
     let allocations = item_of_owner id items there in
     let number : allocations.number ≡ n = cc in
-    let get : slice_get items n ≡ Some allocations.item = ap (λ m. slice_get items m) (sym number) ∙ allocations.get in
+    let get : slice_get items n ≡ Some allocations.item = ap (λ m. slice_get items m) (sym number) ∙ allocations.at.get in
     is_free_at-get n items allocations.item get ∙ not_free id allocations.item allocations.owner

@@ -1,7 +1,6 @@
 -- The rectangle that an id holds, in a shelf and in an atlas.
-use Rattle.std.proofs.Common.{◌≡◌, ℕ, ◌+◌, ◌≤◌, Some, List, get_or, refl, ap, sym, ◌∙◌, arith, suc, Bool, true, false, cond, is_some, ◌==◌, Option, None, option_map, [], ◌∷◌, ◌++◌, take}
+use Rattle.std.proofs.Common.{◌≡◌, ℕ, ◌+◌, Some, List, refl, ap, sym, ◌∙◌, arith, suc, Bool, true, false, cond, is_some, ◌==◌, Option, None, option_map, [], ◌∷◌, ◌++◌, take}
 use Rattle.std.proofs.lemmas.List.Folds.{find-append}
-use Rattle.std.proofs.lemmas.List.Quantifiers.{position-Some}
 use Rattle.std.specs.List.{list_any}
 use Rattle.std.specs.Option.{option_or}
 use Rattle.std.specs.Prelude.{find, position, slice_get}
@@ -12,30 +11,10 @@ use Rattle.etagere_base.specs.Places.{rectangle_at}
 use Rattle.etagere.specs.Places.{column_place, column_height, allocations_along, allocations_after, rectangle_of}
 use Rattle.etagere.specs.Returning.{has_id, number_of, place_at}
 use Rattle.etagere.specs.State.{Item, Shelf, total_width}
-use Rattle.etagere.specs.Private.Steps.{allocated_rectangle, width_of, state_of, is_allocated_in}
-use Rattle.etagere_base.proofs.FirstPlace.{find-none, first-at, found_first, is_some-map, is_some-position, position-cons}
+use Rattle.etagere.proofs.Allocations.InShelves.{allocated_rectangle, width_of, state_of, is_allocated_in}
+use Rattle.etagere_base.proofs.FirstPlace.{find-none, first-at, found_first, is_some-map, position-cons}
 use Rattle.etagere.proofs.Allocations.AllocatedIds.{is_allocated-shelves, is_allocated-any}
 use Rattle.etagere.proofs.Allocations.AllocatedLists.{allocations_after-append}
-use Rattle.etagere.proofs.Steps.ItemLemmas.{width_of-get, width_of-le}
-
-module _ (id n : ℕ) (item : Item) where
-  -- the width of the item that is read at an id's number
-  width_of-read : (items : List Item) → number_of id items ≡ Some n → item ≡ get_or items n item → width_of items n ≡ item.width
-  width_of-read items found read =
-      width_of-get n items item (position-Some (λ (r : Item). has_id id r.id) items n item found).0 ∙ ap (λ (r : Item). r.width) (sym read)
-
-  -- the item of an id ends where its shelf does or before
-  pub allocated-right : (items : List Item) (here place width : ℕ) → here + total_width items ≤ 65535 → number_of id items ≡ Some n → item ≡ get_or items n item
-      → place ≡ place_at here items n → width ≡ item.width → place + width ≤ 65535
-  allocated-right items here place width right found read p w =
-      omega (arith, width_of-read items found read, width_of-le n items (position-Some (λ (r : Item). has_id id r.id) items n item found).0)
-
-  -- the rectangle of the item of an id
-  pub allocated_rectangle-read : (frame : Frame) (across place width : ℕ) (shelf : Shelf) (rectangle : Rectangle) → number_of id shelf.items ≡ Some n
-      → item ≡ get_or shelf.items n item → place ≡ place_at (column_place frame shelf) shelf.items n → width ≡ item.width
-      → rectangle ≡ rectangle_at frame place across width shelf.height → Some rectangle ≡ allocated_rectangle frame across id shelf
-  allocated_rectangle-read frame across place width shelf rectangle found read p w r =
-      rw (found, r, p, w, width_of-read shelf.items found read) refl
 
 -- the rectangle of an allocation
 abbrev area : Allocation → Rectangle
@@ -109,9 +88,3 @@ rectangle_of-allocated frame id n shelves shelf found get =
     ∙ found_after frame id s.at.front s.first s.at.back s.fails s.passes
     ∙ ap (λ (x : Shelf). allocated_rectangle frame (column_height x.column s.at.front) id x) same
     ∙ ap (λ (l : List Shelf). allocated_rectangle frame (column_height shelf.column l) id shelf) (sym s.at.before)
-
--- an id that holds none has no rectangle
-pub rectangle_of-none : (frame : Frame) (id : ℕ) (shelves : List Shelf) → position (is_allocated_in id) shelves ≡ None → rectangle_of (state_of frame shelves) id ≡ None
-rectangle_of-none frame id shelves none =
-    let any : list_any (is_allocated_in id) shelves ≡ false = sym (is_some-position (is_allocated_in id) shelves) ∙ ap is_some none in
-    ap (option_map area) (find-none (is_of id) (allocations_after frame [] shelves) (sym (is_allocated-any (state_of frame shelves) id) ∙ is_allocated-shelves (state_of frame shelves) id ∙ any))

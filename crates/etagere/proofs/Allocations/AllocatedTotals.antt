@@ -1,13 +1,11 @@
 -- Totals over the allocated items: free items come to nothing, so merging leaves such a total as it is.
-use Rattle.std.proofs.Common.{◌≡◌, ℕ, zero, suc, ◌+◌, ◌≤◌, true, cond, ◌==◌, ◌&&◌, Option, None, Some, List, [], ◌∷◌, refl, ap, arith}
+use Rattle.std.proofs.Common.{◌≡◌, ℕ, ◌+◌, true, cond, ◌==◌, ◌&&◌, Option, None, Some, List, [], ◌∷◌, refl, ap, arith}
 use Rattle.std.proofs.lemmas.Bool.{and_parts}
 use Rattle.std.specs.Prelude.{is_none}
 use Rattle.etagere.specs.Merging.{both_free, combined_items, merged_items, both_empty, combined_shelves, merged_shelves}
 use Rattle.etagere_base.specs.Lists.{total}
-use Rattle.etagere_base.specs.MergingAt.{merged_at}
-use Rattle.etagere.specs.Returning.{freed}
 use Rattle.etagere.specs.State.{Item, Shelf, is_free, is_empty, is_one_free}
-use Rattle.etagere_base.proofs.Totals.{total-merged, total-merged_at}
+use Rattle.etagere_base.proofs.Totals.{total-merged}
 
 -- a free item has no id
 pub no_id : (item : Item) → is_free item ≡ true → item.id ≡ None
@@ -35,16 +33,6 @@ module _ (measure : Item → ℕ) (of : IsOfAllocated measure) where
   -- merging items changes nothing of what is allocated
   pub allocated_total-merged : (items : List Item) → total measure (merged_items items) ≡ total measure items
   allocated_total-merged items = total-merged measure both_free combined_items total-combined items
-
-  -- nor does merging them at one place
-  pub allocated_total-merged_at : (n : ℕ) (items : List Item) → total measure (merged_at both_free combined_items n items) ≡ total measure items
-  allocated_total-merged_at n items = total-merged_at measure both_free combined_items total-combined n items
-
-  -- and freeing one makes it no larger
-  pub allocated_total-freed-le : (n : ℕ) (items : List Item) → total measure (freed n items) ≤ total measure items
-  allocated_total-freed-le n [] = omega arith
-  allocated_total-freed-le zero (item ∷ items) = omega (arith, of.none (record { width = item.width; id = None }) refl)
-  allocated_total-freed-le (suc n) (item ∷ items) = omega (arith, allocated_total-freed-le n items)
 
   -- the one free item comes to nothing
   pub allocated_total-one_free : (items : List Item) → is_one_free items ≡ true → total measure items ≡ 0

@@ -4,6 +4,7 @@ use Rattle.std.proofs.lemmas.Bool.{cond-true, cond-false, eq-eqb, ne_eqb, leb-tr
 use Rattle.std.proofs.lemmas.Bool.Decides.{nat_tests}
 use Rattle.std.proofs.lemmas.Option.{slice_get-map}
 use Rattle.std.specs.Prelude.{is_none, option_map, slice_get}
+use Rattle.etagere_base.proofs.AskedSides.{test-both}
 use Rattle.etagere_base.specs.declared.frames.Frame.{Frame}
 use Rattle.etagere_base.specs.declared.sides.Sides.{Sides}
 use Rattle.etagere.specs.Choice.{Placement, bad_fit_rank, chosen, fitting_place, is_good_fit, placement_in, rank, shelf_height, width_at}
@@ -22,7 +23,7 @@ use Rattle.etagere_base.proofs.TimesLemmas.{find-stands}
 use Rattle.etagere.proofs.Allocations.AllocatedItems.{is_free_at-get}
 use Rattle.etagere.proofs.Places.FreePlaces.{place_at-cons, starts-free}
 use Rattle.etagere.proofs.Places.Heights.{column_height-upto}
-use Rattle.etagere.proofs.Chosen.Placed.{chosen-parts, found-rank, map-parts, test-both}
+use Rattle.etagere.proofs.Chosen.Placed.{chosen-parts, found-rank, map-parts}
 use Rattle.etagere.proofs.Taken.TakenItems.{free_at}
 
 -- the width at the place of the item of a number is that item's

@@ -1,11 +1,9 @@
 -- What it says that a size has a placement.
-use Rattle.std.proofs.Common.{◌≡◌, ℕ, ◌+◌, ◌%◌, ◌≤◌, Bool, true, false, cond, Option, None, Some, List, map, nat_le, nat_lt, refl, subst, ap, arith, length, take, sym, ◌∙◌}
-use Rattle.std.proofs.Math.Nat.{mul-mod_left}
+use Rattle.std.proofs.Common.{◌≡◌, ℕ, ◌+◌, ◌≤◌, Bool, true, false, cond, Option, None, Some, List, map, nat_le, refl, subst, ap, arith, take, sym, ◌∙◌}
 use Rattle.std.proofs.lemmas.Bool.{leb-true}
 use Rattle.std.proofs.lemmas.Option.{slice_get-map, cond_some}
-use Rattle.std.specs.Prelude.{slice_get, option_map, option_and_then, ◌&&◌}
-use Rattle.etagere_base.specs.Frames.{IsFrame, alignment_along, is_side, asked}
-use Rattle.etagere_base.specs.Sides.{side, swapped_axes, up, coarseness, step}
+use Rattle.std.specs.Prelude.{slice_get, option_map, option_and_then}
+use Rattle.etagere_base.specs.Frames.{asked}
 use Rattle.etagere_base.specs.declared.frames.Frame.{Frame}
 use Rattle.etagere_base.specs.declared.geometry.Size.{Size}
 use Rattle.etagere_base.specs.declared.sides.Sides.{Sides}
@@ -14,6 +12,7 @@ use Rattle.etagere_base.specs.Least.{Found, first_least}
 use Rattle.etagere_base.specs.Lists.{times}
 use Rattle.etagere.specs.Places.{column_height, column_place}
 use Rattle.etagere.specs.State.{Shelf, AtlasState, items_in_use}
+use Rattle.etagere_base.proofs.AskedSides.{step-tall}
 use Rattle.etagere_base.proofs.Least.{first_least-is}
 use Rattle.etagere_base.proofs.TimesLemmas.{find-stands}
 
@@ -27,11 +26,6 @@ pub map-parts : {A B : Type 0} (f : A → B) (o : Option A) (y : B) → option_m
 map-parts f None y h = cc
 map-parts f (Some x) y h = (x, refl, cc)
 
--- what is given where a test passes, by what may give none
-pub test-both : {A : Type 0} (b : Bool) (o : Option A) (y : A) → cond b o None ≡ Some y → (b ≡ true) × (o ≡ Some y)
-test-both true o y h = (refl, h)
-test-both false o y h = cc
-
 -- a shelf that has a rank is tall enough
 rank-tall : (frame : Frame) (width height : ℕ) (shelf : Shelf) (r : ℕ) → rank frame width height shelf ≡ Some r → height ≤ shelf.height
 rank-tall frame width height shelf r h = by_test (nat_le height shelf.height) _ refl h
@@ -40,47 +34,9 @@ rank-tall frame width height shelf r h = by_test (nat_le height shelf.height) _ 
     by_test true o e k = grind arith
     by_test false o e k = cc
 
--- a length is at most what it is rounded up to, and that is a multiple of the alignment
-up-multiple : (length alignment : ℕ) → 1 ≤ alignment → (length ≤ up length alignment) × (up length alignment % alignment ≡ 0)
-up-multiple length alignment h = (omega arith, mul-mod_left _ _)
-
--- a height is at most what it is stepped to
-step-tall : (height : ℕ) → height ≤ step height
-step-tall height = (up-multiple height (coarseness height) (grind arith)).0
-
 -- an item is at most as tall as the shelf that is made for it
 pub shelf_height-tall : (frame : Frame) (height : ℕ) → height ≤ shelf_height frame height
 shelf_height-tall frame height = grind (arith, step-tall height)
-
--- what is asked of the shelves has both sides, and is aligned
-pub record IsAsked (frame : Frame) (sides : Sides) : Type 0 where
-  pub along : 1 ≤ sides.along
-  pub across : 1 ≤ sides.across
-  pub aligned : sides.along % alignment_along frame ≡ 0
-
--- a width and a height that are aligned are aligned along the shelves, whichever lies along them
-swapped_axes-asked : (frame : Frame) (width height : ℕ)
-    → 1 ≤ width → 1 ≤ height → width % frame.alignment_width ≡ 0 → height % frame.alignment_height ≡ 0 → IsAsked frame (swapped_axes frame.vertical (record { along = width; across = height }))
-swapped_axes-asked frame width height wide tall aligned_width aligned_height = by_turn frame.vertical refl
-  where
-    by_turn : (b : Bool) → frame.vertical ≡ b → IsAsked frame (swapped_axes b (record { along = width; across = height }))
-    by_turn true e = record { along = tall; across = wide; aligned = rw e aligned_height }
-    by_turn false e = record { along = wide; across = tall; aligned = rw e aligned_width }
-
--- the tests of a size show that it has both sides
-sides_positive : (n m : ℕ) → ((nat_lt 0 n && nat_le n 65535) && (nat_lt 0 m && nat_le m 65535)) ≡ true → (1 ≤ n) × (1 ≤ m)
-sides_positive n m h = (grind arith, grind arith)
-
--- what is asked of the shelves of an accepted frame has both sides, and is aligned
-pub asked-sides : (frame : Frame) (size : Size) (sides : Sides) → IsFrame 65535 frame → asked frame size ≡ Some sides → IsAsked frame sides
-asked-sides frame size sides valid h =
-    let tests = test-both (is_side 65535 size.width && is_side 65535 size.height) _ sides h in
-    let wide = up-multiple (side size.width) frame.alignment_width valid.alignment_width.0 in
-    let tall = up-multiple (side size.height) frame.alignment_height valid.alignment_height.0 in
-    let range = sides_positive (side size.width) (side size.height) tests.0 in
-    subst (λ (s : Sides). IsAsked frame s) (cond_some _ _ sides tests.1).1
-    (swapped_axes-asked frame (up (side size.width) frame.alignment_width) (up (side size.height) frame.alignment_height)
-    (omega arith) (omega arith) wide.1 tall.1)
 
 -- what is chosen for sides: a shelf that is tall enough, and in it a place that is wide enough
 pub record IsChosen (state : AtlasState) (sides : Sides) (placement : Placement) : Type 0 where
@@ -171,7 +127,7 @@ placement_of-placed state size placement h =
     let choice = and_then-parts _ (chosen state asks.0) placement asks.2 in
     placed_at state size placement asks.0 choice.0 asks.1 choice.1 choice.2
 
--- the chosen place is wide enough, and its shelf tries it
+-- the chosen place is wide enough, and its shelf has it in its free list
 pub chosen-stands : (state : AtlasState) (sides : Sides) (placement : Placement) → (choice : IsChosen state sides placement)
     → (sides.along ≤ width_at (column_place state.frame choice.shelf) choice.shelf.items placement.along) × (1 ≤ times placement.along choice.shelf.free_list)
 chosen-stands state sides placement choice =

@@ -1,35 +1,14 @@
 -- The rectangle that a size is given is as large as the size, each side rounded up.
-use Rattle.std.proofs.Common.{◌≡◌, ℕ, ◌≤◌, Bool, true, false, Some, refl, ap, arith, cond}
-use Rattle.std.proofs.lemmas.Int.{ints}
-use Rattle.etagere_base.specs.Sides.{side, swapped_axes, up}
-use Rattle.etagere_base.specs.declared.frames.Frame.{Frame}
+use Rattle.std.proofs.Common.{◌≡◌, ℕ, ◌≤◌, Bool, true, false, Some, ap, arith, cond}
+use Rattle.etagere_base.proofs.AskedSides.{asked-is, large-at}
+use Rattle.etagere_base.specs.Sides.{side, up}
 use Rattle.etagere_base.specs.declared.geometry.Size.{Size}
 use Rattle.etagere_base.specs.declared.sides.Sides.{Sides}
 use Rattle.etagere.specs.Choice.{Placement, is_item_split, is_shelf_split, placement_of, rectangle_of_placement, shelf_height, width_at}
-use Rattle.etagere_base.specs.Places.{rectangle_at}
 use Rattle.etagere.specs.Places.{column_place}
 use Rattle.etagere_base.specs.Rectangles.{IsLarge}
 use Rattle.etagere.specs.State.{AtlasState}
 use Rattle.etagere.proofs.Chosen.Placed.{chosen-stands, placement_of-placed, shelf_height-tall}
-use Rattle.etagere.proofs.Chosen.PlacedSizes.{asked-is}
-
--- what lies at a place is large where it is as wide along and as tall across as the size, rounded up
-large-at : (frame : Frame) (size : Size) (along across width height : ℕ)
-    → (swapped_axes frame.vertical (record { along = up (side size.width) frame.alignment_width; across = up (side size.height) frame.alignment_height })).along ≤ width
-    → (swapped_axes frame.vertical (record { along = up (side size.width) frame.alignment_width; across = up (side size.height) frame.alignment_height })).across ≤ height
-    → IsLarge frame size (rectangle_at frame along across width height)
-large-at frame size along across width height = by_turn frame.vertical refl
-  where
-    wide : ℕ
-    wide = up (side size.width) frame.alignment_width
-
-    tall : ℕ
-    tall = up (side size.height) frame.alignment_height
-
-    by_turn : (b : Bool) → frame.vertical ≡ b → (swapped_axes b (record { along = wide; across = tall })).along ≤ width → (swapped_axes b (record { along = wide; across = tall })).across ≤ height
-        → IsLarge frame size (rectangle_at frame along across width height)
-    by_turn true e w h = record { width = rw e (omega (arith, ints)); height = rw e (omega (arith, ints)) }
-    by_turn false e w h = record { width = rw e (omega (arith, ints)); height = rw e (omega (arith, ints)) }
 
 -- of two lengths of which one is at most the other, either is at least the lower
 either-le : (b : Bool) (n m : ℕ) → n ≤ m → n ≤ cond b n m

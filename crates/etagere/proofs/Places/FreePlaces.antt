@@ -10,7 +10,7 @@ use Rattle.etagere.specs.Returning.{is_free_at, place_at, freed}
 use Rattle.etagere.specs.State.{Item, is_free, total_width}
 use Rattle.etagere_base.proofs.GatheredLemmas.{along-append}
 use Rattle.etagere_base.proofs.ReplacedLists.{split-at}
-use Rattle.etagere.proofs.Steps.ItemLemmas.{freed-replaced_at}
+use Rattle.etagere.proofs.Places.ItemLemmas.{freed-replaced_at}
 use Rattle.etagere_base.proofs.TimesLemmas.{hit, times-append}
 
 -- how often a place is one of the free items', the first item here

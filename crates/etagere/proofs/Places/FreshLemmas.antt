@@ -1,14 +1,13 @@
 -- A new atlas is as a state must be and holds nothing, and how the program comes to its columns.
-use Rattle.std.proofs.Common.{◌≡◌, ℕ, zero, suc, ◌+◌, ◌<◌, ◌≤◌, true, ◌==◌, List, [], ◌∷◌, ◌++◌, refl, ap, ◌∙◌, ⊎_elim, arith, ◌≢◌, ◌-◌, length, take, append_assoc, sym, map}
+use Rattle.std.proofs.Common.{◌≡◌, ℕ, zero, suc, ◌+◌, ◌<◌, ◌≤◌, true, ◌==◌, List, [], ◌∷◌, ◌++◌, refl, ap, ◌∙◌, ⊎_elim, arith, ◌≢◌, sym, map, subst}
 use Rattle.std.proofs.lemmas.Bool.{ne_eqb, le-ltb, and_left, cases_lt}
-use Rattle.std.proofs.lemmas.List.{append-nil, take_all}
 use Rattle.etagere_base.specs.Frames.{HasAllColumns, IsFrame, across_side}
 use Rattle.etagere_base.specs.declared.frames.Frame.{Frame}
 use Rattle.etagere_base.specs.declared.ids.Allocation.{Allocation}
 use Rattle.etagere.specs.Fresh.{empty_columns, fresh}
 use Rattle.etagere.specs.Merging.{both_empty}
 use Rattle.etagere_base.specs.Lists.{Each, times, NoNeighbours}
-use Rattle.etagere.specs.Places.{column_height, allocations_after, allocations}
+use Rattle.etagere.specs.Places.{column_height, allocations_after, allocations, record_number}
 use Rattle.etagere.specs.Space.{space_in, allocated_space}
 use Rattle.etagere.specs.State.{Shelf, empty_shelf, items_in_use}
 use Rattle.etagere.specs.Valid.{IsShelf, IsValid, is_out_of_order}
@@ -85,7 +84,8 @@ fresh-valid frame h all = record {
   ordered = ordered-empty_columns frame 0 frame.columns;
   heights = λ column below. column_height-empty_columns frame column 0 frame.columns (omega arith) (omega arith);
   apart = apart-empty_columns frame 0 frame.columns;
-  ids = λ id. omega (arith, ap (λ (l : List Allocation). times id (map (λ (a : Allocation). a.id) l)) (fresh-allocated frame));
+  numbers = λ number. omega (arith, ap (λ (l : List Allocation). times number (map (λ (a : Allocation). record_number a.id) l)) (fresh-allocated frame));
+  below = subst (Each (λ (a : Allocation). record_number a.id < frame.columns)) (sym (fresh-allocated frame)) tt;
   records = (omega (arith, items_in_use-empty_columns frame 0 frame.columns), columns-le frame h);
 }
 
@@ -97,20 +97,3 @@ space_in-empty_columns frame column (suc n) = omega (arith, space_in-empty_colum
 -- a new atlas holds no space
 pub space-fresh : (frame : Frame) → allocated_space (fresh frame) ≡ 0
 space-fresh frame = space_in-empty_columns frame 0 frame.columns
-
--- the first of so many empty columns
-columns_first : (frame : Frame) (column n m : ℕ) → n ≡ suc m → empty_columns frame column n ≡ empty_shelf frame column (across_side frame) ∷ empty_columns frame (suc column) m
-columns_first frame column n m h = rw h refl
-
--- one more empty column is at hand
-pub columns-more : (frame : Frame) (column columns : ℕ) (shelves : List Shelf) (shelf : Shelf) → column < columns → shelf ≡ empty_shelf frame column (across_side frame)
-    → (shelves ++ shelf ∷ []) ++ empty_columns frame (suc column) (columns - suc column) ≡ shelves ++ empty_columns frame column (columns - column)
-columns-more frame column columns shelves shelf h s =
-    rw (append_assoc, s, columns_first frame column (columns - column) (columns - suc column) (omega arith)) refl
-
--- past the last column there are no more
-pub columns-whole : (frame : Frame) (column columns : ℕ) (shelves whole : List Shelf) → columns ≤ column → length shelves ≤ column
-    → take column shelves ++ empty_columns frame column (columns - column) ≡ whole → shelves ≡ whole
-columns-whole frame column columns shelves whole past long made =
-    let none : columns - column ≡ 0 = omega arith in
-    sym (take_all column shelves long) ∙ sym (append-nil (take column shelves)) ∙ rw none at made

@@ -1,5 +1,5 @@
 -- The heights of the shelves of a column, added up.
-use Rattle.std.proofs.Common.{◌≡◌, ℕ, suc, ◌+◌, ◌≤◌, List, ◌∷◌, ◌++◌, Some, arith, refl, true, cond, ◌==◌, ◌&&◌, sym, set, take, ◌≢◌}
+use Rattle.std.proofs.Common.{◌≡◌, ℕ, suc, ◌+◌, ◌≤◌, List, ◌∷◌, ◌++◌, Some, arith, refl, true, cond, ◌==◌, ◌&&◌, sym, take, ◌≢◌}
 use Rattle.std.proofs.lemmas.Bool.{and_parts, eqb-true}
 use Rattle.std.specs.Prelude.{slice_get}
 use Rattle.etagere.specs.Merging.{both_empty, combined_shelves, merged_shelves}
@@ -8,7 +8,7 @@ use Rattle.etagere_base.specs.MergingAt.{merged_at}
 use Rattle.etagere.specs.Places.{column_height}
 use Rattle.etagere.specs.State.{Shelf, is_empty}
 use Rattle.etagere_base.proofs.ColumnTotals.{column_total-none, column_total-two, column_total-upto, part, part-other, part-own}
-use Rattle.etagere_base.proofs.Totals.{total-append, total-merged, total-merged_at, total-set}
+use Rattle.etagere_base.proofs.Totals.{total-append, total-merged, total-merged_at}
 
 -- the column of a shelf
 abbrev pub column_of : Shelf → ℕ
@@ -47,13 +47,6 @@ column_height-alone column shelf shelves here others =
 pub column_height-upto : (n : ℕ) (shelves : List Shelf) (shelf : Shelf) → slice_get shelves n ≡ Some shelf
     → column_height shelf.column (take n shelves) + shelf.height ≤ column_height shelf.column shelves
 column_height-upto n shelves shelf h = column_total-upto column_of height_of n shelves shelf h
-
--- writing a shelf of the same column and height changes the height of no column
-pub column_height-set : (column n : ℕ) (shelves : List Shelf) (shelf new : Shelf) → slice_get shelves n ≡ Some shelf → new.column ≡ shelf.column → new.height ≡ shelf.height
-    → column_height column (set shelves n new) ≡ column_height column shelves
-column_height-set column n shelves shelf new h c t =
-    let same : part column_of height_of column new ≡ part column_of height_of column shelf = rw (c, t) refl in
-    omega (arith, total-set (part column_of height_of column) n shelves shelf new h)
 
 -- empty neighbours that are merged stand in one column
 pub same_column : (x y : Shelf) → both_empty x y ≡ true → x.column ≡ y.column

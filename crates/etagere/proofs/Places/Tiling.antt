@@ -24,9 +24,9 @@ record IsFilled (frame : Frame) (shelf : Shelf) : Type 0 where
   pub width : total_width shelf.items ≡ frame.column_width
 
 -- shelves that fill the columns of a frame
-record IsTiled (frame : Frame) (shelves : List Shelf) : Type 0 where
+pub record IsTiled (frame : Frame) (shelves : List Shelf) : Type 0 where
   pub is_frame : IsFrame 65535 frame
-  pub filled : Each (IsFilled frame) shelves
+  pub are_shelves : Each (IsShelf frame) shelves
   pub heights : (column : ℕ) → column < frame.columns → column_height column shelves ≡ across_side frame
 
 -- a shelf of a valid state is such a shelf
@@ -40,13 +40,12 @@ filled-from-shelf frame shelf is_shelf =
     }
 
 -- the shelves of a valid state fill the columns
-tiled-from-valid : (state : AtlasState) → IsValid state → IsTiled state.frame state.shelves
-tiled-from-valid state valid =
-    record {
-      is_frame = valid.frame;
-      filled = Each-weaken (IsShelf state.frame) (IsFilled state.frame) state.shelves (filled-from-shelf state.frame) valid.shelves;
-      heights = valid.heights;
-    }
+pub valid-tiled : (state : AtlasState) → IsValid state → IsTiled state.frame state.shelves
+valid-tiled state valid = record { is_frame = valid.frame; are_shelves = valid.shelves; heights = valid.heights }
+
+-- each of shelves that fill the columns is filled by items that are not empty
+each-filled : (frame : Frame) (shelves : List Shelf) → IsTiled frame shelves → Each (IsFilled frame) shelves
+each-filled frame shelves tiled = Each-weaken (IsShelf frame) (IsFilled frame) shelves (filled-from-shelf frame) tiled.are_shelves
 
 -- an allocation whose rectangle lies between these places
 abbrev AllocatedIn : Frame → ℕ → ℕ → ℕ → ℕ → Allocation → Type 0
@@ -225,12 +224,21 @@ lies-inside frame shelves tiled a after =
     (LiesIn-widen frame _ _ _ _ _ _ _ _ _ (omega arith) (column-within frame after.column tiled.is_frame after.below) (omega arith)
     (omega (arith, tiled.heights after.column after.below)) after.lies)
 
+-- everything that shelves allocate that fill the columns lies within the atlas
+pub tiled-inside : (state : AtlasState) → IsTiled state.frame state.shelves
+    → Each (λ (a : Allocation). IsInside state.frame a.rectangle) (allocations state)
+tiled-inside state tiled =
+    Each-weaken (LiesAfter state.frame [] state.shelves) _ _ (lies-inside state.frame state.shelves tiled)
+    (allocations_after-lies state.frame [] state.shelves (each-filled state.frame state.shelves tiled))
+
+-- any two that shelves allocate that fill the columns share no unit square
+pub tiled-apart : (state : AtlasState) → IsTiled state.frame state.shelves → AreApart (allocations state)
+tiled-apart state tiled = allocations_after-apart state.frame [] state.shelves (each-filled state.frame state.shelves tiled)
+
 -- everything that is allocated lies within the atlas
 pub allocated-inside : (state : AtlasState) → IsValid state → Each (λ (a : Allocation). IsInside state.frame a.rectangle) (allocations state)
-allocated-inside state valid =
-    let tiled = tiled-from-valid state valid in
-    Each-weaken (LiesAfter state.frame [] state.shelves) _ _ (lies-inside state.frame state.shelves tiled) (allocations_after-lies state.frame [] state.shelves tiled.filled)
+allocated-inside state valid = tiled-inside state (valid-tiled state valid)
 
 -- any two that are allocated share no unit square
 pub allocated-apart : (state : AtlasState) → IsValid state → AreApart (allocations state)
-allocated-apart state valid = allocations_after-apart state.frame [] state.shelves (tiled-from-valid state valid).filled
+allocated-apart state valid = tiled-apart state (valid-tiled state valid)

@@ -7,7 +7,7 @@ use Rattle.etagere_base.specs.MergingAt.{merged_at, merged_before}
 use Rattle.etagere.specs.Returning.{freed}
 use Rattle.etagere.specs.State.{Item, Shelf, is_free, is_empty}
 use Rattle.etagere_base.proofs.Merged.{Merges, merged-near_set}
-use Rattle.etagere.proofs.Steps.ItemLemmas.{freed-set}
+use Rattle.etagere.proofs.Places.ItemLemmas.{freed-set}
 
 -- next to a free item the test is the other item's alone
 free_next : (a b c : Bool) → (a && b) ≡ true → (true && c) ≡ (b && c)

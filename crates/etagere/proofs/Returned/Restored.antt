@@ -1,31 +1,37 @@
 -- Taking a place and at once returning it gives back the layout.
-use Rattle.std.proofs.Common.{◌≡◌, ℕ, ◌+◌, ◌-◌, ◌<◌, ◌≤◌, Bool, true, false, ◌&&◌, is_some, ◌==◌, None, Some, List, [], ◌∷◌, ◌++◌, map, length, refl, ap, sym, ◌∙◌, subst₂, arith, eq-eqb}
+use Rattle.std.proofs.Common.{◌≡◌, ℕ, ◌+◌, ◌-◌, ◌<◌, ◌≤◌, Bool, true, false, cond, ◌&&◌, is_some, ◌==◌, None, Some, List, [], ◌∷◌, ◌++◌, map, length, refl, ap, sym, ◌∙◌, subst₂, arith, eq-eqb}
 use Rattle.std.proofs.lemmas.Bool.{and_from}
 use Rattle.std.proofs.lemmas.List.{map-append}
 use Rattle.std.specs.List.{list_any}
 use Rattle.etagere_base.specs.declared.frames.Frame.{Frame}
 use Rattle.etagere_base.specs.declared.geometry.Size.{Size}
-use Rattle.etagere.specs.Choice.{Placement, placement_of}
+use Rattle.etagere_base.specs.declared.ids.Allocation.{Allocation}
+use Rattle.etagere.specs.Atlas.{Restores}
+use Rattle.etagere.specs.Choice.{Placement, placement_of, rectangle_of_placement}
 use Rattle.etagere.specs.Merging.{both_free, combined_items, merged_items, both_empty, combined_shelves, merged_shelves}
 use Rattle.etagere.specs.Layout.{without_free_list, layout}
-use Rattle.etagere_base.specs.Lists.{at_first, NoNeighbours, replaced_at}
+use Rattle.etagere_base.specs.Lists.{at_first, NoNeighbours, replaced_at, times}
 use Rattle.etagere.specs.Places.{is_allocated}
 use Rattle.etagere.specs.Returning.{has_id, number_of, freed, returned}
 use Rattle.etagere.specs.State.{Item, Shelf, AtlasState, is_empty, empty_shelf}
-use Rattle.etagere.specs.Private.Steps.{is_allocated_in, returned_shelf}
+use Rattle.etagere.proofs.Allocations.InShelves.{is_allocated_in, returned_shelf}
 use Rattle.etagere.specs.Taking.{item_pieces, shelf_pieces, taken}
 use Rattle.etagere.specs.Valid.{IsValid}
 use Rattle.etagere_base.proofs.ReplacedLists.{split-at}
 use Rattle.etagere_base.proofs.FirstPlace.{at_first-split, is_some-position, list_any-parts, position-behind}
-use Rattle.etagere.proofs.Allocations.AllocatedIds.{not_allocated_in-times, times-not_allocated}
+use Rattle.etagere.proofs.Allocations.AllocatedIds.{id_of, not_allocated_in-times, times-not_allocated, times-ids_of}
 use Rattle.etagere.proofs.Allocations.AllocatedItems.{returned_shelf-allocated}
 use Rattle.etagere_base.proofs.Merged.{merged-apart, merged-map, merged-pieces}
 use Rattle.etagere_base.proofs.NoNeighboursLemmas.{NoNeighbours-map}
 use Rattle.etagere.proofs.Chosen.Placed.{placement_of-placed}
-use Rattle.etagere.proofs.Returned.ReturnedWhole.{returned-near}
+use Rattle.etagere.proofs.Returned.ReturnedWhole.{once-near}
+use Rattle.etagere_base.proofs.TimesLemmas.{hit}
+use Rattle.etagere.proofs.Allocations.RecordNumbers.{ids-inserted}
+use Rattle.etagere.proofs.Allocations.IdLists.{ids}
+use Rattle.etagere.proofs.Taken.TakenAllocated.{taken-allocations}
 use Rattle.etagere.proofs.Taken.TakenPieces.{IsRoom, allocated_item, free_item, pieces-cases}
 use Rattle.etagere.proofs.Taken.TakenShelves.{IsTaking, shelf_pieces-cases, taken-items, taken_to, taking}
-use Rattle.etagere.proofs.Taken.TakenValid.{taken-valid}
+use Rattle.etagere.proofs.Taken.TakenTiling.{taken-shelves}
 
 -- a free item is its width alone
 free_item-is : (item : Item) → item.id ≡ None → free_item item.width ≡ item
@@ -151,6 +157,31 @@ restored-shelves frame placement id front shelf back t apart none restored =
     (λ full. returned-layout frame placement id shelf.height front shelf back none restored
     ∙ (merged-apart both_empty combined_shelves (map without_free_list front ++ without_free_list shelf ∷ map without_free_list back) apart_plain ∙ sym split))
 
+-- a number is itself at most once
+hit-le : (n : ℕ) → hit n n ≤ 1
+hit-le n = by_test (n == n)
+  where
+    by_test : (b : Bool) → cond b 1 0 ≤ 1
+    by_test true = omega arith
+    by_test false = omega arith
+
+-- an id that was not allocated holds one item after it took a placement
+taken-ids_once : (state : AtlasState) (size : Size) (placement : Placement) (id : ℕ) → IsValid state
+    → placement_of state size ≡ Some placement → times id (ids state.shelves) ≡ 0
+    → times id (ids (taken state placement id).shelves) ≤ 1
+taken-ids_once state size placement id valid h none =
+    let takes = taken-allocations state size placement id valid h in
+    let new : Allocation = record { id = id; rectangle = rectangle_of_placement state.frame placement } in
+    omega (
+      arith,
+      times-ids_of (taken state placement id) id,
+      ap (λ all. times id (map id_of all)) takes.after,
+      ids-inserted id takes.front new takes.back,
+      ap (λ all. times id (map id_of all)) takes.before,
+      times-ids_of state id,
+      hit-le id,
+    )
+
 -- what was taken and at once returned leaves the layout as it was
 pub taken_returned : (state : AtlasState) (size : Size) (placement : Placement) (id : ℕ) → IsValid state
     → placement_of state size ≡ Some placement → is_allocated state id ≡ false
@@ -164,9 +195,15 @@ taken_returned state size placement id valid h not_allocated =
     let allocated_in_none = list_any-parts (is_allocated_in id) split.front shelf split.back (rw split.whole at (not_allocated_in-times id state.shelves none)) in
     let t = taking state size placement valid placed in
     let restored = restored-items frame placement id shelf t allocated_in_none.1 in
-    ap layout (returned-near (taken state placement id) id (taken-valid state size placement id valid h none))
+    ap layout (once-near (taken state placement id) id (taken-shelves state size placement id valid h) (taken-ids_once state size placement id valid h none))
     ∙ ap (λ (shelves : List Shelf). record { frame = frame; shelves = shelves; records = 0 })
     (ap (λ (shelves : List Shelf). map without_free_list (merged_shelves (at_first (is_allocated_in id) (returned_shelf frame id) shelves)))
     (split.split (shelf_pieces frame placement id))
     ∙ (restored-shelves frame placement id split.front shelf split.back t (rw split.whole at valid.apart) allocated_in_none.0 restored
     ∙ ap (map without_free_list) (sym split.whole)))
+
+-- returning an id gives back the layout before it took a placement
+pub returned-restores : (old : AtlasState) (id : ℕ) (new : AtlasState) → new ≡ returned old id → Restores old id new
+returned-restores old id new is before size placement valid h not_allocated just_taken =
+    ap layout (is ∙ ap (λ (state : AtlasState). returned state id) just_taken)
+    ∙ taken_returned before size placement id valid h not_allocated

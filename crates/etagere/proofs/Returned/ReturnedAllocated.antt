@@ -13,12 +13,13 @@ use Rattle.etagere.specs.Places.{column_place, column_height, allocation_of, all
 use Rattle.etagere.specs.Returning.{freed, returned}
 use Rattle.etagere.specs.State.{Item, Shelf, AtlasState}
 use Rattle.etagere.specs.Valid.{IsValid}
-use Rattle.etagere.specs.Private.Steps.{is_allocated_in, returned_shelf}
+use Rattle.etagere.proofs.Allocations.InShelves.{is_allocated_in, returned_shelf}
 use Rattle.etagere.proofs.Allocations.IdLists.{item_ids, ids, id_list}
 use Rattle.etagere.proofs.Places.Heights.{column_height-append}
-use Rattle.etagere.proofs.Allocations.AllocatedIds.{id_of, ids-allocations_after, ids-allocations_along, times-not_allocated_in, times-ids_of}
+use Rattle.etagere.proofs.Allocations.AllocatedIds.{id_of, ids-allocations_after, ids-allocations_along, times-not_allocated_in}
 use Rattle.etagere.proofs.Allocations.AllocatedLists.{allocations_after-heights}
 use Rattle.etagere.proofs.Allocations.AllocatedItems.{column-returned_shelf, height-returned_shelf, returned_shelf-allocated, item_of_owner}
+use Rattle.etagere.proofs.Allocations.RecordNumbers.{item_ids-once}
 use Rattle.etagere.proofs.Allocations.ItemIds.{id_count, times-item_ids}
 use Rattle.etagere.proofs.Returned.MergedAllocated.{merged_items-allocations_along, merged_shelves-allocated}
 use Rattle.etagere_base.proofs.TimesLemmas.{times-append, times-flat_map}
@@ -109,7 +110,7 @@ module _ (frame : Frame) (id : ℕ) where
       let allocations = item_of_owner id shelf.items h in
       ap (λ (s : Shelf). allocations_along frame across s.height (column_place frame s) s.items) (returned_shelf-allocated frame id allocations.number shelf allocations.found)
       ∙ merged_items-allocations_along frame across shelf.height (column_place frame shelf) (freed allocations.number shelf.items)
-      ∙ allocations_along-freed across shelf.height (column_place frame shelf) allocations.number shelf.items allocations.item allocations.get allocations.owner once
+      ∙ allocations_along-freed across shelf.height (column_place frame shelf) allocations.number shelf.items allocations.item allocations.at.get allocations.owner once
 
   -- returning an id to the first shelf leaves the other allocations of all
   allocations_after-here : (before : List Shelf) (shelf : Shelf) (shelves : List Shelf) → times id (ids (shelf ∷ shelves)) ≤ 1 → is_allocated_in id shelf ≡ true
@@ -120,7 +121,7 @@ module _ (frame : Frame) (id : ℕ) where
       let along = allocations_along frame across shelf.height (column_place frame shelf) shelf.items in
       let rest = allocations_after frame (before ++ shelf ∷ []) shelves in
       let allocations = item_of_owner id shelf.items h in
-      let found = times-allocated id allocations.number shelf.items allocations.item allocations.get allocations.owner in
+      let found = times-allocated id allocations.number shelf.items allocations.item allocations.at.get allocations.owner in
       let split = times-append id (item_ids shelf.items) (ids shelves) in
       let none : times id (ids shelves) ≡ 0 = omega arith in
       let same : (column : ℕ) → column_height column (before ++ changed ∷ []) ≡ column_height column (before ++ shelf ∷ []) =
@@ -158,4 +159,4 @@ pub returned-allocated : (state : AtlasState) (id : ℕ) → IsValid state → a
 returned-allocated state id valid =
     ap allocations (returned-near state id valid)
     ∙ merged_shelves-allocated state.frame [] (at_first (is_allocated_in id) (returned_shelf state.frame id) state.shelves)
-    ∙ allocations_after-returned state.frame id [] state.shelves (omega (arith, valid.ids id, times-ids_of state id))
+    ∙ allocations_after-returned state.frame id [] state.shelves (item_ids-once state valid id)

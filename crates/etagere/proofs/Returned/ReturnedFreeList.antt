@@ -11,7 +11,7 @@ use Rattle.etagere.specs.State.{Item, is_free, total_width}
 use Rattle.etagere_base.specs.Lists.{remove_place}
 use Rattle.etagere_base.proofs.ListEdits.{take-merged_at}
 use Rattle.etagere.proofs.Places.FreePlaces.{once, starts, starts-free, starts-freed, starts-merged_at}
-use Rattle.etagere.proofs.Steps.ItemLemmas.{take-freed}
+use Rattle.etagere.proofs.Places.ItemLemmas.{take-freed}
 use Rattle.etagere.proofs.Returned.MergedNear.{merged_items-freed}
 use Rattle.etagere_base.proofs.TimesLemmas.{times-remove_place}
 

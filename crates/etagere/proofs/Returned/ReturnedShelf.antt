@@ -14,7 +14,7 @@ use Rattle.etagere_base.proofs.EachLemmas.{Each-weaken}
 use Rattle.etagere_base.proofs.Merged.{apart-merged}
 use Rattle.etagere_base.proofs.MergedKeeps.{Each-merged}
 use Rattle.etagere_base.proofs.Totals.{total-merged, total-merged-le, total-ones}
-use Rattle.etagere.proofs.Steps.ItemLemmas.{width_of_item}
+use Rattle.etagere.proofs.Places.ItemLemmas.{width_of_item}
 use Rattle.etagere.proofs.Returned.MergedNear.{items-merge}
 use Rattle.etagere.proofs.Returned.ReturnedFreeList.{times-returned_free_list}
 

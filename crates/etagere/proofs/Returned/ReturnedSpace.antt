@@ -6,7 +6,7 @@ use Rattle.etagere_base.specs.declared.frames.Frame.{Frame}
 use Rattle.etagere.specs.Returning.{number_of, freed, returned}
 use Rattle.etagere.specs.Space.{allocated_width, space_in, allocated_space}
 use Rattle.etagere.specs.State.{Shelf, AtlasState}
-use Rattle.etagere.specs.Private.Steps.{width_of, is_allocated_in, returned_shelf}
+use Rattle.etagere.proofs.Allocations.InShelves.{width_of, is_allocated_in, returned_shelf}
 use Rattle.etagere.specs.Valid.{IsValid}
 use Rattle.etagere_base.proofs.FirstPlace.{at_first-set}
 use Rattle.etagere.proofs.Allocations.AllocatedItems.{height-returned_shelf, number_of-allocated, returned_shelf-allocated}

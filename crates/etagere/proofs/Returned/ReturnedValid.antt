@@ -1,30 +1,34 @@
 -- The state after an id was returned is as a state must be.
-use Rattle.std.proofs.Common.{◌≡◌, ℕ, ◌≤◌, true, List, length, refl, ap, ◌∙◌, sym, subst, arith}
+use Rattle.std.proofs.Common.{◌≡◌, ℕ, ◌<◌, ◌≤◌, Bool, true, not, ◌==◌, List, length, refl, ap, ◌∙◌, sym, subst, arith}
 use Rattle.std.specs.Prelude.{nat_lt}
 use Rattle.etagere_base.specs.declared.frames.Frame.{Frame}
+use Rattle.etagere_base.specs.declared.ids.Allocation.{Allocation}
 use Rattle.etagere.specs.Merging.{merged_items, both_empty, combined_shelves, merged_shelves}
 use Rattle.etagere_base.specs.Lists.{Each, times, at_first, NoNeighbours}
-use Rattle.etagere.specs.Places.{column_height}
+use Rattle.etagere.specs.Atlas.{without_id}
+use Rattle.etagere.specs.Places.{allocations, column_height, record_number}
 use Rattle.etagere.specs.Returning.{freed, returned}
-use Rattle.etagere.specs.State.{Item, Shelf, AtlasState, items_in_use}
-use Rattle.etagere.specs.Private.Steps.{is_allocated_in, returned_near, returned_shelf}
+use Rattle.etagere.specs.State.{Shelf, AtlasState, items_in_use}
+use Rattle.etagere.proofs.Allocations.InShelves.{is_allocated_in, returned_near, returned_shelf}
 use Rattle.etagere.specs.Valid.{IsShelf, IsValid, is_out_of_order}
-use Rattle.etagere.proofs.Allocations.IdLists.{item_ids, ids}
 use Rattle.etagere_base.proofs.FirstChanged.{Each-at_first, NoNeighbours-at_first}
 use Rattle.etagere_base.proofs.ColumnTotals.{part}
-use Rattle.etagere_base.proofs.TimesLemmas.{times-flat_map}
+use Rattle.etagere_base.proofs.EachLemmas.{Each-filter}
 use Rattle.etagere_base.proofs.Totals.{total-at_first, total-at_first-le, total-merged-le}
 use Rattle.etagere.proofs.Places.Heights.{column_of, height_of, same_column, column_height-merged}
 use Rattle.etagere.proofs.Allocations.AllocatedItems.{not_free, returned_shelf-allocated, column-returned_shelf, height-returned_shelf, item_of_owner}
-use Rattle.etagere.proofs.Allocations.AllocatedIds.{times-ids_of}
-use Rattle.etagere.proofs.Allocations.ItemIds.{item_ids-merged, ids-merged, times-item_ids-freed}
+use Rattle.etagere.proofs.Allocations.RecordNumbers.{numbers-filter, numbers_of}
 use Rattle.etagere_base.proofs.Merged.{apart-merged}
 use Rattle.etagere_base.proofs.MergedKeeps.{Each-merged, NoNeighbours-merged}
 use Rattle.etagere.proofs.Returned.MergedNear.{shelves-merge}
-use Rattle.etagere.proofs.Steps.ItemLemmas.{length-freed}
+use Rattle.etagere.proofs.Places.ItemLemmas.{length-freed}
 use Rattle.etagere.proofs.Returned.ReturnedShelf.{length-merged-le, freed_shelf-valid}
+use Rattle.etagere.proofs.Returned.ReturnedAllocated.{returned-allocated}
 use Rattle.etagere.proofs.Returned.ReturnedWhole.{returned-near}
-use Rattle.etagere.proofs.Steps.ShelfNumbers.{count_of}
+
+-- how many items a shelf has
+abbrev count_of : Shelf → ℕ
+count_of shelf = length shelf.items
 
 -- a merged shelf is as a shelf must be
 combined-shelf : (frame : Frame) (x y : Shelf) → both_empty x y ≡ true → IsShelf frame x → IsShelf frame y → IsShelf frame (combined_shelves x y)
@@ -49,20 +53,7 @@ module _ (frame : Frame) (id : ℕ) where
   returned_shelf-valid shelf h valid =
       let allocations = item_of_owner id shelf.items h in
       subst (IsShelf frame) (sym (returned_shelf-allocated frame id allocations.number shelf allocations.found))
-      (freed_shelf-valid frame allocations.number shelf allocations.item valid allocations.get (not_free id allocations.item allocations.owner))
-
-  -- returning an id to a shelf makes no id stand more often
-  times-returned_shelf : (k : ℕ) (shelf : Shelf) → is_allocated_in id shelf ≡ true
-      → times k (item_ids (returned_shelf frame id shelf).items) ≤ times k (item_ids shelf.items)
-  times-returned_shelf k shelf h =
-      let allocations = item_of_owner id shelf.items h in
-      let n = allocations.number in
-      let is : (returned_shelf frame id shelf).items ≡ merged_items (freed n shelf.items) =
-      ap (λ (s : Shelf). s.items) (returned_shelf-allocated frame id n shelf allocations.found) in
-      let same : times k (item_ids (returned_shelf frame id shelf).items) ≡ times k (item_ids (freed n shelf.items)) =
-      ap (λ (items : List Item). times k (item_ids items)) is ∙ item_ids-merged k (freed n shelf.items) in
-      let fewer = times-item_ids-freed k n shelf.items in
-      omega arith
+      (freed_shelf-valid frame allocations.number shelf allocations.item valid allocations.at.get (not_free id allocations.item allocations.owner))
 
   -- returning an id to a shelf makes no items more
   pub length-returned_shelf : (shelf : Shelf) → is_allocated_in id shelf ≡ true → length (returned_shelf frame id shelf).items ≤ length shelf.items
@@ -100,20 +91,6 @@ module _ (frame : Frame) (id : ℕ) where
       same : (x : Shelf) → part column_of height_of column (returned_shelf frame id x) ≡ part column_of height_of column x
       same x = rw (column-returned_shelf frame id x, height-returned_shelf frame id x) refl
 
-  -- returning an id makes no id stand more often
-  times-returned : (k : ℕ) (shelves : List Shelf)
-      → times k (ids (merged_shelves (at_first (is_allocated_in id) (returned_shelf frame id) shelves))) ≤ times k (ids shelves)
-  times-returned k shelves =
-      let changed = at_first (is_allocated_in id) (returned_shelf frame id) shelves in
-      let part : Shelf → List ℕ = λ shelf. item_ids shelf.items in
-      omega (
-        arith,
-        ids-merged k changed,
-        times-flat_map k part changed,
-        times-flat_map k part shelves,
-        total-at_first-le (λ shelf. times k (part shelf)) (is_allocated_in id) (returned_shelf frame id) (times-returned_shelf k) shelves,
-      )
-
   -- returning an id uses no more items
   items_in_use-returned-le : (shelves : List Shelf)
       → items_in_use (merged_shelves (at_first (is_allocated_in id) (returned_shelf frame id) shelves)) ≤ items_in_use shelves
@@ -124,15 +101,24 @@ module _ (frame : Frame) (id : ℕ) where
         total-at_first-le count_of (is_allocated_in id) (returned_shelf frame id) length-returned_shelf shelves,
       )
 
+-- what is allocated after an id was returned where it stood is what was allocated by the others
+near-allocated : (state : AtlasState) (id : ℕ) → IsValid state → allocations (returned_near state id) ≡ without_id id (allocations state)
+near-allocated state id valid = ap allocations (sym (returned-near state id valid)) ∙ returned-allocated state id valid
+
 -- the state after an id was returned is as a state must be
 pub returned-valid : (state : AtlasState) (id : ℕ) → IsValid state → IsValid (returned state id)
-returned-valid state id valid = rw (returned-near state id valid) record {
-  frame = valid.frame;
-  columns = valid.columns;
-  shelves = returned-shelves state.frame id state.shelves valid.shelves;
-  ordered = returned-ordered state.frame id state.shelves valid.ordered;
-  heights = λ column h. heights-returned state.frame id column state.shelves ∙ valid.heights column h;
-  apart = apart-merged both_empty combined_shelves shelves-merge (at_first (is_allocated_in id) (returned_shelf state.frame id) state.shelves);
-  ids = λ k. omega (arith, times-ids_of (returned_near state id) k, times-returned state.frame id k state.shelves, times-ids_of state k, valid.ids k);
-  records = (omega (arith, items_in_use-returned-le state.frame id state.shelves, valid.records.0), valid.records.1);
-}
+returned-valid state id valid =
+    let left = near-allocated state id valid in
+    let others : Allocation → Bool = λ a. not (a.id == id) in
+    let P : Allocation → Type 0 = λ a. record_number a.id < state.records in
+    rw (returned-near state id valid) record {
+      frame = valid.frame;
+      columns = valid.columns;
+      shelves = returned-shelves state.frame id state.shelves valid.shelves;
+      ordered = returned-ordered state.frame id state.shelves valid.ordered;
+      heights = λ column h. heights-returned state.frame id column state.shelves ∙ valid.heights column h;
+      apart = apart-merged both_empty combined_shelves shelves-merge (at_first (is_allocated_in id) (returned_shelf state.frame id) state.shelves);
+      numbers = λ k. omega (arith, ap (λ all. times k (numbers_of all)) left, numbers-filter k others (allocations state), valid.numbers k);
+      below = subst (Each P) (sym left) (Each-filter P others (allocations state) valid.below);
+      records = (omega (arith, items_in_use-returned-le state.frame id state.shelves, valid.records.0), valid.records.1);
+    }

@@ -7,13 +7,14 @@ use Rattle.etagere.specs.Merging.{both_free, combined_items, merged_shelf, merge
 use Rattle.etagere_base.specs.Lists.{Each, NoNeighbours, at_first, times}
 use Rattle.etagere.specs.Returning.{number_of, freed_in, returned}
 use Rattle.etagere.specs.State.{Item, Shelf, AtlasState}
-use Rattle.etagere.specs.Private.Steps.{is_allocated_in, returned_shelf, returned_near}
+use Rattle.etagere.proofs.Allocations.InShelves.{is_allocated_in, returned_shelf, returned_near}
 use Rattle.etagere.specs.Valid.{IsShelf, IsValid}
 use Rattle.etagere.proofs.Allocations.IdLists.{item_ids, ids}
 use Rattle.etagere_base.proofs.EachLemmas.{Each-weaken}
 use Rattle.etagere_base.proofs.Merged.{merged-apart}
 use Rattle.etagere_base.proofs.TimesLemmas.{times-append}
-use Rattle.etagere.proofs.Allocations.AllocatedIds.{is_allocated_in-none, times-ids_of}
+use Rattle.etagere.proofs.Allocations.AllocatedIds.{is_allocated_in-none}
+use Rattle.etagere.proofs.Allocations.RecordNumbers.{item_ids-once}
 
 -- no two free items of a shelf are neighbours
 abbrev pub IsApart : Shelf → Type 0
@@ -79,9 +80,14 @@ module _ (frame : Frame) (id : ℕ) where
           let nowhere = is_allocated_in-none id shelf (omega arith) in absurd (cc))
           (cases_lt 0 (times id (item_ids shelf.items)))
 
--- a valid state after a return is merged where the item stood
-pub returned-near : (state : AtlasState) (id : ℕ) → IsValid state → returned state id ≡ returned_near state id
-returned-near state id valid =
+-- a state after a return is merged where the item stood, where the id holds one item and no free neighbours were
+pub once-near : (state : AtlasState) (id : ℕ) → Each (IsShelf state.frame) state.shelves → times id (ids state.shelves) ≤ 1
+    → returned state id ≡ returned_near state id
+once-near state id shelves once =
     ap (λ (shelves : List Shelf). record { frame = state.frame; shelves = merged_shelves shelves; records = state.records })
     (merged-freed state.frame id state.shelves
-    (Each-weaken (IsShelf state.frame) IsApart state.shelves (λ (shelf : Shelf) (h : IsShelf state.frame shelf). h.apart) valid.shelves) (omega (arith, valid.ids id, times-ids_of state id)))
+    (Each-weaken (IsShelf state.frame) IsApart state.shelves (λ (shelf : Shelf) (h : IsShelf state.frame shelf). h.apart) shelves) once)
+
+-- a valid state after a return is merged where the item stood
+pub returned-near : (state : AtlasState) (id : ℕ) → IsValid state → returned state id ≡ returned_near state id
+returned-near state id valid = once-near state id valid.shelves (item_ids-once state valid id)

@@ -13,6 +13,7 @@ use Rattle.etagere_base.proofs.ColumnTotals.{total_before, total_before-columns}
 use Rattle.etagere_base.proofs.EachLemmas.{Each-weaken}
 use Rattle.etagere_base.proofs.Totals.{total-le, total-times}
 use Rattle.etagere.proofs.Places.Heights.{column_of, height_of}
+use Rattle.etagere.proofs.Places.Tiling.{IsTiled, valid-tiled}
 use Rattle.etagere.proofs.Spaces.SpaceLemmas.{allocated_width-le}
 
 -- shelves hold no more than their heights by the width of a column
@@ -51,12 +52,16 @@ columns_area-le frame is_frame =
       sides_area frame.vertical frame.width frame.height,
     )
 
--- what is allocated is no larger than the atlas
-pub space-le-area : (state : AtlasState) → IsValid state → allocated_space state ≤ state.frame.width * state.frame.height
-space-le-area state valid =
+-- what shelves allocate that fill the columns is no larger than the atlas
+pub tiled-space-le : (frame : Frame) (shelves : List Shelf) → IsTiled frame shelves → space_in shelves ≤ frame.width * frame.height
+tiled-space-le frame shelves tiled =
     omega (
       arith,
-      space_in-le state.frame state.shelves valid.shelves,
-      ap (λ (n : ℕ). state.frame.column_width * n) (total_before-columns column_of height_of (across_side state.frame) state.frame.columns state.shelves valid.heights),
-      columns_area-le state.frame valid.frame,
+      space_in-le frame shelves tiled.are_shelves,
+      ap (λ (n : ℕ). frame.column_width * n) (total_before-columns column_of height_of (across_side frame) frame.columns shelves tiled.heights),
+      columns_area-le frame tiled.is_frame,
     )
+
+-- what is allocated is no larger than the atlas
+pub space-le-area : (state : AtlasState) → IsValid state → allocated_space state ≤ state.frame.width * state.frame.height
+space-le-area state valid = tiled-space-le state.frame state.shelves (valid-tiled state valid)

@@ -5,7 +5,7 @@ use Rattle.etagere.specs.Merging.{merged_items, merged_shelves}
 use Rattle.etagere.specs.Returning.{is_free_at, freed}
 use Rattle.etagere.specs.Space.{allocated_width, space_in}
 use Rattle.etagere.specs.State.{Item, is_free, is_one_free, Shelf, total_width}
-use Rattle.etagere.specs.Private.Steps.{width_of}
+use Rattle.etagere.proofs.Allocations.InShelves.{width_of}
 use Rattle.etagere_base.proofs.EachLemmas.{Each-all}
 use Rattle.etagere_base.proofs.Totals.{total-append, total-le, total-set}
 use Rattle.etagere.proofs.Allocations.AllocatedTotals.{IsOfAllocated, allocated_total-merged, allocated_total-one_free, shelf_total-merged, where_allocated}

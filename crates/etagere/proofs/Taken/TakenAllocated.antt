@@ -7,6 +7,7 @@ use Rattle.etagere_base.specs.declared.ids.Allocation.{Allocation}
 use Rattle.etagere.specs.Choice.{Placement, placement_of, rectangle_of_placement}
 use Rattle.etagere_base.specs.Places.{rectangle_at}
 use Rattle.etagere.specs.Places.{column_place, column_height, allocations_along, allocations_after, allocations}
+use Rattle.etagere.specs.Atlas.{Adds}
 use Rattle.etagere.specs.State.{Item, Shelf, AtlasState, is_one_free, total_width}
 use Rattle.etagere.specs.Taking.{item_pieces, shelf_pieces, taken}
 use Rattle.etagere.specs.Valid.{IsValid}
@@ -16,7 +17,7 @@ use Rattle.etagere.proofs.Allocations.AllocatedLists.{allocations_along-append, 
 use Rattle.etagere.proofs.Chosen.Placed.{placement_of-placed}
 use Rattle.etagere.proofs.Taken.TakenPieces.{IsRoom, allocated_item, free_item, pieces-cases}
 use Rattle.etagere.proofs.Taken.TakenShelves.{IsTaking, taken-items, taken_to, taking, shelf_pieces-cases}
-use Rattle.etagere.proofs.Taken.TakenValid.{pieces-heights}
+use Rattle.etagere.proofs.Taken.TakenTiling.{pieces-heights}
 
 -- what items allocate, where a free one is in view
 allocations_along-free : (frame : Frame) (across height here : ℕ) (front : List Item) (item : Item) (back : List Item) → item.id ≡ None
@@ -105,16 +106,10 @@ later-allocated frame placement id front shelf back t =
     allocations_after-heights frame (front ++ shelf_pieces frame placement id shelf) (front ++ shelf ∷ []) back
     (λ column. omega (arith, column_height-append column front (shelf_pieces frame placement id shelf), column_height-append column front (shelf ∷ []), pieces-heights frame placement id shelf t column))
 
--- where a placement's rectangle stands among what is allocated afterwards
-pub record TakesIn (state : AtlasState) (placement : Placement) (id : ℕ) : Type 0 where
-  pub front : List Allocation
-  pub back : List Allocation
-  pub before : allocations state ≡ front ++ back
-  pub after : allocations (taken state placement id) ≡ front ++ record { id = id; rectangle = rectangle_of_placement state.frame placement } ∷ back
-
 -- taking a placement allocates its rectangle, and leaves what was allocated as it was
 pub taken-allocations : (state : AtlasState) (size : Size) (placement : Placement) (id : ℕ)
-    → IsValid state → placement_of state size ≡ Some placement → TakesIn state placement id
+    → IsValid state → placement_of state size ≡ Some placement
+    → Adds (allocations state) (record { id = id; rectangle = rectangle_of_placement state.frame placement }) (allocations (taken state placement id))
 taken-allocations state size placement id valid h =
     let placed = placement_of-placed state size placement h in
     let shelf = placed.chosen.shelf in

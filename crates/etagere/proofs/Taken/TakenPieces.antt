@@ -9,16 +9,13 @@ use Rattle.etagere_base.specs.Frames.{alignment_along}
 use Rattle.etagere_base.specs.declared.frames.Frame.{Frame}
 use Rattle.etagere.specs.Choice.{Placement}
 use Rattle.etagere.specs.Merging.{both_free}
-use Rattle.etagere_base.specs.Lists.{Each, times, NoNeighbours}
+use Rattle.etagere_base.specs.Lists.{Each, NoNeighbours}
 use Rattle.etagere.specs.State.{Item, is_free, is_one_free, total_width}
 use Rattle.etagere.specs.Taking.{item_pieces}
 use Rattle.etagere.specs.Valid.{IsItem}
-use Rattle.etagere.proofs.Allocations.IdLists.{item_ids}
 use Rattle.etagere_base.proofs.EachLemmas.{Each-append, Each-back, Each-front}
-use Rattle.etagere.proofs.Allocations.ItemIds.{times-item_ids}
 use Rattle.etagere_base.proofs.NoNeighboursLemmas.{NoNeighbours-changed, NoNeighbours-split}
-use Rattle.etagere.proofs.Steps.ItemLemmas.{total_width-append}
-use Rattle.etagere_base.proofs.TimesLemmas.{hit}
+use Rattle.etagere.proofs.Places.ItemLemmas.{total_width-append}
 
 -- a free item of which a placement gives the front or all
 pub record IsRoom (frame : Frame) (item : Item) (placement : Placement) : Type 0 where
@@ -107,14 +104,6 @@ pieces-apart frame front item back placement id room apart =
     pieces-cases (λ _ pieces. NoNeighbours both_free (front ++ (pieces ++ back))) frame placement id item room
     (λ split. NoNeighbours-split both_free front item (allocated_item placement.width id) (free_item (item.width - placement.width)) back (λ y h. allocated_item-apart placement.width id y) refl (λ y h. free_item-apart (item.width - placement.width) item y room.free h) apart)
     (λ _. NoNeighbours-changed both_free front item (allocated_item item.width id) back (λ y h. allocated_item-apart item.width id y) (λ y h. refl) apart)
-
--- the id that took an item holds one more
-pub pieces-item_ids : (k : ℕ) (frame : Frame) (front : List Item) (item : Item) (back : List Item) (placement : Placement) (id : ℕ)
-    → IsRoom frame item placement → times k (item_ids (front ++ (item_pieces placement id item ++ back))) ≡ times k (item_ids (front ++ item ∷ back)) + hit id k
-pieces-item_ids k frame front item back placement id room =
-    pieces-cases (λ _ pieces. times k (item_ids (front ++ (pieces ++ back))) ≡ times k (item_ids (front ++ item ∷ back)) + hit id k) frame placement id item room
-    (λ split. rw (times-item_ids k front (item ∷ back), times-item_ids k front (allocated_item placement.width id ∷ free_item (item.width - placement.width) ∷ back), room.free) (omega arith))
-    (λ _. rw (times-item_ids k front (item ∷ back), times-item_ids k front (allocated_item item.width id ∷ back), room.free) (omega arith))
 
 -- an allocated item makes a shelf that is not empty
 allocated-not_empty : (front : List Item) (width id : ℕ) (back : List Item) → is_one_free (front ++ allocated_item width id ∷ back) ≡ false

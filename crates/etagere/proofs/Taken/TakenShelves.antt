@@ -1,6 +1,7 @@
 -- A shelf in which a place is taken, and the shelves that stand in its place afterwards.
 use Rattle.std.proofs.Common.{◌≡◌, ℕ, ◌+◌, ◌-◌, ◌%◌, ◌<◌, ◌≤◌, Bool, true, false, cond, List, [], ◌∷◌, ◌++◌, refl, sym, subst, ap, ◌∙◌, arith, nat_lt, take, ◌&&◌}
 use Rattle.std.proofs.lemmas.Bool.{and_parts, cond-false, cond_both, ltb-true}
+use Rattle.etagere_base.proofs.AskedSides.{asked-sides}
 use Rattle.etagere_base.specs.Frames.{IsFrame, alignment_along}
 use Rattle.etagere_base.specs.declared.frames.Frame.{Frame}
 use Rattle.etagere_base.specs.declared.geometry.Size.{Size}
@@ -12,7 +13,7 @@ use Rattle.etagere.specs.State.{Shelf, AtlasState, is_empty, is_one_free, empty_
 use Rattle.etagere.specs.Taking.{item_pieces, shelf_pieces, taken_free_list}
 use Rattle.etagere.specs.Valid.{IsItem, IsShelf, IsValid}
 use Rattle.etagere_base.proofs.EachLemmas.{Each-get}
-use Rattle.etagere.proofs.Chosen.Placed.{IsPlaced, asked-sides, chosen-stands, shelf_height-tall}
+use Rattle.etagere.proofs.Chosen.Placed.{IsPlaced, chosen-stands, shelf_height-tall}
 use Rattle.etagere.proofs.Taken.TakenPieces.{IsRoom, pieces-apart, pieces-each, pieces-not_empty, pieces-width}
 use Rattle.etagere.proofs.Taken.TakenItems.{IsFreeAt, free_at}
 use Rattle.etagere.proofs.Taken.TakenFreeList.{pieces-free_list}
@@ -71,7 +72,7 @@ taking state size placement valid placed =
     let shelf = placed.chosen.shelf in
     let here = column_place state.frame shelf in
     let ok : IsShelf state.frame shelf = Each-get (IsShelf state.frame) state.shelves placement.shelf shelf placed.chosen.at valid.shelves in
-    let asks = asked-sides state.frame size placed.sides valid.frame placed.asked in
+    let asks = asked-sides 65535 state.frame size placed.sides valid.frame placed.asked in
     let stands = chosen-stands state placed.sides placement placed.chosen in
     let found = free_at state.frame here shelf.items placement.along ok.items (omega (arith, stands.1, ok.free_list placement.along)) in
     subst (λ (p : Placement). IsTaking state.frame p shelf) (sym placed.chosen.is)

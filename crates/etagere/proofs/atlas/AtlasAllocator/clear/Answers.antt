@@ -1,39 +1,49 @@
-use Rattle.std.proofs.Common.{◌≡◌, List, ap, sym, subst, ◌∙◌, arith}
+use Rattle.std.proofs.Common.{◌≡◌, ap, sym, subst, ◌∙◌}
 use Rattle.etagere.specs.Atlas.{KeepsPromises}
-use Rattle.etagere.specs.Private.Corners.{AreCorners}
 use Rattle.etagere.specs.Fresh.{fresh}
-use Rattle.etagere.specs.Private.Consistent.{state_in}
 use Rattle.etagere.specs.Places.{allocations}
-use Rattle.etagere.specs.Space.{space_in}
-use Rattle.etagere.specs.State.{AtlasState, Shelf, items_in_use}
-use Rattle.etagere.specs.Valid.{IsValid}
-use Rattle.etagere.proofs.Places.ColumnShelves.{columns-le-shelves}
+use Rattle.etagere.specs.Private.Kept.{AreKept, state_of}
+use Rattle.etagere.specs.Space.{allocated_space}
+use Rattle.etagere.specs.State.{AtlasState, items_in_use}
 use Rattle.etagere.proofs.Places.FreshLemmas.{fresh-allocated, fresh-valid, items_in_use-empty_columns, space-fresh}
 use Rattle.etagere.proofs.Promises.{promises}
+use Rattle.etagere.proofs.Spelled.FreshKept.{fresh-kept}
+use Rattle.etagere.proofs.Spelled.KeptCounts.{kept-item_records, kept-shelf_records}
 use Rattle.etagere.proofs.atlas.AtlasAllocator.clear.Goals as goal
 
-pub reset_columns-requires-clause-enough : goal.reset_columns-requires-clause-enough
-reset_columns-requires-clause-enough c = omega (arith, columns-le-shelves (state_in c.self.inside) c.self.invariant.valid)
+pub reset_records-requires : goal.reset_records-requires
+reset_records-requires c =
+    let inside = c.self.inside in
+    let kept = c.self.invariant.kept in
+    record {
+      frame = kept.valid.frame;
+      shelves = kept-shelf_records inside.frame inside.records kept;
+      items = kept-item_records inside.frame inside.records kept;
+    }
+
+-- the state that the fields stand for at the end
+made : (c : goal.After-self-2-1) → state_of c.self.inside.frame c.reset_records.new.records ≡ fresh c.self.inside.frame
+made c =
+    let frame = c.self.inside.frame in
+    let valid = c.self.invariant.kept.valid in
+    ap (state_of frame) c.reset_records.ensures ∙ (fresh-kept frame valid.frame valid.columns).0
 
 pub invariant_of-self : goal.invariant_of-self
 invariant_of-self c =
     let frame = c.self.inside.frame in
-    let made : fresh frame ≡ record { frame = frame; shelves = c.reset_columns.new.shelves.items; records = frame.columns } =
-    ap (λ (l : List Shelf). record { frame = frame; shelves = l; records = frame.columns }) (sym c.reset_columns.ensures) in
+    let valid = c.self.invariant.kept.valid in
     record {
-      valid = subst IsValid made (fresh-valid frame c.self.invariant.valid.frame c.self.invariant.valid.columns);
-      corners = subst (λ (state : AtlasState). AreCorners (allocations state)) made (subst AreCorners (sym (fresh-allocated frame)) tt);
-      counted = sym (ap items_in_use c.reset_columns.ensures ∙ items_in_use-empty_columns frame 0 frame.columns);
-      space = sym (ap space_in c.reset_columns.ensures ∙ space-fresh frame);
+      kept = subst (AreKept frame) (sym c.reset_records.ensures) (fresh-kept frame valid.frame valid.columns).1;
+      counted = sym (ap (λ (s : AtlasState). items_in_use s.shelves) (made c) ∙ items_in_use-empty_columns frame 0 frame.columns);
+      space = sym (ap allocated_space (made c) ∙ space-fresh frame);
     }
 
-pub returns-clause-promises : goal.returns-clause-promises
-returns-clause-promises c =
+pub returns : goal.returns
+returns c =
     let frame = c.self.inside.frame in
-    subst KeepsPromises (ap (λ (l : List Shelf). record { frame = frame; shelves = l; records = frame.columns }) (sym c.reset_columns.ensures))
-    (promises (fresh frame) (fresh-valid frame c.self.invariant.valid.frame c.self.invariant.valid.columns))
-
-pub returns-clause-empty : goal.returns-clause-empty
-returns-clause-empty c =
-    let frame = c.self.inside.frame in
-    ap (λ (l : List Shelf). allocations (record { frame = frame; shelves = l; records = frame.columns })) c.reset_columns.ensures ∙ fresh-allocated frame
+    let valid = c.self.invariant.kept.valid in
+    record {
+      cleared = made c ∙ ap (λ (s : AtlasState). fresh s.frame) c.self.view_is;
+      empty = ap allocations (made c) ∙ fresh-allocated frame;
+      promises = subst KeepsPromises (sym (made c)) (promises (fresh frame) (fresh-valid frame valid.frame valid.columns));
+    }

@@ -8,13 +8,13 @@ use Rattle.etagere.proofs.Spaces.SpaceBounds.{space-le-area}
 use Rattle.etagere.proofs.atlas.AtlasAllocator.free_space.Goals as goal
 
 pub overflow_sub-result : goal.overflow_sub-result
-overflow_sub-result c = omega (arith, space-le-area (state_in c.self.inside) c.self.invariant.valid, c.self.invariant.space)
+overflow_sub-result c = omega (arith, space-le-area (state_in c.self.inside) c.self.invariant.kept.valid, c.self.invariant.space)
 
 pub returns-clause-sum : goal.returns-clause-sum
 returns-clause-sum c =
     let old = state_in c.self.inside in
     let area = c.self.inside.frame.width * c.self.inside.frame.height in
     let free = area - c.self.inside.allocated_space in
-    let small : free < 2 ^ 31 = omega (arith, c.self.invariant.valid.frame.area) in
+    let small : free < 2 ^ 31 = omega (arith, c.self.invariant.kept.valid.frame.area) in
     subst (λ (s : AtlasState). to_z w32 free +ℤ pos (allocated_space s) ≡ pos (s.frame.width * s.frame.height)) c.self.view_is
-    (rw (to_z_pos w32 free small) (ap pos (omega (arith, space-le-area old c.self.invariant.valid, c.self.invariant.space))))
+    (rw (to_z_pos w32 free small) (ap pos (omega (arith, space-le-area old c.self.invariant.kept.valid, c.self.invariant.space))))

@@ -9,6 +9,6 @@ use Rattle.etagere.proofs.atlas.AtlasAllocator.is_empty.Goals as goal
 pub returns : goal.returns
 returns c =
     let old = state_in c.self.inside in (
-      λ zero. subst (λ (state : AtlasState). allocations state ≡ []) c.self.view_is (no_space-nothing_allocated old c.self.invariant.valid (sym c.self.invariant.space ∙ eqb-true c.self.inside.allocated_space 0 zero)),
+      λ zero. subst (λ (state : AtlasState). allocations state ≡ []) c.self.view_is (no_space-nothing_allocated old c.self.invariant.kept.valid (sym c.self.invariant.space ∙ eqb-true c.self.inside.allocated_space 0 zero)),
       λ nothing. eq-eqb c.self.inside.allocated_space 0 (c.self.invariant.space ∙ nothing_allocated-no_space old (subst (λ (state : AtlasState). allocations state ≡ []) (sym c.self.view_is) nothing)),
     )

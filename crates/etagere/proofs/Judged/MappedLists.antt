@@ -1,0 +1,25 @@
+-- Facts of what a list spells are facts of its elements.
+use Rattle.std.proofs.Common.{Bool, List, [], ◌∷◌, map}
+use Rattle.etagere_base.specs.Lists.{Each, NoNeighbours}
+
+-- a fact of each
+pub each-map : {X Y : Type 0} (P : Y → Type 0) (f : X → Y) (xs : List X) → Each (λ x. P (f x)) xs → Each P (map f xs)
+each-map P f [] each = tt
+each-map P f (x ∷ xs) each = (each.0, each-map P f xs each.1)
+
+-- and back
+pub each-unmap : {X Y : Type 0} (P : Y → Type 0) (f : X → Y) (xs : List X) → Each P (map f xs) → Each (λ x. P (f x)) xs
+each-unmap P f [] each = tt
+each-unmap P f (x ∷ xs) each = (each.0, each-unmap P f xs each.1)
+
+-- a fact of neighbours
+pub neighbours-map : {X Y : Type 0} (touch : Y → Y → Bool) (f : X → Y) (xs : List X) → NoNeighbours (λ x y. touch (f x) (f y)) xs → NoNeighbours touch (map f xs)
+neighbours-map touch f [] apart = tt
+neighbours-map touch f (x ∷ []) apart = tt
+neighbours-map touch f (x ∷ y ∷ ys) apart = (apart.0, neighbours-map touch f (y ∷ ys) apart.1)
+
+-- and back
+pub neighbours-unmap : {X Y : Type 0} (touch : Y → Y → Bool) (f : X → Y) (xs : List X) → NoNeighbours touch (map f xs) → NoNeighbours (λ x y. touch (f x) (f y)) xs
+neighbours-unmap touch f [] apart = tt
+neighbours-unmap touch f (x ∷ []) apart = tt
+neighbours-unmap touch f (x ∷ y ∷ ys) apart = (apart.0, neighbours-unmap touch f (y ∷ ys) apart.1)

@@ -1,0 +1,7 @@
+-- The place of a size, found by records: it is the one that the model finds.
+pub mod Following
+pub mod FoundPlacements
+pub mod LinkedParts
+pub mod LowestCandidates
+pub mod SearchSteps
+pub mod SearchedShelves

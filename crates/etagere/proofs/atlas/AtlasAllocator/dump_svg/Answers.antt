@@ -1,0 +1,11 @@
+use Rattle.std.proofs.Common.{OnOk, subst}
+use Rattle.std.specs.Io.KnownBytes.{Appends}
+use Rattle.etagere.specs.State.{AtlasState}
+use Rattle.etagere.specs.Svg.{svg}
+use Rattle.etagere.proofs.atlas.AtlasAllocator.dump_svg.Goals as goal
+
+-- all went out of the document
+pub returns-clause-ok : goal.returns-clause-ok
+returns-clause-ok g c =
+    subst (λ (s : AtlasState). OnOk c.send_document.result (Appends (g.W.Write.contents c.args.output.now) (g.W.Write.contents c.send_document.new.writer) (svg s))) c.self.view_is
+    c.send_document.ensures.ok

@@ -1,0 +1,21 @@
+use Rattle.std.proofs.Common.{List, map, sym, subst}
+use Rattle.etagere_base.specs.declared.ids.Allocation.{Allocation}
+use Rattle.etagere.specs.Callers.{AreTied}
+use Rattle.etagere.specs.Listing.{RiseFrom}
+use Rattle.etagere.specs.Places.{allocations, record_number}
+use Rattle.etagere.specs.Private.Kept.{state_of}
+use Rattle.etagere.specs.State.{AtlasState}
+use Rattle.etagere.proofs.Allocations.ListedOnce.{listed-rise, listed-tied}
+use Rattle.etagere.proofs.atlas.AtlasAllocator.iter.Goals as goal
+
+pub returns-clause-each : goal.returns-clause-each
+returns-clause-each c =
+    let state : AtlasState = state_of c.self.inside.frame c.self.inside.records in
+    rw (← c.self.view_is)
+    (subst (λ (l : List Allocation). AreTied l (allocations state)) (sym c.new.ensures) (listed-tied state c.self.invariant.kept.valid))
+
+pub returns-clause-rising : goal.returns-clause-rising
+returns-clause-rising c =
+    let state : AtlasState = state_of c.self.inside.frame c.self.inside.records in
+    subst (λ (l : List Allocation). RiseFrom 0 (map (λ allocation. record_number allocation.id) l)) (sym c.new.ensures)
+    (listed-rise state c.self.invariant.kept.valid)

@@ -1,0 +1,29 @@
+use Rattle.std.specs.Prelude.{pos}
+use Rattle.std.proofs.Common.{◌≡◌, ℕ, ap, rules, subst, sym, SFits, w32, ◌∙◌}
+use Rattle.std.proofs.lemmas.Int.{to_z-of_z}
+use Rattle.etagere_base.specs.Sides.{side}
+use Rattle.etagere.specs.AtlasRecords.{AtlasRecords}
+use Rattle.etagere.specs.Atlas.{KeepsPromises}
+use Rattle.etagere.specs.Private.Kept.{AreKept}
+use Rattle.etagere.specs.Snapshots.{state_spelled}
+use Rattle.etagere.specs.Space.{space_in}
+use Rattle.etagere.specs.State.{items_in_use}
+use Rattle.etagere.proofs.Promises.{promises}
+use Rattle.etagere.proofs.atlas.AtlasAllocator.of_judged.Goals as goal
+
+pub invariant_of-result : goal.invariant_of-result
+invariant_of-result c =
+    let same = sym c.atlas.view_is in
+    let fits : SFits w32 c.atlas.inside.allocated_space = search rules in
+    let sum : ℕ = c.args.items_in_use in
+    record {
+      kept = subst (λ (atlas : AtlasRecords). AreKept atlas.frame atlas.lists) same c.requires.kept;
+      counted = subst (λ (atlas : AtlasRecords). sum ≡ items_in_use (state_spelled atlas).shelves) same c.requires.items;
+      space = c.side-allocated_space.ensures.value ∙ ap side (to_z-of_z w32 c.atlas.inside.allocated_space fits)
+          ∙ ap side (subst (λ (atlas : AtlasRecords). atlas.allocated_space ≡ pos (space_in (state_spelled atlas).shelves)) same c.requires.space);
+    }
+
+pub returns-clause-promises : goal.returns-clause-promises
+returns-clause-promises c =
+    subst (λ (atlas : AtlasRecords). KeepsPromises (state_spelled atlas)) (sym c.atlas.view_is)
+    (promises (state_spelled c.args.atlas) c.requires.kept.valid)

@@ -1,0 +1,5 @@
+use Rattle.etagere.proofs.Recorded.RecordedListing.{kept-listed}
+use Rattle.etagere.proofs.listing.Iter.new.Goals as goal
+
+pub returns : goal.returns
+returns c = kept-listed c.args.frame.now c.args.records.now c.requires

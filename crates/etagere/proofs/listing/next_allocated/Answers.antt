@@ -1,0 +1,15 @@
+use Rattle.std.proofs.Common.{◌≡◌, false, ap, sym, ◌∙◌}
+use Rattle.etagere_links.specs.declared.records.ItemRecord.{ItemRecord}
+use Rattle.etagere.specs.AtlasRecords.{is_allocated_at}
+use Rattle.etagere.proofs.Recorded.RecordedListing.{next-passed}
+use Rattle.etagere.proofs.Recorded.RecordsOfIds.{field_at-read}
+use Rattle.etagere.proofs.listing.next_allocated.Goals as goal
+
+pub loop-number-preserved : goal.loop-number-preserved
+loop-number-preserved c =
+    let items = c.args.items.now in
+    let number = c.loop-number.number in
+    let fails : is_allocated_at items number ≡ false =
+    field_at-read (λ (x : ItemRecord). x.allocated) false items number c.index-items-number.result c.loop-number-test.true c.index-items-number.is
+    ∙ ap (λ (x : ItemRecord). x.allocated) c.index-items-number.is ∙ c.if-items-number.false in
+    sym (next-passed items number c.loop-number-test.true fails) ∙ c.loop-number.invariant

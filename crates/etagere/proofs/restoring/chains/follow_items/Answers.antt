@@ -1,0 +1,83 @@
+use Rattle.std.proofs.Common.{◌≡◌, ℕ, List, length, subst, sym, ap, refl, ◌∙◌, [], ◌++◌, map}
+use Rattle.etagere_base.specs.Lists.{Each}
+use Rattle.etagere_links.specs.Links.{bits_of, link_of}
+use Rattle.etagere_links.specs.Marks.{IsMarkedBy}
+use Rattle.etagere_links.specs.RecordLists.{Entry, HasEachOnce, item_numbers, shelf_walk, unused_item_walk}
+use Rattle.etagere_links.specs.Records.{item_chain}
+use Rattle.etagere_links.specs.Walks.{Walked}
+use Rattle.etagere.specs.AtlasRecords.{AtlasRecords}
+use Rattle.etagere.specs.Private.Restoring.{HasChain, chain_entry}
+use Rattle.etagere.specs.Snapshots.{IsBroken}
+use Rattle.etagere.specs.StandsFor.{IsShared}
+use Rattle.etagere.proofs.Loaded.ChainsWalked.{once-back, once-swapped}
+use Rattle.etagere.proofs.Loaded.WalksBroken.{unused_items-broken}
+use Rattle.etagere.proofs.Loaded.WalksBy.{breaks-by, links-length, walks-by}
+use Rattle.etagere.proofs.restoring.chains.follow_items.Goals as goal
+
+pub returns-in-Err-clause-fault : goal.returns-in-Err-clause-fault
+returns-in-Err-clause-fault c =
+    let atlas = c.args.atlas.now in
+    let start : c.bits-first.result ≡ bits_of atlas.lists.free_items =
+    c.bits-first.ensures.value ∙ ap bits_of (c.unused_items.ensures ∙ ap (λ (a : AtlasRecords). a.lists.free_items) c.atlas.view_is) in
+    subst (IsBroken atlas) (sym c.chain_fault.ensures)
+    (unused_items-broken atlas c.args.marks.now c.in-Err.fault
+    (breaks-by item_chain.next atlas.lists.items atlas.lists.free_items c.args.links.now c.bits-first.result c.args.marks.now c.in-Err.fault c.requires.links start c.in-Err.ensures.fault)
+    c.requires.marked)
+
+pub walk_chains-requires-clause-marked : goal.walk_chains-requires-clause-marked
+walk_chains-requires-clause-marked c =
+    let atlas = c.args.atlas.now in
+    let unused : List ℕ = (unused_item_walk atlas.lists).met in
+    let start : c.bits-first.result ≡ bits_of atlas.lists.free_items =
+    c.bits-first.ensures.value ∙ ap bits_of (c.unused_items.ensures ∙ ap (λ (a : AtlasRecords). a.lists.free_items) c.atlas.view_is) in
+    let walks = walks-by item_chain.next atlas.lists.items atlas.lists.free_items c.args.links.now c.bits-first.result c.requires.links start in
+    subst (λ (w : Walked). IsMarkedBy c.walk_marking.new.marks w.met) walks (c.in-Ok.ensures.marked [] c.requires.marked)
+
+pub returns-then-not-all_marked-clause-fault : goal.returns-then-not-all_marked-clause-fault
+returns-then-not-all_marked-clause-fault c =
+    let atlas = c.args.atlas.now in
+    let unused : List ℕ = (unused_item_walk atlas.lists).met in
+    let start : c.bits-first.result ≡ bits_of atlas.lists.free_items =
+    c.bits-first.ensures.value ∙ ap bits_of (c.unused_items.ensures ∙ ap (λ (a : AtlasRecords). a.lists.free_items) c.atlas.view_is) in
+    let walks = walks-by item_chain.next atlas.lists.items atlas.lists.free_items c.args.links.now c.bits-first.result c.requires.links start in
+    let numbers : List ℕ = (shelf_walk atlas.lists).met in
+    let entries : c.in-Ok-walk_chains.shelves.items ≡ map (chain_entry atlas.lists) numbers =
+    c.in-Ok-walk_chains.ensures.ok ∙ ap (map (chain_entry atlas.lists)) c.requires.numbers in
+    let marked : IsMarkedBy c.walk_chains.new.marks (unused ++ item_numbers (map (chain_entry atlas.lists) numbers)) =
+    subst (λ (es : List Entry). IsMarkedBy c.walk_chains.new.marks (unused ++ item_numbers es)) entries c.in-Ok-walk_chains.ensures.marked in
+    let count : length c.walk_chains.new.marks ≡ length atlas.lists.items =
+    c.walk_chains.auto.marks ∙ c.walk_marking.auto.marks ∙ c.requires.marks ∙ links-length item_chain.next atlas.lists.items c.args.links.now c.requires.links in
+    λ (shared : IsShared atlas).
+    c.if-not-all_marked.ensures.missing refl (unused ++ item_numbers (map (chain_entry atlas.lists) numbers)) marked
+    (subst (λ (n : ℕ). HasEachOnce n (unused ++ item_numbers (map (chain_entry atlas.lists) numbers))) (sym count)
+    (once-swapped atlas.lists numbers unused (length atlas.lists.items) shared.items))
+
+pub returns-clause-ok : goal.returns-clause-ok
+returns-clause-ok c =
+    let atlas = c.args.atlas.now in
+    let unused : List ℕ = (unused_item_walk atlas.lists).met in
+    let start : c.bits-first.result ≡ bits_of atlas.lists.free_items =
+    c.bits-first.ensures.value ∙ ap bits_of (c.unused_items.ensures ∙ ap (λ (a : AtlasRecords). a.lists.free_items) c.atlas.view_is) in
+    let walks = walks-by item_chain.next atlas.lists.items atlas.lists.free_items c.args.links.now c.bits-first.result c.requires.links start in
+    let numbers : List ℕ = (shelf_walk atlas.lists).met in
+    let entries : c.in-Ok-walk_chains.shelves.items ≡ map (chain_entry atlas.lists) numbers =
+    c.in-Ok-walk_chains.ensures.ok ∙ ap (map (chain_entry atlas.lists)) c.requires.numbers in
+    let marked : IsMarkedBy c.walk_chains.new.marks (unused ++ item_numbers (map (chain_entry atlas.lists) numbers)) =
+    subst (λ (es : List Entry). IsMarkedBy c.walk_chains.new.marks (unused ++ item_numbers es)) entries c.in-Ok-walk_chains.ensures.marked in
+    let count : length c.walk_chains.new.marks ≡ length atlas.lists.items =
+    c.walk_chains.auto.marks ∙ c.walk_marking.auto.marks ∙ c.requires.marks ∙ links-length item_chain.next atlas.lists.items c.args.links.now c.requires.links in
+    let unused_met : c.in-Ok.unused.items ≡ unused = c.in-Ok.ensures.met ∙ ap (λ (w : Walked). w.met) walks in
+    let once : HasEachOnce (length atlas.lists.items) (unused ++ item_numbers (map (chain_entry atlas.lists) numbers)) =
+    subst (λ (n : ℕ). HasEachOnce n (unused ++ item_numbers (map (chain_entry atlas.lists) numbers))) count
+    (c.if-not-all_marked.ensures.all refl (unused ++ item_numbers (map (chain_entry atlas.lists) numbers)) marked) in
+    record {
+      met = entries;
+      unused_met = unused_met;
+      chains = subst (Each (HasChain atlas.lists)) c.requires.numbers c.in-Ok-walk_chains.ensures.chains;
+      unused_end = sym (ap (λ (w : Walked). w.end) walks) ∙ c.in-Ok.ensures.end;
+      once = subst (λ (ns : List ℕ). HasEachOnce (length atlas.lists.items) (item_numbers c.in-Ok-walk_chains.shelves.items ++ ns)) (sym unused_met)
+          (subst (λ (es : List Entry). HasEachOnce (length atlas.lists.items) (item_numbers es ++ unused)) (sym entries)
+          (once-back unused (item_numbers (map (chain_entry atlas.lists) numbers)) (length atlas.lists.items) once));
+      next_fits = c.requires.fit;
+      unused_fits = ap link_of (sym start) ∙ c.bits-first.ensures.link ∙ c.unused_items.ensures ∙ ap (λ (a : AtlasRecords). a.lists.free_items) c.atlas.view_is;
+    }

@@ -1,0 +1,78 @@
+use Rattle.std.proofs.Common.{◌≡◌, ℕ, length, subst, sym, ap, refl, ◌∙◌, [], ◌++◌}
+use Rattle.etagere_links.specs.Links.{bits_of, link_of}
+use Rattle.etagere_links.specs.Marks.{IsMarkedBy}
+use Rattle.etagere_links.specs.RecordLists.{HasEachOnce, shelf_walk, unused_shelf_walk}
+use Rattle.etagere_links.specs.Records.{shelf_chain}
+use Rattle.etagere_links.specs.Walks.{Walked}
+use Rattle.etagere.specs.AtlasRecords.{AtlasRecords}
+use Rattle.etagere.specs.Snapshots.{IsBroken}
+use Rattle.etagere.specs.StandsFor.{IsShared}
+use Rattle.etagere.proofs.Loaded.WalksBroken.{shelves-broken, unused_shelves-broken}
+use Rattle.etagere.proofs.Loaded.WalksBy.{both-marked, breaks-by, links-length, walks-by}
+use Rattle.etagere.proofs.restoring.shelf_lists.follow_shelves.Goals as goal
+
+pub returns-in-Err-clause-fault : goal.returns-in-Err-clause-fault
+returns-in-Err-clause-fault c =
+    let atlas = c.args.atlas.now in
+    let start : c.bits-first.result ≡ bits_of atlas.lists.first_shelf =
+    c.bits-first.ensures.value ∙ ap bits_of (c.first_shelf.ensures ∙ ap (λ (a : AtlasRecords). a.lists.first_shelf) c.atlas.view_is) in
+    subst (IsBroken atlas) (sym c.chain_fault.ensures)
+    (shelves-broken atlas c.args.marks.now c.in-Err.fault
+    (breaks-by shelf_chain.next atlas.lists.shelves atlas.lists.first_shelf c.args.links.now c.bits-first.result c.args.marks.now c.in-Err.fault c.requires.links start c.in-Err.ensures.fault)
+    c.requires.marked)
+
+pub returns-in-Err-walk_marking-clause-fault : goal.returns-in-Err-walk_marking-clause-fault
+returns-in-Err-walk_marking-clause-fault c =
+    let atlas = c.args.atlas.now in
+    let first : c.bits-first.result ≡ bits_of atlas.lists.first_shelf =
+    c.bits-first.ensures.value ∙ ap bits_of (c.first_shelf.ensures ∙ ap (λ (a : AtlasRecords). a.lists.first_shelf) c.atlas.view_is) in
+    let start : c.bits-unused.result ≡ bits_of atlas.lists.free_shelves =
+    c.bits-unused.ensures.value ∙ ap bits_of (c.unused_shelves.ensures ∙ ap (λ (a : AtlasRecords). a.lists.free_shelves) c.atlas.view_is) in
+    let marked : IsMarkedBy c.walk_marking.new.marks (shelf_walk atlas.lists).met =
+    subst (λ (w : Walked). IsMarkedBy c.walk_marking.new.marks w.met) (walks-by shelf_chain.next atlas.lists.shelves atlas.lists.first_shelf c.args.links.now c.bits-first.result c.requires.links first)
+    (c.in-Ok.ensures.marked [] c.requires.marked) in
+    subst (IsBroken atlas) (sym c.chain_fault-in-Err-walk_marking.ensures)
+    (unused_shelves-broken atlas c.walk_marking.new.marks c.in-Err-walk_marking.fault
+    (breaks-by shelf_chain.next atlas.lists.shelves atlas.lists.free_shelves c.args.links.now c.bits-unused.result c.walk_marking.new.marks c.in-Err-walk_marking.fault c.requires.links start c.in-Err-walk_marking.ensures.fault)
+    marked)
+
+pub returns-then-not-all_marked-clause-fault : goal.returns-then-not-all_marked-clause-fault
+returns-then-not-all_marked-clause-fault c =
+    let atlas = c.args.atlas.now in
+    let first : c.bits-first.result ≡ bits_of atlas.lists.first_shelf =
+    c.bits-first.ensures.value ∙ ap bits_of (c.first_shelf.ensures ∙ ap (λ (a : AtlasRecords). a.lists.first_shelf) c.atlas.view_is) in
+    let unused : c.bits-unused.result ≡ bits_of atlas.lists.free_shelves =
+    c.bits-unused.ensures.value ∙ ap bits_of (c.unused_shelves.ensures ∙ ap (λ (a : AtlasRecords). a.lists.free_shelves) c.atlas.view_is) in
+    let both : IsMarkedBy c.walk_marking-2.new.marks ((shelf_walk atlas.lists).met ++ (unused_shelf_walk atlas.lists).met) =
+    both-marked shelf_chain.next atlas.lists.shelves atlas.lists.first_shelf atlas.lists.free_shelves c.args.links.now c.bits-first.result c.bits-unused.result
+    c.args.marks.now c.walk_marking.new.marks c.walk_marking-2.new.marks c.requires.links first unused c.requires.marked c.in-Ok.ensures.marked c.in_default.ensures.marked in
+    let count : length c.walk_marking-2.new.marks ≡ length atlas.lists.shelves =
+    c.walk_marking-2.auto.marks ∙ c.walk_marking.auto.marks ∙ c.requires.marks ∙ links-length shelf_chain.next atlas.lists.shelves c.args.links.now c.requires.links in
+    λ (shared : IsShared atlas).
+    c.if-not-all_marked.ensures.missing refl ((shelf_walk atlas.lists).met ++ (unused_shelf_walk atlas.lists).met) both
+    (subst (λ (n : ℕ). HasEachOnce n ((shelf_walk atlas.lists).met ++ (unused_shelf_walk atlas.lists).met)) (sym count) shared.shelves)
+
+pub returns-clause-ok : goal.returns-clause-ok
+returns-clause-ok c =
+    let atlas = c.args.atlas.now in
+    let first : c.bits-first.result ≡ bits_of atlas.lists.first_shelf =
+    c.bits-first.ensures.value ∙ ap bits_of (c.first_shelf.ensures ∙ ap (λ (a : AtlasRecords). a.lists.first_shelf) c.atlas.view_is) in
+    let unused : c.bits-unused.result ≡ bits_of atlas.lists.free_shelves =
+    c.bits-unused.ensures.value ∙ ap bits_of (c.unused_shelves.ensures ∙ ap (λ (a : AtlasRecords). a.lists.free_shelves) c.atlas.view_is) in
+    let both : IsMarkedBy c.walk_marking-2.new.marks ((shelf_walk atlas.lists).met ++ (unused_shelf_walk atlas.lists).met) =
+    both-marked shelf_chain.next atlas.lists.shelves atlas.lists.first_shelf atlas.lists.free_shelves c.args.links.now c.bits-first.result c.bits-unused.result
+    c.args.marks.now c.walk_marking.new.marks c.walk_marking-2.new.marks c.requires.links first unused c.requires.marked c.in-Ok.ensures.marked c.in_default.ensures.marked in
+    let count : length c.walk_marking-2.new.marks ≡ length atlas.lists.shelves =
+    c.walk_marking-2.auto.marks ∙ c.walk_marking.auto.marks ∙ c.requires.marks ∙ links-length shelf_chain.next atlas.lists.shelves c.args.links.now c.requires.links in
+    let walks = walks-by shelf_chain.next atlas.lists.shelves atlas.lists.first_shelf c.args.links.now c.bits-first.result c.requires.links first in
+    let unused_walks = walks-by shelf_chain.next atlas.lists.shelves atlas.lists.free_shelves c.args.links.now c.bits-unused.result c.requires.links unused in
+    record {
+      met = c.in-Ok.ensures.met ∙ ap (λ (w : Walked). w.met) walks;
+      end = sym (ap (λ (w : Walked). w.end) walks) ∙ c.in-Ok.ensures.end;
+      unused_end = sym (ap (λ (w : Walked). w.end) unused_walks) ∙ c.in_default.ensures.end;
+      once = subst (λ (n : ℕ). HasEachOnce n ((shelf_walk atlas.lists).met ++ (unused_shelf_walk atlas.lists).met)) count
+          (c.if-not-all_marked.ensures.all refl ((shelf_walk atlas.lists).met ++ (unused_shelf_walk atlas.lists).met) both);
+      next_fits = c.requires.fit;
+      first_fits = ap link_of (sym first) ∙ c.bits-first.ensures.link ∙ c.first_shelf.ensures ∙ ap (λ (a : AtlasRecords). a.lists.first_shelf) c.atlas.view_is;
+      unused_fits = ap link_of (sym unused) ∙ c.bits-unused.ensures.link ∙ c.unused_shelves.ensures ∙ ap (λ (a : AtlasRecords). a.lists.free_shelves) c.atlas.view_is;
+    }

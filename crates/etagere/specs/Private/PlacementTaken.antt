@@ -1,0 +1,126 @@
+-- What taking a placement does to linked records, which it names by their numbers.
+use Rattle.std.specs.Prelude.{ℕ, ◌+◌, ◌-◌, ◌*◌, ◌<◌, ◌≤◌, true, false, Option, None, Some, List, length}
+use Rattle.etagere_base.specs.Frames.{longest_side}
+use Rattle.etagere_base.specs.Ids.{index_modulus}
+use Rattle.etagere_links.specs.declared.records.ItemRecord.{ItemRecord}
+use Rattle.etagere_links.specs.declared.records.ShelfRecord.{ShelfRecord}
+use Rattle.etagere_links.specs.Links.{no_link}
+use Rattle.etagere_links.specs.RecordEdits.{item_changed, shelf_changed}
+use Rattle.etagere_links.specs.RecordLists.{Records, field_at}
+use Rattle.etagere_links.specs.RecordMerges.{item_given, front_given, shelf_split}
+use Rattle.etagere_links.specs.RecordUses.{new_item, new_shelf, rests_of, rests_used}
+use Rattle.etagere.specs.Choice.{Placement}
+
+-- the item record of this number
+abbrev pub item_record : List ItemRecord → ℕ → ItemRecord
+item_record items number = field_at (λ (item : ItemRecord). item) new_item items number
+
+-- the shelf record of this number
+abbrev pub shelf_record : List ShelfRecord → ℕ → ShelfRecord
+shelf_record shelves number = field_at (λ (shelf : ShelfRecord). shelf) new_shelf shelves number
+
+-- the record of a free item that begins there, of this width, in the shelf of this number, in no
+-- list
+abbrev pub free_item : ℕ → ℕ → ℕ → ℕ → ItemRecord
+free_item x width shelf generation =
+    record {
+      x = x;
+      width = width;
+      prev = None;
+      next = None;
+      prev_unallocated = None;
+      next_unallocated = None;
+      shelf = shelf;
+      allocated = false;
+      generation = generation;
+    }
+
+-- the record of the rest of a shelf above this height, with this item
+abbrev pub rest_shelf : ShelfRecord → ℕ → ℕ → ShelfRecord
+rest_shelf whole height item =
+    record {
+      x = whole.x;
+      y = whole.y + height;
+      height = whole.height - height;
+      prev = None;
+      next = None;
+      first_item = Some item;
+      first_unallocated = Some item;
+      is_empty = true;
+    }
+
+-- the records once the shelf of a placement was split, where these are those of the rest; the width
+-- is its column's
+abbrev pub with_shelf_rest : ℕ → Placement → Option ℕ → Option ℕ → Records → Records
+with_shelf_rest column_width found None item records = records
+with_shelf_rest column_width found (Some shelf) None records = records
+with_shelf_rest column_width found (Some shelf) (Some item) records =
+    shelf_split found.shelf shelf item found.height
+    (rest_shelf (shelf_record records.shelves found.shelf) found.height item)
+    (free_item (shelf_record records.shelves found.shelf).x column_width shelf
+    (item_record records.items item).generation)
+    records
+
+-- the record of the rest of an item beyond this width, in the shelf of this number
+abbrev pub rest_item : ItemRecord → ℕ → ℕ → ℕ → ItemRecord
+rest_item whole width shelf generation =
+    free_item (whole.x + width) (whole.width - width) shelf generation
+
+-- the records once that of the rest of the item of a placement was written
+abbrev pub with_rest_written : Placement → ℕ → Records → Records
+with_rest_written found rest records =
+    item_changed rest
+    (λ _. rest_item (item_record records.items found.item) found.width found.shelf
+    (item_record records.items rest).generation)
+    records
+
+-- the records once the item of a placement was given: its front, where this is the record of the
+-- rest, else all of it
+abbrev pub with_item_given : Placement → Option ℕ → Records → Records
+with_item_given found None records = item_given found.shelf found.item records
+with_item_given found (Some rest) records =
+    front_given found.shelf found.item rest found.width (with_rest_written found rest records)
+
+-- the records once those for the rests of a placement were put to use
+abbrev pub rests_used_for : Placement → Records → Records
+rests_used_for found records = rests_used found.splits_shelf found.splits_item records
+
+-- the records once its shelf was split, where that is due
+abbrev pub shelf_split_for : ℕ → Placement → Records → Records
+shelf_split_for column_width found records =
+    let rests = rests_of found.splits_shelf found.splits_item records in
+    with_shelf_rest column_width found rests.shelf rests.shelf_item (rests_used_for found records)
+
+-- the records after a placement was taken
+abbrev pub placement_taken : ℕ → Placement → Records → Records
+placement_taken column_width found records =
+    shelf_changed found.shelf (λ (here : ShelfRecord). record here { is_empty = false })
+    (with_item_given found (rests_of found.splits_shelf found.splits_item records).item
+    (shelf_split_for column_width found records))
+
+-- the id under which the item of this number is given
+abbrev pub id_of : List ItemRecord → ℕ → ℕ
+id_of items number = number + index_modulus * (item_record items number).generation
+
+-- what splitting its shelf needs
+pub record IsShelfSplittable (found : Placement) (records : Records) : Type 0 where
+  pub shelf : found.shelf < length records.shelves
+  pub few : length records.shelves ≤ no_link
+  pub bottom : (shelf_record records.shelves found.shelf).y + found.height ≤ longest_side
+  pub shorter : found.height ≤ (shelf_record records.shelves found.shelf).height
+
+-- what splitting its item needs
+pub record IsItemSplittable (found : Placement) (records : Records) : Type 0 where
+  pub item : found.item < length records.items
+  pub few : length records.items ≤ no_link
+  pub right : (item_record records.items found.item).x + found.width ≤ longest_side
+  pub narrower : found.width ≤ (item_record records.items found.item).width
+
+-- what taking a placement needs of records
+pub record CanTakeFrom (column_width : ℕ) (found : Placement) (records : Records) : Type 0 where
+  pub item : found.item < length records.items
+  pub small : found.shelf < no_link
+  pub items : length (rests_used_for found records).items ≤ no_link
+  pub shelves : length (rests_used_for found records).shelves ≤ no_link
+  pub splits_shelf : IsShelfSplittable found (rests_used_for found records)
+  pub splits_item : IsItemSplittable found (shelf_split_for column_width found records)

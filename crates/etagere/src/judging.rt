@@ -1,0 +1,36 @@
+//! Judging the rules of a snapshot, each in one pass over lists that walks have met. No link is
+//! followed here, and no list is searched.
+//!
+//! Definitions: `StandsFor`, whose fields are the rules, and `Judging` for some of them over lists.
+//! Each pass answers exactly: a yes says that the rule holds, a no that it is broken.
+
+ghost use Rattle.etagere_links.specs.RecordLists.{Entry};
+
+pub(crate) mod filling;
+pub(crate) mod framing;
+pub(crate) mod freeing;
+pub(crate) mod linking;
+pub(crate) mod neighbouring;
+pub(crate) mod spacing;
+pub(crate) mod stacking;
+
+use std::marker::Model;
+
+/// What walks have met of a shelf: its number, its items and its free list, by the numbers of their
+/// records.
+#[derive(Drop)]
+pub(crate) struct WalkedShelf {
+    pub(crate) number: u16,
+    pub(crate) items: Vec<u16>,
+    pub(crate) free_list: Vec<u16>,
+}
+
+impl Model for WalkedShelf {
+    ghost Value = { Entry };
+
+    ghost view = { λ shelf. record {
+      number = shelf.number;
+      items = shelf.items.items;
+      free_list = shelf.free_list.items;
+    } };
+}

@@ -1,0 +1,125 @@
+//! Single fields of records by number, and what they are where there is no such record.
+//!
+//! Definitions: `AtlasRecords` and `RecordLists`. A field that is read by number gets its function here.
+
+ghost use Rattle.std.specs.Prelude.{◌≡◌, ◌<◌, IfSome};
+ghost use Rattle.etagere.specs.AtlasRecords as spec;
+ghost use Rattle.etagere.specs.Private.ItemReturned as returned;
+ghost use Rattle.etagere_links.specs.Links.{no_link};
+ghost use Rattle.etagere_links.specs.RecordLists.{first_free_of, first_item_of};
+
+use etagere_links::{ItemRecord, Link, ShelfRecord};
+
+/// Whether the item of this number is allocated.
+pub(crate) fn is_allocated(items: &[ItemRecord], number: usize) -> bool
+    ensures { result ≡ spec.is_allocated_at items.now number }
+{
+    number < items.len() && items[number].allocated
+}
+
+/// Where the item of this number begins along.
+pub(crate) fn place(items: &[ItemRecord], number: usize) -> u16
+    ensures { result ≡ spec.place_of items.now number }
+{
+    if number < items.len() {
+        items[number].x
+    } else {
+        0
+    }
+}
+
+/// How wide the item of this number is.
+pub(crate) fn width(items: &[ItemRecord], number: usize) -> u16
+    ensures { result ≡ returned.width_of items.now number }
+{
+    if number < items.len() {
+        items[number].width
+    } else {
+        0
+    }
+}
+
+/// The number of the shelf of the item of this number.
+pub(crate) fn shelf(items: &[ItemRecord], number: usize) -> usize
+    ensures { result ≡ spec.shelf_of items.now number }
+{
+    if number < items.len() {
+        usize::from(items[number].shelf)
+    } else {
+        0
+    }
+}
+
+/// Where the shelf of this number begins along.
+pub(crate) fn along(shelves: &[ShelfRecord], shelf: usize) -> u16
+    ensures { result ≡ spec.along_of shelves.now shelf }
+{
+    if shelf < shelves.len() {
+        shelves[shelf].x
+    } else {
+        0
+    }
+}
+
+/// Where the shelf of this number begins across.
+pub(crate) fn across(shelves: &[ShelfRecord], shelf: usize) -> u16
+    ensures { result ≡ spec.across_of shelves.now shelf }
+{
+    if shelf < shelves.len() {
+        shelves[shelf].y
+    } else {
+        0
+    }
+}
+
+/// How tall the shelf of this number is.
+pub(crate) fn height(shelves: &[ShelfRecord], shelf: usize) -> u16
+    ensures { result ≡ spec.height_of shelves.now shelf }
+{
+    if shelf < shelves.len() {
+        shelves[shelf].height
+    } else {
+        0
+    }
+}
+
+/// Whether the shelf of this number is empty.
+pub(crate) fn is_empty(shelves: &[ShelfRecord], shelf: usize) -> bool
+    ensures { result ≡ spec.is_empty_at shelves.now shelf }
+{
+    shelf < shelves.len() && shelves[shelf].is_empty
+}
+
+/// The number of the first item of the shelf of this number.
+pub(crate) fn first_item(shelves: &[ShelfRecord], shelf: usize) -> Option<usize>
+    ensures value { result ≡ first_item_of shelves.now shelf }
+    ensures small { IfSome result (λ number. number < no_link) }
+{
+    if shelf < shelves.len() {
+        shelves[shelf].first_item.number()
+    } else {
+        None
+    }
+}
+
+/// The link to the first item of the shelf of this number.
+pub(crate) fn first_item_link(shelves: &[ShelfRecord], shelf: usize) -> Link
+    ensures { result ≡ first_item_of shelves.now shelf }
+{
+    if shelf < shelves.len() {
+        shelves[shelf].first_item
+    } else {
+        Link::none()
+    }
+}
+
+/// The link to the first of the free list of the shelf of this number.
+pub(crate) fn first_free_link(shelves: &[ShelfRecord], shelf: usize) -> Link
+    ensures { result ≡ first_free_of shelves.now shelf }
+{
+    if shelf < shelves.len() {
+        shelves[shelf].first_unallocated
+    } else {
+        Link::none()
+    }
+}

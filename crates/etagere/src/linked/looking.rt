@@ -1,0 +1,69 @@
+//! The record that is allocated under an id, by one look, and where its item lies.
+//!
+//! Definitions: `Reading`, and `rectangle_of` of `Places`. Nothing here changes the records, and
+//! nothing is walked.
+
+ghost use Rattle.std.specs.Prelude.{◌≡◌, true};
+ghost use Rattle.etagere.specs.AtlasRecords.{is_allocated_at};
+ghost use Rattle.etagere.specs.Places as places;
+ghost use Rattle.etagere.specs.Private.Kept.{AreKept, state_of};
+ghost use Rattle.etagere.specs.Private.Reading as reading;
+
+use crate::linked::fields;
+use etagere_base::{AllocId, Frame, INDEX_MODULUS, Rectangle, rectangle_at};
+use etagere_links::Records;
+
+/// The index of an id: the number of the record that is allocated under it.
+pub(crate) fn index_of(records: &Records, id: AllocId) -> Option<u32>
+    ensures { result ≡ reading.record_of records.now.items id }
+{
+    let index = id.serialize() % INDEX_MODULUS;
+    let item = records.items().get(index as usize)?;
+    if item.allocated && u32::from(item.generation) == id.serialize() / INDEX_MODULUS {
+        Some(index)
+    } else {
+        None
+    }
+}
+
+/// The number of the record that is allocated under an id.
+pub(crate) fn number_of(records: &Records, id: AllocId) -> Option<usize>
+    ensures { result ≡ reading.record_of records.now.items id }
+{
+    Some(index_of(records, id)? as usize)
+}
+
+/// Where the item of a record lies that is allocated.
+pub(crate) fn recorded_rectangle(frame: &Frame, records: &Records, number: usize) -> Rectangle
+    requires kept { AreKept frame.now records.now }
+    requires allocated { is_allocated_at records.now.items number ≡ true }
+    ensures { result ≡ reading.recorded_rectangle frame.now records.now number }
+{
+    let item = &records.items()[number];
+    let shelf = &records.shelves()[usize::from(item.shelf)];
+    rectangle_at(
+        frame,
+        u32::from(item.x),
+        u32::from(shelf.y),
+        u32::from(item.width),
+        u32::from(shelf.height),
+    )
+}
+
+/// The rectangle that is allocated under an id.
+pub(crate) fn rectangle_of(frame: &Frame, records: &Records, id: AllocId) -> Option<Rectangle>
+    requires { AreKept frame.now records.now }
+    ensures { result ≡ places.rectangle_of (state_of frame.now records.now) id }
+{
+    let number = number_of(records, id)?;
+    Some(recorded_rectangle(frame, records, number))
+}
+
+/// How large the item of this number is.
+pub(crate) fn recorded_area(records: &Records, number: usize) -> u32
+    ensures { result ≡ reading.recorded_area records.now number }
+{
+    let shelf = fields::shelf(records.items(), number);
+    u32::from(fields::width(records.items(), number))
+        * u32::from(fields::height(records.shelves(), shelf))
+}

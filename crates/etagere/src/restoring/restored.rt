@@ -1,0 +1,96 @@
+//! Judging all rules of a snapshot, and making the atlas for which it stands.
+//!
+//! Definitions: `Snapshots`, and `StandsFor` for the rules. Time and steps are linear in the number of records.
+
+ghost use Rattle.std.specs.Prelude.{◌≡◌, ◌+◌, ◌*◌, ◌<◌, ◌≤◌, ◌^◌, IfErr, IfOk, OnOk, length};
+ghost use Rattle.etagere_base.specs.Frames.{HasAllColumns, IsFrame, longest_side};
+ghost use Rattle.etagere_links.specs.RecordLists.{item_numbers};
+ghost use Rattle.etagere.specs.Atlas.{KeepsPromises};
+ghost use Rattle.etagere.specs.Private.Kept.{AreKept};
+ghost use Rattle.etagere.specs.Snapshots.{IsBroken, snapshot_records, state_spelled};
+ghost use Rattle.etagere.specs.StandsFor.{HasCounts, StandsFor};
+ghost use Rattle.etagere.specs.State.{items_in_use};
+
+use crate::atlas::AtlasAllocator;
+use crate::judging::WalkedShelf;
+use crate::restoring::LoadedAtlas;
+use crate::restoring::rules::judge_rules;
+use crate::restoring::walking::walk_records;
+use crate::snapshots::AtlasSnapshot;
+use etagere_base::RestoreFault;
+use std::alloc::Global;
+
+/// How many items these shelves have.
+fn count_items(shelves: &[WalkedShelf]) -> u32
+    requires { length (item_numbers shelves.now) < 2 ^ 31 }
+    ensures { result ≡ length (item_numbers shelves.now) }
+{
+    let mut count = 0;
+    for shelf in shelves {
+        count += shelf.items.len() as u32;
+    }
+    count
+}
+
+/// Follows all links of an atlas and judges its rules; returns how many items are in use.
+fn judge_atlas(alloc: Global, atlas: &LoadedAtlas, steps: &mut u64) -> Result<u32, RestoreFault>
+    requires frame { IsFrame longest_side atlas.now.frame }
+    requires columns { HasAllColumns atlas.now.frame }
+    requires counts { HasCounts atlas.now }
+    requires steps { steps.old ≡ 0 }
+    ensures ok { OnOk result (StandsFor atlas.now (state_spelled atlas.now)) }
+    ensures kept { OnOk result (AreKept atlas.now.frame atlas.now.lists) }
+    ensures items { IfOk result (λ count. count ≡ items_in_use (state_spelled atlas.now).shelves) }
+    ensures fault { IfErr result (IsBroken atlas.now) }
+    ensures bound { steps.new
+        ≤ 4 * (length atlas.now.lists.shelves + length atlas.now.lists.items) }
+    ensures each { IfOk result
+        (λ count. length (state_spelled atlas.now).shelves + count ≤ steps.new) }
+{
+    let walked = match walk_records(alloc, atlas, steps) {
+        Ok(walked) => walked,
+        Err(fault) => return Err(fault),
+    };
+    let shelves = atlas.records.shelves();
+    let items = atlas.records.items();
+    match judge_rules(
+        alloc,
+        &atlas.frame,
+        shelves,
+        items,
+        &walked,
+        atlas.allocated_space,
+    ) {
+        Ok(()) => Ok(count_items(&walked.shelves)),
+        Err(fault) => Err(fault),
+    }
+}
+
+/// Makes an atlas from a snapshot, as `AtlasAllocator::restore` does, and counts the links that it follows. It is
+/// what the laws of restoring are stated of, and not meant for users.
+///
+/// `steps` becomes the number of links that were followed, whether the snapshot is accepted or refused: at most four
+/// times the number of its records, and after `Ok` at least as many as shelves and items are in use.
+pub fn restore_atlas(
+    alloc: Global,
+    snapshot: AtlasSnapshot,
+    steps: &mut u64,
+) -> Result<AtlasAllocator, RestoreFault>
+    ensures ok { IfOk result (λ atlas. StandsFor (snapshot_records snapshot) atlas) }
+    ensures fault { IfErr result (IsBroken (snapshot_records snapshot)) }
+    ensures promises { IfOk result KeepsPromises }
+    ensures steps { IfOk result
+        (λ atlas. length atlas.shelves + items_in_use atlas.shelves ≤ steps.new) }
+    ensures bound { steps.new
+        ≤ 4 * (length snapshot.shelves.items + length snapshot.items.items) }
+{
+    *steps = 0;
+    let atlas = match LoadedAtlas::of_snapshot(snapshot) {
+        Ok(atlas) => atlas,
+        Err(fault) => return Err(fault),
+    };
+    match judge_atlas(alloc, &atlas, steps) {
+        Ok(items_in_use) => Ok(AtlasAllocator::of_judged(atlas, items_in_use)),
+        Err(fault) => Err(fault),
+    }
+}

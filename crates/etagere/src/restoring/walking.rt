@@ -1,0 +1,54 @@
+//! Following all links of a snapshot: the chain of shelves, what is unused, the items of each shelf and its free
+//! list.
+//!
+//! Definitions: `Restoring`.
+
+ghost use Rattle.std.specs.Prelude.{◌≡◌, ◌+◌, ◌*◌, ◌≤◌, IfOk, IfErr, length};
+ghost use Rattle.etagere_links.specs.Links.{no_link};
+ghost use Rattle.etagere_links.specs.RecordLists.{item_numbers};
+ghost use Rattle.etagere.specs.Private.Restoring.{IsWalked};
+ghost use Rattle.etagere.specs.Snapshots.{IsBroken};
+
+use crate::judging::linking::links_back;
+use crate::restoring::LoadedAtlas;
+use crate::restoring::chains::{WalkedItems, walk_items};
+use crate::restoring::free_lists::walk_free_lists;
+use crate::restoring::shelf_lists::walk_shelves;
+use etagere_base::RestoreFault;
+use etagere_links::{Chain, ShelfRecord};
+use std::alloc::Global;
+
+/// The shelves in use with their items and free lists, and the unused items, where each record is in one list,
+/// each list ends at none, and the shelves link back. The steps are the links followed.
+pub(crate) fn walk_records(
+    alloc: Global,
+    atlas: &LoadedAtlas,
+    steps: &mut u64,
+) -> Result<WalkedItems, RestoreFault>
+    requires shelves { length atlas.now.lists.shelves ≤ no_link }
+    requires items { length atlas.now.lists.items ≤ no_link }
+    requires steps { steps.old ≡ 0 }
+    ensures ok { IfOk result (λ walked. IsWalked atlas.now walked.shelves.items walked.unused.items) }
+    ensures fault { IfErr result (IsBroken atlas.now) }
+    ensures bound { steps.new
+        ≤ 4 * (length atlas.now.lists.shelves + length atlas.now.lists.items) }
+    ensures each { IfOk result
+        (λ walked. length walked.shelves.items + length (item_numbers walked.shelves.items) ≤ steps.new) }
+{
+    let numbers = match walk_shelves(alloc, atlas, steps) {
+        Ok(numbers) => numbers,
+        Err(fault) => return Err(fault),
+    };
+    if !links_back::<Chain, ShelfRecord>(atlas.records.shelves(), &numbers) {
+        return Err(RestoreFault::Link);
+    }
+    let WalkedItems { shelves, unused } = match walk_items(alloc, atlas, &numbers, steps) {
+        Ok(walked) => walked,
+        Err(fault) => return Err(fault),
+    };
+    let shelves = match walk_free_lists(alloc, atlas, shelves, steps) {
+        Ok(shelves) => shelves,
+        Err(fault) => return Err(fault),
+    };
+    Ok(WalkedItems { shelves, unused })
+}
