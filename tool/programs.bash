@@ -152,6 +152,11 @@ build() {
     trap - EXIT INT TERM HUP
 }
 
+# Ends the script with the usage $1 where there are further arguments.
+refuse_arguments() {
+    (($# == 1)) || { echo "usage: $1" >&2 && exit 2; }
+}
+
 # Runs the program of the crate $1 with the other arguments, in place of this script.
 run_program() {
     local crate=$1 name program
@@ -168,6 +173,6 @@ run_program() {
         build "$crate" "$name"
         program=$(kept "$name")
     fi
-    [[ ! -t 0 ]] || say "reads a script from standard input, up to its end"
+    [[ ! -t 0 ]] || say "reads standard input, up to its end"
     exec "$program" "$@"
 }

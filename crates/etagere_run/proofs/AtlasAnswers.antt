@@ -19,12 +19,11 @@ use Rattle.etagere_run.specs.declared.commands.AtlasCommand.{AtlasCommand}
 use Rattle.etagere_run.specs.declared.commands.AtlasCommand.TheVariants.{Allocate, Return, Look, Clear}
 use Rattle.etagere_run.specs.declared.commands.Reply.{Reply}
 use Rattle.etagere_run.specs.declared.commands.Reply.TheVariants.{Placed, Returned, At, Cleared}
-use Rattle.etagere_run.specs.AtlasRuns.{AtlasStep, LiveKeepsPromises, RunKeepsPromises, atlas_effect, shelf_atlas}
+use Rattle.etagere_run.specs.AtlasRuns.{AtlasStep, LiveKeepsPromises, atlas_effect, shelf_atlas}
 use Rattle.etagere_run.specs.Live as effects
 use Rattle.etagere_run.specs.Live.{Entry, allocation_at, live_allocations, without}
-use Rattle.etagere_run.specs.Private.Tied.{IsAnswer, IsTied, SameAlignments}
+use Rattle.etagere_run.specs.Private.Tied.{IsAnswer, IsAsked, IsTied, SameAlignments}
 use Rattle.etagere_run.proofs.LiveEntries.{last-adds, without-adds}
-use Rattle.etagere_run.proofs.RunsOn.{IsAsked, IsUnderWay}
 
 -- what is live at a position is found under its id
 found-at : (entries : List Entry) (state : AtlasState) (position : ℕ) (allocation : Allocation)
@@ -54,7 +53,11 @@ tied-cleared state none promises = record { promises = promises; allocated = tie
 -- an equal frame has the same alignments
 pub alignments-same : (old new : Frame) → new ≡ old → SameAlignments old new
 alignments-same old new is =
-    record { width = ap (λ (f : Frame). f.alignment_width) is; height = ap (λ (f : Frame). f.alignment_height) is }
+    record {
+      width = ap (λ (f : Frame). f.alignment_width) is;
+      height = ap (λ (f : Frame). f.alignment_height) is;
+      direction = ap (λ (f : Frame). f.vertical) is;
+    }
 
 -- the size was placed
 pub placed : (position : ℕ) (size : Size) (allocation : Allocation) (entries later : List Entry) (old new : AtlasState)
@@ -116,7 +119,7 @@ looked position other allocation rectangle index entries state tied is rectangle
     record {
       step = (record { allocation = allocation; live_is = is; rectangle_is = rectangle_is; index_is = index_is }, refl);
       live_is = refl;
-      alignments = record { width = refl; height = refl };
+      alignments = record { width = refl; height = refl; direction = refl };
       tied = tied;
     }
 
@@ -147,7 +150,7 @@ AtlasStep-adds entries old new Clear (Placed given) step allocation adds = absur
 AtlasStep-adds entries old new command reply step allocation adds = absurd (cc)
 
 -- what is live keeps its promises, where it is all that the atlas has allocated
-live-promises : (entries : List Entry) (state : AtlasState) → IsTied entries state
+pub live-promises : (entries : List Entry) (state : AtlasState) → IsTied entries state
     → LiveKeepsPromises state (live_allocations entries)
 live-promises entries state tied =
     let live = live_allocations entries in
@@ -163,16 +166,4 @@ live-promises entries state tied =
       kept = Each-weaken (IsFound all) (λ (a : Allocation). rectangle_of state a.id ≡ Some a.rectangle) live
           (found-rectangle state) tied.allocated.found;
       empty = λ none. promises.empty (tied-empty all (subst (λ (l : List Allocation). AreTied l all) none tied.allocated));
-    }
-
--- a run that is under way keeps its promises
-pub run-promises : (frame : Frame) (entries : List Entry) (state : AtlasState) (commands : List AtlasCommand) (replies : List Reply)
-    → IsUnderWay shelf_atlas IsTied frame commands replies entries state → RunKeepsPromises frame commands replies
-run-promises frame entries state commands replies way =
-    record {
-      state = state;
-      run = way.run;
-      given = rw way.live_is at way.given;
-      live = subst (λ (l : List Entry). LiveKeepsPromises state (live_allocations l)) way.live_is
-          (live-promises entries state way.tied);
     }

@@ -5,12 +5,11 @@ use Rattle.std.specs.List.{onto_first}
 use Rattle.std.proofs.Math.Seq.{take-length}
 use Rattle.std.proofs.lemmas.List.{length-drop}
 use Rattle.std.proofs.lemmas.List.Elements.{All-head, All-tail}
-use Rattle.etagere_run.specs.declared.commands.AtlasCommand.{AtlasCommand}
 use Rattle.etagere_run.specs.declared.script.ScriptFault.{ScriptFault}
 use Rattle.etagere_run.specs.declared.script.ScriptFault.TheVariants as faults
 use Rattle.etagere_run.specs.Lines.{lines_of, words_of, filled_from}
 use Rattle.etagere_run.specs.Words.{Header, header_of}
-use Rattle.etagere_run.specs.Script.{Request, script_of, request_of, commands_of, ◌>>=◌}
+use Rattle.etagere_run.specs.Script.{Commands, Request, script_of, request_of, commands_to, ◌>>=◌}
 use Rattle.etagere_run.specs.Private.ScriptReading.{Fails}
 use Rattle.etagere_run.proofs.Pieces.{before_pieces-separator, other_byte}
 
@@ -19,12 +18,12 @@ abbrev request_from : ℕ → List (List ℕ) → Result Request ℕ
 request_from number lines = request_of (length lines + number) (filled_from number lines)
 
 -- the request of a header and a reading of commands
-abbrev pub headed : Header → Result (List AtlasCommand) ℕ → Result Request ℕ
+abbrev pub headed : Header → Result Commands ℕ → Result Request ℕ
 headed header read = read >>= λ commands. Ok (record { size = header.size; options = header.options; commands = commands })
 
 -- the request of a header and the lines after it
 abbrev pub with_header : Header → ℕ → List ℕ → Result Request ℕ
-with_header header number bytes = headed header (commands_of (filled_from number (lines_of bytes)))
+with_header header number bytes = headed header (commands_to header.kind (filled_from number (lines_of bytes)))
 
 -- a first line without bytes is passed over
 request_from-blank : (number : ℕ) (lines : List (List ℕ)) → request_from number ([] ∷ lines) ≡ request_from (number + 1) lines
@@ -112,6 +111,6 @@ pub rest_is : (start : ℕ) (bytes : List ℕ) → drop start bytes ≡ take (le
 rest_is start bytes = sym (ap (λ n. take n (drop start bytes)) (sym (length-drop start bytes)) ∙ take-length (drop start bytes))
 
 -- a fault of the commands is one of the script
-pub script-fails : (input : Result Request ℕ) (header : Header) (number : ℕ) (bytes : List ℕ) (fault : ScriptFault) → input ≡ with_header header number bytes → Fails fault (commands_of (filled_from number (lines_of bytes))) → Fails fault input
+pub script-fails : (input : Result Request ℕ) (header : Header) (number : ℕ) (bytes : List ℕ) (fault : ScriptFault) → input ≡ with_header header number bytes → Fails fault (commands_to header.kind (filled_from number (lines_of bytes))) → Fails fault input
 script-fails input header number bytes (faults.BadLine bad) is fails = is ∙ ap (headed header) fails
 script-fails input header number bytes faults.Memory is fails = tt

@@ -7,9 +7,10 @@ use Rattle.std.specs.Prelude.{◌==◌, ◌^◌, ◌-◌, pos, neg_ℤ, option_m
 use Rattle.std.specs.Str.{all_ascii_digits}
 use Rattle.std.specs.Char.{is_ascii_digit}
 use Rattle.std.proofs.lemmas.List.Elements.{All-nil, All-cons, All-head, All-tail}
+use Rattle.etagere_run.specs.declared.words.AtlasKind.{AtlasKind}
 use Rattle.etagere_run.specs.Lines.{before_pieces, words_of, Lacks}
 use Rattle.etagere_run.specs.Numbers.{number_of, position_of, natural_of, are_digits}
-use Rattle.etagere_run.specs.Words.{Header, atlas_in, atlas_of, size_in, size_of, position_in, direction_of, command_of, command_named, ◌>>=◌}
+use Rattle.etagere_run.specs.Words.{Header, atlas_in, atlas_of, size_in, size_of, position_in, direction_of, command_of, ◌>>=◌}
 use Rattle.etagere_base.specs.declared.geometry.Size.{Size}
 use Rattle.etagere_run.proofs.Pieces.{before_pieces-other, before_pieces-separator}
 
@@ -130,26 +131,26 @@ pub size_in-words : (width height : List ℕ) → size_in (width ∷ words_of he
 size_in-words width height = last-word (λ words. size_in (width ∷ words)) height (λ first second rest. refl) (λ size h. size-lacks width height size h) (shape height)
 
 -- the direction of an atlas has no space
-atlas-lacks : (width height alignment_width alignment_height columns direction : List ℕ) (header : Header) → atlas_of width height alignment_width alignment_height columns direction ≡ Some header → Lacks 32 direction
-atlas-lacks width height alignment_width alignment_height columns direction header h =
+atlas-lacks : (kind : AtlasKind) (width height alignment_width alignment_height columns direction : List ℕ) (header : Header) → atlas_of kind width height alignment_width alignment_height columns direction ≡ Some header → Lacks 32 direction
+atlas-lacks kind width height alignment_width alignment_height columns direction header h =
     let size = bound (size_of width height) _ header h in
     let alignment = bound (size_of alignment_width alignment_height) _ header size.2 in
     let vertical = bound (direction_of direction) _ header alignment.2 in
     direction-lacks direction vertical.0 vertical.1
 
 -- the direction of an atlas is the last bytes
-pub atlas_in-words : (width height alignment_width alignment_height columns direction : List ℕ) → atlas_in (width ∷ height ∷ alignment_width ∷ alignment_height ∷ columns ∷ words_of direction) ≡ atlas_of width height alignment_width alignment_height columns direction
-atlas_in-words width height alignment_width alignment_height columns direction =
-    last-word (λ words. atlas_in (width ∷ height ∷ alignment_width ∷ alignment_height ∷ columns ∷ words)) direction (λ first second rest. refl)
-    (λ header h. atlas-lacks width height alignment_width alignment_height columns direction header h) (shape direction)
+pub atlas_in-words : (kind : AtlasKind) (width height alignment_width alignment_height columns direction : List ℕ) → atlas_in kind (width ∷ height ∷ alignment_width ∷ alignment_height ∷ columns ∷ words_of direction) ≡ atlas_of kind width height alignment_width alignment_height columns direction
+atlas_in-words kind width height alignment_width alignment_height columns direction =
+    last-word (λ words. atlas_in kind (width ∷ height ∷ alignment_width ∷ alignment_height ∷ columns ∷ words)) direction (λ first second rest. refl)
+    (λ header h. atlas-lacks kind width height alignment_width alignment_height columns direction header h) (shape direction)
 
 -- bytes with a name before them are several words
-several-words : (name words : List ℕ) → Shape words → command_of (name ∷ words_of words) ≡ command_named name (words_of words)
-several-words name words (One one) = rw one refl
-several-words name words (More first second rest more space) = rw more refl
+several-words : {C : Type 0} (clear : C) (named : List ℕ → List (List ℕ) → Option C) (name words : List ℕ) → Shape words → command_of clear named (name ∷ words_of words) ≡ named name (words_of words)
+several-words clear named name words (One one) = rw one refl
+several-words clear named name words (More first second rest more space) = rw more refl
 
 -- a name with anything after it, were it a space alone
-pub command_of-words : (name words : List ℕ) → command_of (name ∷ words_of words) ≡ command_named name (words_of words)
-command_of-words name words = several-words name words (shape words)
+pub command_of-words : {C : Type 0} (clear : C) (named : List ℕ → List (List ℕ) → Option C) (name words : List ℕ) → command_of clear named (name ∷ words_of words) ≡ named name (words_of words)
+command_of-words clear named name words = several-words clear named name words (shape words)
 
 pub ruleset last_words = (size_in-words, atlas_in-words, command_of-words)

@@ -7,7 +7,7 @@ use Rattle.etagere_base.specs.declared.ids.Allocation.{Allocation}
 use Rattle.etagere_base.specs.Lists.{Each}
 use Rattle.etagere_base.proofs.EachLemmas.{Each-append}
 use Rattle.etagere.specs.Atlas as atlas
-use Rattle.etagere_run.specs.Live.{Effect, Adds, TakesOut, Empties, Keeps, Entry, allocation_at, live_after, live_allocations, live_from, without}
+use Rattle.etagere_run.specs.Live.{Effect, Adds, TakesOut, Empties, Keeps, Entry, allocation_at, live_after, live_allocations, live_from, peak_after, peak_from, without}
 
 -- the allocation of an entry that may be there
 abbrev given : Option Entry → Option Allocation
@@ -85,3 +85,17 @@ live_from-more position entries [] effect = ap (λ n. live_after n effect entrie
 live_from-more position entries (first ∷ effects) effect =
     live_from-more (position + 1) (live_after position first entries) effects effect
     ∙ ap (λ n. live_after n effect (live_from (position + 1) (live_after position first entries) effects)) (omega arith)
+
+-- the most that was live after one more effect at the end
+pub peak_from-more : (most position : ℕ) (entries : List Entry) (effects : List Effect) (effect : Effect)
+    → peak_from most position entries (effects ++ effect ∷ [])
+    ≡ peak_after effect (peak_from most position entries effects)
+    (length (live_after (position + length effects) effect (live_from position entries effects)))
+peak_from-more most position entries [] effect =
+    ap (λ n. peak_after effect most (length (live_after n effect entries))) (omega arith)
+peak_from-more most position entries (first ∷ effects) effect =
+    let later = live_after position first entries in
+    let greatest = peak_after first most (length later) in
+    peak_from-more greatest (position + 1) later effects effect
+    ∙ ap (λ n. peak_after effect (peak_from greatest (position + 1) later effects)
+    (length (live_after n effect (live_from (position + 1) later effects)))) (omega arith)

@@ -1,8 +1,8 @@
--- A run of any kind goes on by one command, and a fact that holds while a run is under way holds at each moment.
-use Rattle.std.proofs.Common.{◌≡◌, ℕ, zero, suc, ◌+◌, ◌<◌, ◌≤◌, Some, List, [], ◌∷◌, ◌++◌, length, get_or, take, refl, ap, sym, ◌∙◌, subst, ⊎_elim, arith}
-use Rattle.std.specs.List.{slice_get}
+-- A run of any kind goes on by one command, and keeps its promises at each moment.
+use Rattle.std.proofs.Common.{◌≡◌, ℕ, zero, suc, ◌+◌, ◌<◌, ◌≤◌, Option, None, Some, List, [], ◌∷◌, ◌++◌, length, get_or, take, refl, ap, sym, ◌∙◌, subst, ⊎_elim, arith}
+use Rattle.std.specs.List.{last_or, slice_get}
 use Rattle.std.proofs.lemmas.Bool.{cases_lt}
-use Rattle.std.proofs.lemmas.List.{length-append, length-take-le, take-append-le, take_all, take_more}
+use Rattle.std.proofs.lemmas.List.{append-nil, append_assoc, length-append, length-take-le, take-append-le, take_all, take_more}
 use Rattle.etagere_base.specs.declared.frames.Frame.{Frame}
 use Rattle.etagere_base.specs.declared.geometry.Rectangle.{Rectangle}
 use Rattle.etagere_base.specs.declared.geometry.Size.{Size}
@@ -13,10 +13,10 @@ use Rattle.etagere_base.proofs.EachLemmas.{Each-weaken}
 use Rattle.etagere_base.proofs.ReplacedLists.{slice_get-append}
 use Rattle.etagere_run.specs.declared.commands.Reply.{Reply}
 use Rattle.etagere_run.specs.declared.commands.Reply.TheVariants.{Placed}
-use Rattle.etagere_run.specs.Live.{Effect, Adds, Entry, live_after, live_from}
-use Rattle.etagere_run.specs.Runs.{IsGiven, Kind, Runs, RunsTo, Throughout, effects, live_in}
-use Rattle.etagere_run.specs.Private.Tied.{IsAnswerOf, SameAlignments}
-use Rattle.etagere_run.proofs.LiveEntries.{Each-after, live_from-more}
+use Rattle.etagere_run.specs.Live.{Effect, Entry, live_after, live_allocations, live_from, peak, peak_after}
+use Rattle.etagere_run.specs.Runs.{IsGiven, Kind, Runs, RunKeepsPromises, RunKeepsPromisesThroughout, Throughout, effects, live_in}
+use Rattle.etagere_run.specs.Private.Tied.{IsAnswerOf, IsAsked, SameAlignments, SuitsRuns}
+use Rattle.etagere_run.proofs.LiveEntries.{Each-after, live_from-more, peak_from-more}
 
 -- an element of the front is one of the whole
 slice_get-front : {X : Type 0} (xs ys : List X) (n : ℕ) (x : X) → slice_get xs n ≡ Some x → slice_get (xs ++ ys) n ≡ Some x
@@ -29,6 +29,11 @@ IsLarge-same : (old new : Frame) (size : Size) (rectangle : Rectangle) → SameA
     → IsLarge new size rectangle → IsLarge old size rectangle
 IsLarge-same old new size rectangle same large =
     record { width = rw same.width at large.width; height = rw same.height at large.height }
+
+-- the last of replies with one more
+last-more : (other : Option Reply) (replies : List Reply) (reply : Reply) → last_or other (replies ++ reply ∷ []) ≡ Some reply
+last-more other [] reply = refl
+last-more other (first ∷ replies) reply = last-more (Some first) replies reply
 
 -- a fact holds at one moment more
 Throughout-more : {C : Type 0} (P : List C → List Reply → Type 0) (commands : List C) (replies : List Reply) (command : C) (reply : Reply)
@@ -77,6 +82,24 @@ module _ {S C : Type 0} (kind : Kind S C) where
       (live_from-more 0 [] so_far (kind.effect command reply)
       ∙ ap (λ n. live_after n (kind.effect command reply) (live_in kind commands replies)) (omega arith))
 
+  -- the most that was live after one more command
+  peak-more : (commands : List C) (replies : List Reply) (command : C) (reply : Reply) (entries later : List Entry)
+      → length replies ≡ length commands → entries ≡ live_in kind commands replies
+      → later ≡ live_after (length commands) (kind.effect command reply) entries
+      → peak (effects kind (commands ++ command ∷ []) (replies ++ reply ∷ []))
+      ≡ peak_after (kind.effect command reply) (peak (effects kind commands replies)) (length later)
+  peak-more commands replies command reply entries later same live_is later_is =
+      let so_far = effects kind commands replies in
+      let effect = kind.effect command reply in
+      let at : 0 + length so_far ≡ length commands = omega (arith, length-effects commands replies same) in
+      let is : live_after (0 + length so_far) effect (live_in kind commands replies) ≡ later =
+      ap (λ n. live_after n effect (live_in kind commands replies)) at
+      ∙ ap (live_after (length commands) effect) (sym live_is)
+      ∙ sym later_is in
+      ap peak (effects-more commands replies command reply same)
+      ∙ peak_from-more 0 0 [] so_far effect
+      ∙ ap (λ (l : List Entry). peak_after effect (peak so_far) (length l)) is
+
   -- a run and one more step are a run
   Runs-more : (position : ℕ) (entries : List Entry) (old middle new : S) (commands : List C) (replies : List Reply)
       (command : C) (reply : Reply)
@@ -93,13 +116,6 @@ module _ {S C : Type 0} (kind : Kind S C) where
     Runs-more (position + 1) (live_after position (kind.effect c r) entries) run.0 middle new commands replies command reply
         run.2 step,
   )
-
-  -- a step that adds an allocation answers a command that asked for it
-  pub record IsAsked (old : S) (command : C) (reply : Reply) (allocation : Allocation) : Type 0 where
-    pub size : Size
-    pub command_is : command ≡ kind.allocate size
-    pub reply_is : reply ≡ Placed allocation
-    pub large : IsLarge (kind.frame old) size allocation.rectangle
 
   -- what was given stays so after one more command
   IsGiven-more : (frame : Frame) (commands : List C) (replies : List Reply) (command : C) (reply : Reply) (entry : Entry)
@@ -118,7 +134,7 @@ module _ {S C : Type 0} (kind : Kind S C) where
       (allocation : Allocation)
       → length replies ≡ length commands
       → SameAlignments frame (kind.frame old)
-      → IsAsked old command reply allocation
+      → IsAsked kind old command reply allocation
       → IsGiven kind frame (commands ++ command ∷ []) (replies ++ reply ∷ [])
       (record { position = length commands; allocation = allocation })
   IsGiven-last frame old commands replies command reply allocation same alignments asked =
@@ -139,15 +155,15 @@ module _ {S C : Type 0} (kind : Kind S C) (Tied : List Entry → S → Type 0) w
     pub alignments : SameAlignments frame (kind.frame state)
     pub tied : Tied entries state
     pub given : Each (IsGiven kind frame commands replies) entries
+    pub bounded : kind.StaysWithin (peak (effects kind commands replies)) state (live_allocations entries) (last_or None replies)
 
   -- one command later
-  IsUnderWay-more : (frame : Frame) (commands : List C) (replies : List Reply) (entries later : List Entry) (old new : S)
+  IsUnderWay-more : SuitsRuns kind Tied → (frame : Frame) (commands : List C) (replies : List Reply) (entries later : List Entry) (old new : S)
       (command : C) (reply : Reply)
       → IsUnderWay frame commands replies entries old
       → IsAnswerOf kind Tied (length commands) command reply entries later old new
-      → ((allocation : Allocation) → kind.effect command reply ≡ Adds allocation → IsAsked kind old command reply allocation)
       → IsUnderWay frame (commands ++ command ∷ []) (replies ++ reply ∷ []) later new
-  IsUnderWay-more frame commands replies entries later old new command reply way answer asked =
+  IsUnderWay-more suits frame commands replies entries later old new command reply way answer =
       let effect = kind.effect command reply in
       let position = length commands in
       let given = IsGiven kind frame (commands ++ command ∷ []) (replies ++ reply ∷ []) in
@@ -161,61 +177,124 @@ module _ {S C : Type 0} (kind : Kind S C) (Tied : List Entry → S → Type 0) w
         alignments = record {
           width = answer.alignments.width ∙ way.alignments.width;
           height = answer.alignments.height ∙ way.alignments.height;
+          direction = answer.alignments.direction ∙ way.alignments.direction;
         };
         tied = answer.tied;
         given = subst (Each given) (sym answer.live_is)
             (Each-after given position effect entries
             (λ allocation adds. IsGiven-last kind frame old commands replies command reply allocation way.lengths way.alignments
-            (asked allocation adds))
+            (suits.asked entries old new command reply answer.step allocation adds))
             (Each-weaken (IsGiven kind frame commands replies) given entries
             (IsGiven-more kind frame commands replies command reply) way.given));
+        bounded = rw (
+          peak-more kind commands replies command reply entries later way.lengths way.live_is answer.live_is,
+          last-more None replies reply,
+        ) (suits.bounded_more position entries later old new command reply (peak (effects kind commands replies))
+            (last_or None replies) answer way.bounded);
       }
 
-  -- the run, and a fact that holds while it is under way, after the command at a position was answered
-  pub goes_on : (P : List C → List Reply → Type 0) (frame : Frame) (commands : List C) (position : ℕ) (d : C)
+  -- a run that is under way keeps its promises
+  run-promises : SuitsRuns kind Tied → (frame : Frame) (commands : List C) (replies : List Reply) (entries : List Entry) (state : S)
+      → IsUnderWay frame commands replies entries state → RunKeepsPromises kind frame commands replies
+  run-promises suits frame commands replies entries state way =
+      record {
+        state = state;
+        run = way.run;
+        given = rw way.live_is at way.given;
+        live = subst (λ (l : List Entry). kind.LiveKeepsPromises state (live_allocations l)) way.live_is
+            (suits.promises entries state way.tied);
+        bounded = rw way.live_is at way.bounded;
+      }
+
+  -- the run, and its promises, after the command at a position was answered
+  pub goes_on : SuitsRuns kind Tied → (frame : Frame) (commands : List C) (position : ℕ) (command : C)
       (replies longer : List Reply) (reply : Reply) (entries later : List Entry) (old new : S)
-      → ((c : List C) (r : List Reply) → IsUnderWay frame c r later new → P c r)
-      → ((allocation : Allocation) → kind.effect (get_or commands position d) reply ≡ Adds allocation
-      → IsAsked kind old (get_or commands position d) reply allocation)
       → position < length commands
+      → command ≡ get_or commands position command
       → IsUnderWay frame (take position commands) replies entries old
-      → Throughout P (take position commands) replies
-      → IsAnswerOf kind Tied position (get_or commands position d) reply entries later old new
+      → RunKeepsPromisesThroughout kind frame (take position commands) replies
+      → IsAnswerOf kind Tied position command reply entries later old new
       → longer ≡ replies ++ reply ∷ []
-      → IsUnderWay frame (take (position + 1) commands) longer later new × Throughout P (take (position + 1) commands) longer
-  goes_on P frame commands position d replies longer reply entries later old new holds asked within way so_far answer longer_is =
-      let command = get_or commands position d in
+      → IsUnderWay frame (take (position + 1) commands) longer later new
+      × RunKeepsPromisesThroughout kind frame (take (position + 1) commands) longer
+  goes_on suits frame commands position command replies longer reply entries later old new within is way so_far answer longer_is =
       let front = take position commands in
       let here = length-take-le position commands (omega arith) in
+      let more : take (position + 1) commands ≡ front ++ command ∷ [] =
+      take_more commands position command within ∙ ap (λ c. front ++ c ∷ []) (sym is) in
       let further : IsUnderWay frame (front ++ command ∷ []) (replies ++ reply ∷ []) later new =
-      IsUnderWay-more frame front replies entries later old new command reply way
-      (subst (λ n. IsAnswerOf kind Tied n command reply entries later old new) (sym here) answer) asked in
-      rw (take_more commands position d within, longer_is) (
+      IsUnderWay-more suits frame front replies entries later old new command reply way
+      (subst (λ n. IsAnswerOf kind Tied n command reply entries later old new) (sym here) answer) in
+      rw (more, longer_is) (
         further,
-        Throughout-more P front replies command reply way.lengths so_far
-            (holds (front ++ command ∷ []) (replies ++ reply ∷ []) further),
+        Throughout-more (RunKeepsPromises kind frame) front replies command reply way.lengths so_far
+            (run-promises suits frame (front ++ command ∷ []) (replies ++ reply ∷ []) later new further),
       )
 
   -- the run before the first command
-  pub starts : (P : List C → List Reply → Type 0) (frame : Frame) (state : S)
-      → ((c : List C) (r : List Reply) → IsUnderWay frame c r [] state → P c r)
+  pub starts : SuitsRuns kind Tied → (frame : Frame) (state : S)
       → state ≡ kind.fresh frame → SameAlignments frame (kind.frame state) → Tied [] state
-      → IsUnderWay frame [] [] [] state × Throughout P [] []
-  starts P frame state holds is alignments tied =
+      → IsUnderWay frame [] [] [] state × RunKeepsPromisesThroughout kind frame [] []
+  starts suits frame state is alignments tied =
       let way : IsUnderWay frame [] [] [] state =
-      record { lengths = refl; live_is = refl; run = is; alignments = alignments; tied = tied; given = tt } in
+      record {
+        lengths = refl;
+        live_is = refl;
+        run = is;
+        alignments = alignments;
+        tied = tied;
+        given = tt;
+        bounded = rw is (suits.bounded_fresh frame);
+      } in
       let commands : List C = [] in
-      let replies : List Reply = [] in
-      (way, λ n within. rw (take_all n commands (omega arith), take_all n replies (omega arith)) (holds [] [] way))
+      let replies : List Reply = [] in (
+        way,
+        λ n within. rw (take_all n commands (omega arith), take_all n replies (omega arith))
+            (run-promises suits frame [] [] [] state way),
+      )
 
   -- after the last command
-  pub ends : (P : List C → List Reply → Type 0) (frame : Frame) (commands : List C) (position : ℕ) (replies : List Reply)
-      (entries : List Entry) (state : S)
+  pub ends : (frame : Frame) (commands : List C) (position : ℕ) (replies : List Reply) (entries : List Entry) (state : S)
       → length commands ≤ position
       → IsUnderWay frame (take position commands) replies entries state
-      → Throughout P (take position commands) replies
-      → RunsTo kind frame commands replies × Throughout P commands replies
-  ends P frame commands position replies entries state all way throughout =
+      → RunKeepsPromisesThroughout kind frame (take position commands) replies
+      → Runs kind 0 [] (kind.fresh frame) commands replies state × RunKeepsPromisesThroughout kind frame commands replies
+  ends frame commands position replies entries state all way throughout =
       let is = take_all position commands all in
-      let run : RunsTo kind frame (take position commands) replies = (state, way.run) in
+      let run : Runs kind 0 [] (kind.fresh frame) (take position commands) replies state = way.run in
       rw (← is) (run, throughout)
+
+  -- a run that goes on to the end of the commands, and keeps its promises
+  pub record GoesOn (frame : Frame) (commands : List C) (replies : List Reply) : Type 0 where
+    pub others : List Reply
+    pub last : S
+    pub run : Runs kind 0 [] (kind.fresh frame) commands (replies ++ others) last
+    pub promises : RunKeepsPromisesThroughout kind frame commands (replies ++ others)
+
+  -- a run that is under way can go on, whatever commands are left
+  pub can_go_on : SuitsRuns kind Tied → (frame : Frame) (front rest : List C) (replies : List Reply) (entries : List Entry) (state : S)
+      → IsUnderWay frame front replies entries state → RunKeepsPromisesThroughout kind frame front replies
+      → GoesOn frame (front ++ rest) replies
+  can_go_on suits frame front [] replies entries state way so_far =
+      record {
+        others = [];
+        last = state;
+        run = rw (append-nil front, append-nil replies) way.run;
+        promises = rw (append-nil front, append-nil replies) so_far;
+      }
+  can_go_on suits frame front (command ∷ rest) replies entries state way so_far =
+      let next = suits.answers (length front) command entries state way.tied in
+      let further = IsUnderWay-more suits frame front replies entries next.later state next.new command next.reply way next.answer in
+      let kept = Throughout-more (RunKeepsPromises kind frame) front replies command next.reply way.lengths so_far
+      (run-promises suits frame (front ++ command ∷ []) (replies ++ next.reply ∷ []) next.later next.new further) in
+      let end = can_go_on suits frame (front ++ command ∷ []) rest (replies ++ next.reply ∷ []) next.later next.new further kept in
+      let commands : (front ++ command ∷ []) ++ rest ≡ front ++ command ∷ rest = append_assoc front (command ∷ []) rest in
+      let all : (replies ++ next.reply ∷ []) ++ end.others ≡ replies ++ next.reply ∷ end.others = append_assoc replies (next.reply ∷ []) end.others in
+      record {
+        others = next.reply ∷ end.others;
+        last = end.last;
+        run = subst (λ (l : List C). Runs kind 0 [] (kind.fresh frame) l (replies ++ next.reply ∷ end.others) end.last) commands
+            (subst (λ (l : List Reply). Runs kind 0 [] (kind.fresh frame) ((front ++ command ∷ []) ++ rest) l end.last) all end.run);
+        promises = subst (λ (l : List C). RunKeepsPromisesThroughout kind frame l (replies ++ next.reply ∷ end.others)) commands
+            (subst (λ (l : List Reply). RunKeepsPromisesThroughout kind frame ((front ++ command ∷ []) ++ rest) l) all end.promises);
+      }

@@ -2,17 +2,19 @@
 use Rattle.std.proofs.Common.{◌≡◌, ℕ, List, [], ◌∷◌, ◌++◌, Ok, Err, refl, pos, negsuc, false, true}
 use Rattle.std.specs.Prelude.{codes, Bool}
 use Rattle.std.specs.List.{flat_map}
+use Rattle.etagere_base.specs.declared.geometry.Size.{Size}
 use Rattle.etagere_run.specs.declared.commands.AtlasCommand.{AtlasCommand}
 use Rattle.etagere_run.specs.declared.commands.AtlasCommand.TheVariants.{Allocate, Return, Look, Clear}
-use Rattle.etagere_run.specs.Script.{script_of, Request}
+use Rattle.etagere_run.specs.declared.commands.BucketedCommand.TheVariants as bucketed
+use Rattle.etagere_run.specs.Script.{Commands, OfBuckets, OfShelves, Request, script_of}
 
 -- each line with its line feed
 abbrev text : List (List ℕ) → List ℕ
 text = flat_map (λ line. line ++ 10 ∷ [])
 
 -- a request whose alignment is (1,1)
-abbrev request : ℕ → ℕ → ℕ → Bool → List AtlasCommand → Request
-request width height columns vertical commands = record {
+abbrev request_to : ℕ → ℕ → ℕ → Bool → Commands → Request
+request_to width height columns vertical commands = record {
   size = record { width = pos width; height = pos height };
   options = record {
     alignment = record { width = pos 1; height = pos 1 };
@@ -22,8 +24,15 @@ request width height columns vertical commands = record {
   commands = commands;
 }
 
+-- a request to an atlas of shelves
+abbrev request : ℕ → ℕ → ℕ → Bool → List AtlasCommand → Request
+request width height columns vertical commands = request_to width height columns vertical (OfShelves commands)
+
+abbrev size : ℕ → ℕ → Size
+size width height = record { width = pos width; height = pos height }
+
 abbrev allocate : ℕ → ℕ → AtlasCommand
-allocate width height = Allocate (record { width = pos width; height = pos height })
+allocate width height = Allocate (size width height)
 
 -- six good lines, and the beginning of a seventh
 abbrev readme_lines : List ℕ
@@ -42,8 +51,15 @@ no_bytes = refl
 too_many_columns : script_of (text (codes "atlas 4 4 1 1 5 h" ∷ [])) ≡ Ok (request 4 4 5 false [])
 too_many_columns = refl
 
-a_look_at_a_bucketed_atlas : script_of (text (codes "bucketed 8 8 1 1 1 h" ∷ codes "a 8 8" ∷ codes "l 0" ∷ [])) ≡ Err 1
+a_look_at_a_bucketed_atlas : script_of (text (codes "bucketed 8 8 1 1 1 h" ∷ codes "a 8 8" ∷ codes "l 0" ∷ [])) ≡ Err 3
 a_look_at_a_bucketed_atlas = refl
+
+bucketed_commands : script_of (text (codes "bucketed 16 8 1 1 2 v" ∷ codes "a 8 8" ∷ codes "r 0" ∷ codes "g 16 16" ∷ codes "c" ∷ []))
+    ≡ Ok (request_to 16 8 2 true (OfBuckets (bucketed.Allocate (size 8 8) ∷ bucketed.Return 0 ∷ bucketed.Grow (size 16 16) ∷ bucketed.Clear ∷ [])))
+bucketed_commands = refl
+
+a_growth_of_an_atlas_of_shelves : script_of (text (codes "atlas 8 8 1 1 1 h" ∷ codes "g 16 16" ∷ [])) ≡ Err 2
+a_growth_of_an_atlas_of_shelves = refl
 
 header_alone : script_of (text (codes "atlas 8 8 1 1 1 h" ∷ [])) ≡ Ok (request 8 8 1 false [])
 header_alone = refl

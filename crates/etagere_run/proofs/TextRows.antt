@@ -3,7 +3,7 @@ use Rattle.std.proofs.Common.{◌≡◌, ℕ, List, [], ◌∷◌, ◌++◌, ref
 use Rattle.std.specs.Prelude.{codes, flat_map}
 use Rattle.std.specs.Fmt.{digits}
 use Rattle.etagere_base.specs.declared.geometry.Rectangle.{Rectangle}
-use Rattle.etagere_run.specs.declared.commands.Reply.TheVariants.{Placed, Refused, Returned, At, NotLive, Cleared, NoMemory}
+use Rattle.etagere_run.specs.declared.commands.Reply.TheVariants.{Placed, Refused, Returned, At, NotLive, Cleared, Grown, GrowRefused, NoMemory}
 use Rattle.etagere_run.specs.ReplyText.{replies_text}
 use Rattle.etagere_run.specs.Replaying.{bad_line_text, options_text}
 
@@ -24,6 +24,10 @@ readme_replies = refl
 
 other_replies : replies_text (Refused ∷ Cleared ∷ NoMemory ∷ []) ≡ text (codes "refused" ∷ codes "cleared" ∷ codes "no memory" ∷ [])
 other_replies = refl
+
+growth_replies : replies_text (Grown ∷ GrowRefused 2 ∷ []) ≡ text (codes "grown" ∷ codes "grow refused 2" ∷ [])
+unfolding digits
+growth_replies = refl
 
 no_bytes_text : bad_line_text 1 ≡ text (codes "line 1: bad" ∷ [])
 unfolding digits

@@ -1,4 +1,7 @@
 pub mod AtlasRuns
+pub mod BucketedRuns
+pub mod Checking
+pub mod Drawing
 pub mod Faults
 pub mod Lines
 pub mod Live
@@ -7,5 +10,7 @@ pub mod Private
 pub mod Replaying
 pub mod ReplyText
 pub mod Runs
+pub mod Saved
 pub mod Script
+pub mod Streaming
 pub mod Words

@@ -9,9 +9,11 @@ line_feed = 10
 abbrev pub space : ℕ
 space = 32
 
--- a byte before pieces: a separator begins them with an empty piece, another byte goes onto the first
+-- a byte before pieces: a separator begins them with an empty piece, another byte goes onto the
+-- first
 abbrev pub before_pieces : ℕ → ℕ → List (List ℕ) → List (List ℕ)
-before_pieces separator byte pieces = if byte == separator then [] ∷ pieces else onto_first byte pieces
+before_pieces separator byte pieces =
+    if byte == separator then [] ∷ pieces else onto_first byte pieces
 
 -- the pieces of bytes that a separator parts, and in the end these
 abbrev pub parted : ℕ → List (List ℕ) → List ℕ → List (List ℕ)
@@ -30,7 +32,8 @@ words_of line = parted space ([] ∷ []) line
 abbrev pub filled_from : ℕ → List (List ℕ) → List (ℕ × List ℕ)
 filled_from number [] = []
 filled_from number ([] ∷ lines) = filled_from (number + 1) lines
-filled_from number ((byte ∷ bytes) ∷ lines) = (number, byte ∷ bytes) ∷ filled_from (number + 1) lines
+filled_from number ((byte ∷ bytes) ∷ lines) =
+    (number, byte ∷ bytes) ∷ filled_from (number + 1) lines
 
 -- no byte is the separator
 abbrev pub Lacks : ℕ → List ℕ → Type 0

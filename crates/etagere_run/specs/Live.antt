@@ -1,4 +1,5 @@
--- What is live in a run, of whatever kind: what earlier commands were given and what is not given back.
+-- What is live in a run, of whatever kind: what earlier commands were given and what is not given
+-- back.
 use Rattle.std.specs.Prelude.{ℕ, ◌+◌, max, Option, option_map, List, [], ◌∷◌, ◌++◌, length, map, find, ◌==◌, if◌then◌else◌}
 use Rattle.etagere_base.specs.declared.ids.Allocation.{Allocation}
 
@@ -7,8 +8,8 @@ pub record Entry : Type 0 where
   pub position : ℕ
   pub allocation : Allocation
 
--- what a command and its reply do to what is live: an allocation comes to it, what was given at a position goes, all
--- goes, or nothing changes
+-- what a command and its reply do to what is live: an allocation comes to it, what was given at a
+-- position goes, all goes, or nothing changes
 pub data Effect : Type 0 where
   Adds : Allocation → Effect
   TakesOut : ℕ → Effect
@@ -48,13 +49,14 @@ live_from position entries (effect ∷ effects) =
 abbrev pub live : List Effect → List Entry
 live effects = live_from 0 [] effects
 
--- the most that was live so far: this much before, or that many now; where all is taken out it begins anew
+-- the most that was live so far: this much before, or that many now; where all is taken out it
+-- begins anew
 abbrev pub peak_after : Effect → ℕ → ℕ → ℕ
 peak_after Empties before now = 0
 peak_after effect before now = max before now
 
--- the most that is live after commands had these effects, the first of them at this position, where this much was
--- live before
+-- the most that is live after commands had these effects, the first of them at this position, where
+-- this much was live before
 abbrev pub peak_from : ℕ → ℕ → List Entry → List Effect → ℕ
 peak_from most position entries [] = most
 peak_from most position entries (effect ∷ effects) =

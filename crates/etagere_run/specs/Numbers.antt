@@ -22,7 +22,8 @@ are_digits (byte ∷ bytes) = all_ascii_digits (byte ∷ bytes)
 
 -- what one or more digits stand for, up to a greatest value
 abbrev pub natural_of : ℕ → List ℕ → Option ℕ
-natural_of greatest word = if are_digits word && nat_le (value_of word) greatest then Some (value_of word) else None
+natural_of greatest word =
+    if are_digits word && nat_le (value_of word) greatest then Some (value_of word) else None
 
 -- digits, or a minus sign and digits, where the value fits an `i32`
 abbrev pub number_of : List ℕ → Option ℤ

@@ -1,9 +1,12 @@
 -- What a replay writes for what it reads.
-use Rattle.std.specs.Prelude.{◌≡◌, ℕ, List, [], ◌∷◌, ◌++◌, Option, Some, Result, Ok, Err, IfSome, codes, decimal}
+use Rattle.std.specs.Prelude.{◌≡◌, ℕ, List, [], ◌∷◌, ◌++◌, Option, Some, Result, Ok, Err, IfSome}
 use Rattle.std.specs.Io.KnownBytes.{Appends, Keeps}
 use Rattle.etagere_base.specs.declared.faults.OptionsFault.{OptionsFault}
+use Rattle.etagere_base.specs.declared.geometry.Size.{Size}
+use Rattle.etagere_base.specs.declared.options.AllocatorOptions.{AllocatorOptions}
 use Rattle.etagere_base.specs.Faults.{options_fault_number}
 use Rattle.etagere_base.specs.Frames.{IsAccepted, atlas_frame, options_fault, longest_side}
+use Rattle.etagere_bucketed.specs.Frames.{bucketed_frame, longest_bucketed_side}
 use Rattle.etagere_base.specs.Sending.{AppendsBeginning}
 use Rattle.etagere_run.specs.declared.commands.Reply.{Reply}
 use Rattle.etagere_run.specs.declared.faults.Outcome.{Outcome}
@@ -11,25 +14,38 @@ use Rattle.etagere_run.specs.declared.faults.Outcome.TheVariants.{Done, BadLine,
 use Rattle.etagere_run.specs.declared.faults.ReplayFault.{ReplayFault}
 use Rattle.etagere_run.specs.declared.faults.ReplayFault.TheVariants.{Read, Write, Memory}
 use Rattle.etagere_run.specs.AtlasRuns.{shelf_atlas}
+use Rattle.etagere_run.specs.BucketedRuns.{bucketed_atlas}
+use Rattle.etagere_run.specs.Faults.{outcome_words}
 use Rattle.etagere_run.specs.Lines.{line_feed}
 use Rattle.etagere_run.specs.ReplyText.{replies_text}
 use Rattle.etagere_run.specs.Runs.{RunsTo}
-use Rattle.etagere_run.specs.Script.{Request, script_of}
+use Rattle.etagere_run.specs.Script.{Commands, OfBuckets, OfShelves, Request, script_of}
 
 -- the line on the first bad line, and the one on a fault of the options, each with its line feed
 abbrev pub bad_line_text : ℕ → List ℕ
-bad_line_text number = codes "line " ++ decimal number ++ codes ": bad" ++ line_feed ∷ []
+bad_line_text number = outcome_words (BadLine number) ++ line_feed ∷ []
 
 abbrev pub options_text : ℕ → List ℕ
-options_text number = codes "options " ++ decimal number ++ line_feed ∷ []
+options_text number = outcome_words (Options number) ++ line_feed ∷ []
+
+-- the longest side that an atlas may have that is asked these
+abbrev pub longest_asked : Commands → ℕ
+longest_asked (OfShelves commands) = longest_side
+longest_asked (OfBuckets commands) = longest_bucketed_side
+
+-- a new atlas of this size and options may give these replies to the commands
+abbrev pub RepliesTo : Size → AllocatorOptions → Commands → List Reply → Type 0
+RepliesTo size options (OfShelves commands) = RunsTo shelf_atlas (atlas_frame size options) commands
+RepliesTo size options (OfBuckets commands) =
+    RunsTo bucketed_atlas (bucketed_frame size options) commands
 
 -- the input spells a request that is accepted and was run, and the text is that of its replies
 pub record IsRunOf (input text : List ℕ) : Type 0 where
   pub request : Request
   pub replies : List Reply
   pub spelled : script_of input ≡ Ok request
-  pub accepted : IsAccepted longest_side request.size request.options
-  pub runs : RunsTo shelf_atlas (atlas_frame request.size request.options) request.commands replies
+  pub accepted : IsAccepted (longest_asked request.commands) request.size request.options
+  pub runs : RepliesTo request.size request.options request.commands replies
   pub text_is : text ≡ replies_text replies
 
 -- the input spells a request whose options have the fault of this number
@@ -37,7 +53,8 @@ pub record HasFault (input : List ℕ) (number : ℕ) (text : List ℕ) : Type 0
   pub request : Request
   pub fault : OptionsFault
   pub spelled : script_of input ≡ Ok request
-  pub refused : options_fault longest_side request.size request.options ≡ Some fault
+  pub refused : options_fault (longest_asked request.commands) request.size request.options
+      ≡ Some fault
   pub number_is : number ≡ options_fault_number fault
   pub text_is : text ≡ options_text number
 
@@ -52,11 +69,14 @@ abbrev pub AnswersReader : Option (List ℕ) → Outcome → List ℕ → Type 0
 AnswersReader remaining outcome text =
     (input : List ℕ) × IfSome remaining (λ bytes. input ≡ bytes) × Answers input outcome text
 
--- What a replay appends to what its writer contained: the whole text, after a failed write a beginning of
--- it, and nothing where the reader failed or memory ran out.
-abbrev pub Replays : Option (List ℕ) → Option (List ℕ) → Option (List ℕ) → Result Outcome ReplayFault → Type 0
-Replays remaining old new (Ok outcome) = (text : List ℕ) × AnswersReader remaining outcome text × Appends old new text
+-- What a replay appends to what its writer contained: the whole text, after a failed write a
+-- beginning of it, and nothing where the reader failed or memory ran out.
+abbrev pub Replays : Option (List ℕ) → Option (List ℕ) → Option (List ℕ)
+    → Result Outcome ReplayFault → Type 0
+Replays remaining old new (Ok outcome) =
+    (text : List ℕ) × AnswersReader remaining outcome text × Appends old new text
 Replays remaining old new (Err Read) = Keeps old new
 Replays remaining old new (Err Write) =
-    (outcome : Outcome) × (text : List ℕ) × AnswersReader remaining outcome text × AppendsBeginning old new text
+    (outcome : Outcome) × (text : List ℕ) × AnswersReader remaining outcome text
+    × AppendsBeginning old new text
 Replays remaining old new (Err Memory) = Keeps old new

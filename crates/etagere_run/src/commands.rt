@@ -1,5 +1,5 @@
 //! The commands of a run, and the replies to them, which serve every kind of run.
-//! The definitions of runs (`AtlasRuns`) and of the text of replies (`ReplyText`) match on them.
+//! The definitions of runs (`AtlasRuns`, `BucketedRuns`) and of the text of replies (`ReplyText`) match on them.
 
 use etagere::{Allocation, Rectangle, Size};
 
@@ -12,6 +12,19 @@ pub enum AtlasCommand {
     Return(usize),
     /// Looks up what the command at this position was given.
     Look(usize),
+    /// Gives everything back at once.
+    Clear,
+}
+
+/// A command of a run on a bucketed atlas. A position is the number, from 0, of an earlier command.
+#[derive(Clone, Copy, Debug, PartialEq, Eq)]
+pub enum BucketedCommand {
+    /// Asks for a rectangle of this size, in pixels.
+    Allocate(Size),
+    /// Gives back what the command at this position was given.
+    Return(usize),
+    /// Grows the atlas to this size, in pixels.
+    Grow(Size),
     /// Gives everything back at once.
     Clear,
 }
@@ -32,6 +45,11 @@ pub enum Reply {
     NotLive,
     /// The atlas is empty.
     Cleared,
+    /// The atlas has the size that was asked for.
+    Grown,
+    /// The atlas can't grow to the size, for the fault of this number: 1 where a side of the size is out of range, 2
+    /// where one is below the present one, 3 where the area is too large.
+    GrowRefused(u32),
     /// There was no memory for the command, which changed nothing.
     NoMemory,
 }

@@ -1,11 +1,13 @@
-//! How runs and replays end: faults with their numbers, outcomes, exit statuses and words.
+//! How runs, replays, drawings and checks end: faults with their numbers, outcomes, exit statuses
+//! and words.
 //! Definition: `Faults`. A new fault or outcome goes here and there; what goes to standard output
-//! stands in `replaying`.
+//! stands in `replaying`, `drawing` and `checking`.
 
 ghost use Rattle.std.specs.Prelude.{◌≡◌};
-ghost use Rattle.etagere_run.specs.Faults.{fault_status, fault_words, outcome_status, replay_fault_number, run_fault_number};
+ghost use Rattle.etagere_run.specs.Faults.{checked_status, drawing_status, fault_status, fault_words, outcome_status, replay_fault_number, run_fault_number, stream_fault_number};
 
 use etagere::OptionsFault;
+use std::fmt::{self, Display, Formatter};
 use thiserror::Error;
 
 /// Why a run didn't start.
@@ -31,7 +33,34 @@ impl RunFault {
     }
 }
 
-/// How a replay ended whose text was written.
+/// Why a stream of replies isn't whole.
+#[derive(Clone, Copy, Debug, PartialEq, Eq, Error)]
+pub enum StreamFault {
+    /// The size and options have this fault, or the atlas got no memory (`OptionsFault::Memory`). Nothing was written.
+    #[error("Options")]
+    Options(OptionsFault),
+    /// There was no memory for the ledger. Nothing was written.
+    #[error("Memory")]
+    Memory,
+    /// The writer failed or accepted no byte. A beginning of the text was written.
+    #[error("Write")]
+    Write,
+}
+
+impl StreamFault {
+    /// The fault's number, from 1 to 3.
+    pub fn number(self) -> u32
+        ensures { result ≡ stream_fault_number self }
+    {
+        match self {
+            StreamFault::Options(_) => 1,
+            StreamFault::Memory => 2,
+            StreamFault::Write => 3,
+        }
+    }
+}
+
+/// How a replay, or the drawing of a script, ended that wrote what it had to.
 #[derive(Clone, Copy, Debug, PartialEq, Eq)]
 pub enum Outcome {
     /// The script was run.
@@ -43,7 +72,7 @@ pub enum Outcome {
 }
 
 impl Outcome {
-    /// The program's exit status: 0 after `Done`, 1 after `Options`, 2 after `BadLine`.
+    /// A program's exit status: 0 after `Done`, 1 after `Options`, 2 after `BadLine`.
     pub fn status(self) -> u8
         ensures { result ≡ outcome_status self }
     {
@@ -55,7 +84,99 @@ impl Outcome {
     }
 }
 
-/// Why a replay didn't write its text, or only a beginning of it.
+impl Display for Outcome {
+    ghost use Rattle.std.specs.Prelude.{Some};
+    ghost use Rattle.etagere_run.specs.Faults.{outcome_words};
+
+    ghost output = { λ outcome. Some (outcome_words outcome) };
+
+    /// What the programs say of the outcome, without a line feed.
+    fn fmt<W: fmt::Write>(&self, f: &mut Formatter<W>) -> fmt::Result {
+        match self {
+            Outcome::Done => f.write_str("done"),
+            Outcome::Options(number) => write!(f, "options {number}"),
+            Outcome::BadLine(number) => write!(f, "line {number}: bad"),
+        }
+    }
+}
+
+/// How a check ended that wrote its line, or the drawing of a snapshot that wrote what it had to.
+#[derive(Clone, Copy, Debug, PartialEq, Eq)]
+pub enum Checked {
+    /// The snapshot stands for an atlas, which was restored.
+    Fine,
+    /// The rule of this number, from 1 to 10, is broken.
+    Broken(u32),
+    /// The input isn't the JSON text of a snapshot, or there was no memory to read it as one.
+    Unreadable,
+}
+
+impl Checked {
+    /// A program's exit status: 0 after `Fine`, 1 after `Broken`, 2 after `Unreadable`.
+    pub fn status(self) -> u8
+        ensures { result ≡ checked_status self }
+    {
+        match self {
+            Checked::Fine => 0,
+            Checked::Broken(_) => 1,
+            Checked::Unreadable => 2,
+        }
+    }
+}
+
+impl Display for Checked {
+    ghost use Rattle.std.specs.Prelude.{Some};
+    ghost use Rattle.etagere_run.specs.Faults.{checked_words};
+
+    ghost output = { λ checked. Some (checked_words checked) };
+
+    /// What a check writes of the snapshot, without a line feed.
+    fn fmt<W: fmt::Write>(&self, f: &mut Formatter<W>) -> fmt::Result {
+        match self {
+            Checked::Fine => f.write_str("ok"),
+            Checked::Broken(number) => write!(f, "broken {number}"),
+            Checked::Unreadable => f.write_str("unreadable"),
+        }
+    }
+}
+
+/// How a drawing ended: `OfScript(Done)` and `OfSnapshot(Fine)` come with a picture, no other does.
+#[derive(Clone, Copy, Debug, PartialEq, Eq)]
+pub enum Drawing {
+    /// The input was read as a script.
+    OfScript(Outcome),
+    /// The input begins with `{`, and was read as a snapshot.
+    OfSnapshot(Checked),
+}
+
+impl Drawing {
+    /// A program's exit status: that of the outcome, or of the check.
+    pub fn status(self) -> u8
+        ensures { result ≡ drawing_status self }
+    {
+        match self {
+            Drawing::OfScript(outcome) => outcome.status(),
+            Drawing::OfSnapshot(checked) => checked.status(),
+        }
+    }
+}
+
+impl Display for Drawing {
+    ghost use Rattle.std.specs.Prelude.{Some};
+    ghost use Rattle.etagere_run.specs.Faults.{drawing_words};
+
+    ghost output = { λ drawing. Some (drawing_words drawing) };
+
+    /// What the program says of the drawing, without a line feed.
+    fn fmt<W: fmt::Write>(&self, f: &mut Formatter<W>) -> fmt::Result {
+        match self {
+            Drawing::OfScript(outcome) => write!(f, "{outcome}"),
+            Drawing::OfSnapshot(checked) => write!(f, "{checked}"),
+        }
+    }
+}
+
+/// Why a replay, a drawing or a check didn't write its text, or only a beginning of it.
 #[derive(Clone, Copy, Debug, PartialEq, Eq, Error)]
 pub enum ReplayFault {
     /// The reader failed. Nothing was written.
@@ -81,14 +202,14 @@ impl ReplayFault {
         }
     }
 
-    /// The program's exit status, 3 after each of these faults.
+    /// A program's exit status, 3 after each of these faults.
     pub fn status(self) -> u8
         ensures { result ≡ fault_status self }
     {
         3
     }
 
-    /// What the program says on standard error, without a line feed.
+    /// What a program says on standard error, without a line feed.
     pub fn words(self) -> &'static str
         ensures { result.now ≡ fault_words self }
     {

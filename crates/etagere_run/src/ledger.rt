@@ -1,99 +1,86 @@
-//! The ledger of a run: which command was given what, of what is live. One list in the order of the
-//! commands, with room for all of them from the start, so nothing here takes memory later.
-//! Definition: `Live`, with the `Entry` that an entry is seen as. Another representation keeps the
-//! clauses; callers know nothing else of it.
+//! The ledger of a run: what each command was given that is live. A table with a place for each command, for which
+//! room is taken before the first one, so that nothing here takes memory later and a position is found in one step.
+//! Definition: `Tables`, which reads the table as the entries of `Live`. Another representation keeps the clauses
+//! with its own reading; callers know nothing else of it.
 
-ghost use Rattle.std.specs.Prelude.{◌≡◌, ◌<◌, ◌≤◌, ◌==◌, ◌+◌, ◌∷◌, ◌++◌, [], vec_capacity, vec_len, IfOk, IfSome, IfNone, position as first_place};
+ghost use Rattle.std.specs.Prelude.{◌≡◌, ◌<◌, ◌≤◌, ◌+◌, [], vec_capacity, vec_len, IfOk, IfSome, IfNone, SomeIff};
 ghost use Rattle.etagere_run.specs.Live.{allocation_at, without};
+ghost use Rattle.etagere_run.specs.Private.Given.{with_entry};
 
 use etagere::Allocation;
 use std::alloc::{AllocError, Global};
-use std::marker::Model;
 
-/// An allocation, and the position of the command that was given it.
-#[derive(Clone, Copy)]
-pub struct Entry {
-    pub position: usize,
-    pub allocation: Allocation,
-}
-
-impl Model for Entry {
-    ghost use Rattle.etagere_run.specs.Live.{Entry};
-
-    ghost Value = { Entry };
-
-    ghost view = { λ entry. record { position = entry.position; allocation = entry.allocation } };
-
-    ghost inverse = { λ entry. record { position = entry.position; allocation = entry.allocation } };
-}
-
-/// What a run holds, in the order in which it was given.
+/// What the commands were given that were answered so far.
 #[derive(Drop)]
 pub struct Ledger {
-    pub entries: Vec<Entry>,
+    /// A place for each command, by its position.
+    places: Vec<Option<Allocation>>,
+    /// The first position that may be live: the places before it don't count.
+    floor: usize,
+    ghost within: { floor ≤ vec_len places },
 }
 
 impl Ledger {
-    /// An empty ledger with room for so many entries.
-    pub fn with_capacity(alloc: Global, capacity: usize) -> Result<Ledger, AllocError>
-        ensures empty { IfOk result (λ ledger. ledger.entries.items ≡ []) }
-        ensures length { IfOk result (λ ledger. vec_len ledger.entries ≡ 0) }
-        ensures room { IfOk result (λ ledger. capacity ≤ vec_capacity ledger.entries) }
+    ghost use Rattle.etagere_run.specs.Private.Tables.{HasPlacesOf, entries_of};
+
+    /// An empty ledger with room for the places of so many commands.
+    pub fn with_capacity(alloc: Global, count: usize) -> Result<Ledger, AllocError>
+        ensures empty { IfOk result (λ ledger. entries_of ledger ≡ []) }
+        ensures length { IfOk result (λ ledger. vec_len ledger.places ≡ 0) }
+        ensures room { IfOk result (λ ledger. count ≤ vec_capacity ledger.places) }
     {
-        let entries = Vec::with_capacity(alloc, capacity)?;
-        Ok(Ledger { entries })
+        let places = Vec::with_capacity(alloc, count)?;
+        Ok(Ledger { places, floor: 0 })
     }
 
-    /// Adds what the command at a position was given.
-    pub fn add(&mut self, position: usize, allocation: &Allocation)
-        requires { vec_len self.old.entries < vec_capacity self.old.entries }
-        ensures added { self.new.entries.items ≡ self.old.entries.items
-            ++ record { position = position; allocation = allocation.now } ∷ [] }
-        ensures length { vec_len self.new.entries ≡ vec_len self.old.entries + 1 }
-        ensures room { vec_capacity self.old.entries ≤ vec_capacity self.new.entries }
+    /// Adds the place of the next command, with what it was given.
+    pub fn add(&mut self, given: Option<Allocation>)
+        requires { vec_len self.old.places < vec_capacity self.old.places }
+        ensures added { entries_of self.new
+            ≡ with_entry (vec_len self.old.places) given (entries_of self.old) }
+        ensures length { vec_len self.new.places ≡ vec_len self.old.places + 1 }
+        ensures room { vec_capacity self.old.places ≤ vec_capacity self.new.places }
     {
-        let entry = Entry {
-            position,
-            allocation: *allocation,
-        };
-        self.entries.push(entry).unwrap();
+        self.places.push(given).unwrap();
     }
 
     /// What the command at a position was given, if it is allocated.
-    pub fn find(&self, position: usize) -> Option<Allocation>
-        ensures { result ≡ allocation_at position self.now.entries.items }
+    pub fn allocation_at(&self, position: usize) -> Option<Allocation>
+        ensures { result ≡ allocation_at position (entries_of self.now) }
     {
-        let place = place_of(self.entries.as_slice(), position)?;
-        let found = &self.entries[place];
-        Some(found.allocation)
+        let place = self.place_of(position)?;
+        self.places[place]
     }
 
     /// Takes out what the command at a position was given, if it is allocated.
     pub fn take(&mut self, position: usize) -> Option<Allocation>
-        ensures found { result ≡ allocation_at position self.old.entries.items }
+        ensures found { result ≡ allocation_at position (entries_of self.old) }
         ensures taken { IfSome result
-            (λ _. self.new.entries.items ≡ without position self.old.entries.items) }
-        ensures none { IfNone result (self.new.entries.items ≡ self.old.entries.items) }
-        ensures length { vec_len self.new.entries ≤ vec_len self.old.entries }
-        ensures room { vec_capacity self.new.entries ≡ vec_capacity self.old.entries }
+            (λ _. entries_of self.new ≡ without position (entries_of self.old)) }
+        ensures none { IfNone result (entries_of self.new ≡ entries_of self.old) }
+        ensures places { HasPlacesOf self.old self.new }
     {
-        let place = place_of(self.entries.as_slice(), position)?;
-        let entry = self.entries.remove(place);
-        Some(entry.allocation)
+        let place = self.place_of(position)?;
+        self.places[place].take()
     }
 
     /// Takes everything out.
     pub fn clear(&mut self)
-        ensures empty { self.new.entries.items ≡ [] }
-        ensures length { vec_len self.new.entries ≡ 0 }
-        ensures room { vec_capacity self.new.entries ≡ vec_capacity self.old.entries }
+        ensures empty { entries_of self.new ≡ [] }
+        ensures places { HasPlacesOf self.old self.new }
     {
-        self.entries.clear();
+        self.floor = self.places.len();
     }
-}
 
-fn place_of(entries: &[Entry], position: usize) -> Option<usize>
-    ensures { result ≡ first_place (λ entry. entry.position == position) entries.now }
-{
-    entries.iter().position(|entry| entry.position == position)
+    /// The number of the place of a position, if that counts.
+    fn place_of(&self, position: usize) -> Option<usize>
+        ensures { SomeIff result
+            ((self.now.floor ≤ position) × (position < vec_len self.now.places)) position }
+    {
+        if position >= self.floor && position < self.places.len() {
+            Some(position)
+        } else {
+            None
+        }
+    }
 }

@@ -1,5 +1,5 @@
 //! Everything that a reader has, up to its end, in memory.
-//! A failed read is told from missing memory, and is never tried again.
+//! A failed read is told from missing memory, and is never retried.
 
 ghost use Rattle.std.specs.Prelude.{◌≡◌, ◌≢◌, IfErr, IfOk, IfSome, OnOk};
 ghost use Rattle.std.specs.Io.KnownBytes.{IsAtEnd};

@@ -1,17 +1,19 @@
-//! Replays a script: reads all of it, judges it, runs it, and only then writes its text.
-//! Definition: `Replaying`, over `Script`, `AtlasRuns` and `ReplyText`. What is written, and where,
-//! is settled there.
+//! Replays a script: reads all of it, judges it, and runs it, writing each reply's line before the next command runs.
+//! Definition: `Replaying`, over `Script`, `AtlasRuns`, `BucketedRuns` and `ReplyText`. What is written, and where, is
+//! settled there.
 
-ghost use Rattle.std.specs.Prelude.{◌≡◌, ℕ, List, Ok, Err, IfErr, IfOk, OnOk, string_bytes};
+ghost use Rattle.std.specs.Prelude.{◌≡◌, ℕ, List, Some, Ok, Err, IfErr, IfOk, OnOk, string_bytes};
 ghost use Rattle.std.specs.Io.KnownBytes.{IsAtEnd};
-ghost use Rattle.etagere_run.specs.Replaying.{Answers, Replays, bad_line_text, options_text};
+ghost use Rattle.etagere_base.specs.Frames.{IsAccepted};
+ghost use Rattle.etagere_run.specs.Replaying.{Answers, HasFault, Replays, bad_line_text, longest_asked, options_text};
 ghost use Rattle.etagere_run.specs.Script.{script_of};
+ghost use Rattle.etagere_run.specs.Streaming.{RefusesStream};
+ghost use Rattle.etagere_run.specs.Private.ScriptStreaming.{StreamsScript};
 
-use crate::faults::{Outcome, ReplayFault, RunFault};
+use crate::faults::{Outcome, ReplayFault, StreamFault};
 use crate::reading::read_all;
-use crate::reply_text::replies_text;
-use crate::running::run_atlas;
-use crate::script::{Script, ScriptFault, read_script};
+use crate::script::{Commands, Script, ScriptFault, read_script};
+use crate::streaming::{stream_atlas, stream_bucketed};
 use etagere::OptionsFault;
 use etagere_base::send;
 use std::alloc::Global;
@@ -22,7 +24,7 @@ use std::io::{Read, Write};
 /// Where a line isn't good, `line N: bad` is written and nothing runs, and where the options have a
 /// fault, `options N`. After `Read` and `Memory` nothing was written, after `Write` a beginning of
 /// the text. The reader is at its end unless it failed or memory ran out. Takes memory for the
-/// script, its commands, what `run_atlas` takes, and the text of the replies.
+/// script, its commands, and what `stream_atlas` or `stream_bucketed` takes.
 pub fn replay<R: Read, W: Write>(
     alloc: Global,
     reader: &mut R,
@@ -34,72 +36,99 @@ pub fn replay<R: Read, W: Write>(
     ensures end_at_write { result ≡ Err ReplayFault.Write → IsAtEnd (R.remaining reader.new) }
 {
     let input = read_all(alloc, reader)?;
-    let answer = answer_of(alloc, input.as_slice())?;
-    send(answer.text.as_bytes(), writer).map_err(|_| ReplayFault::Write)?;
-    Ok(answer.outcome)
+    answer(alloc, input.as_slice(), writer)
 }
 
-/// How a replay ends, and the text that it writes.
-#[derive(Drop)]
-struct Answer {
-    outcome: Outcome,
-    text: String,
-}
-
-fn answer_of(alloc: Global, bytes: &[u8]) -> Result<Answer, ReplayFault>
-    ensures answer { IfOk result (λ answer.
-        Answers bytes.now answer.outcome (string_bytes answer.text)) }
-    ensures fault { IfErr result (λ fault. fault ≡ ReplayFault.Memory) }
+/// Judges a script, and writes what answers it.
+fn answer<W: Write>(alloc: Global, bytes: &[u8], writer: &mut W) -> Result<Outcome, ReplayFault>
+    ensures { Replays (Some bytes.now) (W.contents writer.old) (W.contents writer.new) result }
 {
     match read_script(alloc, bytes) {
-        Ok(script) => run_script(alloc, &script),
-        Err(ScriptFault::BadLine(number)) => bad_line(alloc, number),
+        Ok(script) => run_script(alloc, &script, writer),
+        Err(ScriptFault::BadLine(number)) => bad_line(alloc, number, writer),
         Err(ScriptFault::Memory) => Err(ReplayFault::Memory),
     }
 }
 
-fn run_script(alloc: Global, script: &Script) -> Result<Answer, ReplayFault>
-    ensures answer { IfOk result (λ answer. (input : List ℕ)
-        → script_of input ≡ Ok script.now
-        → Answers input answer.outcome (string_bytes answer.text)) }
-    ensures fault { IfErr result (λ fault. fault ≡ ReplayFault.Memory) }
+fn run_script<W: Write>(
+    alloc: Global,
+    script: &Script,
+    writer: &mut W,
+) -> Result<Outcome, ReplayFault>
+    ensures { (input : List ℕ) → script_of input ≡ Ok script.now
+        → Replays (Some input) (W.contents writer.old) (W.contents writer.new) result }
 {
-    let header = script.header;
-    match run_atlas(
-        alloc,
-        header.size,
-        &header.options,
-        script.commands.as_slice(),
-    ) {
-        Ok(replies) => Ok(Answer {
-            outcome: Outcome::Done,
-            text: replies_text(alloc, replies.as_slice()).map_err(|_| ReplayFault::Memory)?,
-        }),
-        Err(RunFault::Options(OptionsFault::Memory) | RunFault::Memory) => {
+    match stream_script(alloc, script, writer) {
+        Ok(()) => Ok(Outcome::Done),
+        Err(StreamFault::Options(OptionsFault::Memory) | StreamFault::Memory) => {
             Err(ReplayFault::Memory)
         }
-        Err(RunFault::Options(fault)) => bad_options(alloc, fault.number()),
+        Err(StreamFault::Options(fault)) => bad_options(alloc, fault.number(), writer),
+        Err(StreamFault::Write) => Err(ReplayFault::Write),
     }
 }
 
-fn bad_line(alloc: Global, number: u64) -> Result<Answer, ReplayFault>
-    ensures outcome { IfOk result (λ answer. answer.outcome ≡ Outcome.BadLine number) }
-    ensures text { IfOk result (λ answer. string_bytes answer.text ≡ bad_line_text number) }
-    ensures fault { IfErr result (λ fault. fault ≡ ReplayFault.Memory) }
+/// Writes the replies of a new atlas to the commands of a script.
+fn stream_script<W: Write>(
+    alloc: Global,
+    script: &Script,
+    writer: &mut W,
+) -> Result<(), StreamFault>
+    ensures written { StreamsScript script.now.size script.now.options script.now.commands
+        (W.contents writer.old) (W.contents writer.new) result }
+    ensures accepted { OnOk result
+        (IsAccepted (longest_asked script.now.commands) script.now.size script.now.options) }
+    ensures err { IfErr result
+        (RefusesStream (longest_asked script.now.commands) script.now.size script.now.options) }
 {
-    Ok(Answer {
-        outcome: Outcome::BadLine(number),
-        text: format!(in alloc; "line {number}: bad\n").map_err(|_| ReplayFault::Memory)?,
-    })
+    let (size, options) = (script.size, &script.options);
+    match &script.commands {
+        Commands::OfShelves(commands) => {
+            stream_atlas(alloc, size, options, commands.as_slice(), writer)
+        }
+        Commands::OfBuckets(commands) => {
+            stream_bucketed(alloc, size, options, commands.as_slice(), writer)
+        }
+    }
 }
 
-fn bad_options(alloc: Global, number: u32) -> Result<Answer, ReplayFault>
-    ensures outcome { IfOk result (λ answer. answer.outcome ≡ Outcome.Options number) }
-    ensures text { IfOk result (λ answer. string_bytes answer.text ≡ options_text number) }
+fn bad_line<W: Write>(alloc: Global, number: u64, writer: &mut W) -> Result<Outcome, ReplayFault>
+    ensures { (input : List ℕ) → script_of input ≡ Err number
+        → Replays (Some input) (W.contents writer.old) (W.contents writer.new) result }
+{
+    let text = text_of_bad_line(alloc, number)?;
+    write_line(Outcome::BadLine(number), text.as_str(), writer)
+}
+
+fn text_of_bad_line(alloc: Global, number: u64) -> Result<String, ReplayFault>
+    ensures text { IfOk result (λ text. string_bytes text ≡ bad_line_text number) }
     ensures fault { IfErr result (λ fault. fault ≡ ReplayFault.Memory) }
 {
-    Ok(Answer {
-        outcome: Outcome::Options(number),
-        text: format!(in alloc; "options {number}\n").map_err(|_| ReplayFault::Memory)?,
-    })
+    let outcome = Outcome::BadLine(number);
+    let text = format!(in alloc; "{outcome}\n").map_err(|_| ReplayFault::Memory)?;
+    Ok(text)
+}
+
+fn bad_options<W: Write>(alloc: Global, number: u32, writer: &mut W) -> Result<Outcome, ReplayFault>
+    ensures { (input : List ℕ) → HasFault input number (options_text number)
+        → Replays (Some input) (W.contents writer.old) (W.contents writer.new) result }
+{
+    let outcome = Outcome::Options(number);
+    let text = format!(in alloc; "{outcome}\n").map_err(|_| ReplayFault::Memory)?;
+    write_line(outcome, text.as_str(), writer)
+}
+
+/// Writes the only line of an outcome.
+fn write_line<W: Write>(
+    outcome: Outcome,
+    line: &str,
+    writer: &mut W,
+) -> Result<Outcome, ReplayFault>
+    ensures { (input : List ℕ) → Answers input outcome line.now
+        → Replays (Some input) (W.contents writer.old) (W.contents writer.new) result }
+{
+    match send(line.as_bytes(), writer) {
+        Ok(()) => Ok(outcome),
+        Err(_) => Err(ReplayFault::Write),
+    }
 }

@@ -1,53 +1,154 @@
-//! The text of replies, a line for each.
-//! Definition: `ReplyText`. A new reply needs its words there and here.
+//! The text of a reply: one line, made in a small buffer. Nothing here takes memory.
+//! Definition: `ReplyText`. A new reply needs its words there and here, and room in the buffer.
 
-ghost use Rattle.std.specs.Prelude.{◌≡◌, ◌++◌, IfOk, OnOk, string_bytes};
+ghost use Rattle.std.specs.Prelude.{◌≡◌, ◌≤◌, ◌+◌, ◌++◌, ◌∷◌, [], decimal, length};
+ghost use Rattle.std.specs.Fmt.{signed_decimal};
+ghost use Rattle.etagere_run.specs.Lines.{space};
 ghost use Rattle.etagere_run.specs.ReplyText as spec;
-ghost use Rattle.etagere_run.specs.ReplyText.{line_of};
+ghost use Rattle.etagere_run.specs.ReplyText.{HasPlaces, IsPlace, TellsPlaces, corners_text, longest_line};
 
 use crate::commands::Reply;
+use arrayvec::ArrayString;
 use etagere::{Allocation, Rectangle};
-use std::alloc::{AllocError, Global};
-use std::fmt::Write;
+use std::marker::Model;
 
-/// The lines of the replies, one for each.
-pub fn replies_text(alloc: Global, replies: &[Reply]) -> Result<String, AllocError>
-    ensures { IfOk result (λ text. string_bytes text ≡ spec.replies_text replies.now) }
-{
-    let mut text = String::new(alloc);
-    for reply in replies {
-        push_reply(&mut text, reply)?;
-    }
-    Ok(text)
+/// How many bytes a line has at most: `placed`, an id of 10 digits, and four places of 11 characters.
+const LINE_CAPACITY: usize = 66;
+
+/// A line, with its line feed once it is whole.
+#[derive(Drop)]
+pub struct Line {
+    text: ArrayString<LINE_CAPACITY>,
 }
 
-fn push_reply(text: &mut String, reply: &Reply) -> Result<(), AllocError>
-    ensures { OnOk result (string_bytes text.new ≡ string_bytes text.old ++ line_of reply.now) }
+impl Model for Line {
+    ghost use Rattle.std.specs.Prelude.{ℕ, List};
+
+    ghost Value = { List ℕ };
+
+    ghost view = { λ line. line.text.bytes };
+}
+
+impl Line {
+    /// A line that begins with a word.
+    fn new(word: &str) -> Line
+        requires { length word.now ≤ LINE_CAPACITY }
+        ensures { result ≡ word.now }
+    {
+        let mut text = ArrayString::new();
+        text.push_str(word);
+        Line { text }
+    }
+
+    /// The line as text.
+    pub fn as_str(&self) -> &str
+        ensures { result.now ≡ self.now }
+    {
+        self.text.as_str()
+    }
+
+    /// Adds a word.
+    fn push(&mut self, word: &str)
+        requires { length self.old + length word.now ≤ LINE_CAPACITY }
+        ensures { self.new ≡ self.old ++ word.now }
+    {
+        self.text.push_str(word);
+    }
+
+    /// Adds the decimal digits of a number.
+    fn push_number(&mut self, number: u32)
+        requires { length self.old + 10 ≤ LINE_CAPACITY }
+        ensures text { self.new ≡ self.old ++ decimal number }
+        ensures length { length self.new ≤ length self.old + 10 }
+    {
+        let mut digits = itoa::Buffer::new();
+        self.push(digits.format(number));
+    }
+
+    /// Adds a place, with a minus sign where it is negative.
+    fn push_place(&mut self, place: i32)
+        requires { length self.old + 11 ≤ LINE_CAPACITY }
+        ensures text { self.new ≡ self.old ++ signed_decimal place }
+        ensures length { length self.new ≤ length self.old + 11 }
+        ensures short { IsPlace place → length self.new ≤ length self.old + 5 }
+    {
+        let mut digits = itoa::Buffer::new();
+        self.push(digits.format(place));
+    }
+
+    /// Adds a space and a place.
+    fn push_next_place(&mut self, place: i32)
+        requires { length self.old + 12 ≤ LINE_CAPACITY }
+        ensures text { self.new ≡ self.old ++ space ∷ signed_decimal place }
+        ensures length { length self.new ≤ length self.old + 12 }
+        ensures short { IsPlace place → length self.new ≤ length self.old + 6 }
+    {
+        self.push(" ");
+        self.push_place(place);
+    }
+
+    /// Adds the corners of a rectangle.
+    fn push_corners(&mut self, rectangle: &Rectangle)
+        requires { length self.old + 47 ≤ LINE_CAPACITY }
+        ensures text { self.new ≡ self.old ++ corners_text rectangle.now }
+        ensures length { length self.new ≤ length self.old + 47 }
+        ensures short { HasPlaces rectangle.now → length self.new ≤ length self.old + 23 }
+    {
+        self.push_place(rectangle.min.x);
+        self.push_next_place(rectangle.min.y);
+        self.push_next_place(rectangle.max.x);
+        self.push_next_place(rectangle.max.y);
+    }
+}
+
+/// The line of a reply.
+pub fn line_of(reply: &Reply) -> Line
+    ensures text { result ≡ spec.line_of reply.now }
+    ensures short { TellsPlaces reply.now → length result ≤ longest_line }
 {
     match reply {
-        Reply::Placed(allocation) => push_placed(text, allocation),
-        Reply::Refused => text.push_str("refused\n"),
-        Reply::Returned => text.push_str("returned\n"),
-        Reply::At(rectangle, index) => push_at(text, rectangle, *index),
-        Reply::NotLive => text.push_str("not live\n"),
-        Reply::Cleared => text.push_str("cleared\n"),
-        Reply::NoMemory => text.push_str("no memory\n"),
+        Reply::Placed(allocation) => placed_line(allocation),
+        Reply::Refused => Line::new("refused\n"),
+        Reply::Returned => Line::new("returned\n"),
+        Reply::At(rectangle, index) => at_line(rectangle, *index),
+        Reply::NotLive => Line::new("not live\n"),
+        Reply::Cleared => Line::new("cleared\n"),
+        Reply::Grown => Line::new("grown\n"),
+        Reply::GrowRefused(number) => grow_refused_line(*number),
+        Reply::NoMemory => Line::new("no memory\n"),
     }
 }
 
-fn push_placed(text: &mut String, allocation: &Allocation) -> Result<(), AllocError>
-    ensures { OnOk result (string_bytes text.new
-        ≡ string_bytes text.old ++ line_of (Reply.Placed allocation.now)) }
+fn placed_line(allocation: &Allocation) -> Line
+    ensures text { result ≡ spec.line_of (Reply.Placed allocation.now) }
+    ensures short { HasPlaces allocation.now.rectangle → length result ≤ longest_line }
 {
-    let id = allocation.id.serialize();
-    let Rectangle { min, max } = allocation.rectangle;
-    writeln!(text, "placed {id} {} {} {} {}", min.x, min.y, max.x, max.y)
+    let mut line = Line::new("placed ");
+    line.push_number(allocation.id.serialize());
+    line.push(" ");
+    line.push_corners(&allocation.rectangle);
+    line.push("\n");
+    line
 }
 
-fn push_at(text: &mut String, rectangle: &Rectangle, index: u32) -> Result<(), AllocError>
-    ensures { OnOk result (string_bytes text.new
-        ≡ string_bytes text.old ++ line_of (Reply.At rectangle.now index)) }
+fn at_line(rectangle: &Rectangle, index: u32) -> Line
+    ensures text { result ≡ spec.line_of (Reply.At rectangle.now index) }
+    ensures short { HasPlaces rectangle.now → length result ≤ longest_line }
 {
-    let Rectangle { min, max } = *rectangle;
-    writeln!(text, "at {} {} {} {} {index}", min.x, min.y, max.x, max.y)
+    let mut line = Line::new("at ");
+    line.push_corners(rectangle);
+    line.push(" ");
+    line.push_number(index);
+    line.push("\n");
+    line
+}
+
+fn grow_refused_line(number: u32) -> Line
+    ensures text { result ≡ spec.line_of (Reply.GrowRefused number) }
+    ensures short { length result ≤ longest_line }
+{
+    let mut line = Line::new("grow refused ");
+    line.push_number(number);
+    line.push("\n");
+    line
 }

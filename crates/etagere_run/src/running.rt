@@ -1,119 +1,99 @@
-//! Runs on a shelf atlas: one command, one call, one reply, and a ledger of what is live.
-//! Definitions: `AtlasRuns`, over `Runs` and `Live`, which every kind of run shares; `Tied` is what
-//! private functions keep between ledger and atlas. A new command needs its pairs in `AtlasStep`.
+//! Runs of whatever kind: one command, one call, one reply, and a ledger of what is live.
+//! Definitions: `Runs` and `Live`; `Tied` is what private functions keep between ledger and atlas. An atlas that is to
+//! have runs implements `Answering`, over a `Kind` of its own. Streams answer by `answer_next` too.
 
-ghost use Rattle.std.specs.Prelude.{ℕ, ◌<◌, ◌≤◌, ◌+◌, vec_capacity, vec_len, IfOk, IfErr, OnOk};
-ghost use Rattle.etagere_base.specs.Frames.{IsAccepted, atlas_frame, longest_side};
-ghost use Rattle.etagere_run.specs.AtlasRuns.{RunKeepsPromisesThroughout, RefusesRun, shelf_atlas};
-ghost use Rattle.etagere_run.specs.Runs.{RunsTo};
-ghost use Rattle.etagere_run.specs.Private.Tied.{IsAnswer, IsTied};
+ghost use Rattle.std.specs.Prelude.{◌≡◌, ℕ, ◌<◌, ◌≤◌, ◌+◌, List, [], length, vec_capacity, vec_len, IfOk};
+ghost use Rattle.etagere_run.specs.Live.{Entry};
+ghost use Rattle.etagere_run.specs.Runs.{Kind, Runs, RunKeepsPromisesThroughout, RunsTo};
+ghost use Rattle.etagere_run.specs.Private.Given as spec;
+ghost use Rattle.etagere_run.specs.Private.Given.{with_given};
+ghost use Rattle.etagere_run.specs.Private.Rooms.{IsEmptyRoom};
+ghost use Rattle.etagere_run.specs.Private.Tables.{HasPlacesOf, entries_of};
+ghost use Rattle.etagere_run.specs.Private.Tied.{IsAnswerOf, IsNew, SuitsRuns};
 
-use crate::commands::{AtlasCommand, Reply};
-use crate::faults::RunFault;
+use crate::commands::Reply;
 use crate::ledger::Ledger;
-use etagere::{AllocatorOptions, AtlasAllocator, Size};
-use etagere_base::INDEX_MODULUS;
-use std::alloc::Global;
+use etagere::Allocation;
+use std::alloc::{AllocError, Global};
 
-/// Runs the commands in order on a new atlas of this size in pixels, and gives a reply to each.
-///
-/// `Options` tells the first fault of the size and options, and that memory ran out for the atlas
-/// only where they have none; `Memory` comes where there is no room for the replies or for what is
-/// live, which is taken first. After an error nothing was run. Takes memory for a reply and a
-/// ledger entry for each command, beside what the atlas takes. Each command costs what its call of
-/// the atlas does, and a search of what is live.
-pub fn run_atlas(
-    alloc: Global,
-    size: Size,
-    options: &AllocatorOptions,
-    commands: &[AtlasCommand],
-) -> Result<Vec<Reply>, RunFault>
-    ensures run { IfOk result (λ replies.
-        RunsTo shelf_atlas (atlas_frame size options.now) commands.now replies.items) }
-    ensures promises { IfOk result (λ replies.
-        RunKeepsPromisesThroughout (atlas_frame size options.now) commands.now replies.items) }
-    ensures accepted { OnOk result (IsAccepted longest_side size options.now) }
-    ensures err { IfErr result (RefusesRun size options.now) }
+/// An atlas that answers the commands of its kind of run.
+pub trait Answering {
+    /// What it is asked.
+    type Command: Copy;
+
+    ghost kind: { Kind Self Self.Command };
+
+    ghost Tied: { List Entry → Self → Type 0 };
+
+    /// Answers a command, and takes out of the ledger what the command gives back. What it is given isn't added yet.
+    fn answer(&mut self, ledger: &mut Ledger, command: Self::Command) -> Reply
+        requires { Tied (entries_of ledger.old) self.old }
+        ensures answer { (position : ℕ) → IsAnswerOf kind Tied position command result
+            (entries_of ledger.old) (with_given position result (entries_of ledger.new))
+            self.old self.new }
+        ensures places { HasPlacesOf ledger.old ledger.new };
+}
+
+/// Room for a run: for its replies, and for the ledger of what is live.
+#[derive(Drop)]
+pub struct Room {
+    pub replies: Vec<Reply>,
+    pub ledger: Ledger,
+}
+
+impl Room {
+    /// Room for so many commands.
+    pub fn with_capacity(alloc: Global, count: usize) -> Result<Room, AllocError>
+        ensures empty { IfOk result (λ room. IsEmptyRoom count room) }
+    {
+        let replies = Vec::with_capacity(alloc, count)?;
+        let ledger = Ledger::with_capacity(alloc, count)?;
+        Ok(Room { replies, ledger })
+    }
+}
+
+/// The replies of an atlas to the commands, one after another.
+pub fn answer_all<A: Answering>(atlas: &mut A, room: Room, commands: &[A::Command]) -> Vec<Reply>
+    requires suits { SuitsRuns A.kind A.Tied }
+    requires new { IsNew A.kind A.Tied atlas.old }
+    requires room { IsEmptyRoom (length commands.now) room }
+    ensures run { RunsTo A.kind (A.kind.frame atlas.old) commands.now result.items }
+    ensures last { Runs A.kind 0 [] (A.kind.fresh (A.kind.frame atlas.old))
+        commands.now result.items atlas.new }
+    ensures promises { RunKeepsPromisesThroughout A.kind (A.kind.frame atlas.old)
+        commands.now result.items }
 {
-    let mut replies = Vec::with_capacity(alloc, commands.len()).map_err(|_| RunFault::Memory)?;
-    let mut ledger = Ledger::with_capacity(alloc, commands.len()).map_err(|_| RunFault::Memory)?;
-    let mut atlas = AtlasAllocator::with_options(alloc, size, options).map_err(RunFault::Options)?;
+    let Room {
+        mut replies,
+        mut ledger,
+    } = room;
     for position in 0..commands.len() {
-        let reply = answer(&mut atlas, &mut ledger, position, commands[position]);
+        let reply = answer_next(atlas, &mut ledger, commands[position]);
         replies.push(reply).unwrap();
     }
-    Ok(replies)
+    replies
 }
 
-fn answer(
-    atlas: &mut AtlasAllocator,
-    ledger: &mut Ledger,
-    position: usize,
-    command: AtlasCommand,
-) -> Reply
-    requires tied { IsTied ledger.old.entries.items atlas.old }
-    requires space { vec_len ledger.old.entries < vec_capacity ledger.old.entries }
-    ensures answer { IsAnswer position command result
-        ledger.old.entries.items ledger.new.entries.items atlas.old atlas.new }
-    ensures length { vec_len ledger.new.entries ≤ vec_len ledger.old.entries + 1 }
-    ensures room { vec_capacity ledger.old.entries ≤ vec_capacity ledger.new.entries }
+/// The reply of an atlas to the next command, which the ledger keeps.
+pub fn answer_next<A: Answering>(atlas: &mut A, ledger: &mut Ledger, command: A::Command) -> Reply
+    requires tied { A.Tied (entries_of ledger.old) atlas.old }
+    requires space { vec_len ledger.old.places < vec_capacity ledger.old.places }
+    ensures answer { IsAnswerOf A.kind A.Tied (vec_len ledger.old.places) command result
+        (entries_of ledger.old) (entries_of ledger.new) atlas.old atlas.new }
+    ensures length { vec_len ledger.new.places ≡ vec_len ledger.old.places + 1 }
+    ensures room { vec_capacity ledger.old.places ≤ vec_capacity ledger.new.places }
 {
-    match command {
-        AtlasCommand::Allocate(size) => place(atlas, ledger, position, size),
-        AtlasCommand::Return(other) => give_back(atlas, ledger, other),
-        AtlasCommand::Look(other) => look(atlas, ledger, other),
-        AtlasCommand::Clear => {
-            atlas.clear();
-            ledger.clear();
-            Reply::Cleared
-        }
-    }
+    let reply = atlas.answer(ledger, command);
+    ledger.add(given_by(&reply));
+    reply
 }
 
-fn place(atlas: &mut AtlasAllocator, ledger: &mut Ledger, position: usize, size: Size) -> Reply
-    requires tied { IsTied ledger.old.entries.items atlas.old }
-    requires space { vec_len ledger.old.entries < vec_capacity ledger.old.entries }
-    ensures answer { IsAnswer position (AtlasCommand.Allocate size) result
-        ledger.old.entries.items ledger.new.entries.items atlas.old atlas.new }
-    ensures length { vec_len ledger.new.entries ≤ vec_len ledger.old.entries + 1 }
-    ensures room { vec_capacity ledger.old.entries ≤ vec_capacity ledger.new.entries }
+/// What a command was given that has this reply.
+fn given_by(reply: &Reply) -> Option<Allocation>
+    ensures { result ≡ spec.given_by reply.now }
 {
-    let Ok(found) = atlas.allocate(size) else {
-        return Reply::NoMemory;
-    };
-    let Some(allocation) = found else {
-        return Reply::Refused;
-    };
-    ledger.add(position, &allocation);
-    Reply::Placed(allocation)
-}
-
-fn give_back(atlas: &mut AtlasAllocator, ledger: &mut Ledger, other: usize) -> Reply
-    requires { IsTied ledger.old.entries.items atlas.old }
-    ensures answer { (position : ℕ) → IsAnswer position (AtlasCommand.Return other) result
-        ledger.old.entries.items ledger.new.entries.items atlas.old atlas.new }
-    ensures length { vec_len ledger.new.entries ≤ vec_len ledger.old.entries }
-    ensures room { vec_capacity ledger.old.entries ≤ vec_capacity ledger.new.entries }
-{
-    let Some(allocation) = ledger.take(other) else {
-        return Reply::NotLive;
-    };
-    match atlas.deallocate(allocation.id) {
-        Ok(()) => Reply::Returned,
-        Err(_) => unreachable!(),
-    }
-}
-
-fn look(atlas: &AtlasAllocator, ledger: &Ledger, other: usize) -> Reply
-    requires { IsTied ledger.now.entries.items atlas.now }
-    ensures { (position : ℕ) → IsAnswer position (AtlasCommand.Look other) result
-        ledger.now.entries.items ledger.now.entries.items atlas.now atlas.now }
-{
-    let Some(allocation) = ledger.find(other) else {
-        return Reply::NotLive;
-    };
-    match atlas.get(allocation.id) {
-        Some(rectangle) => Reply::At(rectangle, allocation.id.serialize() % INDEX_MODULUS),
-        None => unreachable!(),
+    match reply {
+        Reply::Placed(allocation) => Some(*allocation),
+        _ => None,
     }
 }

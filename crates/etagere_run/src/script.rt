@@ -1,17 +1,18 @@
 //! Reads a script: a header, then a command on each line with bytes, or the number of the first
-//! line that isn't good. Definitions: `Script`, over `Lines`, `Words` and `Numbers`; what private
-//! functions answer is `ScriptReading`. A new kind of line goes into `Words` and beside the others.
+//! line that isn't good. Definitions: `Script`, over `Lines` and `Words`; what private functions
+//! answer is `ScriptReading`. A new kind of line goes into `Words`.
 
 ghost use Rattle.std.specs.Prelude.{◌≡◌, ◌<◌, ◌+◌, ◌^◌, length};
-ghost use Rattle.etagere_run.specs.Lines.{filled_from, lines_of, words_of};
-ghost use Rattle.etagere_run.specs.Script.{commands_of, script_of};
-ghost use Rattle.etagere_run.specs.Private.ScriptReading.{Gives};
-ghost use Rattle.etagere_run.specs.Words as spec;
+ghost use Rattle.etagere_run.specs.Lines.{filled_from, lines_of};
+ghost use Rattle.etagere_run.specs.Script as spec;
+ghost use Rattle.etagere_run.specs.Script.{script_of};
+ghost use Rattle.etagere_run.specs.Private.ScriptReading.{Gives, commands_in};
+ghost use Rattle.etagere_run.specs.Words as words;
 ghost use Rattle.etagere_run.specs.declared.script.ScriptFault.TheVariants.{Memory};
 
-use crate::commands::AtlasCommand;
-use crate::lines::{blank_lines, first_line, split_word};
-use crate::numbers::{number_of, position_of};
+use crate::commands::{AtlasCommand, BucketedCommand};
+use crate::lines::{blank_lines, first_line};
+use crate::words::{AtlasKind, Spelled, command_of, header_of};
 use etagere::{AllocatorOptions, Size};
 use std::alloc::{AllocFailed, Global};
 use std::marker::Model;
@@ -19,37 +20,29 @@ use std::marker::Model;
 /// A run as a script spells it.
 #[derive(Drop)]
 pub struct Script {
-    pub header: Header,
-    pub commands: Vec<AtlasCommand>,
+    pub size: Size,
+    pub options: AllocatorOptions,
+    pub commands: Commands,
 }
 
 impl Model for Script {
     ghost use Rattle.etagere_run.specs.Script.{Request};
+    ghost use Rattle.etagere_run.specs.Private.ScriptReading.{commands_in};
 
     ghost Value = { Request };
 
     ghost view = { λ script. record {
-      size = script.header.size;
-      options = script.header.options;
-      commands = script.commands.items;
+      size = script.size;
+      options = script.options;
+      commands = commands_in script.commands;
     } };
 }
 
-/// The atlas of a script.
-#[derive(Clone, Copy)]
-pub struct Header {
-    pub size: Size,
-    pub options: AllocatorOptions,
-}
-
-impl Model for Header {
-    ghost use Rattle.etagere_run.specs.Words.{Header};
-
-    ghost Value = { Header };
-
-    ghost view = { λ header. record { size = header.size; options = header.options } };
-
-    ghost inverse = { λ header. record { size = header.size; options = header.options } };
+/// The commands of a script, by the atlas that they are for.
+#[derive(Drop)]
+pub enum Commands {
+    OfShelves(Vec<AtlasCommand>),
+    OfBuckets(Vec<BucketedCommand>),
 }
 
 /// Why a script isn't read.
@@ -80,15 +73,37 @@ pub fn read_script(alloc: Global, bytes: &[u8]) -> Result<Script, ScriptFault>
     let Some(header) = header_of(line) else {
         return Err(ScriptFault::BadLine(number));
     };
-    let commands = commands_of(alloc, number, rest)?;
-    Ok(Script { header, commands })
+    let commands = commands_to(alloc, header.kind, number, rest)?;
+    Ok(Script {
+        size: header.size,
+        options: header.options,
+        commands,
+    })
+}
+
+/// The commands of the lines after line number `before`, for an atlas of a kind.
+fn commands_to(
+    alloc: Global,
+    kind: AtlasKind,
+    before: u64,
+    bytes: &[u8],
+) -> Result<Commands, ScriptFault>
+    requires { before + length bytes.now < 2 ^ 64 }
+    ensures { Gives commands_in result
+        (spec.commands_to kind (filled_from (before + 1) (lines_of bytes.now))) }
+{
+    Ok(match kind {
+        AtlasKind::Shelves => Commands::OfShelves(commands_of(alloc, before, bytes)?),
+        AtlasKind::Buckets => Commands::OfBuckets(commands_of(alloc, before, bytes)?),
+    })
 }
 
 /// The commands of the lines after line number `before`.
-fn commands_of(alloc: Global, before: u64, bytes: &[u8]) -> Result<Vec<AtlasCommand>, ScriptFault>
+fn commands_of<C: Spelled>(alloc: Global, before: u64, bytes: &[u8]) -> Result<Vec<C>, ScriptFault>
     requires { before + length bytes.now < 2 ^ 64 }
     ensures { Gives (λ commands. commands.items) result
-        (commands_of (filled_from (before + 1) (lines_of bytes.now))) }
+        (spec.commands_of (words.command_of C.cleared C.meaning)
+        (filled_from (before + 1) (lines_of bytes.now))) }
 {
     let mut commands = Vec::new(alloc);
     let mut number = before;
@@ -105,87 +120,4 @@ fn commands_of(alloc: Global, before: u64, bytes: &[u8]) -> Result<Vec<AtlasComm
         rest = after;
     }
     Ok(commands)
-}
-
-fn header_of(line: &[u8]) -> Option<Header>
-    ensures { result ≡ spec.header_of (words_of line.now) }
-{
-    let (name, words) = split_word(line)?;
-    if name == b"atlas".as_slice() {
-        atlas_in(words)
-    } else {
-        None
-    }
-}
-
-/// The atlas of the six words after its name.
-#[tactic(auto, using(crate::proofs::LastWord::last_words))]
-fn atlas_in(words: &[u8]) -> Option<Header>
-    ensures { result ≡ spec.atlas_in (words_of words.now) }
-{
-    let (width, words) = split_word(words)?;
-    let (height, words) = split_word(words)?;
-    let (alignment_width, words) = split_word(words)?;
-    let (alignment_height, words) = split_word(words)?;
-    let (columns, direction) = split_word(words)?;
-    Some(Header {
-        size: size_of(width, height)?,
-        options: AllocatorOptions {
-            alignment: size_of(alignment_width, alignment_height)?,
-            vertical_shelves: direction_of(direction)?,
-            num_columns: number_of(columns)?,
-        },
-    })
-}
-
-fn direction_of(direction: &[u8]) -> Option<bool>
-    ensures { result ≡ spec.direction_of direction.now }
-{
-    match direction {
-        b"h" => Some(false),
-        b"v" => Some(true),
-        _ => None,
-    }
-}
-
-#[tactic(auto, using(crate::proofs::LastWord::last_words))]
-fn command_of(line: &[u8]) -> Option<AtlasCommand>
-    ensures { result ≡ spec.command_of (words_of line.now) }
-{
-    match split_word(line) {
-        Some((name, words)) => command_named(name, words),
-        None if line == b"c".as_slice() => Some(AtlasCommand::Clear),
-        None => None,
-    }
-}
-
-/// The command of a name and the words after it.
-#[tactic(auto, using(crate::proofs::LastWord::last_words))]
-fn command_named(name: &[u8], words: &[u8]) -> Option<AtlasCommand>
-    ensures { result ≡ spec.command_named name.now (words_of words.now) }
-{
-    match name {
-        b"a" => Some(AtlasCommand::Allocate(size_in(words)?)),
-        b"r" => Some(AtlasCommand::Return(position_of(words)?)),
-        b"l" => Some(AtlasCommand::Look(position_of(words)?)),
-        _ => None,
-    }
-}
-
-/// The size that two words spell.
-#[tactic(auto, using(crate::proofs::LastWord::last_words))]
-fn size_in(words: &[u8]) -> Option<Size>
-    ensures { result ≡ spec.size_in (words_of words.now) }
-{
-    let (width, height) = split_word(words)?;
-    size_of(width, height)
-}
-
-fn size_of(width: &[u8], height: &[u8]) -> Option<Size>
-    ensures { result ≡ spec.size_of width.now height.now }
-{
-    Some(Size {
-        width: number_of(width)?,
-        height: number_of(height)?,
-    })
 }

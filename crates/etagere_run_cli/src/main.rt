@@ -1,37 +1,60 @@
-//! Replays the script of standard input to standard output. Statuses and words are the library's, so
-//! that nothing is decided here.
+//! Replays the script of standard input to standard output, or checks the snapshot that it has.
+//! Statuses and words are the library's: only what the arguments ask for is decided here.
 #![tactic(auto)]
 
-use etagere_run::{ReplayFault, replay};
+use etagere_run::{ReplayFault, check, replay};
 use std::process::ExitCode;
 use std::rt::Env;
 use std::{env, io};
 
 fn main(rt: HostRuntime) -> ExitCode {
-    match has_arguments(&rt) {
-        Ok(false) => replay_input(&rt),
-        Ok(true) => {
+    match asked(&rt) {
+        Ok(Some(Task::Replay)) => ended(&rt, replay_input(&rt)),
+        Ok(Some(Task::Check)) => ended(&rt, check_input(&rt)),
+        Ok(None) => {
             let _ = rt.eprintln("usage: etagere_run [check]");
             ExitCode::from(2)
         }
-        Err(_) => fault(&rt, ReplayFault::Read),
+        Err(_) => ended(&rt, Err(ReplayFault::Read)),
     }
 }
 
-fn has_arguments(rt: &(impl Env + AllocGlobal)) -> io::Result<bool> {
-    Ok(env::args(rt)?.len() > 1)
+/// What the program is to do.
+#[derive(Clone, Copy, Debug)]
+enum Task {
+    Replay,
+    Check,
 }
 
-fn replay_input(rt: &(impl Input + Print + Eprint + AllocGlobal)) -> ExitCode {
-    let mut reader = rt.reader();
-    let mut writer = io::writer(rt);
-    match replay(rt.alloc(), &mut reader, &mut writer) {
-        Ok(outcome) => ExitCode::from(outcome.status()),
-        Err(why) => fault(rt, why),
+/// What the arguments ask for, if anything.
+fn asked(rt: &(impl Env + AllocGlobal)) -> io::Result<Option<Task>> {
+    let mut arguments = env::args(rt)?.skip(1);
+    let Some(word) = arguments.next() else {
+        return Ok(Some(Task::Replay));
+    };
+    let is_check = word.as_str() == "check" && arguments.next().is_none();
+    Ok(is_check.then_some(Task::Check))
+}
+
+/// The status of a replay that wrote its text.
+fn replay_input(rt: &(impl Input + Print + AllocGlobal)) -> Result<u8, ReplayFault> {
+    let outcome = replay(rt.alloc(), &mut rt.reader(), &mut io::writer(rt))?;
+    Ok(outcome.status())
+}
+
+/// The status of a check that wrote its line.
+fn check_input(rt: &(impl Input + Print + AllocGlobal)) -> Result<u8, ReplayFault> {
+    let checked = check(rt.alloc(), &mut rt.reader(), &mut io::writer(rt))?;
+    Ok(checked.status())
+}
+
+/// Says why nothing more was written, if so.
+fn ended(rt: &impl Eprint, status: Result<u8, ReplayFault>) -> ExitCode {
+    match status {
+        Ok(status) => ExitCode::from(status),
+        Err(why) => {
+            let _ = rt.eprintln(why.words());
+            ExitCode::from(why.status())
+        }
     }
-}
-
-fn fault(rt: &impl Eprint, why: ReplayFault) -> ExitCode {
-    let _ = rt.eprintln(why.words());
-    ExitCode::from(why.status())
 }

@@ -1,5 +1,8 @@
 -- What reading a script gives, of which the contracts of private functions speak.
 use Rattle.std.specs.Prelude.{◌≡◌, ℕ, Result, Ok, Err, ⊤}
+use Rattle.etagere_run.specs.Script as meaning
+use Rattle.etagere_run.specs.declared.script.Commands.{Commands}
+use Rattle.etagere_run.specs.declared.script.Commands.TheVariants.{OfShelves, OfBuckets}
 use Rattle.etagere_run.specs.declared.script.ScriptFault.{ScriptFault}
 use Rattle.etagere_run.specs.declared.script.ScriptFault.TheVariants.{BadLine, Memory}
 
@@ -12,3 +15,8 @@ Fails Memory meaning = ⊤
 abbrev pub Gives : {A B : Type 0} → (A → B) → Result A ScriptFault → Result B ℕ → Type 0
 Gives view (Ok read) meaning = meaning ≡ Ok (view read)
 Gives view (Err fault) meaning = Fails fault meaning
+
+-- commands as lists
+abbrev pub commands_in : Commands → meaning.Commands
+commands_in (OfShelves commands) = meaning.OfShelves commands.items
+commands_in (OfBuckets commands) = meaning.OfBuckets commands.items

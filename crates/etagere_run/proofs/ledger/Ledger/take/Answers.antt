@@ -1,21 +1,31 @@
-use Rattle.std.proofs.Common.{◌≡◌, ◌==◌, ◌∙◌, None, Some, ap, rules}
-use Rattle.std.specs.Prelude.{position as first_place}
-use Rattle.etagere_run.specs.Live.{Entry}
-use Rattle.etagere_run.proofs.FirstEntry.{allocation_at-none, allocation_at-place, remove-place}
+use Rattle.std.proofs.Common.{◌∙◌, ap, arith, None, Option}
+use Rattle.std.specs.Prelude.{slice_set}
+use Rattle.etagere_base.specs.declared.ids.Allocation.{Allocation}
+use Rattle.etagere_run.specs.Private.Tables.{entries_above}
+use Rattle.etagere_run.proofs.TableEntries.{allocation_at-none, allocation_at-place, some-taken, without-place}
 use Rattle.etagere_run.proofs.ledger.Ledger.take.Goals as goal
 
 pub returns-in_err-place-clause-found : goal.returns-in_err-place-clause-found
 returns-in_err-place-clause-found c =
-    let none : first_place (λ entry. entry.position == c.args.position) c.args.self.now.entries.items ≡ None = search rules in
-    c.from_residual.ensures ∙ allocation_at-none c.args.position c.args.self.now.entries.items none
+    let ledger = c.args.self.now in
+    c.from_residual.ensures
+    ∙ allocation_at-none ledger.floor c.args.position ledger.places.items
+    (λ counts. c.in_err-place.ensures (counts.0, omega (arith, counts.1, ledger.places.ok.0)))
 
 pub returns-clause-found : goal.returns-clause-found
 returns-clause-found c =
-    let place : first_place (λ entry. entry.position == c.args.position) c.args.self.now.entries.items ≡ Some c.in_ok-place.place = search rules in
-    ap (λ (entry : Entry). Some entry.allocation) c.entry.view_is
-    ∙ allocation_at-place c.args.position c.in_ok-place.place c.args.self.now.entries.items c.remove-entry.result place c.remove-entry.ensures.value
+    let ledger = c.args.self.now in
+    let found = c.in_ok-place.ensures in
+    let read = rw found.1 at c.index_mut.ensures.value in
+    c.take.ensures.value
+    ∙ allocation_at-place ledger.floor c.args.position ledger.places.items c.index_mut.result.now found.0.0
+    (omega (arith, found.0.1, ledger.places.ok.0)) read
 
 pub returns-clause-taken : goal.returns-clause-taken
 returns-clause-taken c =
-    let place : first_place (λ entry. entry.position == c.args.position) c.args.self.now.entries.items ≡ Some c.in_ok-place.place = search rules in
-    c.remove-entry.ensures.items ∙ remove-place c.args.position c.in_ok-place.place c.args.self.now.entries.items place
+    let ledger = c.args.self.now in
+    let found = c.in_ok-place.ensures in
+    some-taken c.take.result
+    (ap (λ (given : Option Allocation). entries_above ledger.floor (slice_set ledger.places.items c.in_ok-place.place given)) c.take.ensures.after
+    ∙ ap (λ n. entries_above ledger.floor (slice_set ledger.places.items n None)) found.1
+    ∙ without-place ledger.floor c.args.position ledger.places.items found.0.0)

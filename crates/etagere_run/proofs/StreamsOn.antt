@@ -1,0 +1,134 @@
+-- The lines of a run's replies that go out one by one: at each moment they are those of the commands so far, and where
+-- the writer fails what went out is a beginning of those of a run of all commands.
+use Rattle.std.proofs.Common.{◌≡◌, ℕ, ◌+◌, ◌<◌, ◌≤◌, Option, List, [], ◌∷◌, ◌++◌, length, get_or, take, drop, refl, ap, sym, ◌∙◌, subst, append_assoc}
+use Rattle.std.specs.Io.KnownBytes.{Appends}
+use Rattle.std.proofs.lemmas.List.{append-nil, take-append-drop}
+use Rattle.etagere_base.specs.declared.frames.Frame.{Frame}
+use Rattle.etagere_base.specs.Gathering.{GathersMore, IsGathered, SendsBeginning, SendsWhole}
+use Rattle.etagere_base.specs.Sending.{AppendsBeginning}
+use Rattle.etagere_base.proofs.GatheringLemmas.{appends-nothing, begins-more}
+use Rattle.etagere_run.specs.declared.commands.Reply.{Reply}
+use Rattle.etagere_run.specs.Live.{Entry}
+use Rattle.etagere_run.specs.ReplyText.{line_of, replies_text}
+use Rattle.etagere_run.specs.Runs.{Kind, RunKeepsPromisesThroughout}
+use Rattle.etagere_run.specs.Streaming.{IsTextOfRun, StreamsBeginning}
+use Rattle.etagere_run.specs.Private.Tied.{IsAnswerOf, SameAlignments, SuitsRuns}
+use Rattle.etagere_run.proofs.RunsOn.{GoesOn, IsUnderWay, can_go_on, ends, goes_on, starts}
+
+-- the text of a front and a back, and of one reply more
+text-append : (front back : List Reply) → replies_text (front ++ back) ≡ replies_text front ++ replies_text back
+text-append [] back = refl
+text-append (reply ∷ front) back =
+    ap (λ (l : List ℕ). line_of reply ++ l) (text-append front back)
+    ∙ sym (append_assoc (line_of reply) (replies_text front) (replies_text back))
+
+text-more : (replies : List Reply) (reply : Reply) → replies_text replies ++ line_of reply ≡ replies_text (replies ++ reply ∷ [])
+text-more replies reply =
+    ap (λ (l : List ℕ). replies_text replies ++ l) (sym (append-nil (line_of reply)))
+    ∙ sym (text-append replies (reply ∷ []))
+
+-- the text of a run that goes on after one reply more
+text-goes_on : (replies others : List Reply) (reply : Reply)
+    → replies_text replies ++ (line_of reply ++ replies_text others) ≡ replies_text ((replies ++ reply ∷ []) ++ others)
+text-goes_on replies others reply =
+    sym (append_assoc (replies_text replies) (line_of reply) (replies_text others))
+    ∙ ap (λ (l : List ℕ). l ++ replies_text others) (text-more replies reply)
+    ∙ sym (text-append (replies ++ reply ∷ []) others)
+
+module _ {S C : Type 0} (kind : Kind S C) (Tied : List Entry → S → Type 0) where
+  -- a stream so far: the text of a run's replies was given to the gathered text and its writer
+  pub record IsStreaming (frame : Frame) (commands : List C) (entries : List Entry) (state : S)
+      (start now : Option (List ℕ)) (gathered : List ℕ) : Type 0 where
+    pub replies : List Reply
+    pub way : IsUnderWay kind Tied frame commands replies entries state
+    pub throughout : RunKeepsPromisesThroughout kind frame commands replies
+    pub given : IsGathered start now gathered (replies_text replies)
+
+  -- before the first command
+  pub stream-starts : SuitsRuns kind Tied → (frame : Frame) (state : S) (start : Option (List ℕ))
+      → state ≡ kind.fresh frame → SameAlignments frame (kind.frame state) → Tied [] state
+      → IsStreaming frame [] [] state start start []
+  stream-starts suits frame state start is alignments tied =
+      let first = starts kind Tied suits frame state is alignments tied in
+      record {
+        replies = [];
+        way = first.0;
+        throughout = first.1;
+        given = record { sent = []; out = appends-nothing start; whole = refl };
+      }
+
+  module _ (suits : SuitsRuns kind Tied) (frame : Frame) (commands : List C) (position : ℕ) (command : C) (reply : Reply)
+      (entries later : List Entry) (old new : S) (start now next : Option (List ℕ)) (gathered : List ℕ) where
+    -- one command later
+    pub stream-goes_on : (more : List ℕ) → position < length commands → command ≡ get_or commands position command
+        → IsStreaming frame (take position commands) entries old start now gathered
+        → IsAnswerOf kind Tied position command reply entries later old new
+        → GathersMore now gathered next more (line_of reply)
+        → IsStreaming frame (take (position + 1) commands) later new start next more
+    stream-goes_on more within is so_far answer gathers =
+        let replies = so_far.replies in
+        let further = goes_on kind Tied suits frame commands position command replies (replies ++ reply ∷ []) reply entries later old new
+        within is so_far.way so_far.throughout answer refl in
+        record {
+          replies = replies ++ reply ∷ [];
+          way = further.0;
+          throughout = further.1;
+          given = subst (IsGathered start next more) (text-more replies reply) (gathers start (replies_text replies) so_far.given);
+        }
+
+    -- where the writer fails at the line of a reply, the run could go on
+    pub stream-stops : position < length commands → command ≡ get_or commands position command
+        → IsStreaming frame (take position commands) entries old start now gathered
+        → IsAnswerOf kind Tied position command reply entries later old new
+        → SendsBeginning now gathered next (line_of reply)
+        → StreamsBeginning kind frame commands start next
+    stream-stops within is so_far answer sends =
+        let replies = so_far.replies in
+        let further = goes_on kind Tied suits frame commands position command replies (replies ++ reply ∷ []) reply entries later old new
+        within is so_far.way so_far.throughout answer refl in
+        let end = subst (λ (l : List C). GoesOn kind Tied frame l (replies ++ reply ∷ [])) (take-append-drop (position + 1) commands)
+        (can_go_on kind Tied suits frame (take (position + 1) commands) (drop (position + 1) commands) (replies ++ reply ∷ [])
+        later new further.0 further.1) in
+        let all = (replies ++ reply ∷ []) ++ end.others in (
+          end.last,
+          replies_text all,
+          record { replies = all; run = end.run; promises = end.promises; text_is = refl },
+          subst (AppendsBeginning start next) (text-goes_on replies end.others reply)
+              (begins-more now next gathered (line_of reply) (replies_text end.others) sends start (replies_text replies) so_far.given),
+        )
+
+  -- after the last command the text is that of a run, of which all goes out or a beginning
+  pub stream-text : (frame : Frame) (commands : List C) (position : ℕ) (entries : List Entry) (state : S)
+      (start now : Option (List ℕ)) (gathered : List ℕ)
+      → length commands ≤ position
+      → (so_far : IsStreaming frame (take position commands) entries state start now gathered)
+      → IsTextOfRun kind frame commands state (replies_text so_far.replies)
+  stream-text frame commands position entries state start now gathered all so_far =
+      let end = ends kind Tied frame commands position so_far.replies entries state all so_far.way so_far.throughout in
+      record { replies = so_far.replies; run = end.0; promises = end.1; text_is = refl }
+
+  pub stream-ends : (frame : Frame) (commands : List C) (position : ℕ) (entries : List Entry) (state : S)
+      (start now new : Option (List ℕ)) (gathered : List ℕ)
+      → length commands ≤ position
+      → IsStreaming frame (take position commands) entries state start now gathered
+      → SendsWhole now gathered new
+      → (text : List ℕ) × IsTextOfRun kind frame commands state text × Appends start new text
+  stream-ends frame commands position entries state start now new gathered all so_far sends = (
+    replies_text so_far.replies,
+    stream-text frame commands position entries state start now gathered all so_far,
+    sends start (replies_text so_far.replies) so_far.given,
+  )
+
+  pub stream-fails : (frame : Frame) (commands : List C) (position : ℕ) (entries : List Entry) (state : S)
+      (start now new : Option (List ℕ)) (gathered : List ℕ)
+      → length commands ≤ position
+      → IsStreaming frame (take position commands) entries state start now gathered
+      → SendsBeginning now gathered new []
+      → StreamsBeginning kind frame commands start new
+  stream-fails frame commands position entries state start now new gathered all so_far sends = (
+    state,
+    replies_text so_far.replies,
+    stream-text frame commands position entries state start now gathered all so_far,
+    subst (AppendsBeginning start new) (append-nil (replies_text so_far.replies))
+        (sends start (replies_text so_far.replies) so_far.given),
+  )

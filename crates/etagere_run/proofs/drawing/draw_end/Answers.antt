@@ -1,0 +1,44 @@
+use Rattle.std.proofs.Common.{◌≡◌, rules}
+use Rattle.std.proofs.lemmas.Result.{err_from_is_err_and}
+use Rattle.etagere.specs.Svg as shelves
+use Rattle.etagere_bucketed.specs.Svg as buckets
+use Rattle.etagere_run.specs.Drawing.{IsPictureOf}
+use Rattle.etagere_run.specs.Script.{OfBuckets, OfShelves}
+use Rattle.etagere_run.proofs.Pictures.{buckets-picture, shelves-picture}
+use Rattle.etagere_run.proofs.drawing.draw_end.Goals as goal
+
+pub returns-in_ok-dump_svg-in-OfShelves : goal.returns-in_ok-dump_svg-in-OfShelves
+returns-in_ok-dump_svg-in-OfShelves g c =
+    let atlas = c.in_ok-atlas-in-OfShelves.atlas in
+    let is : c.args.script.now.commands ≡ OfShelves c.in-OfShelves.commands.items = search rules in
+    let picture : IsPictureOf c.args.script.now (shelves.svg atlas) =
+    shelves-picture c.args.script.now c.in-OfShelves.commands.items atlas is (search rules) (search rules) in
+    (shelves.svg atlas, picture, search rules)
+
+pub returns-in_err-dump_svg-in-OfShelves : goal.returns-in_err-dump_svg-in-OfShelves
+returns-in_err-dump_svg-in-OfShelves g c =
+    let atlas = c.in_ok-atlas-in-OfShelves.atlas in
+    let is : c.args.script.now.commands ≡ OfShelves c.in-OfShelves.commands.items = search rules in
+    let picture : IsPictureOf c.args.script.now (shelves.svg atlas) =
+    shelves-picture c.args.script.now c.in-OfShelves.commands.items atlas is (search rules) (search rules) in
+    let fault = err_from_is_err_and c.from_residual-in_err-dump_svg-in-OfShelves.result
+    c.from_residual-in_err-dump_svg-in-OfShelves.ensures.1 in
+    rw (fault.1, fault.2) (shelves.svg atlas, picture, c.in_err-dump_svg-in-OfShelves.ensures.err)
+
+pub returns-in_ok-dump_svg-in-OfBuckets : goal.returns-in_ok-dump_svg-in-OfBuckets
+returns-in_ok-dump_svg-in-OfBuckets g c =
+    let atlas = c.in_ok-atlas-in-OfBuckets.atlas in
+    let is : c.args.script.now.commands ≡ OfBuckets c.in-OfBuckets.commands.items = search rules in
+    let picture : IsPictureOf c.args.script.now (buckets.svg atlas) =
+    buckets-picture c.args.script.now c.in-OfBuckets.commands.items atlas is (search rules) (search rules) in
+    (buckets.svg atlas, picture, search rules)
+
+pub returns-in_err-dump_svg-in-OfBuckets : goal.returns-in_err-dump_svg-in-OfBuckets
+returns-in_err-dump_svg-in-OfBuckets g c =
+    let atlas = c.in_ok-atlas-in-OfBuckets.atlas in
+    let is : c.args.script.now.commands ≡ OfBuckets c.in-OfBuckets.commands.items = search rules in
+    let picture : IsPictureOf c.args.script.now (buckets.svg atlas) =
+    buckets-picture c.args.script.now c.in-OfBuckets.commands.items atlas is (search rules) (search rules) in
+    let fault = err_from_is_err_and c.from_residual-in_err-dump_svg-in-OfBuckets.result
+    c.from_residual-in_err-dump_svg-in-OfBuckets.ensures.1 in
+    rw (fault.1, fault.2) (buckets.svg atlas, picture, c.in_err-dump_svg-in-OfBuckets.ensures.err)

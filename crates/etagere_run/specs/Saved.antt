@@ -1,0 +1,57 @@
+-- What an answer says of a saved atlas. Which JSON texts are read as one is not said here.
+use Rattle.std.specs.Prelude.{◌≡◌, ℕ, ◌≤◌, List, IsUtf8}
+use Rattle.etagere_base.specs.declared.faults.RestoreFault.{RestoreFault}
+use Rattle.etagere_base.specs.RestoreFaults.{restore_fault_number}
+use Rattle.etagere_bucketed.specs.Restoring as buckets
+use Rattle.etagere_bucketed.specs.StandsFor as bucket_rules
+use Rattle.etagere_bucketed.specs.State.{BucketedState}
+use Rattle.etagere_bucketed.specs.Svg as bucket_pictures
+use Rattle.etagere.specs.Snapshots as shelves
+use Rattle.etagere.specs.StandsFor as shelf_rules
+use Rattle.etagere.specs.State.{AtlasState}
+use Rattle.etagere.specs.Svg as shelf_pictures
+use Rattle.etagere_run.specs.declared.faults.Checked.{Checked}
+use Rattle.etagere_run.specs.declared.faults.Checked.TheVariants.{Fine, Broken, Unreadable}
+use Rattle.etagere_run.specs.declared.saved.Saved.{Saved}
+use Rattle.etagere_run.specs.declared.saved.Saved.TheVariants.{Atlas, Bucketed}
+
+-- a snapshot stands for a state
+abbrev pub StandsForOne : Saved → Type 0
+StandsForOne (Atlas snapshot) =
+    (atlas : AtlasState) × shelf_rules.StandsFor (shelves.snapshot_records snapshot) atlas
+StandsForOne (Bucketed snapshot) =
+    (atlas : BucketedState) × bucket_rules.StandsFor (buckets.snapshot_records snapshot) atlas
+
+-- the text is the picture of a state for which a snapshot stands
+abbrev pub ShowsSaved : Saved → List ℕ → Type 0
+ShowsSaved (Atlas snapshot) text =
+    (atlas : AtlasState) × shelf_rules.StandsFor (shelves.snapshot_records snapshot) atlas
+    × (text ≡ shelf_pictures.svg atlas)
+ShowsSaved (Bucketed snapshot) text =
+    (atlas : BucketedState) × bucket_rules.StandsFor (buckets.snapshot_records snapshot) atlas
+    × (text ≡ bucket_pictures.svg atlas)
+
+-- the rule that a fault names is broken, or memory was wanting
+abbrev pub Breaks : Saved → RestoreFault → Type 0
+Breaks (Atlas snapshot) fault = shelves.IsBroken (shelves.snapshot_records snapshot) fault
+Breaks (Bucketed snapshot) fault = buckets.Breaks (buckets.snapshot_records snapshot) fault
+
+-- the number is that of a broken rule; rules are numbered from 1 to 10, and memory is none
+pub record IsBrokenRule (saved : Saved) (number : ℕ) : Type 0 where
+  pub fault : RestoreFault
+  pub broken : Breaks saved fault
+  pub number_is : number ≡ restore_fault_number fault
+  pub first : 1 ≤ number
+  pub last : number ≤ 10
+
+-- an answer is right of a snapshot that was read
+abbrev pub IsRightOf : Checked → Saved → Type 0
+IsRightOf Fine saved = StandsForOne saved
+IsRightOf (Broken number) saved = IsBrokenRule saved number
+IsRightOf Unreadable saved = ⊥
+
+-- an input may be answered so: where it is readable, it is UTF-8 text, and the answer is right of
+-- a snapshot
+abbrev pub MayAnswer : Checked → List ℕ → Type 0
+MayAnswer Unreadable input = Unit {0}
+MayAnswer checked input = IsUtf8 input × (saved : Saved) × IsRightOf checked saved

@@ -1,0 +1,47 @@
+-- What a stream of replies writes.
+use Rattle.std.specs.Prelude.{◌≡◌, ℕ, MatchOption, ⊤, Option, List, [], Result, Ok, Err}
+use Rattle.std.specs.Io.KnownBytes.{Appends, Keeps}
+use Rattle.etagere_base.specs.declared.faults.OptionsFault.TheVariants as faults
+use Rattle.etagere_base.specs.declared.frames.Frame.{Frame}
+use Rattle.etagere_base.specs.declared.geometry.Size.{Size}
+use Rattle.etagere_base.specs.declared.options.AllocatorOptions.{AllocatorOptions}
+use Rattle.etagere_base.specs.Frames.{IsAccepted, options_fault}
+use Rattle.etagere_base.specs.Sending.{AppendsBeginning}
+use Rattle.etagere_run.specs.declared.commands.Reply.{Reply}
+use Rattle.etagere_run.specs.declared.faults.StreamFault.{StreamFault}
+use Rattle.etagere_run.specs.declared.faults.StreamFault.TheVariants.{Options, Memory, Write}
+use Rattle.etagere_run.specs.ReplyText.{replies_text}
+use Rattle.etagere_run.specs.Runs.{Kind, Runs, RunKeepsPromisesThroughout}
+
+-- a text is that of the replies of a run of a new atlas, which answers all commands, keeps its promises at each moment,
+-- and leads to this state
+pub record IsTextOfRun {S C : Type 0} (kind : Kind S C) (frame : Frame) (commands : List C) (last : S) (text : List ℕ) : Type 0 where
+  pub replies : List Reply
+  pub run : Runs kind 0 [] (kind.fresh frame) commands replies last
+  pub promises : RunKeepsPromisesThroughout kind frame commands replies
+  pub text_is : text ≡ replies_text replies
+
+-- the text of a run went out, and of such a text a beginning
+abbrev pub StreamsRun : {S C : Type 0} → Kind S C → Frame → List C → Option (List ℕ) → Option (List ℕ) → Type 0
+StreamsRun {S} kind frame commands old new =
+    (last : S) × (text : List ℕ) × IsTextOfRun kind frame commands last text × Appends old new text
+
+abbrev pub StreamsBeginning : {S C : Type 0} → Kind S C → Frame → List C → Option (List ℕ) → Option (List ℕ) → Type 0
+StreamsBeginning {S} kind frame commands old new =
+    (last : S) × (text : List ℕ) × IsTextOfRun kind frame commands last text × AppendsBeginning old new text
+
+-- What a stream appends to what its writer contained: the text of a run, after a failed write a beginning of such a text,
+-- and nothing where the options have a fault or memory ran out.
+abbrev pub Streams : {S C T : Type 0} → Kind S C → Frame → List C → Option (List ℕ) → Option (List ℕ) → Result T StreamFault → Type 0
+Streams kind frame commands old new (Ok done) = StreamsRun kind frame commands old new
+Streams kind frame commands old new (Err (Options fault)) = Keeps old new
+Streams kind frame commands old new (Err Memory) = Keeps old new
+Streams kind frame commands old new (Err Write) = StreamsBeginning kind frame commands old new
+
+-- why a stream of this size and options may not be whole, where no side may pass the longest: their first fault, or that
+-- memory ran out, or where they are accepted that the writer failed
+abbrev pub RefusesStream : ℕ → Size → AllocatorOptions → StreamFault → Type 0
+RefusesStream longest size options (Options fault) =
+    MatchOption (options_fault longest size options) (fault ≡ faults.Memory) (λ first. fault ≡ first)
+RefusesStream longest size options Memory = ⊤
+RefusesStream longest size options Write = IsAccepted longest size options

@@ -1,0 +1,118 @@
+//! Runs on a shelf atlas.
+//! Definition: `AtlasRuns`, an instance of `Runs`. A new command needs its pairs in `AtlasStep`.
+
+ghost use Rattle.std.specs.Prelude.{ℕ, List, IfOk, IfErr, OnOk};
+ghost use Rattle.etagere_base.specs.Frames.{IsAccepted, atlas_frame, longest_side};
+ghost use Rattle.etagere_run.specs.AtlasRuns.{shelf_atlas};
+ghost use Rattle.etagere_run.specs.Runs.{RefusesRun, RunKeepsPromisesThroughout, RunsTo};
+ghost use Rattle.etagere_run.specs.Live.{Entry};
+ghost use Rattle.etagere_run.specs.Private.Given.{with_given};
+ghost use Rattle.etagere_run.specs.Private.Tables.{HasPlacesOf, entries_of};
+ghost use Rattle.etagere_run.specs.Private.Tied.{IsAnswer, IsTied};
+
+use crate::commands::{AtlasCommand, Reply};
+use crate::faults::RunFault;
+use crate::ledger::Ledger;
+use crate::running::{Answering, Room, answer_all};
+use etagere::{AllocatorOptions, AtlasAllocator, Size};
+use etagere_base::INDEX_MODULUS;
+use std::alloc::Global;
+
+/// Runs the commands in order on a new atlas of this size in pixels, and gives a reply to each.
+///
+/// `Options` tells the first fault of the size and options, and that memory ran out for the atlas
+/// only where they have none; `Memory` comes where there is no room for the replies or for what is
+/// live, which is taken first. After an error nothing was run. Takes memory for a reply and a
+/// place in the ledger for each command, beside what the atlas takes. Each command costs what its call
+/// of the atlas does, and one step to find a position.
+pub fn run_atlas(
+    alloc: Global,
+    size: Size,
+    options: &AllocatorOptions,
+    commands: &[AtlasCommand],
+) -> Result<Vec<Reply>, RunFault>
+    ensures run { IfOk result (λ replies.
+        RunsTo shelf_atlas (atlas_frame size options.now) commands.now replies.items) }
+    ensures promises { IfOk result (λ replies.
+        RunKeepsPromisesThroughout shelf_atlas (atlas_frame size options.now)
+        commands.now replies.items) }
+    ensures accepted { OnOk result (IsAccepted longest_side size options.now) }
+    ensures err { IfErr result (RefusesRun longest_side size options.now) }
+{
+    let room = Room::with_capacity(alloc, commands.len()).map_err(|_| RunFault::Memory)?;
+    let mut atlas = AtlasAllocator::with_options(alloc, size, options).map_err(RunFault::Options)?;
+    Ok(answer_all(&mut atlas, room, commands))
+}
+
+impl Answering for AtlasAllocator {
+    type Command = AtlasCommand;
+
+    ghost kind = { shelf_atlas };
+
+    ghost Tied = { IsTied };
+
+    fn answer(&mut self, ledger: &mut Ledger, command: AtlasCommand) -> Reply {
+        match command {
+            AtlasCommand::Allocate(size) => place(self, size),
+            AtlasCommand::Return(other) => give_back(self, ledger, other),
+            AtlasCommand::Look(other) => look(self, ledger, other),
+            AtlasCommand::Clear => clear(self, ledger),
+        }
+    }
+}
+
+fn place(atlas: &mut AtlasAllocator, size: Size) -> Reply
+    ensures { (position : ℕ) (entries : List Entry) → IsTied entries atlas.old
+        → IsAnswer position (AtlasCommand.Allocate size) result
+        entries (with_given position result entries) atlas.old atlas.new }
+{
+    let Ok(found) = atlas.allocate(size) else {
+        return Reply::NoMemory;
+    };
+    let Some(allocation) = found else {
+        return Reply::Refused;
+    };
+    Reply::Placed(allocation)
+}
+
+fn give_back(atlas: &mut AtlasAllocator, ledger: &mut Ledger, other: usize) -> Reply
+    requires { IsTied (entries_of ledger.old) atlas.old }
+    ensures answer { (position : ℕ) → IsAnswer position (AtlasCommand.Return other) result
+        (entries_of ledger.old) (with_given position result (entries_of ledger.new))
+        atlas.old atlas.new }
+    ensures places { HasPlacesOf ledger.old ledger.new }
+{
+    let Some(allocation) = ledger.take(other) else {
+        return Reply::NotLive;
+    };
+    match atlas.deallocate(allocation.id) {
+        Ok(()) => Reply::Returned,
+        Err(_) => unreachable!(),
+    }
+}
+
+fn look(atlas: &AtlasAllocator, ledger: &Ledger, other: usize) -> Reply
+    requires { IsTied (entries_of ledger.now) atlas.now }
+    ensures { (position : ℕ) → IsAnswer position (AtlasCommand.Look other) result
+        (entries_of ledger.now) (with_given position result (entries_of ledger.now))
+        atlas.now atlas.now }
+{
+    let Some(allocation) = ledger.allocation_at(other) else {
+        return Reply::NotLive;
+    };
+    match atlas.get(allocation.id) {
+        Some(rectangle) => Reply::At(rectangle, allocation.id.serialize() % INDEX_MODULUS),
+        None => unreachable!(),
+    }
+}
+
+fn clear(atlas: &mut AtlasAllocator, ledger: &mut Ledger) -> Reply
+    ensures answer { (position : ℕ) → IsAnswer position AtlasCommand.Clear result
+        (entries_of ledger.old) (with_given position result (entries_of ledger.new))
+        atlas.old atlas.new }
+    ensures places { HasPlacesOf ledger.old ledger.new }
+{
+    atlas.clear();
+    ledger.clear();
+    Reply::Cleared
+}

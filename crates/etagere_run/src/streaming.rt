@@ -1,0 +1,98 @@
+//! Runs whose replies go out one by one: each reply's line is made before the next command runs, and goes to a writer
+//! through a buffer of fixed size. No list of replies and no text is kept.
+//! Definition: `Streaming`, over `Runs` and `ReplyText`. A kind of run that is to be streamed gets a call like these two.
+
+ghost use Rattle.std.specs.Prelude.{ℕ, List, length, IfErr, OnErr, OnOk};
+ghost use Rattle.std.specs.Io.KnownBytes.{Appends};
+ghost use Rattle.etagere_base.specs.Frames.{IsAccepted, atlas_frame, longest_side};
+ghost use Rattle.etagere_bucketed.specs.Frames.{bucketed_frame, longest_bucketed_side};
+ghost use Rattle.etagere_run.specs.AtlasRuns.{shelf_atlas};
+ghost use Rattle.etagere_run.specs.BucketedRuns.{bucketed_atlas};
+ghost use Rattle.etagere_run.specs.Streaming.{IsTextOfRun, RefusesStream, Streams, StreamsBeginning};
+ghost use Rattle.etagere_run.specs.Private.Rooms.{IsEmptyLedger};
+ghost use Rattle.etagere_run.specs.Private.Tied.{IsNew, SuitsRuns};
+
+use crate::commands::{AtlasCommand, BucketedCommand};
+use crate::faults::StreamFault;
+use crate::ledger::Ledger;
+use crate::reply_text::line_of;
+use crate::running::{Answering, answer_next};
+use etagere::{AllocatorOptions, AtlasAllocator, Size};
+use etagere_base::GatheredText;
+use etagere_bucketed::BucketedAtlasAllocator;
+use std::alloc::Global;
+use std::io::{self, Write};
+
+/// Runs the commands in order on a new atlas of this size in pixels, and writes a line for each reply.
+///
+/// Each command is answered, and its line made, before the next one runs; lines go out 4096 bytes at a time, and at
+/// the end. `Options` tells the first fault of the size and options, and that memory ran out for the atlas only where
+/// they have none; `Memory` comes where there is no room for the ledger, which is taken first. After both nothing was
+/// written. After `Write`, which comes where the writer failed or accepted no byte, a beginning of the lines was
+/// written, and no further command runs. Takes memory for a place in the ledger for each command, beside what the
+/// atlas takes.
+pub fn stream_atlas<W: Write>(
+    alloc: Global,
+    size: Size,
+    options: &AllocatorOptions,
+    commands: &[AtlasCommand],
+    writer: &mut W,
+) -> Result<(), StreamFault>
+    ensures written { Streams shelf_atlas (atlas_frame size options.now) commands.now
+        (W.contents writer.old) (W.contents writer.new) result }
+    ensures accepted { OnOk result (IsAccepted longest_side size options.now) }
+    ensures err { IfErr result (RefusesStream longest_side size options.now) }
+{
+    let ledger = Ledger::with_capacity(alloc, commands.len()).map_err(|_| StreamFault::Memory)?;
+    let mut atlas = AtlasAllocator::with_options(alloc, size, options).map_err(
+        StreamFault::Options,
+    )?;
+    stream_all(&mut atlas, ledger, commands, writer).map_err(|_| StreamFault::Write)
+}
+
+/// Runs the commands in order on a new bucketed atlas of this size in pixels, and writes a line for each reply.
+///
+/// As `stream_atlas` does. A position that was returned answers `NotLive`, and the atlas isn't asked.
+pub fn stream_bucketed<W: Write>(
+    alloc: Global,
+    size: Size,
+    options: &AllocatorOptions,
+    commands: &[BucketedCommand],
+    writer: &mut W,
+) -> Result<(), StreamFault>
+    ensures written { Streams bucketed_atlas (bucketed_frame size options.now) commands.now
+        (W.contents writer.old) (W.contents writer.new) result }
+    ensures accepted { OnOk result (IsAccepted longest_bucketed_side size options.now) }
+    ensures err { IfErr result (RefusesStream longest_bucketed_side size options.now) }
+{
+    let ledger = Ledger::with_capacity(alloc, commands.len()).map_err(|_| StreamFault::Memory)?;
+    let mut atlas = BucketedAtlasAllocator::with_options(alloc, size, options).map_err(
+        StreamFault::Options,
+    )?;
+    stream_all(&mut atlas, ledger, commands, writer).map_err(|_| StreamFault::Write)
+}
+
+/// Writes the lines of the replies of an atlas to the commands, one after another.
+pub fn stream_all<A: Answering, W: Write>(
+    atlas: &mut A,
+    ledger: Ledger,
+    commands: &[A::Command],
+    writer: &mut W,
+) -> io::Result<()>
+    requires suits { SuitsRuns A.kind A.Tied }
+    requires new { IsNew A.kind A.Tied atlas.old }
+    requires room { IsEmptyLedger (length commands.now) ledger }
+    ensures whole { OnOk result ((text : List ℕ)
+        × IsTextOfRun A.kind (A.kind.frame atlas.old) commands.now atlas.new text
+        × Appends (W.contents writer.old) (W.contents writer.new) text) }
+    ensures beginning { OnErr result (StreamsBeginning A.kind (A.kind.frame atlas.old)
+        commands.now (W.contents writer.old) (W.contents writer.new)) }
+{
+    let mut ledger = ledger;
+    let mut text = GatheredText::new();
+    for position in 0..commands.len() {
+        let reply = answer_next(atlas, &mut ledger, commands[position]);
+        text.push(line_of(&reply).as_str(), writer)?;
+    }
+    text.finish(writer)
+}
