@@ -2,7 +2,7 @@
 //! the order in which faults are tested.
 
 use etagere::{OptionsFault, UnknownId};
-use etagere_run::{Outcome, ReplayFault, RunFault};
+use etagere_run::{Checked, Outcome, ReplayFault, RunFault, StreamFault};
 use std::fmt::Display;
 use std::process::Abort;
 use std::test::Fail;
@@ -36,9 +36,18 @@ fn options_faults_are_numbered_in_the_order_of_their_tests(rt: HostRuntime) -> R
 }
 
 #[test]
-fn faults_of_runs_and_replays_are_numbered(rt: HostRuntime) -> Result<(), Fail> {
+fn faults_of_runs_streams_and_replays_are_numbered(rt: HostRuntime) -> Result<(), Fail> {
     let options = RunFault::Options(OptionsFault::Area);
     for (fault, number, text) in [(options, 1, "Options"), (RunFault::Memory, 2, "Memory")] {
+        assert_eq!(rt; fault.number(), number);
+        says(&rt, fault, text)?;
+    }
+    let table = [
+        (StreamFault::Options(OptionsFault::Area), 1, "Options"),
+        (StreamFault::Memory, 2, "Memory"),
+        (StreamFault::Write, 3, "Write"),
+    ];
+    for (fault, number, text) in table {
         assert_eq!(rt; fault.number(), number);
         says(&rt, fault, text)?;
     }
@@ -59,6 +68,9 @@ fn the_program_ends_with_a_status_for_each_answer(rt: HostRuntime) -> Result<(),
     assert_eq!(rt; Outcome::Done.status(), 0);
     assert_eq!(rt; Outcome::Options(5).status(), 1);
     assert_eq!(rt; Outcome::BadLine(7).status(), 2);
+    assert_eq!(rt; Checked::Fine.status(), 0);
+    assert_eq!(rt; Checked::Broken(7).status(), 1);
+    assert_eq!(rt; Checked::Unreadable.status(), 2);
     let table = [
         (ReplayFault::Read, "read fault"),
         (ReplayFault::Write, "write fault"),

@@ -2,7 +2,7 @@
 //! atlas, a run and a replay of the same options answer the same fault, each in its own words.
 
 use etagere::{AllocatorOptions, AtlasAllocator, DEFAULT_OPTIONS, OptionsFault, Size, size2};
-use etagere_run::{AtlasCommand, Outcome, RunFault, replay, run_atlas};
+use etagere_run::{AtlasCommand, Outcome, RunFault, StreamFault, replay, run_atlas, stream_atlas};
 use std::process::Abort;
 use std::test::Fail;
 
@@ -102,6 +102,23 @@ fn a_run_of_refused_options_is_not_begun(rt: HostRuntime) {
         let (size, options) = size_and_options(asked);
         let run = run_atlas(rt.alloc(), size, &options, &[AtlasCommand::Clear]);
         assert_eq!(rt; run.err(), Some(RunFault::Options(fault)), "of {asked:?}");
+    }
+}
+
+#[test]
+fn a_stream_of_refused_options_writes_nothing(rt: HostRuntime) {
+    for (asked, fault) in REFUSED {
+        let (size, options) = size_and_options(asked);
+        let mut text = Vec::<u8>::new(rt.alloc());
+        let streamed = stream_atlas(
+            rt.alloc(),
+            size,
+            &options,
+            &[AtlasCommand::Clear],
+            &mut text,
+        );
+        assert_eq!(rt; streamed, Err(StreamFault::Options(fault)), "of {asked:?}");
+        assert!(rt; text.is_empty());
     }
 }
 

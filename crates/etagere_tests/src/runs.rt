@@ -1,5 +1,5 @@
-//! Runs of commands: what each command is answered, and where it is placed. Ids are free to change, so
-//! replies are compared without them.
+//! Runs of commands: what each command is answered, and where it is placed. Replies
+//! are compared without ids, of which `ids` speaks.
 
 use etagere::{AllocatorOptions, DEFAULT_OPTIONS, OptionsFault, Size, point2, size2};
 use etagere_run::{AtlasCommand, Reply, RunFault, run_atlas};
@@ -15,6 +15,8 @@ pub enum Shape {
     At([i32; 4]),
     NotLive,
     Cleared,
+    Grown,
+    GrowRefused(u32),
     NoMemory,
 }
 
@@ -29,6 +31,8 @@ pub fn shape_of(reply: Reply) -> Shape {
         Reply::At(place, _) => Shape::At([place.min.x, place.min.y, place.max.x, place.max.y]),
         Reply::NotLive => Shape::NotLive,
         Reply::Cleared => Shape::Cleared,
+        Reply::Grown => Shape::Grown,
+        Reply::GrowRefused(number) => Shape::GrowRefused(number),
         Reply::NoMemory => Shape::NoMemory,
     }
 }

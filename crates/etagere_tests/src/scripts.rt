@@ -1,6 +1,5 @@
 //! Scripts, line by line, and the text of their replays: what is a good header, a good command, a good
-//! number, which line is the first bad one, and what each reply is written as. Ids and indexes are
-//! free to change, so texts are compared without them.
+//! number, which line is the first bad one, and what each reply is written as.
 
 use etagere_run::{Outcome, replay};
 use std::alloc::{AllocError, Global};
@@ -32,34 +31,14 @@ fn is_bad(rt: &(impl AllocGlobal + Abort), script: &[u8], line: u64) -> Result<(
     writes(rt, script, Outcome::BadLine(line), text.as_str())
 }
 
-/// The text without the ids of its placed lines and the indexes of its at lines.
-pub fn without_ids(alloc: Global, text: &str) -> Result<String, AllocError> {
-    let mut kept = String::new(alloc);
-    for line in text.lines() {
-        match line.split_once(' ') {
-            Some(("placed", words)) => {
-                kept.push_str("placed ")?;
-                kept.push_str(words.split_once(' ').map_or("", |(_, corners)| corners))?;
-            }
-            Some(("at", words)) => {
-                kept.push_str("at ")?;
-                kept.push_str(words.rsplit_once(' ').map_or("", |(corners, _)| corners))?;
-            }
-            _ => kept.push_str(line)?,
-        }
-        kept.push('\n')?;
-    }
-    Ok(kept)
-}
-
 #[test]
 fn the_readme_example_is_replayed(rt: HostRuntime) -> Result<(), Fail> {
     let script = b"atlas 1000 1000 1 1 1 h\na 100 100\na 900 200\nr 0\na 300 200\nl 3\nr 2\n";
     let (outcome, text) = replayed(&rt, script)?;
     let lines =
-        "placed 0 0 100 112\nplaced 0 112 900 336\nreturned\nplaced 0 336 300 560\nat 0 336 300 560\nnot live\n";
+        "placed 65536 0 0 100 112\nplaced 65537 0 112 900 336\nreturned\nplaced 65539 0 336 300 560\nat 0 336 300 560 3\nnot live\n";
     assert_eq!(rt; outcome, Outcome::Done);
-    assert_eq!(rt; without_ids(rt.alloc(), text.as_str())?.as_str(), lines);
+    assert_eq!(rt; text.as_str(), lines);
     Ok(())
 }
 
@@ -69,9 +48,9 @@ fn columns_of_vertical_shelves_are_replayed(rt: HostRuntime) -> Result<(), Fail>
         b"atlas 64 48 4 8 2 v\na 10 20\na 10 20\na 30 8\na 4 9\nr 0\na 10 16\na 60 8\nl 3\nr 0\nc\na 60 8\nl 3\n";
     let (outcome, text) = replayed(&rt, script)?;
     let lines =
-        "placed 0 0 16 24\nplaced 16 0 32 24\nplaced 32 0 64 8\nplaced 0 24 8 48\nreturned\nplaced 0 0 16 24\nrefused\nat 0 24 8 48\nnot live\ncleared\nplaced 0 0 64 8\nnot live\n";
+        "placed 65536 0 0 16 24\nplaced 65538 16 0 32 24\nplaced 65539 32 0 64 8\nplaced 65537 0 24 8 48\nreturned\nplaced 65536 0 0 16 24\nrefused\nat 0 24 8 48 1\nnot live\ncleared\nplaced 65536 0 0 64 8\nnot live\n";
     assert_eq!(rt; outcome, Outcome::Done);
-    assert_eq!(rt; without_ids(rt.alloc(), text.as_str())?.as_str(), lines);
+    assert_eq!(rt; text.as_str(), lines);
     Ok(())
 }
 
@@ -104,11 +83,34 @@ fn options_are_answered_by_their_fault(rt: HostRuntime) -> Result<(), Fail> {
 }
 
 #[test]
+fn a_bucketed_script_grows_and_looks_at_nothing(rt: HostRuntime) -> Result<(), Fail> {
+    is_bad(&rt, b"bucketed 8 8 1 1 1 h\na 8 8\nl 0\n", 3)?;
+    is_bad(&rt, b"atlas 8 8 1 1 1 h\na 8 8\ng 9 9\n", 3)?;
+    writes(
+        &rt,
+        b"bucketed 8 8 1 1 1 h\ng 7 9\ng 16 8\na 16 8\nr 2\nr 2\nc",
+        Outcome::Done,
+        "grow refused 2\ngrown\nplaced 4096 0 0 16 8\nreturned\nnot live\ncleared\n",
+    )
+}
+
+#[test]
+fn a_bucketed_script_has_options_of_its_own(rt: HostRuntime) -> Result<(), Fail> {
+    writes(&rt, b"atlas 65535 1 1 1 1 h", Outcome::Done, "")?;
+    let longest = b"bucketed 65535 1 1 1 1 h";
+    writes(&rt, longest, Outcome::Options(1), "options 1\n")?;
+    let narrow = b"bucketed 4 4 1 1 5 h";
+    writes(&rt, narrow, Outcome::Options(5), "options 5\n")
+}
+
+#[test]
 fn headers_have_five_numbers_and_a_direction(rt: HostRuntime) -> Result<(), Fail> {
     for header in [
         b"atlas 8 8 1 1 1 v".as_slice(),
         b"atlas 08 000008 1 01 1 h",
         b"atlas 2 4 1 2 2 h",
+        b"bucketed 8 8 1 1 1 v",
+        b"bucketed 08 000008 1 01 2 h",
     ] {
         writes(&rt, header, Outcome::Done, "")?;
     }
@@ -130,6 +132,9 @@ fn other_headers_are_bad(rt: HostRuntime) -> Result<(), Fail> {
         b"atlas 8 8 1 1 2147483648 h",
         b"atlas",
         b"shelf 8 8 1 1 1 h",
+        b"bucketed 8 8 1 1 1",
+        b"bucketed 8 8 1 1 1 x",
+        b"buckets 8 8 1 1 1 h",
     ] {
         is_bad(&rt, header, 1)?;
     }

@@ -1,13 +1,13 @@
 //! Replays, and single texts, over readers and writers that move few bytes at once, and fail. A call
-//! that failed isn't tried again, also where it would work the second time: what a stream answers is
+//! that failed isn't retried, also where it would work the second time: what a stream answers is
 //! what a replay answers.
 
-use crate::fake_streams::{End, FakeReader, FakeWriter};
 use etagere_base::send;
 use etagere_run::{Outcome, ReplayFault, replay};
 use std::io::ErrorKind;
 use std::process::Abort;
 use std::test::Fail;
+use test_support::fake_streams::{End, FakeReader, FakeWriter};
 
 /// The script of the README's example.
 const SCRIPT: &[u8] = b"atlas 1000 1000 1 1 1 h\na 100 100\na 900 200\nr 0\na 300 200\nl 3\nr 2\n";

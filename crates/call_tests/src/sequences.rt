@@ -17,10 +17,19 @@ fn ends_clean(rt: &impl Abort, atlas: &AtlasAllocator) {
 }
 
 /// The area, counted wide.
-fn area(place: Rectangle) -> i64 {
+pub fn area(place: Rectangle) -> i64 {
     let width = i64::from(place.max.x) - i64::from(place.min.x);
     let height = i64::from(place.max.y) - i64::from(place.min.y);
     width.wrapping_mul(height)
+}
+
+/// How many allocations an atlas gives one by one.
+fn count(atlas: &AtlasAllocator) -> usize {
+    let mut count = 0;
+    for _ in atlas {
+        count = usize::wrapping_add(count, 1);
+    }
+    count
 }
 
 fn is_as_large(place: Rectangle, width: i32, height: i32) -> bool {
@@ -56,6 +65,9 @@ fn come_and_go(
     let third = placed(&mut atlas, 20, 30)?;
     assert!(rt; first.id != second.id && first.id != third.id);
     assert!(rt; !atlas.is_empty());
+    for allocation in &atlas {
+        assert!(rt; [first, second, third].contains(&allocation));
+    }
     for (given, width, height) in [(first, 20, 30), (second, 30, 40), (third, 20, 30)] {
         let min = given.rectangle.min;
         assert!(rt; is_as_large(given.rectangle, width, height));
@@ -84,15 +96,17 @@ fn vertical_columns_are_reused(rt: HostRuntime) -> Result<(), Fail> {
     assert!(rt; is_as_large(first.rectangle, 32, 16));
     assert!(rt; is_as_large(second.rectangle, 16, 32));
     let third = placed(&mut atlas, 128, 128)?;
+    assert_eq!(rt; count(&atlas), 3);
     for id in [first.id, second.id, third.id] {
         atlas.deallocate(id)?;
     }
+    assert_eq!(rt; count(&atlas), 0);
     ends_clean(&rt, &atlas);
     Ok(())
 }
 
 /// Widths, heights and how often each comes.
-const MIXED_SIZES: [(i32, i32, u32); 47] = [
+pub const MIXED_SIZES: [(i32, i32, u32); 47] = [
     (8, 2, 1),
     (2, 8, 1),
     (16, 512, 1),
@@ -148,11 +162,14 @@ fn clear_gives_everything_back(rt: HostRuntime) -> Result<(), Fail> {
     for _ in 0..500 {
         atlas.clear();
         ends_clean(&rt, &atlas);
+        let mut number = 0;
         for (width, height, times) in MIXED_SIZES {
             for _ in 0..times {
                 let _ = placed(&mut atlas, width, height)?;
+                number = usize::wrapping_add(number, 1);
             }
         }
+        assert_eq!(rt; count(&atlas), number);
     }
     Ok(())
 }

@@ -1,9 +1,10 @@
 //! Where a new atlas places sizes, and which it refuses: the height of shelves, what is split, good
 //! and bad fits, columns, vertical shelves, alignment, the limit of records, and the spaces after that.
 
-use etagere::{AllocatorOptions, AtlasAllocator, DEFAULT_OPTIONS, Rectangle, Size, point2, size2};
+use etagere::{AllocatorOptions, AtlasAllocator, DEFAULT_OPTIONS, Size, point2, size2};
 use std::process::Abort;
 use std::test::Fail;
+use test_support::corners::{corners, oriented, swapped};
 
 const VERTICAL: AllocatorOptions = AllocatorOptions {
     vertical_shelves: true,
@@ -26,26 +27,6 @@ fn aligned(width: i32, height: i32) -> AllocatorOptions {
 
 /// A size, and the corners of its place, or none where it is refused.
 type Answer = ((i32, i32), Option<[i32; 4]>);
-
-/// The first corner of a rectangle, and the one past its last.
-pub fn corners(place: Rectangle) -> [i32; 4] {
-    [place.min.x, place.min.y, place.max.x, place.max.y]
-}
-
-/// A size by its sides along the shelves and across.
-pub fn oriented(vertical: bool, (along, across): (i32, i32)) -> Size {
-    if vertical {
-        size2(across, along)
-    } else {
-        size2(along, across)
-    }
-}
-
-/// Corners by their places along the shelves and across: with vertical shelves x and y are swapped.
-pub fn swapped(vertical: bool, corners: [i32; 4]) -> [i32; 4] {
-    let [x0, y0, x1, y1] = corners;
-    if vertical { [y0, x0, y1, x1] } else { corners }
-}
 
 /// A new atlas, after it was asked for each size and gave these answers.
 fn answers(

@@ -2,12 +2,12 @@
 //! nothing: what is changed in one of the two leaves the other as it was. Each is shown on horizontal
 //! and on vertical shelves; lengths are given along the shelves first, then across.
 
-use crate::places::{corners, oriented, swapped};
 use etagere::{
     AllocId, Allocation, AllocatorOptions, AtlasAllocator, DEFAULT_OPTIONS, Rectangle, Size, size2,
 };
 use std::process::Abort;
 use std::test::Fail;
+use test_support::corners::{corners, oriented, swapped};
 
 /// What is asked of a new atlas with two columns of 80, 100 across.
 const FIRST_SIZES: [(i32, i32); 8] = [
@@ -22,7 +22,7 @@ const FIRST_SIZES: [(i32, i32); 8] = [
 ];
 
 /// Which of these are returned, in this order. The first shelf has three free items then, of which the
-/// last one returned is tried first; the shelf in the second column is empty and merged.
+/// last one returned is searched first; the shelf in the second column is empty and merged.
 const RETURNED: [usize; 5] = [0, 2, 4, 5, 7];
 
 /// What is asked after that, and where it is placed.

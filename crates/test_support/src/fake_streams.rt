@@ -1,6 +1,6 @@
 //! Readers and writers that move few bytes at once, and come to an end: there they fail, are
 //! interrupted, or move no byte. They end at every later call too, or once alone and then work.
-//! They count the calls after the first end, so that a test sees whether a call was tried again.
+//! They count the calls after the first end, so that a test sees whether a call was retried.
 
 ghost use Rattle.std.specs.Prelude.{◌≡◌, IfOk};
 

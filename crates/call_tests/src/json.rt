@@ -1,8 +1,9 @@
 //! The JSON text of each plain record, which is read again as the record. Its fields stand under
-//! their names, in the order of the record; an id is its number.
+//! their names, in the order of the record; an id is its number, a link the number of a record or 65535.
 
 use etagere::{
-    AllocId, Allocation, AllocatorOptions, DEFAULT_OPTIONS, Point, Rectangle, Size, point2, size2,
+    AllocId, Allocation, AllocatorOptions, AtlasAllocator, DEFAULT_OPTIONS, Point, Rectangle, Size,
+    point2, size2,
 };
 use serde::{Deserialize, Serialize};
 use std::fmt::Debug;
@@ -47,5 +48,15 @@ fn records_have_their_fields_by_name(rt: HostRuntime) -> Result<(), Fail> {
         &rt,
         &options,
         r#"{"alignment":{"width":1,"height":1},"vertical_shelves":false,"num_columns":1}"#,
+    )
+}
+
+#[test]
+fn a_saved_atlas_has_its_fields_by_name(rt: HostRuntime) -> Result<(), Fail> {
+    let atlas = AtlasAllocator::new(rt.alloc(), size2(10, 10))?;
+    is_written(
+        &rt,
+        &atlas.snapshot()?,
+        r#"{"width":10,"height":10,"alignment_width":1,"alignment_height":1,"vertical_shelves":false,"shelf_width":10,"first_shelf":0,"free_items":65535,"free_shelves":65535,"allocated_space":0,"shelves":[{"x":0,"y":0,"height":10,"prev":65535,"next":65535,"first_item":0,"first_unallocated":0,"is_empty":true}],"items":[{"x":0,"width":10,"prev":65535,"next":65535,"prev_unallocated":65535,"next_unallocated":65535,"shelf":0,"allocated":false,"generation":1}]}"#,
     )
 }

@@ -1,0 +1,34 @@
+//! Tests of single calls of an atlas and of sequences of them, and of the plain types, of what no clause
+//! says.
+#![tactic(auto)]
+
+#[cfg(test)]
+mod atlas_sweep;
+#[cfg(test)]
+mod bucketed_sequences;
+#[cfg(test)]
+mod bucketed_snapshots;
+#[cfg(test)]
+mod bucketed_sweep;
+#[cfg(test)]
+mod clones;
+#[cfg(test)]
+mod dumps;
+#[cfg(test)]
+mod ids;
+#[cfg(test)]
+mod json;
+#[cfg(test)]
+mod large_atlases;
+#[cfg(test)]
+mod places;
+#[cfg(test)]
+mod plain_types;
+#[cfg(test)]
+mod plain_walks;
+#[cfg(test)]
+mod restoring;
+#[cfg(test)]
+mod round_trips;
+#[cfg(test)]
+mod sequences;

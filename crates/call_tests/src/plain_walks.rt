@@ -1,0 +1,90 @@
+//! Links followed in the plainest way, for tests that judge a snapshot by its rules alone.
+
+use etagere::Link;
+use std::alloc::Global;
+use std::test::Fail;
+
+/// What stands for the link that names no record.
+pub const NONE: usize = 65535;
+
+/// The record numbers met one after another, and the number that ended it.
+#[derive(Drop)]
+pub struct PlainWalk {
+    pub met: Vec<usize>,
+    pub end: usize,
+}
+
+impl PlainWalk {
+    /// Whether it ended at none or at a record.
+    pub fn stays_within(&self, count: usize) -> bool {
+        self.end == NONE || self.end < count
+    }
+}
+
+pub fn number_of(link: Link) -> usize {
+    link.number().unwrap_or(NONE)
+}
+
+/// The link that a number stands for.
+pub fn link_of(number: u16) -> Link {
+    if number == u16::MAX {
+        Link::none()
+    } else {
+        Link::to(usize::from(number))
+    }
+}
+
+/// Follows links until none, a number that names no record, or one that was met.
+pub fn plain_walk(alloc: Global, links: &[usize], start: usize) -> Result<PlainWalk, Fail> {
+    let mut met = Vec::new(alloc);
+    let mut end = start;
+    for _ in 0..links.len() {
+        if met.contains(&end) {
+            break;
+        }
+        let Some(next) = links.get(end) else { break };
+        met.push(end)?;
+        end = *next;
+    }
+    Ok(PlainWalk { met, end })
+}
+
+/// How often a number stands among others.
+pub fn times(numbers: &[usize], number: usize) -> usize {
+    let mut times = 0;
+    for other in numbers {
+        if *other == number {
+            times = usize::wrapping_add(times, 1);
+        }
+    }
+    times
+}
+
+/// Whether each number below the count stands among the numbers, and each once.
+pub fn is_each_once(numbers: &[usize], count: usize) -> bool {
+    for number in 0..count {
+        if times(numbers, number) != 1 {
+            return false;
+        }
+    }
+    numbers.len() == count
+}
+
+pub fn is_multiple(value: i64, unit: i64) -> bool {
+    value.checked_rem(unit) == Some(0)
+}
+
+/// The values that a number of a snapshot is altered to. Its neighbour is the number of the same
+/// name in the next record.
+pub fn altered_values(own: i64, neighbour: i64) -> [i64; 11] {
+    let less = own.wrapping_sub(1);
+    let more = own.wrapping_add(1);
+    let longest = i64::from(i32::MAX);
+    [
+        own, 0, 1, neighbour, less, more, -1, 255, 65534, 65535, longest,
+    ]
+}
+
+pub fn wide_link(link: Link) -> i64 {
+    i64::try_from(number_of(link)).unwrap_or(-1)
+}

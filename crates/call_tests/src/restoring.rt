@@ -1,0 +1,331 @@
+//! Snapshots that anybody may have written: each is restored, or refused by a rule that it breaks. Most are
+//! that of an atlas of 20 by 8 that has given (8, 8), with a field or two altered: its item 0 is allocated and
+//! 8 long, its item 1 is free and 12 long.
+
+use etagere::laws::restore_atlas;
+use etagere::{
+    AllocId, AllocatorOptions, AtlasAllocator, AtlasSnapshot, DEFAULT_OPTIONS, ItemRecord, Link,
+    Rectangle, RestoreFault, ShelfRecord, point2, size2,
+};
+use std::process::Abort;
+use std::test::Fail;
+
+/// What an atlas of 20 by 8 saves that has given (8, 8).
+fn saved(rt: &impl AllocGlobal) -> Result<AtlasSnapshot, Fail> {
+    let mut atlas = AtlasAllocator::new(rt.alloc(), size2(20, 8))?;
+    atlas.allocate(size2(8, 8))?.ok_or("refused")?;
+    Ok(atlas.snapshot()?)
+}
+
+/// The fault by which a snapshot is refused.
+fn fault_of(rt: &impl AllocGlobal, snapshot: AtlasSnapshot) -> Option<RestoreFault> {
+    AtlasAllocator::restore(rt.alloc(), snapshot).err()
+}
+
+/// Whether a snapshot is refused by one of these rules.
+fn is_refused(rt: &impl AllocGlobal, snapshot: AtlasSnapshot, faults: &[RestoreFault]) -> bool {
+    match fault_of(rt, snapshot) {
+        Some(fault) => faults.contains(&fault),
+        None => false,
+    }
+}
+
+fn rectangle(left: i32, top: i32, right: i32, bottom: i32) -> Rectangle {
+    Rectangle {
+        min: point2(left, top),
+        max: point2(right, bottom),
+    }
+}
+
+#[test]
+fn what_was_saved_is_restored_with_its_ids(rt: HostRuntime) -> Result<(), Fail> {
+    let atlas = AtlasAllocator::restore(rt.alloc(), saved(&rt)?)?;
+    let id = AllocId::deserialize(65536);
+    assert_eq!(&rt; atlas.get(id), Some(rectangle(0, 0, 8, 8)));
+    assert_eq!(&rt; atlas.allocated_space(), 64);
+    assert_eq!(&rt; atlas.free_space(), 96);
+    assert_eq!(&rt; atlas.size(), size2(20, 8));
+    Ok(())
+}
+
+#[test]
+fn items_are_in_one_list_each(rt: HostRuntime) -> Result<(), Fail> {
+    let mut circle = saved(&rt)?;
+    circle.items.get_mut(1).ok_or("no item")?.next = Link::to(0);
+    assert!(&rt; is_refused(&rt, circle, &[RestoreFault::Sharing]));
+    let mut lost = saved(&rt)?;
+    lost.items.get_mut(0).ok_or("no item")?.next = Link::none();
+    let faults = [
+        RestoreFault::Runs,
+        RestoreFault::FreeList,
+        RestoreFault::Sharing,
+    ];
+    assert!(&rt; is_refused(&rt, lost, &faults));
+    let mut shared = saved(&rt)?;
+    shared.free_items = Link::to(1);
+    assert!(&rt; is_refused(&rt, shared, &[RestoreFault::Sharing]));
+    Ok(())
+}
+
+#[test]
+fn links_name_records_and_lead_back(rt: HostRuntime) -> Result<(), Fail> {
+    let mut outside = saved(&rt)?;
+    outside.free_items = Link::to(2);
+    assert!(&rt; is_refused(&rt, outside, &[RestoreFault::Link, RestoreFault::Sharing]));
+    let mut back = saved(&rt)?;
+    back.items.get_mut(1).ok_or("no item")?.prev = Link::none();
+    assert!(&rt; is_refused(&rt, back, &[RestoreFault::Link]));
+    let mut shelf_back = saved(&rt)?;
+    shelf_back.shelves.get_mut(0).ok_or("no shelf")?.prev = Link::to(0);
+    assert!(&rt; is_refused(&rt, shelf_back, &[RestoreFault::Link]));
+    let mut owner = saved(&rt)?;
+    owner.items.get_mut(1).ok_or("no item")?.shelf = 1;
+    assert!(&rt; is_refused(&rt, owner, &[RestoreFault::Link]));
+    Ok(())
+}
+
+#[test]
+fn a_free_list_has_each_free_item_once(rt: HostRuntime) -> Result<(), Fail> {
+    let mut circle = saved(&rt)?;
+    circle.items.get_mut(1).ok_or("no item")?.next_unallocated = Link::to(1);
+    assert!(&rt; is_refused(&rt, circle, &[RestoreFault::FreeList]));
+    let mut freed = saved(&rt)?;
+    freed.items.get_mut(0).ok_or("no item")?.allocated = false;
+    let faults = [
+        RestoreFault::Neighbours,
+        RestoreFault::FreeList,
+        RestoreFault::Space,
+    ];
+    assert!(&rt; is_refused(&rt, freed, &faults));
+    Ok(())
+}
+
+#[test]
+fn items_fill_their_shelf(rt: HostRuntime) -> Result<(), Fail> {
+    let mut narrow = saved(&rt)?;
+    narrow.items.get_mut(1).ok_or("no item")?.width = 11;
+    assert!(&rt; is_refused(&rt, narrow, &[RestoreFault::Runs]));
+    let mut flagged = saved(&rt)?;
+    flagged.shelves.get_mut(0).ok_or("no shelf")?.is_empty = true;
+    assert!(&rt; is_refused(&rt, flagged, &[RestoreFault::Runs]));
+    let mut moved = saved(&rt)?;
+    moved.items.get_mut(1).ok_or("no item")?.x = 9;
+    assert!(&rt; is_refused(&rt, moved, &[RestoreFault::Runs]));
+    Ok(())
+}
+
+#[test]
+fn shelves_fill_their_column(rt: HostRuntime) -> Result<(), Fail> {
+    let mut low = saved(&rt)?;
+    low.shelves.get_mut(0).ok_or("no shelf")?.height = 7;
+    assert!(&rt; is_refused(&rt, low, &[RestoreFault::Shelves, RestoreFault::Space]));
+    let mut lifted = saved(&rt)?;
+    lifted.shelves.get_mut(0).ok_or("no shelf")?.y = 1;
+    assert!(&rt; is_refused(&rt, lifted, &[RestoreFault::Shelves]));
+    Ok(())
+}
+
+#[test]
+fn two_shelves_share_no_items(rt: HostRuntime) -> Result<(), Fail> {
+    let mut shared = saved(&rt)?;
+    let shelf = shared.shelves.get_mut(0).ok_or("no shelf")?;
+    shelf.height = 4;
+    shelf.next = Link::to(1);
+    shared.shelves.push(ShelfRecord {
+        x: 0,
+        y: 4,
+        height: 4,
+        prev: Link::to(0),
+        next: Link::none(),
+        first_item: Link::to(0),
+        first_unallocated: Link::to(1),
+        is_empty: false,
+    })?;
+    assert!(&rt; is_refused(&rt, shared, &[RestoreFault::Link, RestoreFault::Sharing]));
+    Ok(())
+}
+
+/// A snapshot with one item record that was put aside.
+fn with_unused(
+    rt: &impl AllocGlobal,
+    allocated: bool,
+    generation: u16,
+) -> Result<AtlasSnapshot, Fail> {
+    let mut snapshot = saved(rt)?;
+    snapshot.items.push(ItemRecord {
+        x: 0,
+        width: 0,
+        prev: Link::none(),
+        next: Link::none(),
+        prev_unallocated: Link::none(),
+        next_unallocated: Link::none(),
+        shelf: 0,
+        allocated,
+        generation,
+    })?;
+    snapshot.free_items = Link::to(2);
+    Ok(snapshot)
+}
+
+#[test]
+fn no_unused_record_is_allocated(rt: HostRuntime) -> Result<(), Fail> {
+    let snapshot = with_unused(&rt, true, 0)?;
+    assert!(&rt; is_refused(&rt, snapshot, &[RestoreFault::Unused]));
+    Ok(())
+}
+
+#[test]
+fn an_unused_record_is_used_in_its_next_generation(rt: HostRuntime) -> Result<(), Fail> {
+    let mut atlas = AtlasAllocator::restore(rt.alloc(), with_unused(&rt, false, 65535)?)?;
+    let first = atlas.allocate(size2(3, 8))?.ok_or("refused")?;
+    assert_eq!(&rt; first.rectangle, rectangle(8, 0, 11, 8));
+    assert_eq!(&rt; first.id.serialize(), 65537);
+    let second = atlas.allocate(size2(9, 8))?.ok_or("refused")?;
+    assert_eq!(&rt; second.rectangle, rectangle(11, 0, 20, 8));
+    assert_eq!(&rt; second.id.serialize(), 2);
+    Ok(())
+}
+
+#[test]
+fn the_space_is_that_of_what_is_allocated(rt: HostRuntime) -> Result<(), Fail> {
+    for space in [63, 65, 0, -1, -64, i32::MAX, i32::MIN] {
+        let mut snapshot = saved(&rt)?;
+        snapshot.allocated_space = space;
+        assert!(&rt; is_refused(&rt, snapshot, &[RestoreFault::Space]));
+    }
+    Ok(())
+}
+
+#[test]
+fn a_frame_keeps_its_ranges(rt: HostRuntime) -> Result<(), Fail> {
+    for (width, height) in [
+        (0, 8),
+        (-20, 8),
+        (20, 0),
+        (65536, 8),
+        (65535, 65535),
+        (19, 8),
+    ] {
+        let mut snapshot = saved(&rt)?;
+        snapshot.width = width;
+        snapshot.height = height;
+        assert!(&rt; is_refused(&rt, snapshot, &[RestoreFault::Frame]));
+    }
+    for alignment in [0, -1, 3, i32::MAX] {
+        let mut snapshot = saved(&rt)?;
+        snapshot.alignment_width = alignment;
+        assert!(&rt; is_refused(&rt, snapshot, &[RestoreFault::Frame, RestoreFault::Runs]));
+    }
+    for shelf_width in [0, 21, 65535] {
+        let mut snapshot = saved(&rt)?;
+        snapshot.shelf_width = shelf_width;
+        assert!(&rt; is_refused(&rt, snapshot, &[RestoreFault::Frame]));
+    }
+    Ok(())
+}
+
+#[test]
+fn there_are_records_of_each_kind(rt: HostRuntime) -> Result<(), Fail> {
+    let mut no_shelf = saved(&rt)?;
+    no_shelf.shelves.clear();
+    assert!(&rt; is_refused(&rt, no_shelf, &[RestoreFault::Counts, RestoreFault::Link]));
+    let mut no_item = saved(&rt)?;
+    no_item.items.clear();
+    assert!(&rt; is_refused(&rt, no_item, &[RestoreFault::Counts, RestoreFault::Link]));
+    Ok(())
+}
+
+#[test]
+fn a_chain_that_many_shelves_share_is_followed_once(rt: HostRuntime) -> Result<(), Fail> {
+    let options = AllocatorOptions {
+        num_columns: 1000,
+        ..DEFAULT_OPTIONS
+    };
+    let atlas = AtlasAllocator::with_options(rt.alloc(), size2(1000, 8), &options)?;
+    let mut snapshot = atlas.snapshot()?;
+    for shelf in &mut snapshot.shelves {
+        shelf.first_item = Link::to(0);
+    }
+    let mut number = 0;
+    for item in &mut snapshot.items {
+        number = usize::wrapping_add(number, 1);
+        item.next = if number < 1000 {
+            Link::to(number)
+        } else {
+            Link::none()
+        };
+    }
+    let mut steps = 0;
+    let Err(fault) = restore_atlas(rt.alloc(), snapshot, &mut steps) else {
+        return Err("restored".into());
+    };
+    let faults = [
+        RestoreFault::Link,
+        RestoreFault::Runs,
+        RestoreFault::Neighbours,
+        RestoreFault::FreeList,
+        RestoreFault::Sharing,
+    ];
+    assert!(&rt; faults.contains(&fault));
+    assert!(&rt; steps <= 8000);
+    Ok(())
+}
+
+/// An atlas with two columns of vertical shelves, where records were put aside.
+fn used_atlas(rt: &impl AllocGlobal) -> Result<AtlasAllocator, Fail> {
+    let options = AllocatorOptions {
+        alignment: size2(2, 4),
+        vertical_shelves: true,
+        num_columns: 2,
+    };
+    let mut atlas = AtlasAllocator::with_options(rt.alloc(), size2(100, 80), &options)?;
+    let mut ids = Vec::new(rt.alloc());
+    for (width, height) in [
+        (10, 8),
+        (10, 12),
+        (20, 40),
+        (16, 4),
+        (30, 36),
+        (9, 9),
+        (40, 40),
+    ] {
+        ids.push(atlas.allocate(size2(width, height))?.ok_or("refused")?.id)?;
+    }
+    for number in [1, 4, 6] {
+        atlas.deallocate(*ids.get(number).ok_or("not given")?)?;
+    }
+    Ok(atlas)
+}
+
+#[test]
+fn an_atlas_goes_through_text_and_answers_as_before(rt: HostRuntime) -> Result<(), Fail> {
+    let mut atlas = used_atlas(&rt)?;
+    let text = serde_json::to_string(rt.alloc(), &atlas.snapshot()?)?;
+    let read: AtlasSnapshot = serde_json::from_str(rt.alloc(), text.as_str())?;
+    let mut restored = AtlasAllocator::restore(rt.alloc(), read)?;
+    assert_eq!(&rt; restored.allocated_space(), atlas.allocated_space());
+    assert_eq!(&rt; restored.free_space(), atlas.free_space());
+    let mut before = Vec::new(rt.alloc());
+    atlas.dump_svg(&mut before)?;
+    let mut after = Vec::new(rt.alloc());
+    restored.dump_svg(&mut after)?;
+    assert_eq!(&rt; after.as_slice(), before.as_slice());
+    for (width, height) in [(8, 8), (3, 30), (101, 1), (60, 20), (2, 4), (30, 36)] {
+        let size = size2(width, height);
+        assert!(&rt; restored.allocate(size)? == atlas.allocate(size)?);
+    }
+    let saved_again = restored.snapshot()?;
+    assert!(&rt; saved_again == atlas.snapshot()?);
+    Ok(())
+}
+
+#[test]
+fn steps_count_each_record_in_use(rt: HostRuntime) -> Result<(), Fail> {
+    let snapshot = used_atlas(&rt)?.snapshot()?;
+    let records = usize::wrapping_add(snapshot.shelves.len(), snapshot.items.len()) as u64;
+    let mut steps = 7;
+    restore_atlas(rt.alloc(), snapshot, &mut steps)?;
+    assert!(&rt; 0 < steps);
+    assert!(&rt; steps <= u64::wrapping_mul(4, records));
+    Ok(())
+}

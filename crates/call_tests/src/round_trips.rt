@@ -1,0 +1,290 @@
+//! Atlases after sequences of calls are saved as JSON text, which is read back and restored: both
+//! look the same, and answer further calls in the same way.
+
+use etagere::{
+    AllocId, Allocation, AllocatorOptions, AtlasAllocator, AtlasSnapshot, BucketedAtlasAllocator,
+    BucketedSnapshot, DEFAULT_OPTIONS, Size, size2,
+};
+use std::alloc::Global;
+use std::process::Abort;
+use std::test::Fail;
+
+/// What a sequence asks for: a size, or the return of what an earlier call gave.
+#[derive(Clone, Copy)]
+enum Call {
+    Size(i32, i32),
+    Return(usize),
+}
+
+use Call::{Return, Size as Of};
+
+/// An allocator that can be saved.
+trait Saved {
+    fn through_text(&self, alloc: Global) -> Result<Self, Fail>;
+
+    fn place(&mut self, size: Size) -> Result<Option<Allocation>, Fail>;
+
+    fn give_back(&mut self, id: AllocId) -> bool;
+
+    fn spaces(&self) -> (i32, i32);
+
+    fn picture(&self, alloc: Global) -> Result<Vec<u8>, Fail>;
+}
+
+impl Saved for AtlasAllocator {
+    fn through_text(&self, alloc: Global) -> Result<Self, Fail> {
+        let text = serde_json::to_string(alloc, &self.snapshot()?)?;
+        let read: AtlasSnapshot = serde_json::from_str(alloc, text.as_str())?;
+        Ok(AtlasAllocator::restore(alloc, read)?)
+    }
+
+    fn place(&mut self, size: Size) -> Result<Option<Allocation>, Fail> {
+        Ok(self.allocate(size)?)
+    }
+
+    fn give_back(&mut self, id: AllocId) -> bool {
+        self.deallocate(id).is_ok()
+    }
+
+    fn spaces(&self) -> (i32, i32) {
+        (self.allocated_space(), self.free_space())
+    }
+
+    fn picture(&self, alloc: Global) -> Result<Vec<u8>, Fail> {
+        let mut text = Vec::new(alloc);
+        self.dump_svg(&mut text)?;
+        Ok(text)
+    }
+}
+
+impl Saved for BucketedAtlasAllocator {
+    fn through_text(&self, alloc: Global) -> Result<Self, Fail> {
+        let text = serde_json::to_string(alloc, &self.snapshot()?)?;
+        let read: BucketedSnapshot = serde_json::from_str(alloc, text.as_str())?;
+        Ok(BucketedAtlasAllocator::restore(alloc, read)?)
+    }
+
+    fn place(&mut self, size: Size) -> Result<Option<Allocation>, Fail> {
+        Ok(self.allocate(size)?)
+    }
+
+    fn give_back(&mut self, id: AllocId) -> bool {
+        self.deallocate(id).is_ok()
+    }
+
+    fn spaces(&self) -> (i32, i32) {
+        (self.allocated_space(), self.free_space())
+    }
+
+    fn picture(&self, alloc: Global) -> Result<Vec<u8>, Fail> {
+        let mut text = Vec::new(alloc);
+        self.dump_svg(&mut text)?;
+        Ok(text)
+    }
+}
+
+/// Runs a sequence; gives the ids of what was placed and not returned.
+fn live_after<T: Saved>(
+    alloc: Global,
+    atlas: &mut T,
+    calls: &[Call],
+) -> Result<Vec<AllocId>, Fail> {
+    let mut given = Vec::new(alloc);
+    for call in calls {
+        match *call {
+            Of(width, height) => {
+                let allocation = atlas.place(size2(width, height))?;
+                given.push(allocation.map(|allocation| allocation.id))?;
+            }
+            Return(number) => {
+                let id = given.get_mut(number).ok_or("no call")?.take();
+                if !atlas.give_back(id.ok_or("nothing is live")?) {
+                    return Err("unknown".into());
+                }
+                given.push(None)?;
+            }
+        }
+    }
+    let mut live = Vec::new(alloc);
+    for id in &given {
+        if let Some(id) = id {
+            live.push(*id)?;
+        }
+    }
+    Ok(live)
+}
+
+fn look_alike<T: Saved>(
+    rt: &(impl AllocGlobal + Abort),
+    first: &T,
+    second: &T,
+) -> Result<(), Fail> {
+    assert!(rt; first.spaces() == second.spaces());
+    let picture = first.picture(rt.alloc())?;
+    let other = second.picture(rt.alloc())?;
+    assert!(rt; picture.as_slice() == other.as_slice());
+    Ok(())
+}
+
+/// Compares an atlas with what its text is restored to, and ten further calls of both.
+fn is_restored<T: Saved + Drop>(
+    rt: &(impl AllocGlobal + Abort),
+    mut atlas: T,
+    live: &[AllocId],
+) -> Result<(), Fail> {
+    let mut restored = atlas.through_text(rt.alloc())?;
+    look_alike(rt, &restored, &atlas)?;
+    for (width, height) in [(1, 8), (24, 16), (300, 200), (10, 9), (70, 70)] {
+        let size = size2(width, height);
+        assert!(rt;
+            restored.place(size)? == atlas.place(size)?,
+            "{width} x {height}"
+        );
+    }
+    for id in live.iter().take(2) {
+        assert!(rt; restored.give_back(*id) && atlas.give_back(*id));
+        look_alike(rt, &restored, &atlas)?;
+        assert!(rt; restored.give_back(*id) == atlas.give_back(*id));
+    }
+    for (width, height) in [(1, 1), (32, 32), (900, 100)] {
+        let size = size2(width, height);
+        assert!(rt;
+            restored.place(size)? == atlas.place(size)?,
+            "{width} x {height}"
+        );
+    }
+    look_alike(rt, &restored, &atlas)
+}
+
+fn in_columns(num_columns: i32, vertical_shelves: bool) -> AllocatorOptions {
+    AllocatorOptions {
+        num_columns,
+        vertical_shelves,
+        ..DEFAULT_OPTIONS
+    }
+}
+
+fn aligned(width: i32, height: i32, options: AllocatorOptions) -> AllocatorOptions {
+    AllocatorOptions {
+        alignment: size2(width, height),
+        ..options
+    }
+}
+
+fn atlas_is_restored(
+    rt: &(impl AllocGlobal + Abort),
+    (width, height): (i32, i32),
+    options: AllocatorOptions,
+    calls: &[Call],
+) -> Result<(), Fail> {
+    let size = size2(width, height);
+    let mut atlas = AtlasAllocator::with_options(rt.alloc(), size, &options)?;
+    let live = live_after(rt.alloc(), &mut atlas, calls)?;
+    is_restored(rt, atlas, live.as_slice())
+}
+
+fn buckets_are_restored(
+    rt: &(impl AllocGlobal + Abort),
+    (width, height): (i32, i32),
+    options: AllocatorOptions,
+    calls: &[Call],
+) -> Result<(), Fail> {
+    let size = size2(width, height);
+    let mut atlas = BucketedAtlasAllocator::with_options(rt.alloc(), size, &options)?;
+    let live = live_after(rt.alloc(), &mut atlas, calls)?;
+    is_restored(rt, atlas, live.as_slice())
+}
+
+const GIVEN_AND_RETURNED: [Call; 5] = [
+    Of(100, 100),
+    Of(900, 200),
+    Return(0),
+    Of(300, 200),
+    Of(1000, 200),
+];
+
+const BESIDE_A_RETURNED_ITEM: [Call; 4] = [Of(100, 300), Of(500, 200), Return(0), Of(300, 200)];
+
+#[test]
+fn an_atlas_of_one_column_is_restored(rt: HostRuntime) -> Result<(), Fail> {
+    let whole = (1000, 1000);
+    atlas_is_restored(&rt, whole, DEFAULT_OPTIONS, &[])?;
+    atlas_is_restored(&rt, whole, DEFAULT_OPTIONS, &GIVEN_AND_RETURNED)?;
+    atlas_is_restored(&rt, (1024, 1024), DEFAULT_OPTIONS, &BESIDE_A_RETURNED_ITEM)?;
+    let bad_fit = [Of(100, 1000), Of(900, 200)];
+    atlas_is_restored(&rt, whole, DEFAULT_OPTIONS, &bad_fit)?;
+    let lowest = [Of(10, 80), Of(10, 9), Of(10, 8)];
+    atlas_is_restored(&rt, (10, 89), DEFAULT_OPTIONS, &lowest)?;
+    let four = [Of(600, 100), Of(600, 100), Of(600, 100), Of(600, 100)];
+    atlas_is_restored(&rt, whole, DEFAULT_OPTIONS, &four)?;
+    let emptied = [Of(600, 100), Return(0), Of(1000, 1000)];
+    atlas_is_restored(&rt, whole, DEFAULT_OPTIONS, &emptied)?;
+    let falling = [Of(100, 300), Of(100, 100), Of(100, 30)];
+    atlas_is_restored(&rt, whole, DEFAULT_OPTIONS, &falling)
+}
+
+#[test]
+fn an_atlas_of_columns_and_of_vertical_shelves_is_restored(rt: HostRuntime) -> Result<(), Fail> {
+    let eight = [Of(1, 8); 8];
+    atlas_is_restored(&rt, (7, 8), in_columns(4, false), &eight)?;
+    atlas_is_restored(&rt, (30, 20), in_columns(1, true), &[Of(8, 6)])?;
+    let options = aligned(4, 8, in_columns(2, false));
+    let three = [Of(20, 30), Of(30, 40), Of(20, 30), Return(1)];
+    atlas_is_restored(&rt, (2048, 2048), options, &three)
+}
+
+#[test]
+fn a_bucketed_atlas_of_one_column_is_restored(rt: HostRuntime) -> Result<(), Fail> {
+    buckets_are_restored(&rt, (16, 16), DEFAULT_OPTIONS, &[])?;
+    let falling = [Of(20, 16), Of(24, 16), Of(8, 16)];
+    buckets_are_restored(&rt, (32, 64), DEFAULT_OPTIONS, &falling)?;
+    let reused = [
+        Of(16, 8),
+        Of(16, 8),
+        Return(0),
+        Of(16, 8),
+        Return(3),
+        Of(16, 8),
+    ];
+    buckets_are_restored(&rt, (16, 16), DEFAULT_OPTIONS, &reused)?;
+    let whole = [Of(1000, 1000), Of(1, 1)];
+    buckets_are_restored(&rt, (1000, 1000), DEFAULT_OPTIONS, &whole)?;
+    let emptied = [Of(8, 8), Of(8, 8), Return(0), Of(8, 8)];
+    buckets_are_restored(&rt, (32, 8), DEFAULT_OPTIONS, &emptied)?;
+    buckets_are_restored(&rt, (256, 64), in_columns(1, true), &[Of(100, 50)])?;
+    let options = aligned(50, 1, in_columns(1, true));
+    buckets_are_restored(&rt, (256, 64), options, &[Of(50, 60)])
+}
+
+#[test]
+fn a_bucketed_atlas_of_columns_is_restored(rt: HostRuntime) -> Result<(), Fail> {
+    let filled = [Of(24, 46), Of(24, 32), Of(24, 32), Of(24, 8)];
+    buckets_are_restored(&rt, (64, 64), in_columns(2, false), &filled)?;
+    let five = [Of(1, 8); 5];
+    buckets_are_restored(&rt, (7, 8), in_columns(4, false), &five)
+}
+
+/// After seven shelves of eight squares, of which three were given back and two of these merged.
+#[test]
+fn merged_shelves_of_buckets_are_restored(rt: HostRuntime) -> Result<(), Fail> {
+    let mut calls = Vec::new(rt.alloc());
+    for _ in 0..56 {
+        calls.push(Of(32, 32))?;
+    }
+    for number in (0..8).chain(16..32) {
+        calls.push(Return(number))?;
+    }
+    buckets_are_restored(&rt, (256, 256), DEFAULT_OPTIONS, calls.as_slice())?;
+    calls.push(Of(64, 64))?;
+    buckets_are_restored(&rt, (256, 256), DEFAULT_OPTIONS, calls.as_slice())
+}
+
+#[test]
+fn a_grown_bucketed_atlas_is_restored(rt: HostRuntime) -> Result<(), Fail> {
+    let mut atlas = BucketedAtlasAllocator::new(rt.alloc(), size2(32, 32))?;
+    atlas.allocate(size2(32, 32))?.ok_or("refused")?;
+    atlas.grow(size2(256, 288))?;
+    let calls = [Of(32, 32), Of(256, 256)];
+    let live = live_after(rt.alloc(), &mut atlas, &calls)?;
+    is_restored(&rt, atlas, live.as_slice())
+}

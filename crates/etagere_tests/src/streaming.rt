@@ -1,0 +1,118 @@
+//! Streams of runs: the bytes that go out, to writers that take few bytes at once, and to writers that fail.
+//! The lines are those of the README's example.
+
+use etagere::{DEFAULT_OPTIONS, OptionsFault, size2};
+use etagere_run::{AtlasCommand, BucketedCommand, StreamFault, stream_atlas, stream_bucketed};
+use std::test::Fail;
+use test_support::fake_streams::{End, FakeWriter};
+
+const TEXT: &[u8] = b"placed 65536 0 0 100 112\nplaced 65537 0 112 900 336\nreturned\n\
+    placed 65539 0 336 300 560\nat 0 336 300 560 3\nnot live\n";
+
+fn commands() -> [AtlasCommand; 6] {
+    [
+        AtlasCommand::Allocate(size2(100, 100)),
+        AtlasCommand::Allocate(size2(900, 200)),
+        AtlasCommand::Return(0),
+        AtlasCommand::Allocate(size2(300, 200)),
+        AtlasCommand::Look(3),
+        AtlasCommand::Return(2),
+    ]
+}
+
+/// Streams the commands of the example to a writer.
+fn stream_example(rt: &impl AllocGlobal, writer: &mut FakeWriter) -> Result<(), StreamFault> {
+    let size = size2(1000, 1000);
+    stream_atlas(rt.alloc(), size, &DEFAULT_OPTIONS, &commands(), writer)
+}
+
+#[test]
+fn each_reply_has_its_line(rt: HostRuntime) -> Result<(), Fail> {
+    for at_once in [1, 2, 30, 1000] {
+        let mut writer = FakeWriter::new(rt.alloc(), 1000, at_once, End::Failure);
+        stream_example(&rt, &mut writer)?;
+        assert_eq!(rt; writer.written(), TEXT);
+    }
+    Ok(())
+}
+
+#[test]
+fn the_first_line_and_a_beginning_of_the_second_go_out(rt: HostRuntime) {
+    let mut writer = FakeWriter::new(rt.alloc(), 30, 1000, End::Failure);
+    let fault = stream_example(&rt, &mut writer);
+    assert_eq!(rt; fault, Err(StreamFault::Write));
+    assert_eq!(rt;
+        writer.written(),
+        b"placed 65536 0 0 100 112\nplace".as_slice()
+    );
+}
+
+#[test]
+fn a_beginning_goes_out_before_a_failed_write(rt: HostRuntime) {
+    for end in [End::Nothing, End::Failure, End::Interruption] {
+        for room in 0..TEXT.len() {
+            let mut writer = FakeWriter::new(rt.alloc(), room, 3, end).then_works(true);
+            let fault = stream_example(&rt, &mut writer);
+            assert_eq!(rt; fault, Err(StreamFault::Write), "at {room} bytes");
+            assert_eq!(rt; writer.written(), &TEXT[..room]);
+            assert_eq!(rt; writer.later_calls(), 0, "at {room} bytes");
+        }
+    }
+}
+
+#[test]
+fn a_hundred_thousand_commands_are_streamed(rt: HostRuntime) -> Result<(), Fail> {
+    let mut commands = Vec::new(rt.alloc());
+    let mut lines = Vec::new(rt.alloc());
+    for _ in 0..50_000 {
+        commands.push(AtlasCommand::Allocate(size2(64, 64)))?;
+        commands.push(AtlasCommand::Clear)?;
+        lines.extend_from_slice(b"placed 65536 0 0 64 64\ncleared\n")?;
+    }
+    let mut text = Vec::new(rt.alloc());
+    let size = size2(64, 64);
+    stream_atlas(
+        rt.alloc(),
+        size,
+        &DEFAULT_OPTIONS,
+        commands.as_slice(),
+        &mut text,
+    )?;
+    assert!(rt; text.as_slice() == lines.as_slice());
+    Ok(())
+}
+
+#[test]
+fn a_bucketed_run_is_streamed(rt: HostRuntime) -> Result<(), Fail> {
+    let commands = [
+        BucketedCommand::Return(0),
+        BucketedCommand::Allocate(size2(9, 8)),
+        BucketedCommand::Grow(size2(7, 9)),
+        BucketedCommand::Grow(size2(16, 8)),
+        BucketedCommand::Clear,
+    ];
+    let mut text = Vec::new(rt.alloc());
+    let size = size2(8, 8);
+    stream_bucketed(rt.alloc(), size, &DEFAULT_OPTIONS, &commands, &mut text)?;
+    let lines = b"not live\nrefused\ngrow refused 2\ngrown\ncleared\n";
+    assert_eq!(rt; text.as_slice(), lines.as_slice());
+    let mut writer = FakeWriter::new(rt.alloc(), 10, 3, End::Failure);
+    let fault = stream_bucketed(rt.alloc(), size, &DEFAULT_OPTIONS, &commands, &mut writer);
+    assert_eq!(rt; fault, Err(StreamFault::Write));
+    assert_eq!(rt; writer.written(), &lines[..10]);
+    Ok(())
+}
+
+#[test]
+fn a_bucketed_run_of_refused_options_writes_nothing(rt: HostRuntime) {
+    let table = [
+        (size2(0, 8), OptionsFault::Size),
+        (size2(46341, 46341), OptionsFault::Area),
+    ];
+    for (size, fault) in table {
+        let mut text = Vec::<u8>::new(rt.alloc());
+        let streamed = stream_bucketed(rt.alloc(), size, &DEFAULT_OPTIONS, &[], &mut text);
+        assert_eq!(rt; streamed, Err(StreamFault::Options(fault)));
+        assert!(rt; text.is_empty());
+    }
+}
