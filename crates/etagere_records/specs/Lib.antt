@@ -1,3 +1,0 @@
-pub mod AtlasRecords
-pub mod Laws
-pub mod StandsFor
