@@ -288,3 +288,69 @@ fn a_grown_bucketed_atlas_is_restored(rt: HostRuntime) -> Result<(), Fail> {
     let live = live_after(rt.alloc(), &mut atlas, &calls)?;
     is_restored(&rt, atlas, live.as_slice())
 }
+
+#[test]
+fn atlases_with_long_sides_are_restored(rt: HostRuntime) -> Result<(), Fail> {
+    atlas_is_restored(&rt, (65472, 64), DEFAULT_OPTIONS, &[Of(65471, 64)])?;
+    atlas_is_restored(&rt, (64, 65535), DEFAULT_OPTIONS, &[Of(64, 65535)])?;
+    let refused = [Of(100, 1001), Of(1001, 1000), Of(1000, 1000)];
+    atlas_is_restored(&rt, (1000, 1000), DEFAULT_OPTIONS, &refused)?;
+    let beyond = [Of(255, 65599), Of(2560, 2147483647), Of(-16711926, 0)];
+    atlas_is_restored(&rt, (1000, 1000), DEFAULT_OPTIONS, &beyond)?;
+    buckets_are_restored(&rt, (1000, 1000), DEFAULT_OPTIONS, &beyond)
+}
+
+#[test]
+fn as_many_buckets_as_can_be_are_restored(rt: HostRuntime) -> Result<(), Fail> {
+    for width in [256, 264, 512] {
+        buckets_are_restored(&rt, (width, 8), DEFAULT_OPTIONS, &[Of(1, 8)])?;
+    }
+    let mut calls = Vec::new(rt.alloc());
+    for _ in 0..4096 {
+        calls.push(Of(1, 8))?;
+    }
+    calls.push(Return(4094))?;
+    calls.push(Of(1, 8))?;
+    let options = in_columns(5000, false);
+    buckets_are_restored(&rt, (5000, 8), options, calls.as_slice())?;
+    let mut below = Vec::new(rt.alloc());
+    below.push(Of(1, 9))?;
+    for _ in 0..2048 {
+        below.push(Of(1, 8))?;
+    }
+    below.push(Of(1, 1))?;
+    buckets_are_restored(&rt, (5000, 9), options, below.as_slice())
+}
+
+#[test]
+fn buckets_that_were_emptied_often_are_restored(rt: HostRuntime) -> Result<(), Fail> {
+    let mut atlas = BucketedAtlasAllocator::new(rt.alloc(), size2(16, 16))?;
+    let first = atlas.allocate(size2(16, 8))?.ok_or("refused")?;
+    let second = atlas.allocate(size2(16, 8))?.ok_or("refused")?;
+    atlas.deallocate(first.id)?;
+    for _ in 0..5000 {
+        let given = atlas.allocate(size2(16, 8))?.ok_or("refused")?;
+        atlas.deallocate(given.id)?;
+    }
+    is_restored(&rt, atlas, &[second.id])
+}
+
+#[test]
+fn atlases_that_grew_either_way_are_restored(rt: HostRuntime) -> Result<(), Fail> {
+    let mut taller = BucketedAtlasAllocator::new(rt.alloc(), size2(256, 256))?;
+    live_after(rt.alloc(), &mut taller, &[Of(32, 32); 56])?;
+    taller.grow(size2(256, 294))?;
+    let live = live_after(rt.alloc(), &mut taller, &[Of(70, 70)])?;
+    is_restored(&rt, taller, live.as_slice())?;
+    let mut wider = BucketedAtlasAllocator::new(rt.alloc(), size2(256, 256))?;
+    live_after(rt.alloc(), &mut wider, &[Of(32, 32); 56])?;
+    wider.grow(size2(512, 256))?;
+    let live = live_after(rt.alloc(), &mut wider, &[Of(512, 32)])?;
+    is_restored(&rt, wider, live.as_slice())?;
+    let columns = in_columns(4, false);
+    let mut more = BucketedAtlasAllocator::with_options(rt.alloc(), size2(7, 8), &columns)?;
+    live_after(rt.alloc(), &mut more, &[Of(1, 8); 5])?;
+    more.grow(size2(7, 8))?;
+    let live = live_after(rt.alloc(), &mut more, &[Of(1, 8); 4])?;
+    is_restored(&rt, more, live.as_slice())
+}
