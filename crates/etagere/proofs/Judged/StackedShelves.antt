@@ -25,10 +25,10 @@ own-column : (column own height : ℕ) → own ≡ column → (if own == column 
 own-column column own height same = grind (arith, same)
 
 -- a shelf of a column counts with what stands there
-joined : (own column k height below here rest side : ℕ) → own ≡ column → below ≡ height
+summed : (own column k height below here rest side : ℕ) → own ≡ column → below ≡ height
     → (if column == k then height else 0) + ((if own == k then here else 0) + rest) ≡ side
     → (if own == k then below + here else 0) + rest ≡ side
-joined own column k height below here rest side same e whole = by_test (own == k) refl
+summed own column k height below here rest side same e whole = by_test (own == k) refl
   where
     by_test : (b : Bool) → (own == k) ≡ b → (if own == k then below + here else 0) + rest ≡ side
     by_test true t =
@@ -200,7 +200,7 @@ module _ (frame : Frame) (shelves : List ShelfRecord) (items : List ItemRecord) 
       → FillsRest column height (entry ∷ entries)
       → FillsRest (column_at frame shelves entry) (height_below frame shelves column height entry + height_of shelves entry.number) entries
   fills-own column height entry entries same fills k above within =
-      joined (column_at frame shelves entry) column k height (height_below frame shelves column height entry) (height_of shelves entry.number)
+      summed (column_at frame shelves entry) column k height (height_below frame shelves column height entry) (height_of shelves entry.number)
       (column_height k (spelled entries)) (across_side frame) same (own-column column (column_at frame shelves entry) height same)
       (fills k (omega (arith, same, above)) within)
 
