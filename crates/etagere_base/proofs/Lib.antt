@@ -5,6 +5,7 @@ pub mod AskedSides
 pub mod Boxes
 pub mod ColumnTotals
 pub mod DecidingLemmas
+pub mod DecimalPairs
 pub mod EachLemmas
 pub mod FirstChanged
 pub mod FirstFound

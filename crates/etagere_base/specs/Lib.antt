@@ -1,4 +1,5 @@
 pub mod Deciding
+pub mod Digits
 pub mod Drawing
 pub mod Faults
 pub mod Frames

@@ -91,7 +91,8 @@ impl GatheredText {
     }
 }
 
-/// Sends two texts, one after the other.
+/// Sends two texts, one after the other. It is called once in 4096 bytes, and small pieces needn't pay for it.
+#[inline(never)]
 fn send_both<W: Write>(first: &str, second: &str, writer: &mut W) -> io::Result<()>
     ensures whole { OnOk result (Appends
         (W.contents writer.old) (W.contents writer.new) (first.now ++ second.now)) }

@@ -13,6 +13,7 @@ mod ids;
 mod options;
 mod places;
 mod sending;
+mod short_text;
 mod sides;
 
 pub use drawing::{
@@ -28,4 +29,5 @@ pub use ids::{AllocId, Allocation, INDEX_MODULUS};
 pub use options::{AllocatorOptions, DEFAULT_OPTIONS};
 pub use places::rectangle_at;
 pub use sending::send;
+pub use short_text::ShortText;
 pub use sides::{Sides, side, step, swapped_axes, up};

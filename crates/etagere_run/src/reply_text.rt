@@ -8,8 +8,8 @@ ghost use Rattle.etagere_run.specs.ReplyText as spec;
 ghost use Rattle.etagere_run.specs.ReplyText.{HasPlaces, IsPlace, TellsPlaces, corners_text, longest_line};
 
 use crate::commands::Reply;
-use arrayvec::ArrayString;
 use etagere::{Allocation, Rectangle};
+use etagere_base::ShortText;
 use std::marker::Model;
 
 /// How many bytes a line has at most: `placed`, an id of 10 digits, and four places of 11 characters.
@@ -18,7 +18,7 @@ const LINE_CAPACITY: usize = 66;
 /// A line, with its line feed once it is whole.
 #[derive(Drop)]
 pub struct Line {
-    text: ArrayString<LINE_CAPACITY>,
+    text: ShortText,
 }
 
 impl Model for Line {
@@ -26,7 +26,7 @@ impl Model for Line {
 
     ghost Value = { List ℕ };
 
-    ghost view = { λ line. line.text.bytes };
+    ghost view = { λ line. line.text };
 }
 
 impl Line {
@@ -35,9 +35,9 @@ impl Line {
         requires { length word.now ≤ LINE_CAPACITY }
         ensures { result ≡ word.now }
     {
-        let mut text = ArrayString::new();
-        text.push_str(word);
-        Line { text }
+        Line {
+            text: ShortText::new(word),
+        }
     }
 
     /// The line as text.
@@ -52,7 +52,7 @@ impl Line {
         requires { length self.old + length word.now ≤ LINE_CAPACITY }
         ensures { self.new ≡ self.old ++ word.now }
     {
-        self.text.push_str(word);
+        self.text.push(word);
     }
 
     /// Adds the decimal digits of a number.
@@ -61,8 +61,7 @@ impl Line {
         ensures text { self.new ≡ self.old ++ decimal number }
         ensures length { length self.new ≤ length self.old + 10 }
     {
-        let mut digits = itoa::Buffer::new();
-        self.push(digits.format(number));
+        self.text.push_number(number);
     }
 
     /// Adds a place, with a minus sign where it is negative.
@@ -72,6 +71,10 @@ impl Line {
         ensures length { length self.new ≤ length self.old + 11 }
         ensures short { IsPlace place → length self.new ≤ length self.old + 5 }
     {
+        if place >= 0 {
+            self.text.push_number(place as u32);
+            return;
+        }
         let mut digits = itoa::Buffer::new();
         self.push(digits.format(place));
     }
