@@ -16,24 +16,24 @@ use Rattle.etagere.specs.State.{AtlasState}
 use Rattle.etagere.specs.Svg.{picture}
 use Rattle.etagere.specs.Taking.{taken}
 
-abbrev size : ℕ → ℕ → Size
+abbrev pub size : ℕ → ℕ → Size
 size width height = record { width = pos width; height = pos height }
 
-abbrev rectangle : ℕ → ℕ → ℕ → ℕ → Rectangle
+abbrev pub rectangle : ℕ → ℕ → ℕ → ℕ → Rectangle
 rectangle x0 y0 x1 y1 = record { min = record { x = pos x0; y = pos y0 }; max = record { x = pos x1; y = pos y1 } }
 
-abbrev options : ℕ → ℕ → Bool → ℕ → AllocatorOptions
+abbrev pub options : ℕ → ℕ → Bool → ℕ → AllocatorOptions
 options width height vertical columns =
     record { alignment = size width height; vertical_shelves = vertical; num_columns = pos columns }
 
-abbrev new_atlas : Size → AllocatorOptions → AtlasState
+abbrev pub new_atlas : Size → AllocatorOptions → AtlasState
 new_atlas size options = fresh (atlas_frame size options)
 
-abbrev plain_atlas : ℕ → ℕ → AtlasState
+abbrev pub plain_atlas : ℕ → ℕ → AtlasState
 plain_atlas width height = new_atlas (size width height) (options 1 1 false 1)
 
 -- the state after a size was asked for, under an id
-abbrev allocated : AtlasState → Size → ℕ → AtlasState
+abbrev pub allocated : AtlasState → Size → ℕ → AtlasState
 allocated state size id = option_map_or (λ placement. taken state placement id) (placement_of state size) state
 
 -- the rectangles of the README's example

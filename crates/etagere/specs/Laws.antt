@@ -1,12 +1,14 @@
 -- Laws of the model, proved of all its states: the choice in the words of its rule, merging as a
 -- normal form, and what a return restores.
-use Rattle.std.specs.Prelude.{◌≡◌, ℕ, ◌<◌, ◌≤◌, Bool, true, false, ◌&&◌, ◌||◌, Some, None, Option, List, ◌∷◌, ◌++◌, slice_get, nat_lt, ◌==◌, if◌then◌else◌}
+use Rattle.std.specs.Prelude.{◌≡◌, ℕ, ◌+◌, ◌<◌, ◌≤◌, Bool, true, false, ◌&&◌, ◌||◌, Some, None, Option, List, ◌∷◌, ◌++◌, slice_get, nat_lt, ◌==◌, if◌then◌else◌}
 use Rattle.etagere_base.specs.declared.faults.RestoreFault.{RestoreFault}
 use Rattle.etagere_base.specs.declared.faults.RestoreFault.TheVariants.{Memory}
 use Rattle.etagere_base.specs.declared.frames.Frame.{Frame}
 use Rattle.etagere_base.specs.declared.geometry.Size.{Size}
 use Rattle.etagere_base.specs.declared.sides.Sides.{Sides}
+use Rattle.etagere.specs.Atlas.{KeepsPromises}
 use Rattle.etagere.specs.Choice.{Placement, chosen, is_good_fit, placement_of, shelf_height, width_at}
+use Rattle.etagere.specs.Growing.{atlas_grown, grow_fault, records_needed}
 use Rattle.etagere.specs.Merging.{both_empty, both_free, merged, merged_items, merged_shelves}
 use Rattle.etagere.specs.AtlasRecords.{AtlasRecords}
 use Rattle.etagere.specs.Layout.{layout}
@@ -15,8 +17,9 @@ use Rattle.etagere_base.specs.Lists.{Each, NoNeighbours}
 use Rattle.etagere.specs.Places.{allocations, allocations_after, allocations_along, column_place, is_allocated}
 use Rattle.etagere.specs.Returning.{returned}
 use Rattle.etagere.specs.Snapshots.{IsBroken}
+use Rattle.etagere.specs.Space.{allocated_space}
 use Rattle.etagere.specs.StandsFor.{StandsFor}
-use Rattle.etagere.specs.State.{Item, Shelf, AtlasState, is_free}
+use Rattle.etagere.specs.State.{Item, Shelf, AtlasState, is_free, items_in_use}
 use Rattle.etagere.specs.Taking.{taken}
 use Rattle.etagere.specs.Valid.{IsValid}
 
@@ -143,3 +146,18 @@ abbrev pub BrokenStandsForNone : Type 0
 BrokenStandsForNone =
     (atlas : AtlasRecords) (state : AtlasState) (fault : RestoreFault) → IsBroken atlas fault
     → StandsFor atlas state → fault ≡ Memory
+
+-- a growth without a fault keeps the promises, and what is allocated keeps its place
+abbrev pub GrowthKeeps : Type 0
+GrowthKeeps =
+    (state : AtlasState) (size : Size) → IsValid state → grow_fault state size ≡ None
+    → KeepsPromises (atlas_grown state size)
+    × (allocations (atlas_grown state size) ≡ allocations state)
+    × (allocated_space (atlas_grown state size) ≡ allocated_space state)
+
+-- a growth without a fault puts as many further items to use as it needs records
+abbrev pub GrowthUses : Type 0
+GrowthUses =
+    (state : AtlasState) (size : Size) → IsValid state → grow_fault state size ≡ None
+    → items_in_use (atlas_grown state size).shelves
+    ≡ items_in_use state.shelves + records_needed state size

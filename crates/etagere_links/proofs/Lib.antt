@@ -9,6 +9,7 @@ pub mod FirstLinks
 pub mod LinkBits
 pub mod ListEnds
 mod MetPlaces
+pub mod MadeRecords
 pub mod MarkLemmas
 pub mod RecordChanges
 pub mod RecordFrames

@@ -7,6 +7,7 @@ pub mod Marks
 pub mod Private
 pub mod RecordEdits
 pub mod RecordLists
+pub mod RecordMaking
 pub mod RecordMerges
 pub mod RecordUses
 pub mod Records

@@ -6,6 +6,7 @@ ghost use Rattle.std.specs.Prelude.{◌≡◌, true, Some};
 ghost use Rattle.etagere_links.specs.Edits.{changed_by};
 ghost use Rattle.etagere_links.specs.RecordEdits as edits;
 ghost use Rattle.etagere_links.specs.RecordLists.{first_item_of, first_free_of};
+ghost use Rattle.etagere_links.specs.RecordMaking as making;
 
 use crate::links::Link;
 use crate::records::{ItemRecord, ShelfRecord};
@@ -102,6 +103,33 @@ pub fn set_given(items: &mut [ItemRecord], number: usize, width: u16)
         let here = &mut items[number];
         here.width = width;
         here.allocated = true;
+    }
+}
+
+/// The record of an item that begins anew, as that of a free one in no list. Its generation stays.
+fn started(item: &ItemRecord, x: u16, width: u16, shelf: u16) -> ItemRecord
+    ensures { result ≡ making.started x width shelf item.now }
+{
+    ItemRecord {
+        x,
+        width,
+        prev: Link::none(),
+        next: Link::none(),
+        prev_unallocated: Link::none(),
+        next_unallocated: Link::none(),
+        shelf,
+        allocated: false,
+        generation: item.generation,
+    }
+}
+
+/// Begins the record of an item anew, as that of a free one in no list. Its generation stays.
+pub fn start_item(items: &mut [ItemRecord], number: usize, x: u16, width: u16, shelf: u16)
+    ensures { items.new ≡ changed_by (Some number) (making.started x width shelf) items.old }
+{
+    if number < items.len() {
+        let item = started(&items[number], x, width, shelf);
+        items[number] = item;
     }
 }
 

@@ -3,7 +3,7 @@
 //! Definitions: `RecordLists`, `RecordEdits`, `RecordMerges`. A step is one call for each list or field
 //! that it changes.
 
-ghost use Rattle.std.specs.Prelude.{◌≡◌, ◌+◌, ◌<◌, ◌≤◌, true, [], length, IfOk, OnOk, OnErr, if◌then◌else◌};
+ghost use Rattle.std.specs.Prelude.{◌≡◌, ◌+◌, ◌<◌, ◌≤◌, true, [], length, IfOk, IfSome, OnOk, OnErr, if◌then◌else◌};
 ghost use Rattle.etagere_links.specs.Links.{no_link};
 
 use crate::chained::{Chain, FreeList};
@@ -42,9 +42,11 @@ impl Model for Records {
 
 impl Records {
     ghost use Rattle.etagere_links.specs.RecordEdits as edits;
+    ghost use Rattle.etagere_links.specs.RecordMaking as making;
     ghost use Rattle.etagere_links.specs.RecordMerges as merges;
     ghost use Rattle.etagere_links.specs.RecordUses as using;
     ghost use Rattle.etagere_links.specs.RecordUses.{AreSmall};
+    ghost use Rattle.etagere_links.specs.Records.{item_chain, shelf_chain};
 
     /// No records. Takes no memory.
     pub fn new(alloc: Global) -> Records
@@ -212,6 +214,56 @@ impl Records {
         })
     }
 
+    /// How many item records are missing to put so many to use.
+    pub fn missing_items(&self, wanted: usize) -> usize
+        ensures { result ≡ using.missing item_chain wanted self.now.free_items self.now.items }
+    {
+        uses::missing::<ItemRecord>(&self.item_records, self.unused_items, wanted)
+    }
+
+    /// How many shelf records are missing to put so many to use.
+    pub fn missing_shelves(&self, wanted: usize) -> usize
+        ensures { result ≡ using.missing shelf_chain wanted self.now.free_shelves self.now.shelves }
+    {
+        uses::missing::<ShelfRecord>(&self.shelf_records, self.unused_shelves, wanted)
+    }
+
+    /// Makes so many item and shelf records, which stand in no list. The error comes only where a growth was
+    /// refused, and then nothing has changed.
+    pub fn make_records(&mut self, items: usize, shelves: usize) -> Result<(), AllocError>
+        ensures ok { OnOk result (self.new ≡ making.records_made items shelves self.old) }
+        ensures err { OnErr result (self.new ≡ self.old) }
+        ensures some { OnErr result (0 < items + shelves) }
+    {
+        if items > 0 {
+            self.item_records.reserve(items)?;
+        }
+        if shelves > 0 {
+            self.shelf_records.reserve(shelves)?;
+        }
+        uses::make_items(&mut self.item_records, items);
+        uses::make_shelves(&mut self.shelf_records, shelves);
+        Ok(())
+    }
+
+    /// Puts the item record to use again that was put aside last; none where none was.
+    pub fn use_item_again(&mut self) -> Option<usize>
+        ensures number { result ≡ self.old.free_items }
+        ensures small { IfSome result (λ number. number < no_link) }
+        ensures records { self.new ≡ making.item_used_again self.old }
+    {
+        uses::use_item_again(&mut self.item_records, &mut self.unused_items)
+    }
+
+    /// Puts the shelf record to use again that was put aside last; none where none was.
+    pub fn use_shelf_again(&mut self) -> Option<usize>
+        ensures number { result ≡ self.old.free_shelves }
+        ensures small { IfSome result (λ number. number < no_link) }
+        ensures records { self.new ≡ making.shelf_used_again self.old }
+    {
+        lists::take::<Chain, ShelfRecord>(&self.shelf_records, &mut self.unused_shelves)
+    }
+
     /// Takes an item out of its shelf. Its own links stay.
     pub fn unlink_item(&mut self, shelf: usize, number: usize)
         ensures { self.new ≡ edits.item_unlinked shelf number self.old }
@@ -321,6 +373,13 @@ impl Records {
             (λ here. record here { width = width; allocated = true }) self.old }
     {
         fields::set_given(&mut self.item_records, number, width);
+    }
+
+    /// Begins the record of an item anew, as that of a free one in no list. Its generation stays.
+    pub fn start_item(&mut self, number: usize, x: u16, width: u16, shelf: u16)
+        ensures { self.new ≡ edits.item_changed number (making.started x width shelf) self.old }
+    {
+        fields::start_item(&mut self.item_records, number, x, width, shelf);
     }
 
     /// Writes the record of an item anew.

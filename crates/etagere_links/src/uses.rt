@@ -2,13 +2,14 @@
 //!
 //! Definitions: `RecordUses`. Room is made for all before the first is put to use; this has to stay so.
 
-ghost use Rattle.std.specs.Prelude.{◌≡◌, ◌+◌, ◌<◌, ◌≤◌, true, OnOk, OnErr, IfSome, length, vec_capacity, if◌then◌else◌};
+ghost use Rattle.std.specs.Prelude.{◌≡◌, ◌+◌, ◌<◌, ◌≤◌, true, OnOk, OnErr, IfSome, is_some, length, vec_capacity, if◌then◌else◌};
 ghost use Rattle.etagere_links.specs.Edits.{changed_by};
 ghost use Rattle.etagere_links.specs.Links.{no_link};
 ghost use Rattle.etagere_links.specs.Records.{item_chain, shelf_chain};
+ghost use Rattle.etagere_links.specs.RecordMaking as making;
 ghost use Rattle.etagere_links.specs.RecordUses as spec;
 
-use crate::chained::Chain;
+use crate::chained::{Chain, Linked};
 use crate::links::Link;
 use crate::lists;
 use crate::records::{ItemRecord, ShelfRecord};
@@ -124,6 +125,54 @@ fn new_shelf() -> ShelfRecord
         first_unallocated: Link::none(),
         is_empty: false,
     }
+}
+
+/// How many records are missing to put so many to use: as many as were not put aside.
+pub(crate) fn missing<T: Linked<Chain>>(records: &[T], unused: Link, wanted: usize) -> usize
+    ensures value { result ≡ spec.missing T.family wanted unused records.now }
+    ensures few { result ≤ wanted }
+{
+    let mut at = unused;
+    for used in 0..wanted {
+        let Some(number) = at.number() else {
+            return wanted - used;
+        };
+        at = lists::next_of::<Chain, T>(records, number);
+    }
+    0
+}
+
+/// Makes so many item records. There is room for them.
+pub(crate) fn make_items(items: &mut Vec<ItemRecord>, count: usize)
+    requires { length items.old.items + count ≤ vec_capacity items.old }
+    ensures { items.new.items ≡ making.with_new_items count items.old.items }
+{
+    for _made in 0..count {
+        items.push_reserved(new_item());
+    }
+}
+
+/// Makes so many shelf records. There is room for them.
+pub(crate) fn make_shelves(shelves: &mut Vec<ShelfRecord>, count: usize)
+    requires { length shelves.old.items + count ≤ vec_capacity shelves.old }
+    ensures { shelves.new.items ≡ making.with_new_shelves count shelves.old.items }
+{
+    for _made in 0..count {
+        shelves.push_reserved(new_shelf());
+    }
+}
+
+/// Puts the item record to use again that was put aside last; none where none was.
+pub(crate) fn use_item_again(items: &mut [ItemRecord], unused: &mut Link) -> Option<usize>
+    ensures number { result ≡ unused.old }
+    ensures small { IfSome result (λ number. number < no_link) }
+    ensures items { items.new ≡ spec.items_used (is_some unused.old) unused.old items.old }
+    ensures unused { unused.new
+        ≡ spec.unused_after item_chain (is_some unused.old) unused.old items.old }
+{
+    let number = lists::take::<Chain, ItemRecord>(items, unused)?;
+    use_again(items, number);
+    Some(number)
 }
 
 /// Puts an item record to use where one is wanted, and gives its number.
