@@ -1,6 +1,9 @@
 pub mod Allocations
+pub mod ByHeight
 pub mod Callers
 pub mod Chosen
+pub mod GrowingRows
+pub mod Grown
 pub mod Judged
 pub mod Loaded
 pub mod Places

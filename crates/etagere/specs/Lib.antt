@@ -3,7 +3,9 @@ pub mod AtlasRecords
 pub mod Bounds
 pub mod Callers
 pub mod Choice
+pub mod Faults
 pub mod Fresh
+pub mod Growing
 pub mod Laws
 pub mod Layout
 pub mod Listing

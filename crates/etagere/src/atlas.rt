@@ -19,6 +19,7 @@ ghost use Rattle.etagere.specs.Listing.{RiseFrom, listed};
 ghost use Rattle.etagere.specs.Places as places;
 ghost use Rattle.etagere.specs.Places.{allocations, is_allocated};
 ghost use Rattle.etagere_base.specs.Rectangles.{IsLarge};
+ghost use Rattle.etagere.specs.Private.ByHeight.{AreRanked};
 ghost use Rattle.etagere.specs.Private.Kept.{AreKept};
 ghost use Rattle.etagere.specs.Returning.{returned};
 ghost use Rattle.etagere.specs.Snapshots.{IsBroken, snapshot_records, state_spelled};
@@ -29,9 +30,10 @@ ghost use Rattle.etagere.specs.Svg.{svg, svg_into};
 
 use crate::linked::choosing::placement_of;
 use crate::linked::drawing::{send_document, send_part, send_picture};
+use crate::linked::heights::RankedShelf;
 use crate::linked::looking::{index_of, number_of, recorded_area, rectangle_of};
 use crate::linked::returning::return_item;
-use crate::linked::starting::{fresh_records, reset_records};
+use crate::linked::starting::{fresh_heights, fresh_records, reset_heights, reset_records};
 use crate::linked::taking::take_placement;
 use crate::listing::Iter;
 use crate::restoring::LoadedAtlas;
@@ -61,6 +63,7 @@ use std::marker::Model;
 pub struct AtlasAllocator {
     frame: Frame,
     records: Records,
+    ranked: Vec<RankedShelf>,
     items_in_use: u32,
     allocated_space: u32,
 }
@@ -81,7 +84,7 @@ impl AtlasAllocator {
     /// An empty atlas of this size in pixels, with the default options.
     ///
     /// Returns the first fault; `Memory` only where there is no other and no memory. Takes
-    /// memory for the records of one shelf and its item.
+    /// memory for the records of one shelf and its item, and for the shelf's place by height.
     pub fn new(alloc: Global, size: Size) -> Result<AtlasAllocator, OptionsFault>
         ensures ok { IfOk result
             (λ atlas. atlas ≡ fresh (frames.atlas_frame size default_options)) }
@@ -99,7 +102,7 @@ impl AtlasAllocator {
     /// An empty atlas of this size in pixels.
     ///
     /// Returns the first fault; `Memory` only where there is no other and no memory. Takes
-    /// memory for the records of a shelf and its item in each column.
+    /// memory for the records of a shelf and its item in each column, and for the shelf's place by height.
     pub fn with_options(
         alloc: Global,
         size: Size,
@@ -121,9 +124,13 @@ impl AtlasAllocator {
         let Ok(records) = fresh_records(alloc, &frame) else {
             return Err(OptionsFault::Memory);
         };
+        let Ok(ranked) = fresh_heights(alloc, &frame) else {
+            return Err(OptionsFault::Memory);
+        };
         Ok(AtlasAllocator {
             frame,
             records,
+            ranked,
             items_in_use: frame.columns,
             allocated_space: 0,
         })
@@ -133,8 +140,9 @@ impl AtlasAllocator {
     /// it stands.
     ///
     /// Returns a fault whose rule is broken; `Memory` only where there was no memory. The snapshot is used up either
-    /// way, and its records become those of the atlas. Takes some memory for each record while it runs. The time is
-    /// linear in the number of records.
+    /// way, and its records become those of the atlas. Takes some memory for each record while it runs, and for the
+    /// place by height of each shelf in use. The time is linear in the number of records, but for a sort of these
+    /// shelves.
     pub fn restore(alloc: Global, snapshot: AtlasSnapshot) -> Result<AtlasAllocator, RestoreFault>
         ensures ok { IfOk result (λ atlas. StandsFor (snapshot_records snapshot) atlas) }
         ensures fault { IfErr result (IsBroken (snapshot_records snapshot)) }
@@ -144,9 +152,14 @@ impl AtlasAllocator {
         restore_atlas(alloc, snapshot, &mut steps)
     }
 
-    /// The atlas of a snapshot that keeps all rules, with so many items in use.
-    pub(crate) fn of_judged(atlas: LoadedAtlas, items_in_use: u32) -> AtlasAllocator
+    /// The atlas of a snapshot that keeps all rules, with these shelves and so many items in use.
+    pub(crate) fn of_judged(
+        atlas: LoadedAtlas,
+        ranked: Vec<RankedShelf>,
+        items_in_use: u32,
+    ) -> AtlasAllocator
         requires kept { AreKept atlas.frame atlas.lists }
+        requires ranked { AreRanked atlas.frame atlas.lists ranked.items }
         requires space { atlas.allocated_space ≡ pos (space.space_in (state_spelled atlas).shelves) }
         requires items { items_in_use ≡ state.items_in_use (state_spelled atlas).shelves }
         ensures state { result ≡ state_spelled atlas }
@@ -156,6 +169,7 @@ impl AtlasAllocator {
         AtlasAllocator {
             frame: atlas.frame,
             records: atlas.records,
+            ranked,
             items_in_use,
             allocated_space,
         }
@@ -175,9 +189,10 @@ impl AtlasAllocator {
     /// Gives a rectangle that is at least as large as the size in pixels, or none where there is no place.
     ///
     /// `Err` comes only where the place is to be split and there was no memory. Nothing changes after an `Err`
-    /// or none. A split takes memory only where no record that was put aside is left for it; a size that needs
-    /// none takes none. Goes through the shelves once, in each that is tall enough through its free list up to
-    /// the first item that is wide enough, and then takes the same time always.
+    /// or none. A split takes memory only where no record that was put aside is left for it, or no room in the list
+    /// of shelves by height; a size that needs no split takes none. Finds by halves where the shelves begin that are
+    /// tall enough, and goes through them by height, in each that may have an item wide enough through its free list
+    /// up to the first one that is. Where a shelf is split, those that are taller move in their list.
     pub fn allocate(&mut self, size: Size) -> Result<Option<Allocation>, AllocError>
         ensures placed { IfOk result
             (λ answer. IfSome answer (λ allocation. Allocates self.old size allocation self.new)) }
@@ -197,13 +212,24 @@ impl AtlasAllocator {
             (λ allocation. IsLarge self.old.frame size allocation.rectangle)) }
         ensures promises { KeepsPromises self.new }
     {
-        let Some(placement) = placement_of(&self.frame, &self.records, self.items_in_use, size)
-        else {
+        let found = placement_of(
+            &self.frame,
+            &self.records,
+            &mut self.ranked,
+            self.items_in_use,
+            size,
+        );
+        let Some(placement) = found else {
             return Ok(None);
         };
         let rectangle = placement.rectangle(&self.frame);
         let column_width = self.frame.column_width as u16;
-        let id = take_placement(&mut self.records, &placement, column_width)?;
+        let id = take_placement(
+            &mut self.records,
+            &mut self.ranked,
+            &placement,
+            column_width,
+        )?;
         self.items_in_use += placement.splits();
         self.allocated_space += placement.area();
         Ok(Some(Allocation { id, rectangle }))
@@ -226,7 +252,7 @@ impl AtlasAllocator {
             return Err(UnknownId);
         };
         let area = recorded_area(&self.records, number);
-        let put_aside = return_item(&mut self.records, number);
+        let put_aside = return_item(&mut self.records, &mut self.ranked, number);
         self.items_in_use -= put_aside;
         self.allocated_space -= area;
         Ok(())
@@ -281,6 +307,7 @@ impl AtlasAllocator {
         ensures promises { KeepsPromises self.new }
     {
         reset_records(&self.frame, &mut self.records);
+        reset_heights(&self.frame, &mut self.ranked);
         self.items_in_use = self.frame.columns;
         self.allocated_space = 0;
     }
@@ -356,6 +383,7 @@ impl Clone for AtlasAllocator {
         Ok(AtlasAllocator {
             frame: self.frame,
             records: self.records.clone()?,
+            ranked: self.ranked.clone()?,
             items_in_use: self.items_in_use,
             allocated_space: self.allocated_space,
         })

@@ -5,6 +5,7 @@
 #![tactic(auto)]
 
 mod atlas;
+mod faults;
 mod judging;
 pub mod laws;
 mod linked;
@@ -23,5 +24,6 @@ pub use etagere_bucketed::{
     BucketRecord, BucketShelfRecord, BucketedAtlasAllocator, BucketedSnapshot, GrowFault,
 };
 pub use etagere_links::{ItemRecord, Link, ShelfRecord};
+pub use faults::AtlasGrowFault;
 pub use listing::Iter;
 pub use snapshots::AtlasSnapshot;

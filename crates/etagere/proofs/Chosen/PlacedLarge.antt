@@ -1,7 +1,6 @@
 -- The rectangle that a size is given is as large as the size, each side rounded up.
 use Rattle.std.proofs.Common.{◌≡◌, ℕ, ◌≤◌, Bool, true, false, Some, ap, arith, cond}
 use Rattle.etagere_base.proofs.AskedSides.{asked-is, large-at}
-use Rattle.etagere_base.specs.Sides.{side, up}
 use Rattle.etagere_base.specs.declared.geometry.Size.{Size}
 use Rattle.etagere_base.specs.declared.sides.Sides.{Sides}
 use Rattle.etagere.specs.Choice.{Placement, is_item_split, is_shelf_split, placement_of, rectangle_of_placement, shelf_height, width_at}

@@ -1,7 +1,6 @@
 -- The placement of a size: how large it is, and when there is room for its splits.
 use Rattle.std.proofs.Common.{◌≡◌, ◌≤◌, Some, arith}
 use Rattle.etagere_base.specs.Frames.{IsFrame, across_side, asked}
-use Rattle.etagere_base.specs.Sides.{side}
 use Rattle.etagere_base.specs.declared.frames.Frame.{Frame}
 use Rattle.etagere_base.specs.declared.geometry.Size.{Size}
 use Rattle.etagere_base.specs.declared.sides.Sides.{Sides}

@@ -10,7 +10,7 @@ use Rattle.etagere.specs.Private.Judging.{AreOwn, ListsFree, free_among, is_own,
 use Rattle.etagere.proofs.Judged.EqualTimes.{length-fewer, times-as_long}
 
 -- how often a number that passes the test stands among those that do
-times-passed : (p : ℕ → Bool) (k : ℕ) (xs : List ℕ) → p k ≡ true → times k (filter p xs) ≡ times k xs
+pub times-passed : (p : ℕ → Bool) (k : ℕ) (xs : List ℕ) → p k ≡ true → times k (filter p xs) ≡ times k xs
 times-passed p k [] passes = refl
 times-passed p k (x ∷ xs) passes = by_test (p x) refl (times-passed p k xs passes)
   where
@@ -21,7 +21,7 @@ times-passed p k (x ∷ xs) passes = by_test (p x) refl (times-passed p k xs pas
         omega (arith, later, times-other k x xs other)
 
 -- no other stands there
-times-failed : (p : ℕ → Bool) (k : ℕ) (xs : List ℕ) → p k ≡ false → times k (filter p xs) ≡ 0
+pub times-failed : (p : ℕ → Bool) (k : ℕ) (xs : List ℕ) → p k ≡ false → times k (filter p xs) ≡ 0
 times-failed p k [] fails = refl
 times-failed p k (x ∷ xs) fails = by_test (p x) refl (times-failed p k xs fails)
   where

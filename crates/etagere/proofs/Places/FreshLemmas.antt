@@ -15,7 +15,7 @@ use Rattle.etagere_base.proofs.FrameSides.{across-positive, columns-le}
 use Rattle.etagere.proofs.Places.Heights.{column_height-alone, column_height-other}
 
 -- empty columns hold nothing
-allocations_after-empty_columns : (frame : Frame) (before : List Shelf) (column n : ℕ) → allocations_after frame before (empty_columns frame column n) ≡ []
+pub allocations_after-empty_columns : (frame : Frame) (before : List Shelf) (column n : ℕ) → allocations_after frame before (empty_columns frame column n) ≡ []
 allocations_after-empty_columns frame before column zero = refl
 allocations_after-empty_columns frame before column (suc n) =
     allocations_after-empty_columns frame (before ++ empty_shelf frame column (across_side frame) ∷ []) (suc column) n
@@ -26,7 +26,7 @@ fresh-allocated frame = allocations_after-empty_columns frame [] 0 frame.columns
 
 module _ (frame : Frame) (is_frame : IsFrame 65535 frame) where
   -- each shelf of empty columns is as a shelf must be
-  shelves-empty_columns : (column n : ℕ) → column + n ≤ frame.columns → Each (IsShelf frame) (empty_columns frame column n)
+  pub shelves-empty_columns : (column n : ℕ) → column + n ≤ frame.columns → Each (IsShelf frame) (empty_columns frame column n)
   shelves-empty_columns column zero h = tt
   shelves-empty_columns column (suc n) h = (
     record {
@@ -41,13 +41,13 @@ module _ (frame : Frame) (is_frame : IsFrame 65535 frame) where
   )
 
 -- empty columns stand in order
-ordered-empty_columns : (frame : Frame) (column n : ℕ) → NoNeighbours is_out_of_order (empty_columns frame column n)
+pub ordered-empty_columns : (frame : Frame) (column n : ℕ) → NoNeighbours is_out_of_order (empty_columns frame column n)
 ordered-empty_columns frame column zero = tt
 ordered-empty_columns frame column (suc zero) = tt
 ordered-empty_columns frame column (suc (suc n)) = (le-ltb (suc column) column (omega arith), ordered-empty_columns frame (suc column) (suc n))
 
 -- empty columns have no two shelves in one column
-apart-empty_columns : (frame : Frame) (column n : ℕ) → NoNeighbours both_empty (empty_columns frame column n)
+pub apart-empty_columns : (frame : Frame) (column n : ℕ) → NoNeighbours both_empty (empty_columns frame column n)
 apart-empty_columns frame column zero = tt
 apart-empty_columns frame column (suc zero) = tt
 apart-empty_columns frame column (suc (suc n)) =
@@ -59,12 +59,12 @@ items_in_use-empty_columns frame column zero = refl
 items_in_use-empty_columns frame column (suc n) = let rest = items_in_use-empty_columns frame (suc column) n in omega arith
 
 -- empty columns after a place are others
-others-empty_columns : (frame : Frame) (place column n : ℕ) → place < column → Each (λ (s : Shelf). s.column ≢ place) (empty_columns frame column n)
+pub others-empty_columns : (frame : Frame) (place column n : ℕ) → place < column → Each (λ (s : Shelf). s.column ≢ place) (empty_columns frame column n)
 others-empty_columns frame place column zero h = tt
 others-empty_columns frame place column (suc n) h = ((λ e. omega arith), others-empty_columns frame place (suc column) n (omega arith))
 
 -- each of the columns is filled
-column_height-empty_columns : (frame : Frame) (place column n : ℕ) → column ≤ place → place < column + n
+pub column_height-empty_columns : (frame : Frame) (place column n : ℕ) → column ≤ place → place < column + n
     → column_height place (empty_columns frame column n) ≡ across_side frame
 column_height-empty_columns frame place column zero l h = absurd (omega arith)
 column_height-empty_columns frame place column (suc n) l h =
@@ -90,7 +90,7 @@ fresh-valid frame h all = record {
 }
 
 -- empty columns hold no space
-space_in-empty_columns : (frame : Frame) (column n : ℕ) → space_in (empty_columns frame column n) ≡ 0
+pub space_in-empty_columns : (frame : Frame) (column n : ℕ) → space_in (empty_columns frame column n) ≡ 0
 space_in-empty_columns frame column zero = refl
 space_in-empty_columns frame column (suc n) = omega (arith, space_in-empty_columns frame (suc column) n)
 

@@ -7,13 +7,16 @@ use Rattle.etagere_links.specs.declared.records.ItemRecord.{ItemRecord}
 use Rattle.etagere_links.specs.RecordLists.{Records}
 use Rattle.etagere.specs.Atlas.{KeepsPromises, without_id}
 use Rattle.etagere.specs.Places.{allocations}
-use Rattle.etagere.specs.AtlasRecords.{is_allocated_at, item_at}
+use Rattle.etagere.specs.AtlasRecords.{is_allocated_at, item_at, shelf_of}
+use Rattle.etagere.specs.Private.ByHeight.{AreRanked}
 use Rattle.etagere.specs.Private.ItemReturned.{CanReturn, item_returned, put_aside_by}
 use Rattle.etagere.specs.Private.Kept.{AreKept, state_of}
+use Rattle.etagere.specs.Private.RankedReturned.{CanReturnRanked, ranked_returned}
 use Rattle.etagere.specs.Private.Reading.{record_of, recorded_area}
 use Rattle.etagere.specs.Returning.{has_id, returned}
 use Rattle.etagere.specs.Space.{allocated_space}
 use Rattle.etagere.specs.State.{AtlasState, items_in_use}
+use Rattle.etagere.specs.declared.linked.heights.RankedShelf.{RankedShelf}
 use Rattle.etagere.proofs.Promises.{promises}
 use Rattle.etagere.proofs.Recorded.RecordedArea.{kept-area}
 use Rattle.etagere.proofs.Recorded.RecordsOfIds.{marked-within, record-marked}
@@ -68,9 +71,15 @@ after-return frame records new id number put_aside area kept named made counts m
     (subst (λ (n : ℕ). AfterReturn frame records id (item_returned number records) (put_aside_by number records) n) (sym measures)
     (item_returned-after frame records id number kept named)))
 
+-- the shelves are ranked after a return
+pub ranked-after : (frame : Frame) (records : Records) (ranked : List RankedShelf) (id number : ℕ) → AreKept frame records → AreRanked frame records ranked → record_of records.items id ≡ Some number
+    → AreRanked frame (item_returned number records) (ranked_returned number records ranked)
+ranked-after frame records ranked id number kept are named = (returns-item frame records number kept (record-marked records.items id number named).0).ranked ranked are
+
 -- the item of the record that an id names can be returned
-pub can-return : (frame : Frame) (records : Records) (id number : ℕ) → AreKept frame records → record_of records.items id ≡ Some number
-    → (number < 65535) × CanReturn number records
-can-return frame records id number kept named =
+pub can-return : (frame : Frame) (records : Records) (ranked : List RankedShelf) (id number : ℕ) → AreKept frame records → AreRanked frame records ranked → record_of records.items id ≡ Some number
+    → (number < 65535) × CanReturn number records × CanReturnRanked (shelf_of records.items number) number records ranked
+can-return frame records ranked id number kept are named =
     let marked : is_allocated_at records.items number ≡ true = (record-marked records.items id number named).0 in
-    (omega (arith, marked-within records.items number marked, kept.counts.items.1), (returns-item frame records number kept marked).can)
+    let returns : ReturnsItem frame records number = returns-item frame records number kept marked in
+    (omega (arith, marked-within records.items number marked, kept.counts.items.1), returns.can, returns.can_ranked ranked are)

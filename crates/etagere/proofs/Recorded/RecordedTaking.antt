@@ -1,5 +1,5 @@
 -- What an allocation leaves of an atlas: the state that its records spell, and what is counted beside them.
-use Rattle.std.proofs.Common.{◌≡◌, ℕ, ◌+◌, ◌<◌, ◌≤◌, ap, sym, subst, ◌∙◌, arith}
+use Rattle.std.proofs.Common.{◌≡◌, ℕ, ◌+◌, ◌<◌, ◌≤◌, List, ap, sym, subst, ◌∙◌, arith}
 use Rattle.std.specs.Prelude.{◌^◌}
 use Rattle.etagere_base.specs.declared.frames.Frame.{Frame}
 use Rattle.etagere_base.specs.declared.geometry.Rectangle.{Rectangle}
@@ -7,13 +7,15 @@ use Rattle.etagere_base.specs.declared.geometry.Size.{Size}
 use Rattle.etagere_base.specs.declared.ids.Allocation.{Allocation}
 use Rattle.etagere_links.specs.RecordLists.{Records}
 use Rattle.etagere.specs.Choice.{Placement, area, rectangle_of_placement, splits}
+use Rattle.etagere.specs.Private.ByHeight.{AreRanked}
 use Rattle.etagere.specs.Private.Kept.{AreKept, state_of}
 use Rattle.etagere.specs.Private.PlacementTaken.{id_of, placement_taken}
 use Rattle.etagere.specs.Private.Searching.{Finds}
 use Rattle.etagere.specs.Space.{allocated_space}
 use Rattle.etagere.specs.State.{AtlasState, items_in_use}
 use Rattle.etagere.specs.Taking.{taken}
-use Rattle.etagere.proofs.Spelled.TakenKept.{KeepsTaken, placement-kept}
+use Rattle.etagere.specs.declared.linked.heights.RankedShelf.{RankedShelf}
+use Rattle.etagere.proofs.ByHeight.TakenRanked.{Ranks, taken-ranked}
 use Rattle.etagere.proofs.Spaces.SpaceSmall.{space-taken-small}
 use Rattle.etagere.proofs.Spelled.TakenKept.{KeepsTaken, placement-kept}
 use Rattle.etagere.proofs.Taken.PlacedWithin.{placed-within}
@@ -42,6 +44,14 @@ found-as_placed frame records size found kept finds =
       right = omega (arith, ends.right, ap (λ (p : Placement). p.along) same, ap (λ (p : Placement). p.width) same);
       bottom = omega (arith, ends.bottom, ap (λ (p : Placement). p.across) same, ap (λ (p : Placement). p.height) same);
     }
+
+-- what taking what was found needs of the ranked shelves, and what it leaves of them
+pub found-ranked : (frame : Frame) (records : Records) (size : Size) (found : Placement) (ranked : List RankedShelf) → AreKept frame records → Finds frame records size found
+    → AreRanked frame records ranked → Ranks frame records found ranked
+found-ranked frame records size found ranked kept finds are =
+    let placement : Placement = finds.placement in
+    taken-ranked frame records placement found ranked kept (placement-kept frame records size placement found kept finds.placed finds.located)
+    (ap (λ (p : Placement). p.splits_shelf) finds.located.same) are
 
 -- what holds after what was found for a size was taken, of the records and of the id
 pub record AfterTaking (frame : Frame) (records : Records) (size : Size) (found : Placement) (allocation : Allocation) (new : Records) : Type 0 where

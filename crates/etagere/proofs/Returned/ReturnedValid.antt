@@ -31,7 +31,7 @@ abbrev count_of : Shelf → ℕ
 count_of shelf = length shelf.items
 
 -- a merged shelf is as a shelf must be
-combined-shelf : (frame : Frame) (x y : Shelf) → both_empty x y ≡ true → IsShelf frame x → IsShelf frame y → IsShelf frame (combined_shelves x y)
+pub combined-shelf : (frame : Frame) (x y : Shelf) → both_empty x y ≡ true → IsShelf frame x → IsShelf frame y → IsShelf frame (combined_shelves x y)
 combined-shelf frame x y t h k = record {
   column = h.column;
   height = omega (arith, h.height);
@@ -42,7 +42,7 @@ combined-shelf frame x y t h k = record {
 }
 
 -- merging shelves keeps the order of columns
-ordered-merged : (shelves : List Shelf) → NoNeighbours is_out_of_order shelves → NoNeighbours is_out_of_order (merged_shelves shelves)
+pub ordered-merged : (shelves : List Shelf) → NoNeighbours is_out_of_order shelves → NoNeighbours is_out_of_order (merged_shelves shelves)
 ordered-merged shelves h =
     NoNeighbours-merged both_empty combined_shelves is_out_of_order
     (λ x y z t. ap (λ (column : ℕ). nat_lt z.column column) (same_column x y t)) (λ w x y t. refl) shelves h

@@ -11,7 +11,7 @@ use Rattle.etagere.proofs.Recorded.Members.{Each-member}
 use Rattle.etagere.proofs.Searched.Following.{IsLeft}
 
 -- the shelves in use are records, each once
-shelves-part : (records : Records) → IsLinked records (walked_lists records) → IsPart (length records.shelves) (shelf_walk records).met
+pub shelves-part : (records : Records) → IsLinked records (walked_lists records) → IsPart (length records.shelves) (shelf_walk records).met
 shelves-part records linked =
     let numbers : shelf_numbers (walked_lists records).entries ≡ (shelf_walk records).met = walked-numbers records (shelf_walk records).met in
     rw (← numbers)

@@ -1,34 +1,9 @@
--- The first of least rank among what shelves offer: by what was found before, and as the model finds it.
-use Rattle.std.proofs.Common.{◌≡◌, ℕ, Bool, true, false, cond, Option, None, Some, option_map, List, [], ◌∷◌, map, refl, ap, arith}
+-- The first of least rank among what shelves offer, as the model finds it.
+use Rattle.std.proofs.Common.{◌≡◌, ℕ, Bool, true, false, cond, Option, None, Some, option_map, List, [], ◌∷◌, map, refl, arith}
 use Rattle.std.specs.Prelude.{nat_le, nat_lt, slice_get}
 use Rattle.etagere_base.specs.Least.{Found, first_least, first_or, one_later}
-use Rattle.etagere.specs.Private.Searching.{better, lower, lowest}
+use Rattle.etagere.specs.Private.Searching.{lower, lowest}
 use Rattle.etagere.specs.declared.linked.choosing.Candidate.{Candidate}
-
--- the lower of three, either way round
-lower-three : (a b c : Candidate) → lower a (Some (lower b (Some c))) ≡ lower (lower a (Some b)) (Some c)
-lower-three a b c = by_tests (nat_lt c.rank b.rank) (nat_lt b.rank a.rank) (nat_lt c.rank a.rank) refl refl refl
-  where
-    by_tests : (p q r : Bool) → nat_lt c.rank b.rank ≡ p → nat_lt b.rank a.rank ≡ q → nat_lt c.rank a.rank ≡ r
-        → lower a (Some (cond p c b)) ≡ lower (cond q b a) (Some c)
-    by_tests true true true e f g = rw (e, g) refl
-    by_tests true true false e f g = absurd (grind arith)
-    by_tests true false r e f g = refl
-    by_tests false true r e f g = rw (e, f) refl
-    by_tests false false true e f g = absurd (grind arith)
-    by_tests false false false e f g = rw (f, g) refl
-
--- what was found before stands against the next, and then against the rest
-pub better-assoc : (a b c : Option Candidate) → better a (better b c) ≡ better (better a b) c
-better-assoc None b c = refl
-better-assoc (Some a) None c = refl
-better-assoc (Some a) (Some b) None = refl
-better-assoc (Some a) (Some b) (Some c) = ap Some (lower-three a b c)
-
--- nothing comes after the last
-pub better-none : (a : Option Candidate) → better a None ≡ a
-better-none None = refl
-better-none (Some a) = refl
 
 -- the rank of a candidate
 abbrev pub rank_in : Candidate → ℕ

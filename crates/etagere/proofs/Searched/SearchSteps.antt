@@ -1,124 +1,101 @@
--- Where the searches along a free list and over the shelves have come to, step by step.
+-- Where the search along a free list has come to, step by step, and what the best candidate is of.
 use Rattle.std.proofs.Common.{◌≡◌, ℕ, ◌+◌, ◌<◌, ◌≤◌, Bool, true, false, cond, Option, None, Some, option_map, List, [], ◌∷◌, length, get_or, map, refl, ap, arith, sym, ◌∙◌, subst}
 use Rattle.std.proofs.lemmas.Bool.Decides.{nat_tests}
-use Rattle.std.specs.Prelude.{find, nat_le, nat_lt}
+use Rattle.std.specs.Option.{option_map_or}
+use Rattle.std.specs.Prelude.{find, max, nat_le, nat_lt}
 use Rattle.etagere_base.specs.Lists.{times}
 use Rattle.etagere_base.proofs.TimesLemmas.{find-stands}
 use Rattle.etagere_links.specs.declared.records.ItemRecord.{ItemRecord}
 use Rattle.etagere_links.specs.Edits.{link_at}
 use Rattle.etagere_links.specs.RecordLists.{IsLinked, Records, first_free_of, free_walk, shelf_walk, walked_lists}
-use Rattle.etagere_links.specs.Records.{free_list, shelf_chain}
+use Rattle.etagere_links.specs.Records.{free_list}
 use Rattle.etagere_links.proofs.ListEnds.{times-here}
 use Rattle.etagere.specs.AtlasRecords.{height_of, item_at, spelled_item}
+use Rattle.etagere.specs.Private.Opening.{searched, widest_of}
 use Rattle.etagere.specs.Private.Searching.{best_candidate, better, first_wide, lower, lowest, offered, rank_of}
 use Rattle.etagere.specs.State.{Item}
 use Rattle.etagere.specs.declared.linked.choosing.Candidate.{Candidate}
+use Rattle.etagere.specs.declared.linked.choosing.Searched.TheVariants.{Found, Widest}
 use Rattle.etagere.proofs.Recorded.RecordsOfIds.{field_at-read}
 use Rattle.etagere.proofs.Searched.Following.{IsLeft, IsStep, all-left, none-left, step-left}
-use Rattle.etagere.proofs.Searched.LinkedParts.{free-left, free-within, shelf-within, shelves-left}
-use Rattle.etagere.proofs.Searched.LowestCandidates.{better-assoc, better-none}
+use Rattle.etagere.proofs.Searched.LinkedParts.{free-left, free-within, shelf-within}
 
 -- an item is wide enough
 abbrev pub is_wide : Records → ℕ → ℕ → Bool
 is_wide records width item = nat_le width (item_at records.items item).width
 
--- where the search along a free list has come to: the first wide one of what is left is that of all
-pub record SearchesFree (records : Records) (width shelf : ℕ) (at : Option ℕ) (steps : ℕ) : Type 0 where
+-- where the search along a free list has come to: the first wide one of what is left is that of all, and the
+-- widest of what was passed and of what is left is that of all
+pub record SearchesFree (records : Records) (width shelf widest : ℕ) (at : Option ℕ) (steps : ℕ) : Type 0 where
   pub rest : List ℕ
   pub left : IsLeft free_list.next records.items at steps rest
   pub found : find (is_wide records width) rest ≡ first_wide records width shelf
+  pub all : max widest (widest_of records.items rest) ≡ widest_of records.items (free_walk records shelf).met
 
 -- the search begins with the whole list
-pub free-begins : (records : Records) (width shelf : ℕ) (at : Option ℕ) → IsLinked records (walked_lists records) → 1 ≤ times shelf (shelf_walk records).met → at ≡ first_free_of records.shelves shelf → SearchesFree records width shelf at 0
+pub free-begins : (records : Records) (width shelf : ℕ) (at : Option ℕ) → IsLinked records (walked_lists records) → 1 ≤ times shelf (shelf_walk records).met → at ≡ first_free_of records.shelves shelf → SearchesFree records width shelf 0 at 0
 free-begins records width shelf at linked stands begins =
-    record { rest = (free_walk records shelf).met; left = rw begins (free-left records shelf linked stands); found = refl }
+    record {
+      rest = (free_walk records shelf).met;
+      left = rw begins (free-left records shelf linked stands);
+      found = refl;
+      all = omega arith;
+    }
+
+-- the widest is known where nothing is found
+pub nothing-found : (records : Records) (width shelf widest : ℕ) → None ≡ first_wide records width shelf → widest ≡ widest_of records.items (free_walk records shelf).met → Widest widest ≡ searched records width shelf
+nothing-found records width shelf widest none same =
+    ap Widest same ∙ ap (λ o. option_map_or Found o (Widest (widest_of records.items (free_walk records shelf).met))) none
 
 -- at the end nothing is found
-pub free-ends : (records : Records) (width shelf : ℕ) (at : Option ℕ) (steps : ℕ) → SearchesFree records width shelf at steps → at ≡ None → None ≡ first_wide records width shelf
-free-ends records width shelf at steps search ends =
-    ap (find (is_wide records width)) (sym (none-left free_list.next records.items at steps search.rest search.left ends)) ∙ search.found
+free-left-none : (records : Records) (width shelf widest : ℕ) (rest : List ℕ) → rest ≡ [] → find (is_wide records width) rest ≡ first_wide records width shelf → max widest (widest_of records.items rest) ≡ widest_of records.items (free_walk records shelf).met
+    → Widest widest ≡ searched records width shelf
+free-left-none records width shelf widest rest none found same =
+    let last : max widest 0 ≡ widest_of records.items (free_walk records shelf).met = ap (λ (l : List ℕ). max widest (widest_of records.items l)) (sym none) ∙ same in
+    nothing-found records width shelf widest (ap (find (is_wide records width)) (sym none) ∙ found) (omega (arith, last))
+
+pub free-ends : (records : Records) (width shelf widest : ℕ) (at : Option ℕ) (steps : ℕ) → SearchesFree records width shelf widest at steps → at ≡ None → Widest widest ≡ searched records width shelf
+free-ends records width shelf widest at steps search ends =
+    free-left-none records width shelf widest search.rest (none-left free_list.next records.items at steps search.rest search.left ends) search.found search.all
 
 -- after as many steps as there are records nothing is found
-pub free-out : (records : Records) (width shelf : ℕ) (at : Option ℕ) (steps : ℕ) → SearchesFree records width shelf at steps → length records.items ≤ steps → None ≡ first_wide records width shelf
-free-out records width shelf at steps search out =
-    ap (find (is_wide records width)) (sym (all-left free_list.next records.items at steps search.rest search.left out)) ∙ search.found
+pub free-out : (records : Records) (width shelf widest : ℕ) (at : Option ℕ) (steps : ℕ) → SearchesFree records width shelf widest at steps → length records.items ≤ steps → Widest widest ≡ searched records width shelf
+free-out records width shelf widest at steps search out =
+    free-left-none records width shelf widest search.rest (all-left free_list.next records.items at steps search.rest search.left out) search.found search.all
 
 -- the record at hand is one
-pub free-here : (records : Records) (width shelf : ℕ) (at : Option ℕ) (number steps : ℕ) → SearchesFree records width shelf at steps → at ≡ Some number → number < length records.items
-free-here records width shelf at number steps search is = (step-left free_list.next records.items at number steps search.rest search.left is).here
+pub free-here : (records : Records) (width shelf widest : ℕ) (at : Option ℕ) (number steps : ℕ) → SearchesFree records width shelf widest at steps → at ≡ Some number → number < length records.items
+free-here records width shelf widest at number steps search is = (step-left free_list.next records.items at number steps search.rest search.left is).here
 
--- whether the record at hand is wide enough
-width-read : (records : Records) (width number : ℕ) (item : ItemRecord) → number < length records.items → item ≡ get_or records.items number item → is_wide records width number ≡ nat_le width item.width
-width-read records width number item within read =
-    ap (λ (i : Item). nat_le width i.width) (field_at-read (spelled_item number) (record { width = 0; id = None }) records.items number item within read)
+-- how wide the record at hand is
+width-read : (records : Records) (number : ℕ) (item : ItemRecord) → number < length records.items → item ≡ get_or records.items number item → (item_at records.items number).width ≡ item.width
+width-read records number item within read =
+    ap (λ (i : Item). i.width) (field_at-read (spelled_item number) (record { width = 0; id = None }) records.items number item within read)
 
 -- a wide one is found
-pub free-found : (records : Records) (width shelf : ℕ) (at : Option ℕ) (number steps : ℕ) (item : ItemRecord) → SearchesFree records width shelf at steps → at ≡ Some number → item ≡ get_or records.items number item → width ≤ item.width → Some number ≡ first_wide records width shelf
-free-found records width shelf at number steps item search is read wide =
+pub free-found : (records : Records) (width shelf widest : ℕ) (at : Option ℕ) (number steps : ℕ) (item : ItemRecord) → SearchesFree records width shelf widest at steps → at ≡ Some number → item ≡ get_or records.items number item → width ≤ item.width → Found number ≡ searched records width shelf
+free-found records width shelf widest at number steps item search is read wide =
     let step : IsStep free_list.next records.items number steps search.rest = step-left free_list.next records.items at number steps search.rest search.left is in
-    let passes : is_wide records width number ≡ true = width-read records width number item step.here read ∙ grind (arith, nat_tests) in
-    sym (ap (find (is_wide records width)) step.whole ∙ ap (λ b. cond b (Some number) (find (is_wide records width) step.others)) passes) ∙ search.found
+    let passes : is_wide records width number ≡ true = ap (nat_le width) (width-read records number item step.here read) ∙ grind (arith, nat_tests) in
+    let first : Some number ≡ first_wide records width shelf =
+    sym (ap (find (is_wide records width)) step.whole ∙ ap (λ b. cond b (Some number) (find (is_wide records width) step.others)) passes) ∙ search.found in
+    ap (λ o. option_map_or Found o (Widest (widest_of records.items (free_walk records shelf).met))) first
 
 -- one that is not is passed
-pub free-passed : (records : Records) (width shelf : ℕ) (at next : Option ℕ) (number steps : ℕ) (item : ItemRecord) → SearchesFree records width shelf at steps → at ≡ Some number → item ≡ get_or records.items number item → item.width < width → next ≡ link_at free_list.next records.items number → SearchesFree records width shelf next (steps + 1)
-free-passed records width shelf at next number steps item search is read narrow follows =
+pub free-passed : (records : Records) (width shelf widest wider : ℕ) (at next : Option ℕ) (number steps : ℕ) (item : ItemRecord) → SearchesFree records width shelf widest at steps → at ≡ Some number → item ≡ get_or records.items number item → item.width < width → wider ≡ max widest item.width → next ≡ link_at free_list.next records.items number → SearchesFree records width shelf wider next (steps + 1)
+free-passed records width shelf widest wider at next number steps item search is read narrow grown follows =
     let step : IsStep free_list.next records.items number steps search.rest = step-left free_list.next records.items at number steps search.rest search.left is in
-    let fails : is_wide records width number ≡ false = width-read records width number item step.here read ∙ grind (arith, nat_tests) in
+    let own : (item_at records.items number).width ≡ item.width = width-read records number item step.here read in
+    let fails : is_wide records width number ≡ false = ap (nat_le width) own ∙ grind (arith, nat_tests) in
+    let all : max widest (max (item_at records.items number).width (widest_of records.items step.others)) ≡ widest_of records.items (free_walk records shelf).met =
+    ap (λ (l : List ℕ). max widest (widest_of records.items l)) (sym step.whole) ∙ search.all in
     record {
       rest = step.others;
       left = rw follows step.left;
       found =
           sym (ap (find (is_wide records width)) step.whole ∙ ap (λ b. cond b (Some number) (find (is_wide records width) step.others)) fails)
           ∙ search.found;
-    }
-
--- where the search over the shelves has come to: what was found, against the best of what is left, is the best of all
-pub record SearchesShelves (records : Records) (width height : ℕ) (best : Option Candidate) (at : Option ℕ) (steps : ℕ) : Type 0 where
-  pub rest : List ℕ
-  pub left : IsLeft shelf_chain.next records.shelves at steps rest
-  pub members : (k : ℕ) → 1 ≤ times k rest → 1 ≤ times k (shelf_walk records).met
-  pub found : better best (lowest (map (offered records width height) rest)) ≡ best_candidate records width height
-
--- the search begins with all shelves
-pub shelves-begin : (records : Records) (width height : ℕ) (at : Option ℕ) → IsLinked records (walked_lists records) → at ≡ records.first_shelf → SearchesShelves records width height None at 0
-shelves-begin records width height at linked begins =
-    record { rest = (shelf_walk records).met; left = rw begins (shelves-left records linked); members = λ k stands. stands; found = refl }
-
--- what was found is the best where no shelf is left
-best-left : (records : Records) (width height : ℕ) (best : Option Candidate) (rest : List ℕ) → rest ≡ [] → better best (lowest (map (offered records width height) rest)) ≡ best_candidate records width height → best ≡ best_candidate records width height
-best-left records width height best rest none found =
-    sym (better-none best) ∙ ap (λ (l : List ℕ). better best (lowest (map (offered records width height) l))) (sym none) ∙ found
-
--- at the end the best is found
-pub shelves-end : (records : Records) (width height : ℕ) (best : Option Candidate) (at : Option ℕ) (steps : ℕ) → SearchesShelves records width height best at steps → at ≡ None → best ≡ best_candidate records width height
-shelves-end records width height best at steps search ends =
-    best-left records width height best search.rest (none-left shelf_chain.next records.shelves at steps search.rest search.left ends) search.found
-
--- after as many steps as there are records the best is found
-pub shelves-out : (records : Records) (width height : ℕ) (best : Option Candidate) (at : Option ℕ) (steps : ℕ) → SearchesShelves records width height best at steps → length records.shelves ≤ steps → best ≡ best_candidate records width height
-shelves-out records width height best at steps search out =
-    best-left records width height best search.rest (all-left shelf_chain.next records.shelves at steps search.rest search.left out) search.found
-
--- the shelf at hand is in use
-pub shelves-here : (records : Records) (width height : ℕ) (best : Option Candidate) (at : Option ℕ) (shelf steps : ℕ) → SearchesShelves records width height best at steps → at ≡ Some shelf → (1 ≤ times shelf (shelf_walk records).met) × (shelf < length records.shelves)
-shelves-here records width height best at shelf steps search is =
-    let step : IsStep shelf_chain.next records.shelves shelf steps search.rest = step-left shelf_chain.next records.shelves at shelf steps search.rest search.left is in
-    (search.members shelf (rw (step.whole) (omega (arith, times-here shelf step.others))), step.here)
-
--- the shelf at hand was looked at
-pub shelves-passed : (records : Records) (width height : ℕ) (best new : Option Candidate) (at next : Option ℕ) (shelf steps : ℕ) → SearchesShelves records width height best at steps → at ≡ Some shelf → new ≡ better best (offered records width height shelf) → next ≡ link_at shelf_chain.next records.shelves shelf → SearchesShelves records width height new next (steps + 1)
-shelves-passed records width height best new at next shelf steps search is kept follows =
-    let step : IsStep shelf_chain.next records.shelves shelf steps search.rest = step-left shelf_chain.next records.shelves at shelf steps search.rest search.left is in
-    let others : Option Candidate = lowest (map (offered records width height) step.others) in
-    record {
-      rest = step.others;
-      left = rw follows step.left;
-      members = λ k stands. search.members k (rw (step.whole) (omega (arith, stands)));
-      found =
-          ap (λ b. better b others) kept
-          ∙ sym (better-assoc best (offered records width height shelf) others)
-          ∙ ap (λ (l : List ℕ). better best (lowest (map (offered records width height) l))) (sym step.whole)
-          ∙ search.found;
+      all = omega (arith, all, own, grown);
     }
 
 -- a candidate that is the lowest of what numbers offer
@@ -153,6 +130,7 @@ lowest-offered offers (n ∷ ns) candidate found = by_first (offers n) (lowest (
 pub record Offers (records : Records) (width height shelf : ℕ) (candidate : Candidate) : Type 0 where
   pub tall : height ≤ height_of records.shelves shelf
   pub shelf_is : candidate.shelf ≡ shelf
+  pub rank : candidate.rank ≡ rank_of records.shelves height shelf
   pub wide : first_wide records width shelf ≡ Some candidate.item
 
 pub offers-parts : (records : Records) (width height shelf : ℕ) (candidate : Candidate) → offered records width height shelf ≡ Some candidate → Offers records width height shelf candidate
@@ -167,6 +145,7 @@ offers-parts records width height shelf candidate offer = by_parts (nat_le heigh
         record {
           tall = grind (arith, nat_tests);
           shelf_is = sym (ap (λ (c : Candidate). c.shelf) same);
+          rank = sym (ap (λ (c : Candidate). c.rank) same);
           wide = f ∙ ap (λ (c : Candidate). Some c.item) same;
         }
 

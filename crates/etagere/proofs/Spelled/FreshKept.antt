@@ -12,8 +12,10 @@ use Rattle.etagere_links.specs.Chains.{IsChainIn, Leads, LeadsBack}
 use Rattle.etagere_links.specs.declared.records.ItemRecord.{ItemRecord}
 use Rattle.etagere_links.specs.declared.records.ShelfRecord.{ShelfRecord}
 use Rattle.etagere_links.specs.Edits.{link_at}
-use Rattle.etagere_links.specs.RecordLists.{Entry, Lists, HasEachOnce, IsEntry, IsLinked, field_at, first_item_of, first_free_of, item_numbers, shelf_numbers}
+use Rattle.etagere_links.specs.RecordLists.{Entry, Lists, HasEachOnce, IsEntry, IsLinked, field_at, first_item_of, first_free_of, item_numbers, shelf_numbers, shelf_walk}
 use Rattle.etagere_links.specs.Records.{item_chain, free_list, shelf_chain}
+use Rattle.etagere_links.specs.Walks.{Walked}
+use Rattle.etagere_links.proofs.AllLists.LinkedWalks.{AreWalks, linked-walks}
 use Rattle.etagere.specs.AtlasRecords.{AtlasRecords, along_of, height_of, is_allocated_at, item_at, place_of, spelled_shelf}
 use Rattle.etagere.specs.Fresh.{empty_columns, fresh}
 use Rattle.etagere.specs.Private.FreshRecords.{column_after, column_before, fresh_item, fresh_records, fresh_shelf, numbered}
@@ -205,3 +207,13 @@ module _ (frame : Frame) where
     -- the records of a new atlas keep every rule, and their state is that of a new atlas
     pub fresh-kept : HasAllColumns frame → (state_of frame (fresh_records frame) ≡ fresh frame) × AreKept frame (fresh_records frame)
     fresh-kept all = kept-of frame (fresh_records frame) (fresh_lists frame) (fresh frame) (fresh-witnessed all)
+
+    -- the shelves in use of a new atlas are those of the columns
+    pub fresh-met : (shelf_walk (fresh_records frame)).met ≡ numbered (λ number. number) 0 frame.columns
+    fresh-met =
+        let few : frame.columns ≤ 65535 = columns-le frame is_frame in
+        let walks : AreWalks (fresh_records frame) (fresh_lists frame) =
+        linked-walks (fresh_records frame) (fresh_lists frame)
+        (omega (arith, few, numbered-length (fresh_shelf frame) 0 frame.columns))
+        (omega (arith, few, numbered-length (fresh_item frame) 0 frame.columns)) fresh-linked in
+        ap (λ (w : Walked). w.met) walks.shelves ∙ fresh-numbers 0 frame.columns

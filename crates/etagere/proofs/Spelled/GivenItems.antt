@@ -138,7 +138,7 @@ given-length : (records : Records) (shelf number : ℕ) → length (item_given s
 given-length records shelf number =
     length-changed_by (λ (x : ItemRecord). record x { allocated = true }) (unlinked free_list number records.items) (Some number) ∙ length-unlinked free_list records.items number
 
-given-shelves : (records : Records) (shelf number : ℕ) → length (item_given shelf number records).shelves ≡ length records.shelves
+pub given-shelves : (records : Records) (shelf number : ℕ) → length (item_given shelf number records).shelves ≡ length records.shelves
 given-shelves records shelf number =
     let link : Option ℕ = first_without (link_at free_list.previous records.items number) (link_at free_list.next records.items number) (first_free_of records.shelves shelf) in
     length-changed_by (λ (x : ShelfRecord). record x { first_unallocated = link }) records.shelves (Some shelf)
@@ -153,7 +153,7 @@ front-length records shelf number rest width =
     ∙ length-linked_between free_list one (Some number) (link_at free_list.next one number) rest
     ∙ length-linked_between item_chain items (Some number) (link_at item_chain.next items number) rest
 
-front-shelves : (records : Records) (shelf number rest width : ℕ) → length (front_given shelf number rest width records).shelves ≡ length records.shelves
+pub front-shelves : (records : Records) (shelf number rest width : ℕ) → length (front_given shelf number rest width records).shelves ≡ length records.shelves
 front-shelves records shelf number rest width =
     let items : List ItemRecord = records.items in
     let one : List ItemRecord = linked_between item_chain (Some number) (link_at item_chain.next items number) rest items in

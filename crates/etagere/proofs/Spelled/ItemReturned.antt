@@ -4,23 +4,34 @@ use Rattle.std.proofs.lemmas.List.{length-map, map-append}
 use Rattle.std.specs.Prelude.{nat_lt}
 use Rattle.etagere_base.specs.declared.frames.Frame.{Frame}
 use Rattle.etagere_base.proofs.EachLemmas.{Each-front, Each-back, Each-middle, Each-weaken}
-use Rattle.etagere_base.proofs.FrameSides.{sides_low}
-use Rattle.etagere_base.specs.Lists.{Each}
+use Rattle.etagere_base.proofs.FrameSides.{column_width-le, sides_low}
+use Rattle.etagere_base.proofs.TimesLemmas.{times-append}
+use Rattle.etagere_base.specs.Lists.{Each, times}
 use Rattle.etagere_base.specs.MergingAt.{merged_at, merged_before}
 use Rattle.etagere_links.specs.declared.records.ItemRecord.{ItemRecord}
-use Rattle.etagere_links.specs.RecordLists.{Records, field_at, Entry, Lists, IsLinked, walked_lists}
+use Rattle.etagere_links.specs.RecordLists.{Records, field_at, Entry, IsEntry, Lists, IsLinked, shelf_numbers, walked_lists}
+use Rattle.etagere_links.proofs.AllLists.LinkedFrames.{shelf_numbers-append}
 use Rattle.etagere_links.proofs.AllLists.LinkedMerges.{entry_of}
 use Rattle.etagere_links.proofs.AllLists.LinkedUnused.{lists_of}
 use Rattle.etagere_links.proofs.AllLists.LinkedWalks.{linked-lists, linked-walks}
+use Rattle.etagere_links.proofs.ListEnds.{times-here}
 use Rattle.etagere.specs.AtlasRecords.{AtlasRecords, is_allocated_at, item_at, shelf_of, spelled_item, spelled_shelf, spelled_state}
 use Rattle.etagere.specs.Merging.{both_empty, combined_shelves, merged_shelf}
 use Rattle.etagere.specs.Places.{column_height}
 use Rattle.etagere.specs.Private.ItemReturned.{CanMergeItem, CanMergeShelves, CanReturn, Step, emptiness_said, item_merged, item_returned, put_aside_by, shelves_merged}
+use Rattle.etagere.specs.Private.ByHeight.{AreRanked, raised, ranked_numbers}
 use Rattle.etagere.specs.Private.Kept.{AreKept, HasFlag, IsPlaced, atlas_of, bare, state_of}
+use Rattle.etagere.specs.Private.RankedReturned.{CanReturnRanked, freed_width, ranked_returned, ranks_merged}
 use Rattle.etagere.specs.Returning.{freed_shelf, returned}
 use Rattle.etagere.specs.State.{Shelf, AtlasState, items_in_use}
 use Rattle.etagere.specs.StandsFor.{HasCounts}
 use Rattle.etagere.specs.Valid.{IsShelf, IsValid}
+use Rattle.etagere.specs.declared.linked.heights.RankedShelf.{RankedShelf}
+use Rattle.etagere.proofs.ByHeight.FreedBounds.{freed_width-le}
+use Rattle.etagere.proofs.ByHeight.FreedRanks.{FreesRanks, frees-ranks}
+use Rattle.etagere.proofs.ByHeight.KeptRanks.{kept-ranks, ranks-kept}
+use Rattle.etagere.proofs.ByHeight.KnownBounds.{first-free-bound}
+use Rattle.etagere.proofs.ByHeight.MergedRanks.{Ranks}
 use Rattle.etagere.proofs.Places.Heights.{column_height-append, column_height-none}
 use Rattle.etagere.proofs.Returned.ReturnedValid.{returned-valid}
 use Rattle.etagere.proofs.Spelled.EmptinessSaid.{IsFlagged, emptiness_said-flagged, flags-same}
@@ -28,7 +39,8 @@ use Rattle.etagere.proofs.Spelled.EntryValues.{id_at}
 use Rattle.etagere.proofs.Spelled.ItemFits.{can-merge-item}
 use Rattle.etagere.proofs.Spelled.ItemLocated.{HasItem, in-use-counted, located}
 use Rattle.etagere.proofs.Spelled.ItemMerged.{MergesItem, merges-item}
-use Rattle.etagere.proofs.Spelled.NeighboursMerged.{AreLow, MergesShelves, can-merge-shelves, merges-shelves}
+use Rattle.etagere.proofs.Spelled.ItemsAround.{widths-total}
+use Rattle.etagere.proofs.Spelled.NeighboursMerged.{AreLow, MergesShelves, can-merge-ranks, can-merge-shelves, merges-shelves}
 use Rattle.etagere.proofs.Spelled.ReturnedAt.{returned-at}
 use Rattle.etagere.proofs.Spelled.ReturnedLengths.{SameLengths, returned-lengths}
 use Rattle.etagere.proofs.Spelled.SpelledLists.{with_lists}
@@ -44,6 +56,7 @@ record IsFreed (atlas : AtlasRecords) (records : Records) (put_aside : ℕ) (bef
       map (spelled_shelf (with_lists atlas records)) (before ++ entry_of shelf numbers free_list ∷ after)
       ≡ map (spelled_shelf atlas) before ++ merged_shelf (freed_shelf atlas.frame (length front) (spelled_shelf atlas (entry_of shelf (front ++ number ∷ back) free))) ∷ map (spelled_shelf atlas) after
   counted : length aside ≡ put_aside + length unused
+  ranks : FreesRanks atlas (with_lists atlas records) (before ++ entry_of shelf (front ++ number ∷ back) free ∷ after) (before ++ entry_of shelf numbers free_list ∷ after) shelf (freed_width atlas.lists.items number)
 
 -- an item was freed and merged, and its shelf says whether it is empty
 freed-flagged : (atlas : AtlasRecords) (before after : List Entry) (shelf number : ℕ) (front back free unused shelves : List ℕ) → IsShelf atlas.frame (spelled_shelf atlas (entry_of shelf (front ++ number ∷ back) free)) → is_allocated_at atlas.lists.items number ≡ true → IsFlagged atlas (lists_of (before ++ entry_of shelf (front ++ number ∷ back) free ∷ after) unused shelves) → IsFreed atlas (emptiness_said shelf (item_merged shelf number atlas.lists).records) (item_merged shelf number atlas.lists).put_aside before after shelf number front back free unused shelves
@@ -69,6 +82,7 @@ freed-flagged atlas before after shelf number front back free unused shelves val
           ∙ ap (λ (s : Shelf). map (spelled_shelf atlas) before ++ s ∷ map (spelled_shelf middle) after) merges.returned
           ∙ ap (λ (ss : List Shelf). map (spelled_shelf atlas) before ++ merged_shelf (freed_shelf atlas.frame (length front) (spelled_shelf atlas entry)) ∷ ss) merges.after_same;
       counted = merges.counted;
+      ranks = frees-ranks atlas before after shelf number front back free unused shelves valid flagged.spelled merges said.1;
     }
 
 -- no column of a valid state is taller than 16 bits can say
@@ -87,17 +101,20 @@ pub record ReturnsItem (frame : Frame) (records : Records) (number : ℕ) : Type
   pub kept : AreKept frame (item_returned number records)
   pub state : state_of frame (item_returned number records) ≡ returned (state_of frame records) (id_at records.items number)
   pub counted : items_in_use (state_of frame (item_returned number records)).shelves + put_aside_by number records ≡ items_in_use (state_of frame records).shelves
+  pub can_ranked : (ranked : List RankedShelf) → AreRanked frame records ranked → CanReturnRanked (shelf_of records.items number) number records ranked
+  pub ranked : (ranked : List RankedShelf) → AreRanked frame records ranked → AreRanked frame (item_returned number records) (ranked_returned number records ranked)
 
 -- records after a return, by the lists that they spell
-record IsReturned (atlas : AtlasRecords) (step : Step) (state : AtlasState) (unused : List ℕ) : Type 0 where
+record IsReturned (atlas : AtlasRecords) (step : Step) (old : List Entry) (change : List RankedShelf → List RankedShelf) (state : AtlasState) (unused : List ℕ) : Type 0 where
   lists : Lists
   flagged : IsFlagged (with_lists atlas step.records) lists
   spelled : map (spelled_shelf (with_lists atlas step.records)) lists.entries ≡ state.shelves
   counted : length lists.unused_items ≡ step.put_aside + length unused
+  ranks : (ranked : List RankedShelf) → Ranks atlas old ranked → Ranks (with_lists atlas step.records) lists.entries (change ranked)
 
 -- records that spell lists keep every rule again where what they spell is valid
-kept-again : (frame : Frame) (records new : Records) (id aside : ℕ) → AreKept frame records → SameLengths records new → IsReturned (atlas_of frame records) (record { records = new; put_aside = aside }) (returned (state_of frame records) id) (walked_lists records).unused_items → (AreKept frame new × (state_of frame new ≡ returned (state_of frame records) id)) × (items_in_use (state_of frame new).shelves + aside ≡ items_in_use (state_of frame records).shelves)
-kept-again frame records new id aside kept lengths is =
+kept-again : (frame : Frame) (records new : Records) (id aside : ℕ) (change : List RankedShelf → List RankedShelf) → AreKept frame records → SameLengths records new → IsReturned (atlas_of frame records) (record { records = new; put_aside = aside }) (walked_lists records).entries change (returned (state_of frame records) id) (walked_lists records).unused_items → (AreKept frame new × (state_of frame new ≡ returned (state_of frame records) id)) × (items_in_use (state_of frame new).shelves + aside ≡ items_in_use (state_of frame records).shelves) × ((ranked : List RankedShelf) → AreRanked frame records ranked → AreRanked frame new (change ranked))
+kept-again frame records new id aside change kept lengths is =
     let lists : Lists = is.lists in
     let linked : IsLinked new lists = is.flagged.spelled.linked in
     let counts : HasCounts (atlas_of frame new) =
@@ -132,6 +149,7 @@ kept-again frame records new id aside kept lengths is =
         state,
       ),
       omega (arith, in_use, old_count, new_count, is.counted, lengths.items),
+      λ ranked are. ranks-kept frame records new lists (change ranked) walked (is.ranks ranked (kept-ranks frame records ranked kept are)),
     )
 
 -- the id of an allocated item
@@ -147,15 +165,21 @@ returned_in shelf number records =
     let two = shelves_merged shelf (emptiness_said shelf one.records) in
     record { records = two.records; put_aside = one.put_aside + two.put_aside }
 
+-- the ranked shelves after it
+abbrev ranked_in : ℕ → ℕ → Records → List RankedShelf → List RankedShelf
+ranked_in shelf number records ranked =
+    ranks_merged shelf (emptiness_said shelf (item_merged shelf number records).records) (raised shelf (freed_width records.items number) ranked)
+
 -- the shelves of a state whose shelves around one were merged
 shelves-after : (frame : Frame) (records n : ℕ) (after : AtlasState) (middle whole spelled : List Shelf) → after ≡ record { frame = frame; shelves = merged_before both_empty combined_shelves n (merged_at both_empty combined_shelves n whole); records = records } → middle ≡ whole → spelled ≡ merged_before both_empty combined_shelves n (merged_at both_empty combined_shelves n middle) → spelled ≡ after.shelves
 shelves-after frame records n after middle whole spelled at same merged = rw at (rw (← same) merged)
 
 -- what is known of a return of an item of this shelf
 record Returns (frame : Frame) (records : Records) (shelf number : ℕ) : Type 0 where
-  after : IsReturned (atlas_of frame records) (returned_in shelf number records) (returned (state_of frame records) (id_at records.items number)) (walked_lists records).unused_items
+  after : IsReturned (atlas_of frame records) (returned_in shelf number records) (walked_lists records).entries (ranked_in shelf number records) (returned (state_of frame records) (id_at records.items number)) (walked_lists records).unused_items
   can_item : CanMergeItem shelf number records
   can_shelves : CanMergeShelves shelf (emptiness_said shelf (item_merged shelf number records).records)
+  can_ranked : (ranked : List RankedShelf) → AreRanked frame records ranked → CanReturnRanked shelf number records ranked
 
 -- an allocated item was returned that stands there
 returned-there : (frame : Frame) (records : Records) (number : ℕ) (has : HasItem number (walked_lists records).entries) → AreKept frame records → is_allocated_at records.items number ≡ true → IsFlagged (atlas_of frame records) (lists_of (has.before ++ entry_of has.shelf (has.front ++ number ∷ has.back) has.free ∷ has.after) (walked_lists records).unused_items (walked_lists records).unused_shelves) → Returns frame records has.shelf number
@@ -178,13 +202,16 @@ returned-there frame records number has kept allocated flagged =
     let middle : AtlasRecords = with_lists atlas three in
     let edited : Entry = entry_of shelf freed.numbers freed.free_list in
     let two : Step = shelves_merged shelf three in
-    let merges : MergesShelves middle two has.before has.after edited freed.aside gone = merges-shelves middle has.before has.after edited freed.aside gone freed.flagged in
+    let merges : MergesShelves middle two (ranks_merged shelf three) has.before has.after edited freed.aside gone = merges-shelves middle has.before has.after edited freed.aside gone freed.flagged in
     let at = returned-at state (id_at records.items number) (length has.before) (length has.front) front back old (map (item_at records.items) has.front) (map (item_at records.items) has.back) (item_at records.items number)
     (length-map has.before (spelled_shelf atlas)) (length-map has.front (item_at records.items)) kept.valid shelves
     (map-append (item_at records.items) has.front (number ∷ has.back)) (allocated-id records.items number number allocated) in
     let low : AreLow (map (spelled_shelf middle) (has.before ++ edited ∷ has.after)) = λ column.
     let same : column_height column (new ∷ back) ≡ column_height column (old ∷ back) = refl in
     rw freed.spelled (omega (arith, same, column_height-append column front (new ∷ back), column_height-append column front (old ∷ back), low-valid state kept.valid column, ap (column_height column) shelves)) in
+    let is : IsEntry records entry = Each-middle (IsEntry records) has.before entry has.after flagged.spelled.linked.entries in
+    let start : (ranked : List RankedShelf) → Ranks atlas (walked_lists records).entries ranked → Ranks atlas (has.before ++ entry ∷ has.after) ranked = λ ranked ranks.
+    subst (λ (es : List Entry). Ranks atlas es ranked) has.whole ranks in
     record {
       after =
           record {
@@ -193,9 +220,34 @@ returned-there frame records number has kept allocated flagged =
             spelled = shelves-after frame state.records (length has.before) (returned state (id_at records.items number)) (map (spelled_shelf middle) (has.before ++ edited ∷ has.after)) (front ++ new ∷ back)
                 (map (spelled_shelf (with_lists atlas two.records)) merges.entries) at freed.spelled merges.merged;
             counted = omega (arith, merges.counted, freed.counted);
+            ranks = λ ranked ranks. merges.ranks (raised shelf (freed_width records.items number) ranked) (freed.ranks.ranks ranked (start ranked ranks));
           };
       can_item = can-merge-item atlas has.before has.after shelf number has.front has.back has.free unused gone kept.valid.frame valid allocated flagged.spelled;
       can_shelves = can-merge-shelves middle has.before has.after edited freed.aside gone low freed.flagged;
+      can_ranked = λ ranked are.
+          let ranks : Ranks atlas (has.before ++ entry ∷ has.after) ranked = start ranked (kept-ranks frame records ranked kept are) in
+          let stands : 1 ≤ times shelf (ranked_numbers ranked) =
+          omega (
+            arith,
+            ranks.once shelf,
+            ap (times shelf) (shelf_numbers-append has.before (entry ∷ has.after)),
+            times-append shelf (shelf_numbers has.before) (shelf ∷ shelf_numbers has.after),
+            times-here shelf (shelf_numbers has.after),
+          ) in
+          record {
+            width = omega (
+              arith,
+              freed_width-le atlas shelf number has.front has.back has.free is,
+              widths-total records.items (has.front ++ number ∷ has.back),
+              valid.width,
+              column_width-le 65535 frame kept.valid.frame,
+              (sides_low 65535 frame kept.valid.frame).0,
+            );
+            stands = stands;
+            known = first-free-bound atlas has.before has.after shelf (has.front ++ number ∷ has.back) has.free unused gone ranked flagged.spelled stands ranks;
+            order = freed.ranks.order ranked ranks.order;
+            shelves = can-merge-ranks middle has.before has.after edited freed.aside gone (raised shelf (freed_width records.items number) ranked) freed.flagged (freed.ranks.ranks ranked ranks);
+          };
     }
 
 -- records that keep every rule keep it after an allocated item was returned, and spell the state after its return; what
@@ -213,10 +265,12 @@ returns-item frame records number kept allocated =
     let own : shelf_of records.items number ≡ has.shelf = (Each-back (λ item. shelf_of records.items item ≡ has.shelf) has.front (number ∷ has.back) placed.owners).0 in
     let there : Returns frame records (shelf_of records.items number) number =
     subst (λ shelf. Returns frame records shelf number) (sym own) (returned-there frame records number has kept allocated flagged) in
-    let again = kept-again frame records (item_returned number records) (id_at records.items number) (put_aside_by number records) kept (returned-lengths number records) there.after in
+    let again = kept-again frame records (item_returned number records) (id_at records.items number) (put_aside_by number records) (ranked_returned number records) kept (returned-lengths number records) there.after in
     record {
       can = record { item = there.can_item; shelves = there.can_shelves };
       kept = again.0.0;
       state = again.0.1;
       counted = again.1;
+      can_ranked = there.can_ranked;
+      ranked = again.2;
     }

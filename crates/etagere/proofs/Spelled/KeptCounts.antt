@@ -27,7 +27,7 @@ shelves-le-items frame wide (shelf ∷ shelves) are =
     omega (arith, first, others)
 
 -- as many shelves as numbers of shelves
-shelf_numbers-length : (entries : List Entry) → length (shelf_numbers entries) ≡ length entries
+pub shelf_numbers-length : (entries : List Entry) → length (shelf_numbers entries) ≡ length entries
 shelf_numbers-length [] = refl
 shelf_numbers-length (entry ∷ entries) = ap suc (shelf_numbers-length entries)
 

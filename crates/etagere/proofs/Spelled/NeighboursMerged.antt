@@ -1,7 +1,8 @@
 -- Records that spell lists, and whose shelves say whether they are empty, after a shelf was merged with its neighbours.
-use Rattle.std.proofs.Common.{◌≡◌, ℕ, suc, ◌+◌, ◌≤◌, ◌<◌, Bool, true, false, Option, None, Some, List, [], ◌∷◌, ◌++◌, length, map, refl, ap, subst, arith, sym, ◌∙◌, append_assoc}
+use Rattle.std.proofs.Common.{◌≡◌, ◌≢◌, ℕ, suc, ◌+◌, ◌≤◌, ◌<◌, Bool, true, false, Option, None, Some, List, [], ◌∷◌, ◌++◌, length, map, refl, ap, subst, arith, sym, ◌∙◌, append_assoc}
 use Rattle.std.proofs.lemmas.List.{length-append}
 use Rattle.std.specs.Prelude.{slice_get}
+use Rattle.etagere_base.specs.Lists.{times}
 use Rattle.etagere_base.specs.MergingAt.{merged_at, merged_before}
 use Rattle.etagere_links.specs.Edits.{link_at}
 use Rattle.etagere_links.specs.Lists.{last_or}
@@ -13,8 +14,12 @@ use Rattle.etagere_links.proofs.ListEnds.{last-append}
 use Rattle.etagere.specs.AtlasRecords.{AtlasRecords, height_of, spelled_shelf}
 use Rattle.etagere.specs.Merging.{both_empty, combined_shelves}
 use Rattle.etagere.specs.Places.{column_height}
+use Rattle.etagere.specs.Private.ByHeight.{ranked_numbers}
 use Rattle.etagere.specs.Private.ItemReturned.{Step, CanMergeShelves, HeightsFit, are_both_empty, empty_named, empty_next, named_shelf_merged, shelf_merged, shelves_merged}
+use Rattle.etagere.specs.Private.RankedReturned.{CanMergeNamedRank, CanMergeRank, CanMergeRanks, named_rank_merged, rank_merged, ranks_merged}
 use Rattle.etagere.specs.State.{Shelf}
+use Rattle.etagere.specs.declared.linked.heights.RankedShelf.{RankedShelf}
+use Rattle.etagere.proofs.ByHeight.MergedRanks.{IsPair, Ranks, ranked-pair}
 use Rattle.etagere.proofs.Places.Heights.{column_height-merged_at, heights-le}
 use Rattle.etagere.proofs.Spelled.EmptinessSaid.{IsFlagged}
 use Rattle.etagere.proofs.Spelled.ItemsAround.{by_end}
@@ -22,7 +27,7 @@ use Rattle.etagere.proofs.Spelled.ShelvesMerged.{AreNeighbours, MergesShelf, mer
 use Rattle.etagere.proofs.Spelled.SpelledLists.{with_lists}
 
 -- what a step that merges a shelf with its neighbours makes of the lists of shelves, and what these spell
-pub record MergesShelves (atlas : AtlasRecords) (step : Step) (before after : List Entry) (entry : Entry) (unused shelves : List ℕ) : Type 0 where
+pub record MergesShelves (atlas : AtlasRecords) (step : Step) (change : List RankedShelf → List RankedShelf) (before after : List Entry) (entry : Entry) (unused shelves : List ℕ) : Type 0 where
   pub entries : List Entry
   pub aside : List ℕ
   pub gone : List ℕ
@@ -32,6 +37,7 @@ pub record MergesShelves (atlas : AtlasRecords) (step : Step) (before after : Li
       ≡ merged_before both_empty combined_shelves (length before)
       (merged_at both_empty combined_shelves (length before) (map (spelled_shelf atlas) (before ++ entry ∷ after)))
   pub counted : length aside ≡ step.put_aside + length unused
+  pub ranks : (ranked : List RankedShelf) → Ranks atlas (before ++ entry ∷ after) ranked → Ranks (with_lists atlas step.records) entries (change ranked)
 
 -- one more than the elements of a front
 one-more : {X : Type 0} (front : List X) (x : X) → length (front ++ x ∷ []) ≡ suc (length front)
@@ -45,9 +51,9 @@ last-named atlas before after last entry unused shelves flagged =
     ∙ last-append (shelf_numbers before) last.number None
 
 -- a shelf was merged with its neighbours, where they are empty and stand in one column
-pub merges-shelves : (atlas : AtlasRecords) (before after : List Entry) (entry : Entry) (unused shelves : List ℕ) → IsFlagged atlas (lists_of (before ++ entry ∷ after) unused shelves) → MergesShelves atlas (shelves_merged entry.number atlas.lists) before after entry unused shelves
+pub merges-shelves : (atlas : AtlasRecords) (before after : List Entry) (entry : Entry) (unused shelves : List ℕ) → IsFlagged atlas (lists_of (before ++ entry ∷ after) unused shelves) → MergesShelves atlas (shelves_merged entry.number atlas.lists) (ranks_merged entry.number atlas.lists) before after entry unused shelves
 merges-shelves atlas before after entry unused shelves flagged =
-    by_end (λ (xs : List Entry). MergesShelf atlas (shelf_merged entry.number atlas.lists) xs after entry unused shelves → MergesShelves atlas (shelves_merged entry.number atlas.lists) xs after entry unused shelves)
+    by_end (λ (xs : List Entry). MergesShelf atlas (shelf_merged entry.number atlas.lists) (rank_merged entry.number atlas.lists) xs after entry unused shelves → MergesShelves atlas (shelves_merged entry.number atlas.lists) (ranks_merged entry.number atlas.lists) xs after entry unused shelves)
     first some before (merges-shelf atlas before after entry unused shelves flagged)
   where
     one : Step
@@ -62,20 +68,23 @@ merges-shelves atlas before after entry unused shelves flagged =
     whole : Option ℕ → Step
     whole named = record { records = (named_shelf_merged named one.records).records; put_aside = one.put_aside + (named_shelf_merged named one.records).put_aside }
 
-    first : MergesShelf atlas one [] after entry unused shelves → MergesShelves atlas (whole link) [] after entry unused shelves
+    change : Option ℕ → List RankedShelf → List RankedShelf
+    change named ranked = named_rank_merged named one.records (rank_merged entry.number atlas.lists ranked)
+
+    first : MergesShelf atlas one (rank_merged entry.number atlas.lists) [] after entry unused shelves → MergesShelves atlas (whole link) (change link) [] after entry unused shelves
     first merges =
         let none : link ≡ None = previous-link middle [] merges.rest entry merges.aside merges.gone merges.flagged.spelled in
-        subst (λ (o : Option ℕ). MergesShelves atlas (whole o) [] after entry unused shelves) (sym none)
-        (record { entries = entry ∷ merges.rest; aside = merges.aside; gone = merges.gone; flagged = merges.flagged; merged = merges.merged; counted = omega (arith, merges.counted) })
+        subst (λ (o : Option ℕ). MergesShelves atlas (whole o) (change o) [] after entry unused shelves) (sym none)
+        (record { entries = entry ∷ merges.rest; aside = merges.aside; gone = merges.gone; flagged = merges.flagged; merged = merges.merged; counted = omega (arith, merges.counted); ranks = merges.ranks })
 
-    some : (xs : List Entry) (last : Entry) → MergesShelf atlas one (xs ++ last ∷ []) after entry unused shelves → MergesShelves atlas (whole link) (xs ++ last ∷ []) after entry unused shelves
+    some : (xs : List Entry) (last : Entry) → MergesShelf atlas one (rank_merged entry.number atlas.lists) (xs ++ last ∷ []) after entry unused shelves → MergesShelves atlas (whole link) (change link) (xs ++ last ∷ []) after entry unused shelves
     some xs last merges =
         let named : link ≡ Some last.number = last-named middle xs merges.rest last entry merges.aside merges.gone merges.flagged in
         let regrouped : (xs ++ last ∷ []) ++ entry ∷ merges.rest ≡ xs ++ last ∷ entry ∷ merges.rest = append_assoc xs (last ∷ []) (entry ∷ merges.rest) in
-        let two : MergesShelf middle (shelf_merged last.number one.records) xs (entry ∷ merges.rest) last merges.aside merges.gone =
+        let two : MergesShelf middle (shelf_merged last.number one.records) (rank_merged last.number one.records) xs (entry ∷ merges.rest) last merges.aside merges.gone =
         merges-shelf middle xs (entry ∷ merges.rest) last merges.aside merges.gone
         (subst (λ (es : List Entry). IsFlagged middle (lists_of es merges.aside merges.gone)) regrouped merges.flagged) in
-        subst (λ (o : Option ℕ). MergesShelves atlas (whole o) (xs ++ last ∷ []) after entry unused shelves) (sym named)
+        subst (λ (o : Option ℕ). MergesShelves atlas (whole o) (change o) (xs ++ last ∷ []) after entry unused shelves) (sym named)
         (record {
           entries = xs ++ last ∷ two.rest;
           aside = two.aside;
@@ -86,6 +95,8 @@ merges-shelves atlas before after entry unused shelves flagged =
               ∙ ap (merged_at both_empty combined_shelves (length xs)) merges.merged
               ∙ ap (λ n. merged_before both_empty combined_shelves n (merged_at both_empty combined_shelves (length (xs ++ last ∷ [])) (map (spelled_shelf atlas) ((xs ++ last ∷ []) ++ entry ∷ after)))) (sym (one-more xs last));
           counted = omega (arith, two.counted, merges.counted);
+          ranks = λ ranked ranks. two.ranks (rank_merged entry.number atlas.lists ranked)
+              (subst (λ (es : List Entry). Ranks middle es (rank_merged entry.number atlas.lists ranked)) regrouped (merges.ranks ranked ranks));
         })
 
 -- two neighbours, read by their numbers
@@ -131,7 +142,7 @@ can-merge-shelves atlas before after entry unused shelves low flagged =
     record {
       next = heights-fit atlas before after entry unused shelves low flagged;
       previous =
-          by_end (λ (xs : List Entry). AreLow (map (spelled_shelf atlas) (xs ++ entry ∷ after)) → MergesShelf atlas one xs after entry unused shelves → (n : ℕ) → link ≡ Some n → HeightsFit n one.records.shelves)
+          by_end (λ (xs : List Entry). AreLow (map (spelled_shelf atlas) (xs ++ entry ∷ after)) → MergesShelf atlas one (rank_merged entry.number atlas.lists) xs after entry unused shelves → (n : ℕ) → link ≡ Some n → HeightsFit n one.records.shelves)
           first some before low (merges-shelf atlas before after entry unused shelves flagged);
     }
   where
@@ -144,12 +155,12 @@ can-merge-shelves atlas before after entry unused shelves low flagged =
     link : Option ℕ
     link = link_at shelf_chain.previous one.records.shelves entry.number
 
-    first : AreLow (map (spelled_shelf atlas) (entry ∷ after)) → MergesShelf atlas one [] after entry unused shelves → (n : ℕ) → link ≡ Some n → HeightsFit n one.records.shelves
+    first : AreLow (map (spelled_shelf atlas) (entry ∷ after)) → MergesShelf atlas one (rank_merged entry.number atlas.lists) [] after entry unused shelves → (n : ℕ) → link ≡ Some n → HeightsFit n one.records.shelves
     first low_ merges n e =
         let none : link ≡ None = previous-link middle [] merges.rest entry merges.aside merges.gone merges.flagged.spelled in
         absurd (cc (none, e))
 
-    some : (xs : List Entry) (last : Entry) → AreLow (map (spelled_shelf atlas) ((xs ++ last ∷ []) ++ entry ∷ after)) → MergesShelf atlas one (xs ++ last ∷ []) after entry unused shelves → (n : ℕ) → link ≡ Some n → HeightsFit n one.records.shelves
+    some : (xs : List Entry) (last : Entry) → AreLow (map (spelled_shelf atlas) ((xs ++ last ∷ []) ++ entry ∷ after)) → MergesShelf atlas one (rank_merged entry.number atlas.lists) (xs ++ last ∷ []) after entry unused shelves → (n : ℕ) → link ≡ Some n → HeightsFit n one.records.shelves
     some xs last low_ merges n e =
         let named : link ≡ Some last.number = last-named middle xs merges.rest last entry merges.aside merges.gone merges.flagged in
         let same : last.number ≡ n = cc (named, e) in
@@ -161,3 +172,64 @@ can-merge-shelves atlas before after entry unused shelves low flagged =
         subst (λ m. HeightsFit m one.records.shelves) same
         (heights-fit middle xs (entry ∷ merges.rest) last merges.aside merges.gone still_low
         (subst (λ (es : List Entry). IsFlagged middle (lists_of es merges.aside merges.gone)) regrouped merges.flagged))
+
+-- a shelf and the next one, if both are empty, are ranked
+can-merge-rank : (atlas : AtlasRecords) (before after : List Entry) (entry : Entry) (unused shelves : List ℕ) (ranked : List RankedShelf) → IsFlagged atlas (lists_of (before ++ entry ∷ after) unused shelves) → Ranks atlas (before ++ entry ∷ after) ranked → CanMergeRank entry.number atlas.lists ranked
+can-merge-rank atlas before [] entry unused shelves ranked flagged ranks =
+    let none : empty_next atlas.lists.shelves entry.number ≡ None = ap (empty_named atlas.lists.shelves entry.number) (next-link atlas before [] entry unused shelves flagged.spelled) in
+    record { order = ranks.order; few = ranks.few; both = λ n e. absurd (cc (none, e)) }
+can-merge-rank atlas before (next ∷ after) entry unused shelves ranked flagged ranks =
+    record { order = ranks.order; few = ranks.few; both = λ n e. both n (named n e (are_both_empty atlas.lists.shelves entry.number next.number) refl) }
+  where
+    near : AreNeighbours atlas entry next
+    near = neighbours atlas before after entry next unused shelves flagged
+
+    named : (n : ℕ) → empty_next atlas.lists.shelves entry.number ≡ Some n → (b : Bool) → are_both_empty atlas.lists.shelves entry.number next.number ≡ b → next.number ≡ n
+    named n e false t =
+        let none : empty_named atlas.lists.shelves entry.number (Some next.number) ≡ None = simp t refl in
+        absurd (cc (near.named, none, e))
+    named n e true t =
+        let some : empty_named atlas.lists.shelves entry.number (Some next.number) ≡ Some next.number = simp t refl in
+        cc (near.named, some, e)
+
+    pair : IsPair entry.number next.number ranked
+    pair = ranked-pair atlas before after entry next ranked ranks
+
+    both : (n : ℕ) → next.number ≡ n → (1 ≤ times entry.number (ranked_numbers ranked)) × (1 ≤ times n (ranked_numbers ranked)) × (entry.number ≢ n)
+    both n same =
+        subst (λ m. (1 ≤ times entry.number (ranked_numbers ranked)) × (1 ≤ times m (ranked_numbers ranked)) × (entry.number ≢ m)) same
+        (omega (arith, pair.own), omega (arith, pair.other), pair.differ)
+
+-- and so are they all when it is merged with its neighbours
+pub can-merge-ranks : (atlas : AtlasRecords) (before after : List Entry) (entry : Entry) (unused shelves : List ℕ) (ranked : List RankedShelf) → IsFlagged atlas (lists_of (before ++ entry ∷ after) unused shelves) → Ranks atlas (before ++ entry ∷ after) ranked → CanMergeRanks entry.number atlas.lists ranked
+can-merge-ranks atlas before after entry unused shelves ranked flagged ranks =
+    record {
+      next = can-merge-rank atlas before after entry unused shelves ranked flagged ranks;
+      previous =
+          by_end (λ (xs : List Entry). Ranks atlas (xs ++ entry ∷ after) ranked → MergesShelf atlas one (rank_merged entry.number atlas.lists) xs after entry unused shelves → CanMergeNamedRank link one.records (rank_merged entry.number atlas.lists ranked))
+          first some before ranks (merges-shelf atlas before after entry unused shelves flagged);
+    }
+  where
+    one : Step
+    one = shelf_merged entry.number atlas.lists
+
+    middle : AtlasRecords
+    middle = with_lists atlas one.records
+
+    link : Option ℕ
+    link = link_at shelf_chain.previous one.records.shelves entry.number
+
+    first : Ranks atlas (entry ∷ after) ranked → MergesShelf atlas one (rank_merged entry.number atlas.lists) [] after entry unused shelves → CanMergeNamedRank link one.records (rank_merged entry.number atlas.lists ranked)
+    first ranks_ merges n e =
+        let none : link ≡ None = previous-link middle [] merges.rest entry merges.aside merges.gone merges.flagged.spelled in
+        absurd (cc (none, e))
+
+    some : (xs : List Entry) (last : Entry) → Ranks atlas ((xs ++ last ∷ []) ++ entry ∷ after) ranked → MergesShelf atlas one (rank_merged entry.number atlas.lists) (xs ++ last ∷ []) after entry unused shelves → CanMergeNamedRank link one.records (rank_merged entry.number atlas.lists ranked)
+    some xs last ranks_ merges n e =
+        let named : link ≡ Some last.number = last-named middle xs merges.rest last entry merges.aside merges.gone merges.flagged in
+        let same : last.number ≡ n = cc (named, e) in
+        let regrouped : (xs ++ last ∷ []) ++ entry ∷ merges.rest ≡ xs ++ last ∷ entry ∷ merges.rest = append_assoc xs (last ∷ []) (entry ∷ merges.rest) in
+        subst (λ m. CanMergeRank m one.records (rank_merged entry.number atlas.lists ranked)) same
+        (can-merge-rank middle xs (entry ∷ merges.rest) last merges.aside merges.gone (rank_merged entry.number atlas.lists ranked)
+        (subst (λ (es : List Entry). IsFlagged middle (lists_of es merges.aside merges.gone)) regrouped merges.flagged)
+        (subst (λ (es : List Entry). Ranks middle es (rank_merged entry.number atlas.lists ranked)) regrouped (merges.ranks ranked ranks_)))

@@ -1,5 +1,5 @@
 -- Lists made of numbers from one on: their elements, how often a number stands in them, and how a loop comes to them.
-use Rattle.std.proofs.Common.{◌≡◌, ℕ, zero, suc, ◌+◌, ◌-◌, ◌<◌, ◌≤◌, Option, Some, List, [], ◌∷◌, ◌++◌, length, take, refl, ap, arith, append_assoc, ◌∙◌, sym, subst, Bool, true, false, ◌==◌, ◌≢◌}
+use Rattle.std.proofs.Common.{◌≡◌, ℕ, zero, suc, ◌+◌, ◌-◌, ◌<◌, ◌≤◌, Option, Some, List, [], ◌∷◌, ◌++◌, length, take, refl, ap, arith, append_assoc, append-nil, ◌∙◌, sym, subst, Bool, true, false, ◌==◌, ◌≢◌}
 use Rattle.std.proofs.lemmas.Bool.{eqb-true, eqb-false}
 use Rattle.std.specs.Prelude.{slice_get}
 use Rattle.etagere_base.specs.Lists.{Each, times}
@@ -97,3 +97,10 @@ pub numbered-written : {T : Type 0} (make : ℕ → T) (column columns : ℕ) (x
 numbered-written {T} make column columns xs x below within is =
     ap (λ (ys : List T). ys ++ numbered make (suc column) (columns - suc column)) (take-changed column x xs within)
     ∙ numbered-more make column columns (take column xs) x below is
+
+-- all are made once the last was
+pub numbered-done : {T : Type 0} (make : ℕ → T) (column columns : ℕ) (xs : List T) → columns ≤ column
+    → xs ++ numbered make column (columns - column) ≡ numbered make 0 columns → xs ≡ numbered make 0 columns
+numbered-done make column columns xs last whole =
+    let none : columns - column ≡ 0 = omega (arith, last) in
+    sym (append-nil xs) ∙ ap (λ n. xs ++ numbered make column n) (sym none) ∙ whole

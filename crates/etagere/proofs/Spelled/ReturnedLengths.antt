@@ -118,17 +118,22 @@ named-lengths : (link : Option ℕ) (records : Records) → SameLengths records 
 named-lengths None records = stay records
 named-lengths (Some shelf) records = shelf-next-lengths shelf (empty_next records.shelves shelf) records
 
+-- an item becomes free, and its shelf says whether it is empty
+pub emptied-lengths : (shelf number : ℕ) (records : Records) → SameLengths records (emptiness_said shelf (item_merged shelf number records).records)
+emptied-lengths shelf number records =
+    let one : Records = (next_absorbed shelf number (free_next records.items number) records).records in
+    let two : Records = (item_merged shelf number records).records in
+    let change : ShelfRecord → ShelfRecord = λ here. record here { is_empty = names_one_free two.items (first_item_of two.shelves shelf) } in
+    then records two (emptiness_said shelf two)
+    (then records one two (next-lengths shelf number (free_next records.items number) records) (freed-lengths shelf number (free_previous one.items number) one))
+    (shelf-changed shelf change two)
+
 -- a return keeps the number of records
 pub returned-lengths : (number : ℕ) (records : Records) → SameLengths records (item_returned number records)
 returned-lengths number records =
     let shelf : ℕ = shelf_of records.items number in
-    let one : Records = (next_absorbed shelf number (free_next records.items number) records).records in
-    let two : Records = (item_merged shelf number records).records in
-    let three : Records = emptiness_said shelf two in
-    let four : Records = (shelf_merged shelf three).records in
-    let change : ShelfRecord → ShelfRecord = λ here. record here { is_empty = names_one_free two.items (first_item_of two.shelves shelf) } in
+    let one : Records = emptiness_said shelf (item_merged shelf number records).records in
+    let two : Records = (shelf_merged shelf one).records in
     then records two (item_returned number records)
-    (then records one two (next-lengths shelf number (free_next records.items number) records) (freed-lengths shelf number (free_previous one.items number) one))
-    (then two four (item_returned number records)
-    (then two three four (shelf-changed shelf change two) (shelf-next-lengths shelf (empty_next three.shelves shelf) three))
-    (named-lengths (link_at shelf_chain.previous four.shelves shelf) four))
+    (then records one two (emptied-lengths shelf number records) (shelf-next-lengths shelf (empty_next one.shelves shelf) one))
+    (named-lengths (link_at shelf_chain.previous two.shelves shelf) two)

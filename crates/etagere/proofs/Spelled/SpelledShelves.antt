@@ -15,6 +15,7 @@ use Rattle.etagere_links.proofs.AllLists.LinkedItems.{IsApart, linked-apart}
 use Rattle.etagere_links.proofs.AllLists.LinkedMerges.{entry_of, shelf_absorbed-linked}
 use Rattle.etagere_links.proofs.AllLists.LinkedFrames.{shelf_numbers-append}
 use Rattle.etagere_links.proofs.AllLists.LinkedUnused.{lists_of}
+use Rattle.etagere_links.proofs.RecordChanges.{length-changed_by}
 use Rattle.etagere_links.proofs.RecordFrames.{map-unlinked, map-put_aside, length-unlinked, length-put_aside}
 use Rattle.etagere.specs.AtlasRecords.{AtlasRecords, is_allocated_at, is_empty_at, along_of, across_of, height_of}
 use Rattle.etagere.proofs.Spelled.AbsorbedItems.{items-keep_values}
@@ -42,6 +43,7 @@ pub record IsTaller (old new : Records) (number height : ℕ) : Type 0 where
   pub own : height_of new.shelves number ≡ height
   pub others : (k : ℕ) → Some number ≢ Some k → SameShelf old.shelves new.shelves k
   pub items : (k : ℕ) → SameItem old.items new.items k
+  pub as_many : length new.shelves ≡ length old.shelves
 
 pub shelf_absorbed-values : (records : Records) (number next item height : ℕ) → number < length records.shelves → IsTaller records (shelf_absorbed number next item height records) number height
 shelf_absorbed-values records number next item height within =
@@ -60,6 +62,7 @@ shelf_absorbed-values records number next item height within =
       own = field_at-changed (λ (x : ShelfRecord). x.height) 0 change two number height (rw long within) (λ x. refl);
       others = λ k other. shelf-other old two change number k other (middle k);
       items = λ k. items-same records.items (shelf_absorbed number next item height records).items k (map-put_aside item_chain item_values items-keep_values records.items records.free_items item);
+      as_many = length-changed_by change two (Some number) ∙ long;
     }
 
 -- the records after an empty shelf took the place of the empty one after it in its column

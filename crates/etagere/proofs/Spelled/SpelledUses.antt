@@ -51,7 +51,7 @@ pub same-shelf : (shelves : List ShelfRecord) (k : ℕ) → SameShelf shelves sh
 same-shelf shelves k = record { along = refl; across = refl; height = refl; is_empty = refl }
 
 -- shelves say the same after one was put to use
-shelves-used : (unused : Option ℕ) (shelves : List ShelfRecord) (k : ℕ) → SameShelf shelves (shelves_used true unused shelves) k
+pub shelves-used : (unused : Option ℕ) (shelves : List ShelfRecord) (k : ℕ) → SameShelf shelves (shelves_used true unused shelves) k
 shelves-used None shelves k =
     record {
       along = field_at-made (λ (s : ShelfRecord). s.x) 0 shelves new_shelf k refl;

@@ -1,17 +1,20 @@
 -- Kept records are kept again after a placement was taken, and spell the state of the model.
 use Rattle.std.proofs.Common.{◌≡◌, ℕ, zero, suc, ◌+◌, ◌<◌, ◌≤◌, pos, Some, List, [], ◌∷◌, ◌++◌, length, map, refl, ap, arith, ◌∙◌, sym, subst}
-use Rattle.std.proofs.lemmas.List.{length-append}
+use Rattle.std.proofs.lemmas.List.{length-append, map-append}
 use Rattle.std.specs.Prelude.{max}
 use Rattle.etagere_base.proofs.EachLemmas.{Each-back, Each-front, Each-weaken}
 use Rattle.etagere_base.specs.Lists.{Each, replaced_at, times}
 use Rattle.etagere_base.specs.declared.frames.Frame.{Frame}
 use Rattle.etagere_base.specs.declared.geometry.Size.{Size}
 use Rattle.etagere_links.specs.RecordLists.{Records, Entry, Lists, item_numbers, shelf_numbers, walked_lists}
+use Rattle.etagere_links.specs.RecordUses.{number_used}
+use Rattle.etagere_links.proofs.AllLists.LinkedFrames.{shelf_numbers-append}
 use Rattle.etagere_links.proofs.AllLists.LinkedMerges.{entry_of}
+use Rattle.etagere_links.proofs.AllLists.LinkedWalks.{linked-lists, linked-walks}
 use Rattle.etagere.specs.AtlasRecords.{AtlasRecords, spelled_shelf}
 use Rattle.etagere.specs.Choice.{Placement, placement_of}
 use Rattle.etagere.specs.Places.{allocated_numbers, record_number}
-use Rattle.etagere.specs.Private.Kept.{AreKept, HasFlag, Locates, Witnessed, atlas_of, state_of}
+use Rattle.etagere.specs.Private.Kept.{AreKept, HasFlag, Locates, Witnessed, atlas_of, bare, state_of}
 use Rattle.etagere.specs.Private.PlacementTaken.{id_of, item_record, placement_taken}
 use Rattle.etagere.specs.Space.{space_in}
 use Rattle.etagere.specs.State.{Shelf, AtlasState, items_in_use}
@@ -20,10 +23,11 @@ use Rattle.etagere.specs.Valid.{IsValid}
 use Rattle.etagere.proofs.Spelled.LocatedPlacements.{IsLocated}
 use Rattle.etagere.proofs.Spelled.SpelledLists.{with_lists}
 use Rattle.etagere.proofs.Spelled.SpelledNumbers.{items_in_use-spelled, new-number, number-of_record}
+use Rattle.etagere.proofs.Spelled.TakenRests.{link_where, list_where}
 use Rattle.etagere.proofs.Spelled.TakenReady.{IsReady, each-length, ready}
 use Rattle.etagere.proofs.Spelled.TakenSpelled.{IsTakenBy, taken-spelled}
 use Rattle.etagere.proofs.Spelled.Witnesses.{kept-of}
-use Rattle.etagere.proofs.Taken.TakenShelves.{taken_shelf-not_empty}
+use Rattle.etagere.proofs.Taken.TakenShelves.{IsTaking, taken_shelf-not_empty}
 use Rattle.etagere.proofs.Taken.TakenValid.{taken-valid}
 
 -- there are shelves where some are spelled
@@ -41,11 +45,35 @@ records-count : (old new in_use unused : ℕ) → in_use + unused ≡ new → ol
 records-count old new in_use zero total more made = omega (arith, total, more)
 records-count old new in_use (suc unused) total more made = omega (arith, total, made (omega arith))
 
+-- the shelves in use before a placement was taken and after it, by their numbers and as they are spelled
+pub record SpellsTaken (frame : Frame) (records new : Records) (placement found : Placement) : Type 0 where
+  pub front : List ℕ
+  pub back : List ℕ
+  pub fronts : List Shelf
+  pub backs : List Shelf
+  pub whole : Shelf
+  pub rest : ℕ
+  pub item : ℕ
+  pub rest_is : number_used placement.splits_shelf records.free_shelves records.shelves ≡ link_where placement.splits_shelf rest
+  pub item_is : number_used placement.splits_shelf records.free_items records.items ≡ link_where placement.splits_shelf item
+  pub takes : IsTaking frame placement whole
+  pub long : length front ≡ length fronts
+  pub numbers : shelf_numbers (walked_lists records).entries ≡ front ++ found.shelf ∷ back
+  pub shelves : map (spelled_shelf (bare frame records)) (walked_lists records).entries ≡ fronts ++ whole ∷ backs
+  pub new_numbers : shelf_numbers (walked_lists new).entries ≡ front ++ found.shelf ∷ (list_where placement.splits_shelf rest ++ back)
+  pub new_shelves : map (spelled_shelf (bare frame new)) (walked_lists new).entries ≡ fronts ++ (shelf_pieces frame placement (id_of records.items found.item) whole ++ backs)
+
+-- the numbers of shelves are as many as they
+numbers-spelled : (atlas : AtlasRecords) (entries : List Entry) → length (shelf_numbers entries) ≡ length (map (spelled_shelf atlas) entries)
+numbers-spelled atlas [] = refl
+numbers-spelled atlas (entry ∷ entries) = omega (arith, numbers-spelled atlas entries)
+
 -- what taking a placement makes of kept records: they are kept, and spell the state of the model; the record number of
 -- the id is new, and below the records
 pub record KeepsTaken (frame : Frame) (records : Records) (placement found : Placement) : Type 0 where
   pub state : state_of frame (placement_taken frame.column_width found records) ≡ taken (state_of frame records) placement (id_of records.items found.item)
   pub kept : AreKept frame (placement_taken frame.column_width found records)
+  pub spells : SpellsTaken frame records (placement_taken frame.column_width found records) placement found
   pub fresh : times (record_number (id_of records.items found.item)) (allocated_numbers (state_of frame records)) ≡ 0
   pub below : record_number (id_of records.items found.item) < (taken (state_of frame records) placement (id_of records.items found.item)).records
 
@@ -69,7 +97,7 @@ placement-kept frame records size placement found kept h locates =
     let flags : Each (HasFlag atlas) entries =
     subst (Each (HasFlag atlas)) is.entries (Each-weaken (HasFlag (atlas_of frame records)) (HasFlag atlas) lists.entries (λ entry flag. flag) kept.flags) in
     let within : number < length records.items = is_ready.within in
-    let takes : IsTakenBy atlas new is.before is.after (spelled_shelf atlas entry) placement id =
+    let takes : IsTakenBy atlas new is.before is.after shelf (spelled_shelf atlas entry) placement id =
     taken-spelled atlas is.before is.after shelf number is.front is.back is.free_front is.free_back lists.unused_items lists.unused_shelves placement within is.item
     (λ split. omega (arith, is.takes.shorter split)) is.takes.full kept.counts.shelves.1 is_ready.room
     (taken_shelf-not_empty frame placement id placement.height (spelled_shelf atlas entry) is.takes)
@@ -122,11 +150,31 @@ placement-kept frame records size placement found kept h locates =
       space = refl;
     } in
     let done = kept-of frame new takes.lists new_state witnessed in
+    let met : walked_lists new ≡ takes.lists = linked-lists new takes.lists (linked-walks new takes.lists witnessed.counts.shelves.1 witnessed.counts.items.1 witnessed.linked) in
+    let spells : SpellsTaken frame records new placement place =
+    record {
+      front = shelf_numbers is.before;
+      back = shelf_numbers is.after;
+      fronts = map (spelled_shelf atlas) is.before;
+      backs = map (spelled_shelf atlas) is.after;
+      whole = spelled_shelf atlas entry;
+      rest = takes.rest;
+      item = takes.item;
+      rest_is = takes.rest_is;
+      item_is = takes.item_is;
+      takes = is.takes;
+      long = numbers-spelled atlas is.before;
+      numbers = ap shelf_numbers is.entries ∙ shelf_numbers-append is.before (entry ∷ is.after);
+      shelves = ap (map (spelled_shelf atlas)) is.entries ∙ map-append (spelled_shelf atlas) is.before (entry ∷ is.after);
+      new_numbers = ap (λ (l : Lists). shelf_numbers l.entries) met ∙ takes.numbers;
+      new_shelves = ap (λ (l : Lists). map (spelled_shelf last) l.entries) met ∙ takes.shelves;
+    } in
     let same : place ≡ found = ap (λ n. record placement { shelf = n; item = number }) (sym locates.shelf) ∙ sym locates.same in
     subst (KeepsTaken frame records placement) same
     (record {
       state = done.0;
       kept = done.1;
+      spells = spells;
       fresh = new_number;
       below = low;
     })

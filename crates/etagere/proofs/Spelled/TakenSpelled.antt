@@ -6,8 +6,9 @@ use Rattle.etagere_base.specs.Lists.{Each}
 use Rattle.etagere_links.specs.declared.records.ShelfRecord.{ShelfRecord}
 use Rattle.etagere_links.specs.Links.{no_link}
 use Rattle.etagere_links.specs.RecordEdits.{shelf_changed}
-use Rattle.etagere_links.specs.RecordLists.{Records, Entry, Lists, first_item_of, IsEntry}
+use Rattle.etagere_links.specs.RecordLists.{Records, Entry, Lists, first_item_of, shelf_numbers, IsEntry}
 use Rattle.etagere_links.specs.RecordUses.{number_used, item_used, rests_used}
+use Rattle.etagere_links.proofs.AllLists.LinkedFrames.{shelf_numbers-append}
 use Rattle.etagere_links.proofs.AllLists.LinkedMerges.{entry_of}
 use Rattle.etagere_links.proofs.AllLists.LinkedUnused.{lists_of}
 use Rattle.etagere_links.proofs.RecordChanges.{length-changed_by}
@@ -48,9 +49,19 @@ flag-cleared atlas given before after edited shelf unused_items unused_shelves n
     subst (λ (n : ℕ). P n false) number
     (subst (P edited.number) value (emptiness_said-flagged (with_lists atlas given) before after edited unused_items unused_shelves flags_before flags_after spelled))
 
--- records after a placement was taken: the lists that they spell, and these the shelves of the model
-pub record IsTakenBy (atlas : AtlasRecords) (new : Records) (before after : List Entry) (shelf : Shelf) (placement : Placement) (id : ℕ) : Type 0 where
+-- the numbers of the shelf that stands after one that is split, and of those after it
+added-numbers : (of_shelf : Bool) (rest item : ℕ) (after : List Entry) → shelf_numbers (added_where of_shelf rest item ++ after) ≡ list_where of_shelf rest ++ shelf_numbers after
+added-numbers false rest item after = refl
+added-numbers true rest item after = refl
+
+-- records after a placement was taken: the lists that they spell, their numbers, and these the shelves of the model
+pub record IsTakenBy (atlas : AtlasRecords) (new : Records) (before after : List Entry) (number : ℕ) (shelf : Shelf) (placement : Placement) (id : ℕ) : Type 0 where
   pub lists : Lists
+  pub rest : ℕ
+  pub item : ℕ
+  pub rest_is : number_used placement.splits_shelf atlas.lists.free_shelves atlas.lists.shelves ≡ link_where placement.splits_shelf rest
+  pub item_is : number_used placement.splits_shelf atlas.lists.free_items atlas.lists.items ≡ link_where placement.splits_shelf item
+  pub numbers : shelf_numbers lists.entries ≡ shelf_numbers before ++ number ∷ (list_where placement.splits_shelf rest ++ shelf_numbers after)
   pub flagged : IsFlagged (with_lists atlas new) lists
   pub shelves : map (spelled_shelf (with_lists atlas new)) lists.entries ≡ map (spelled_shelf atlas) before ++ (shelf_pieces atlas.frame placement id shelf ++ map (spelled_shelf atlas) after)
   pub more : length atlas.lists.items ≤ length new.items
@@ -58,7 +69,7 @@ pub record IsTakenBy (atlas : AtlasRecords) (new : Records) (before after : List
   pub few : length new.shelves ≤ no_link
 
 -- a placement was taken in records that spell lists, of which one names its shelf, and that its item
-pub taken-spelled : (atlas : AtlasRecords) (before after : List Entry) (shelf number : ℕ) (front back free_front free_back unused_items unused_shelves : List ℕ) (placement : Placement) → number < length atlas.lists.items → IsPlacedAt atlas.lists.items placement front back free_front free_back number → (placement.splits_shelf ≡ true → placement.height ≤ height_of atlas.lists.shelves shelf) → (placement.splits_shelf ≡ false → placement.height ≡ height_of atlas.lists.shelves shelf) → length atlas.lists.shelves ≤ no_link → (placement.splits_shelf ≡ true → unused_shelves ≡ [] → length atlas.lists.shelves + 1 ≤ no_link) → is_empty (taken_from placement.splits_item placement (id_of atlas.lists.items number) (spelled_shelf atlas (entry_of shelf (front ++ number ∷ back) (free_front ++ number ∷ free_back)))) ≡ false → Each (HasFlag atlas) before → Each (HasFlag atlas) after → IsSpelled atlas (lists_of (before ++ entry_of shelf (front ++ number ∷ back) (free_front ++ number ∷ free_back) ∷ after) unused_items unused_shelves) → IsTakenBy atlas (placement_taken atlas.frame.column_width (record placement { shelf = shelf; item = number }) atlas.lists) before after (spelled_shelf atlas (entry_of shelf (front ++ number ∷ back) (free_front ++ number ∷ free_back))) placement (id_of atlas.lists.items number)
+pub taken-spelled : (atlas : AtlasRecords) (before after : List Entry) (shelf number : ℕ) (front back free_front free_back unused_items unused_shelves : List ℕ) (placement : Placement) → number < length atlas.lists.items → IsPlacedAt atlas.lists.items placement front back free_front free_back number → (placement.splits_shelf ≡ true → placement.height ≤ height_of atlas.lists.shelves shelf) → (placement.splits_shelf ≡ false → placement.height ≡ height_of atlas.lists.shelves shelf) → length atlas.lists.shelves ≤ no_link → (placement.splits_shelf ≡ true → unused_shelves ≡ [] → length atlas.lists.shelves + 1 ≤ no_link) → is_empty (taken_from placement.splits_item placement (id_of atlas.lists.items number) (spelled_shelf atlas (entry_of shelf (front ++ number ∷ back) (free_front ++ number ∷ free_back)))) ≡ false → Each (HasFlag atlas) before → Each (HasFlag atlas) after → IsSpelled atlas (lists_of (before ++ entry_of shelf (front ++ number ∷ back) (free_front ++ number ∷ free_back) ∷ after) unused_items unused_shelves) → IsTakenBy atlas (placement_taken atlas.frame.column_width (record placement { shelf = shelf; item = number }) atlas.lists) before after shelf (spelled_shelf atlas (entry_of shelf (front ++ number ∷ back) (free_front ++ number ∷ free_back))) placement (id_of atlas.lists.items number)
 taken-spelled atlas before after shelf number front back free_front free_back unused_items unused_shelves placement within is tall full few room not_empty flags_before flags_after spelled =
     let of_shelf : Bool = placement.splits_shelf in
     let of_item : Bool = placement.splits_item in
@@ -88,6 +99,13 @@ taken-spelled atlas before after shelf number front back free_front free_back un
     let done = flag-cleared atlas last before (added ++ after) given.edited shelf rests.unused_items rests.unused_shelves given.number (given.flags_before flags_before) (given.flags_after flags_after) given.spelled (ap is_empty given.own ∙ not_empty) in
     record {
       lists = lists_of (before ++ given.edited ∷ (added ++ after)) rests.unused_items rests.unused_shelves;
+      rest = rests.shelf;
+      item = rests.shelf_item;
+      rest_is = rests.shelf_is;
+      item_is = rests.shelf_item_is;
+      numbers = shelf_numbers-append before (given.edited ∷ (added ++ after))
+          ∙ ap (λ (n : ℕ). shelf_numbers before ++ n ∷ shelf_numbers (added ++ after)) given.number
+          ∙ ap (λ (ns : List ℕ). shelf_numbers before ++ shelf ∷ ns) (added-numbers of_shelf rests.shelf rests.shelf_item after);
       flagged = done.0;
       shelves = done.1 ∙ given.shelves;
       more = given.more;

@@ -1,6 +1,7 @@
 -- What the fields of an atlas keep, and the state that they stand for.
 use Rattle.std.specs.Prelude.{◌≡◌}
 use Rattle.etagere.specs.declared.atlas.AtlasAllocator.TheInside.{Inside}
+use Rattle.etagere.specs.Private.ByHeight.{AreRanked}
 use Rattle.etagere.specs.Private.Kept.{AreKept, state_of}
 use Rattle.etagere.specs.Space.{allocated_space}
 use Rattle.etagere.specs.State.{AtlasState, items_in_use}
@@ -9,8 +10,9 @@ use Rattle.etagere.specs.State.{AtlasState, items_in_use}
 abbrev pub state_in : Inside → AtlasState
 state_in atlas = state_of atlas.frame atlas.records
 
--- what they keep: each rule of the records, the count of items and the space that is allocated
+-- what they keep: each rule of the records, the shelves in use ranked, the count of items and the space that is allocated
 pub record IsConsistent (atlas : Inside) : Type 0 where
   pub kept : AreKept atlas.frame atlas.records
+  pub ranked : AreRanked atlas.frame atlas.records atlas.ranked.items
   pub counted : atlas.items_in_use ≡ items_in_use (state_in atlas).shelves
   pub space : atlas.allocated_space ≡ allocated_space (state_in atlas)

@@ -1,7 +1,8 @@
 -- What taking a placement does to linked records, which it names by their numbers.
-use Rattle.std.specs.Prelude.{ℕ, ◌+◌, ◌-◌, ◌*◌, ◌<◌, ◌≤◌, true, false, Option, None, Some, List, length}
+use Rattle.std.specs.Prelude.{ℕ, ◌+◌, ◌-◌, ◌*◌, ◌<◌, ◌≤◌, true, false, Option, None, Some, IfSome, List, length}
 use Rattle.etagere_base.specs.Frames.{longest_side}
 use Rattle.etagere_base.specs.Ids.{index_modulus}
+use Rattle.etagere_base.specs.Lists.{times}
 use Rattle.etagere_links.specs.declared.records.ItemRecord.{ItemRecord}
 use Rattle.etagere_links.specs.declared.records.ShelfRecord.{ShelfRecord}
 use Rattle.etagere_links.specs.Links.{no_link}
@@ -10,6 +11,8 @@ use Rattle.etagere_links.specs.RecordLists.{Records, field_at}
 use Rattle.etagere_links.specs.RecordMerges.{item_given, front_given, shelf_split}
 use Rattle.etagere_links.specs.RecordUses.{new_item, new_shelf, rests_of, rests_used}
 use Rattle.etagere.specs.Choice.{Placement}
+use Rattle.etagere.specs.Private.ByHeight.{AreInOrder, bound_of, put_in, ranked_numbers, taken_out}
+use Rattle.etagere.specs.declared.linked.heights.RankedShelf.{RankedShelf}
 
 -- the item record of this number
 abbrev pub item_record : List ItemRecord → ℕ → ItemRecord
@@ -98,6 +101,28 @@ placement_taken column_width found records =
     (with_item_given found (rests_of found.splits_shelf found.splits_item records).item
     (shelf_split_for column_width found records))
 
+-- the list of ranked shelves without the shelf of this number, and with it where it stands by these
+-- records, with the bound that it had
+abbrev pub put_back : ℕ → List ShelfRecord → List RankedShelf → List RankedShelf
+put_back shelf shelves ranked =
+    put_in shelves (record { widest = bound_of shelf ranked; shelf = shelf })
+    (taken_out shelf ranked)
+
+-- the list once the shelf of a placement was split, where these are the numbers of the rest and of its
+-- item, and these the records; the rest is as wide as its column
+abbrev pub with_rest_ranked : ℕ → ℕ → Option ℕ → Option ℕ → List ShelfRecord → List RankedShelf → List RankedShelf
+with_rest_ranked column_width shelf None item shelves ranked = ranked
+with_rest_ranked column_width shelf (Some rest) None shelves ranked = ranked
+with_rest_ranked column_width shelf (Some rest) (Some item) shelves ranked =
+    put_in shelves (record { widest = column_width; shelf = rest }) (put_back shelf shelves ranked)
+
+-- the list after a placement was taken
+abbrev pub ranked_taken : ℕ → Placement → Records → List RankedShelf → List RankedShelf
+ranked_taken column_width found records ranked =
+    let rests = rests_of found.splits_shelf found.splits_item records in
+    with_rest_ranked column_width found.shelf rests.shelf rests.shelf_item
+    (shelf_split_for column_width found records).shelves ranked
+
 -- the id under which the item of this number is given
 abbrev pub id_of : List ItemRecord → ℕ → ℕ
 id_of items number = number + index_modulus * (item_record items number).generation
@@ -124,3 +149,29 @@ pub record CanTakeFrom (column_width : ℕ) (found : Placement) (records : Recor
   pub shelves : length (rests_used_for found records).shelves ≤ no_link
   pub splits_shelf : IsShelfSplittable found (rests_used_for found records)
   pub splits_item : IsItemSplittable found (shelf_split_for column_width found records)
+
+-- what ranking its shelf and the rest of it needs, by the records before the split and after it: the
+-- shelves stand in their order, and so they do with the shelf in its new place
+pub record IsShelfRankable (shelf rest : ℕ) (shelves new : List ShelfRecord) (ranked : List RankedShelf)
+    : Type 0 where
+  pub order : AreInOrder shelves ranked
+  pub stands : 1 ≤ times shelf (ranked_numbers ranked)
+  pub within : shelf < length new
+  pub rest_within : rest < length new
+  pub others : AreInOrder new (taken_out shelf ranked)
+  pub lower : AreInOrder new (put_back shelf new ranked)
+
+-- what that needs where these are the numbers of the rest and of its item
+abbrev pub IsRestRankable : ℕ → Placement → Option ℕ → Option ℕ → Records → List RankedShelf → Type 0
+IsRestRankable column_width found rest item records ranked =
+    IfSome rest
+    (λ rest. IfSome item
+    (λ item. IsShelfRankable found.shelf rest records.shelves
+    (with_shelf_rest column_width found (Some rest) (Some item) records).shelves ranked))
+
+-- what taking a placement needs of the ranked shelves
+abbrev pub CanRank : ℕ → Placement → Records → List RankedShelf → Type 0
+CanRank column_width found records ranked =
+    let rests = rests_of found.splits_shelf found.splits_item records in
+    IsRestRankable column_width found rests.shelf rests.shelf_item (rests_used_for found records)
+    ranked

@@ -1,6 +1,7 @@
 -- How the place of a size is found by records: the shelf of least rank, and in it the first item
 -- that is wide enough.
 use Rattle.std.specs.Prelude.{◌≡◌, ℕ, ◌+◌, ◌/◌, Bool, ◌&&◌, ◌||◌, Option, None, Some, option_map, List, [], ◌∷◌, find, map, nat_le, nat_lt, if◌then◌else◌}
+use Rattle.std.specs.Option.{option_map_or}
 use Rattle.etagere_base.specs.declared.frames.Frame.{Frame}
 use Rattle.etagere_base.specs.declared.geometry.Size.{Size}
 use Rattle.etagere_base.specs.declared.sides.Sides.{Sides}
@@ -8,6 +9,7 @@ use Rattle.etagere_links.specs.declared.records.ShelfRecord.{ShelfRecord}
 use Rattle.etagere_links.specs.RecordLists.{Records, free_walk, shelf_walk}
 use Rattle.etagere.specs.AtlasRecords.{across_of, height_of, is_empty_at, item_at, place_of}
 use Rattle.etagere.specs.Choice.{Placement, bad_fit_rank, is_item_split, placement_of, shelf_height, shelf_slack}
+use Rattle.etagere.specs.Private.ByHeight.{place_number}
 use Rattle.etagere.specs.Private.Kept.{Locates, state_of}
 use Rattle.etagere.specs.declared.linked.choosing.Candidate.{Candidate}
 
@@ -51,6 +53,40 @@ lowest (candidate ∷ candidates) = better candidate (lowest candidates)
 abbrev pub best_candidate : Records → ℕ → ℕ → Option Candidate
 best_candidate records width height =
     lowest (map (offered records width height) (shelf_walk records).met)
+
+-- what a shelf offers, where it is a good fit
+abbrev pub good_offer : Records → ℕ → ℕ → ℕ → Option Candidate
+good_offer records width height shelf =
+    if nat_lt (rank_of records.shelves height shelf) bad_fit_rank
+    then offered records width height shelf
+    else None
+
+-- what the first of these shelves offers that offers something
+abbrev pub first_offer : (ℕ → Option Candidate) → List ℕ → Option Candidate
+first_offer offers [] = None
+first_offer offers (shelf ∷ shelves) =
+    option_map_or Some (offers shelf) (first_offer offers shelves)
+
+-- of two candidates the one whose shelf has the earlier place
+abbrev pub earlier : List ShelfRecord → Option Candidate → Option Candidate → Option Candidate
+earlier shelves None other = other
+earlier shelves (Some one) None = Some one
+earlier shelves (Some one) (Some other) =
+    if nat_lt (place_number shelves one.shelf) (place_number shelves other.shelf)
+    then Some one
+    else Some other
+
+-- the one whose shelf has the earliest place
+abbrev pub earliest : List ShelfRecord → List (Option Candidate) → Option Candidate
+earliest shelves [] = None
+earliest shelves (candidate ∷ candidates) =
+    earlier shelves candidate (earliest shelves candidates)
+
+-- the first good fit of these shelves; where there is none, what the shelf in the earliest place offers
+abbrev pub first_by_height : Records → ℕ → ℕ → List ℕ → Option Candidate
+first_by_height records width height shelves =
+    option_map_or Some (first_offer (good_offer records width height) shelves)
+    (earliest records.shelves (map (offered records width height) shelves))
 
 -- an empty shelf is split where more than the slack would be left of it
 abbrev pub is_split_at : List ShelfRecord → ℕ → ℕ → Bool

@@ -1,22 +1,29 @@
 //! Which shelf and which item a size gets, and all that is found out of the place.
 //!
-//! Definitions: `Choice`, and `Searching` for the same by records. One walk over the shelves, which
-//! looks at no item of one that is too short. Nothing here changes the records. A faster search keeps
-//! the contract of `placement_of` and goes about it in another way.
+//! Definitions: `Choice`, `Searching` for the same by records, and `ByHeight` for the order. A search starts
+//! at the first shelf that is tall enough, and takes the first good fit; only where there is none, it looks for the
+//! first bad one by place. It opens a shelf only where the bound on its free items lets it hope, and corrects that
+//! where it hoped in vain. Nothing here changes the records.
 
-ghost use Rattle.std.specs.Prelude.{◌≡◌, ◌≤◌, ◌<◌, None, IfSome, length};
+ghost use Rattle.std.specs.Prelude.{◌≡◌, ◌≤◌, ◌<◌, None, Some, IfSome, drop, length, map};
 ghost use Rattle.etagere_base.specs.Frames.{IsFrame, longest_side};
-ghost use Rattle.etagere_base.specs.Lists.{times};
+ghost use Rattle.etagere_base.specs.Lists.{Each, times};
 ghost use Rattle.etagere_links.specs.RecordLists.{IsLinked, shelf_walk, walked_lists};
+ghost use Rattle.etagere.specs.AtlasRecords.{height_of};
 ghost use Rattle.etagere.specs.Choice as choice;
+ghost use Rattle.etagere.specs.Private.ByHeight as heights;
+ghost use Rattle.etagere.specs.Private.ByHeight.{AreInOrder, AreRanked, ranked_numbers};
 ghost use Rattle.etagere.specs.Private.Kept.{AreKept, state_of};
+ghost use Rattle.etagere.specs.Private.Opening as opening;
+ghost use Rattle.etagere.specs.Private.Opening.{AreSearchable, AreTall, IsSearchable};
 ghost use Rattle.etagere.specs.Private.Searching as searching;
 ghost use Rattle.etagere.specs.Private.Searching.{Finds};
 ghost use Rattle.etagere.specs.State as state;
 
+use crate::linked::heights::{RankedShelf, first_as_wide, first_from, order_at, place_number};
 use crate::placements::Placement;
 use etagere_base::{Frame, Sides, Size, asked, step};
-use etagere_links::{Chain, FreeList, ItemRecord, Records, ShelfRecord, next_of};
+use etagere_links::{FreeList, ItemRecord, Records, ShelfRecord, next_of};
 
 /// An atlas has no more items than this.
 const MOST_ITEMS: u32 = 65535;
@@ -39,23 +46,33 @@ pub(crate) struct Candidate {
     rank: u32,
 }
 
+/// What a search of a free list came to: an item that is wide enough, or how wide the widest is.
+enum Searched {
+    Found(usize),
+    Widest(u16),
+}
+
 /// The place of a size, where it has one and there are records enough for its splits; shelf and item by
 /// the numbers of their records.
 pub(crate) fn placement_of(
     frame: &Frame,
     records: &Records,
+    ranked: &mut [RankedShelf],
     items_in_use: u32,
     size: Size,
 ) -> Option<Placement>
     requires kept { AreKept frame.now records.now }
+    requires ranked { AreRanked frame.now records.now ranked.old }
     requires counted { items_in_use
         ≡ state.items_in_use (state_of frame.now records.now).shelves }
     ensures none { result ≡ None
         → choice.placement_of (state_of frame.now records.now) size ≡ None }
     ensures some { IfSome result (Finds frame.now records.now size) }
+    ensures ranked { AreRanked frame.now records.now ranked.new }
+    ensures len { length ranked.new ≡ length ranked.old }
 {
     let sides = asked(frame, size)?;
-    let placement = chosen(frame, records, sides)?;
+    let placement = chosen(frame, records, ranked, sides)?;
     if items_in_use + placement.splits() <= MOST_ITEMS {
         Some(placement)
     } else {
@@ -64,14 +81,21 @@ pub(crate) fn placement_of(
 }
 
 /// The place in the shelf of least rank.
-fn chosen(frame: &Frame, records: &Records, sides: Sides) -> Option<Placement>
-    requires frame { IsFrame longest_side frame.now }
-    requires linked { IsLinked records.now (walked_lists records.now) }
+fn chosen(
+    frame: &Frame,
+    records: &Records,
+    ranked: &mut [RankedShelf],
+    sides: Sides,
+) -> Option<Placement>
+    requires kept { AreKept frame.now records.now }
+    requires ranked { AreRanked frame.now records.now ranked.old }
     requires short { (sides.along ≤ longest_side) × (sides.across ≤ longest_side) }
-    ensures { result ≡ searching.chosen_at frame.now records.now sides }
+    ensures value { result ≡ searching.chosen_at frame.now records.now sides }
+    ensures ranked { AreRanked frame.now records.now ranked.new }
+    ensures len { length ranked.new ≡ length ranked.old }
 {
     let height = shelf_height(frame, sides.across);
-    let candidate = best_candidate(records, sides.along, height)?;
+    let candidate = best_candidate(records, ranked, sides.along, height)?;
     Some(placement_at(records, sides.along, height, candidate))
 }
 
@@ -90,52 +114,183 @@ fn shelf_height(frame: &Frame, height: u32) -> u32
     }
 }
 
-/// The first of least rank among what the shelves offer.
-fn best_candidate(records: &Records, width: u32, height: u32) -> Option<Candidate>
+/// The first good fit by height; where there is none, the fit in the first place.
+fn best_candidate(
+    records: &Records,
+    ranked: &mut [RankedShelf],
+    width: u32,
+    height: u32,
+) -> Option<Candidate>
     requires linked { IsLinked records.now (walked_lists records.now) }
+    requires order { AreInOrder records.now.shelves ranked.old }
+    requires ranked { AreSearchable records.now ranked.old }
     requires short { height ≤ longest_side }
-    ensures { result ≡ searching.best_candidate records.now width height }
+    ensures value { result
+        ≡ searching.first_by_height records.now width height (ranked_numbers ranked.old) }
+    ensures numbers { ranked_numbers ranked.new ≡ ranked_numbers ranked.old }
+    ensures ranked { AreSearchable records.now ranked.new }
 {
-    let mut best = None;
-    let mut at = records.first_shelf().number();
-    for _step in 0..records.shelves().len() {
-        let Some(shelf) = at else {
-            return best;
-        };
-        best = better(best, offered(records, width, height, shelf));
-        at = next_of::<Chain, ShelfRecord>(records.shelves(), shelf).number();
-    }
-    best
-}
-
-/// What was found before, unless what comes after it ranks lower.
-fn better(best: Option<Candidate>, later: Option<Candidate>) -> Option<Candidate>
-    ensures { result ≡ searching.better best later }
-{
-    match (best, later) {
-        (Some(best), Some(later)) if best.rank <= later.rank => Some(best),
-        (best, None) => best,
-        (_, later) => later,
+    let start = first_from(records.shelves(), ranked, order_at(height, 0)).index;
+    match first_good(records, ranked, start, width, height) {
+        Some(candidate) => Some(candidate),
+        None => first_placed(records, ranked, start, width, height),
     }
 }
 
-/// What a shelf offers, where it is tall enough and has an item that is free and wide enough.
-fn offered(records: &Records, width: u32, height: u32, shelf: usize) -> Option<Candidate>
+/// The first good fit from this position on, where all shelves are tall enough.
+fn first_good(
+    records: &Records,
+    ranked: &mut [RankedShelf],
+    start: usize,
+    width: u32,
+    height: u32,
+) -> Option<Candidate>
     requires linked { IsLinked records.now (walked_lists records.now) }
-    requires stands { 1 ≤ times shelf (shelf_walk records.now).met }
-    requires within { shelf < length records.now.shelves }
+    requires start { start ≤ length ranked.old }
+    requires ranked { AreSearchable records.now ranked.old }
+    requires tall { AreTall records.now.shelves height (drop start (ranked_numbers ranked.old)) }
     requires short { height ≤ longest_side }
-    ensures { result ≡ searching.offered records.now width height shelf }
+    ensures value { result
+        ≡ searching.first_offer (searching.good_offer records.now width height)
+        (drop start (ranked_numbers ranked.old)) }
+    ensures numbers { ranked_numbers ranked.new ≡ ranked_numbers ranked.old }
+    ensures ranked { AreSearchable records.now ranked.new }
 {
-    if u32::from(records.shelves()[shelf].height) < height {
-        return None;
+    let mut from = start;
+    while let Some(index) = first_as_wide(ranked, from, width) {
+        if let Some(candidate) = good_fit(records, &mut ranked[index], width, height) {
+            return Some(candidate);
+        }
+        from = index + 1;
     }
-    let item = first_wide(records, width, shelf)?;
+    None
+}
+
+/// The fit in the first place from this position on, where all shelves are tall enough.
+fn first_placed(
+    records: &Records,
+    ranked: &mut [RankedShelf],
+    start: usize,
+    width: u32,
+    height: u32,
+) -> Option<Candidate>
+    requires linked { IsLinked records.now (walked_lists records.now) }
+    requires start { start ≤ length ranked.old }
+    requires ranked { AreSearchable records.now ranked.old }
+    requires tall { AreTall records.now.shelves height (drop start (ranked_numbers ranked.old)) }
+    requires short { height ≤ longest_side }
+    ensures value { result
+        ≡ searching.earliest records.now.shelves
+        (map (searching.offered records.now width height) (drop start (ranked_numbers ranked.old))) }
+    ensures numbers { ranked_numbers ranked.new ≡ ranked_numbers ranked.old }
+    ensures ranked { AreSearchable records.now ranked.new }
+{
+    let mut first = None;
+    let mut from = start;
+    while let Some(index) = first_as_wide(ranked, from, width) {
+        let found = fit(records, &mut ranked[index], width, height);
+        first = earlier(records.shelves(), first, found);
+        from = index + 1;
+    }
+    first
+}
+
+/// Of two candidates the one whose shelf has the earlier place.
+fn earlier(
+    shelves: &[ShelfRecord],
+    one: Option<Candidate>,
+    other: Option<Candidate>,
+) -> Option<Candidate>
+    requires one { IfSome one (λ candidate. candidate.shelf < length shelves.now) }
+    requires other { IfSome other (λ candidate. candidate.shelf < length shelves.now) }
+    ensures { result ≡ searching.earlier shelves.now one other }
+{
+    match (one, other) {
+        (Some(one), Some(other)) => Some(earlier_of(shelves, one, other)),
+        (one, None) => one,
+        (None, other) => other,
+    }
+}
+
+/// Of two candidates the one whose shelf has the earlier place.
+fn earlier_of(shelves: &[ShelfRecord], one: Candidate, other: Candidate) -> Candidate
+    requires one { one.shelf < length shelves.now }
+    requires other { other.shelf < length shelves.now }
+    ensures { Some result ≡ searching.earlier shelves.now (Some one) (Some other) }
+{
+    if place_of(shelves, &one) < place_of(shelves, &other) {
+        one
+    } else {
+        other
+    }
+}
+
+/// Where the shelf of a candidate begins, as one number.
+fn place_of(shelves: &[ShelfRecord], candidate: &Candidate) -> u32
+    requires { candidate.now.shelf < length shelves.now }
+    ensures { result ≡ heights.place_number shelves.now candidate.now.shelf }
+{
+    let record = &shelves[candidate.shelf];
+    place_number(record.x, record.y)
+}
+
+/// What a shelf that is tall enough offers where it is a good fit.
+fn good_fit(
+    records: &Records,
+    ranked: &mut RankedShelf,
+    width: u32,
+    height: u32,
+) -> Option<Candidate>
+    requires linked { IsLinked records.now (walked_lists records.now) }
+    requires ranked { IsSearchable records.now ranked.old }
+    requires tall { height ≤ height_of records.now.shelves ranked.old.shelf }
+    requires short { height ≤ longest_side }
+    ensures value { result ≡ searching.good_offer records.now width height ranked.old.shelf }
+    ensures shelf { ranked.new.shelf ≡ ranked.old.shelf }
+    ensures ranked { IsSearchable records.now ranked.new }
+{
+    if rank_of(records, height, usize::from(ranked.shelf)) < BAD_FIT_RANK {
+        fit(records, ranked, width, height)
+    } else {
+        None
+    }
+}
+
+/// What a shelf offers that is tall enough.
+fn fit(records: &Records, ranked: &mut RankedShelf, width: u32, height: u32) -> Option<Candidate>
+    requires linked { IsLinked records.now (walked_lists records.now) }
+    requires ranked { IsSearchable records.now ranked.old }
+    requires tall { height ≤ height_of records.now.shelves ranked.old.shelf }
+    requires short { height ≤ longest_side }
+    ensures value { result ≡ searching.offered records.now width height ranked.old.shelf }
+    ensures shelf { ranked.new.shelf ≡ ranked.old.shelf }
+    ensures ranked { IsSearchable records.now ranked.new }
+{
+    let item = fitting_item(records, ranked, width)?;
+    let shelf = usize::from(ranked.shelf);
     Some(Candidate {
         shelf,
         item,
         rank: rank_of(records, height, shelf),
     })
+}
+
+/// The first item of a shelf's free list that is wide enough; where there is none, the shelf's bound falls to
+/// the width of the widest.
+fn fitting_item(records: &Records, ranked: &mut RankedShelf, width: u32) -> Option<usize>
+    requires linked { IsLinked records.now (walked_lists records.now) }
+    requires ranked { IsSearchable records.now ranked.old }
+    ensures value { result ≡ searching.first_wide records.now width ranked.old.shelf }
+    ensures shelf { ranked.new.shelf ≡ ranked.old.shelf }
+    ensures ranked { IsSearchable records.now ranked.new }
+{
+    match search_free_list(records, width, usize::from(ranked.shelf)) {
+        Searched::Found(item) => Some(item),
+        Searched::Widest(widest) => {
+            ranked.widest = widest;
+            None
+        }
+    }
 }
 
 /// The rank of a shelf that fits: a good fit by its height, a bad one after every good one.
@@ -153,24 +308,28 @@ fn rank_of(records: &Records, height: u32, shelf: usize) -> u32
     }
 }
 
-/// The first item of a shelf's free list that is wide enough.
-fn first_wide(records: &Records, width: u32, shelf: usize) -> Option<usize>
+/// The first item of a shelf's free list that is wide enough, or the width of the widest.
+fn search_free_list(records: &Records, width: u32, shelf: usize) -> Searched
     requires linked { IsLinked records.now (walked_lists records.now) }
     requires stands { 1 ≤ times shelf (shelf_walk records.now).met }
     requires within { shelf < length records.now.shelves }
-    ensures { result ≡ searching.first_wide records.now width shelf }
+    ensures { result ≡ opening.searched records.now width shelf }
 {
     let items = records.items();
     let mut at = records.shelves()[shelf].first_unallocated.number();
+    let mut widest = 0_u16;
     for _step in 0..items.len() {
-        let number = at?;
+        let Some(number) = at else {
+            break;
+        };
         let item = &items[number];
         if u32::from(item.width) >= width {
-            return Some(number);
+            return Searched::Found(number);
         }
+        widest = widest.max(item.width);
         at = next_of::<FreeList, ItemRecord>(items, number).number();
     }
-    None
+    Searched::Widest(widest)
 }
 
 /// All that is found out of an item of a shelf. Each split is decided here.

@@ -1,32 +1,97 @@
 //! Gives an item back: frees it, and merges it and its shelf with what is free beside them.
 //!
-//! Definitions: `ItemReturned`. What merges keeps the record of the earlier place. It looks only at the
-//! neighbours of the item and of its shelf, and takes no memory: both have to stay so.
+//! Definitions: `ItemReturned`, and `RankedReturned` for the shelves by height. What merges keeps the record of the
+//! earlier place. It looks only at the neighbours of the item and of its shelf, and takes no memory: both have to
+//! stay so.
 
-ghost use Rattle.std.specs.Prelude.{◌≡◌, ℕ, ◌<◌, Some, IfSome};
+ghost use Rattle.std.specs.Prelude.{◌≡◌, ℕ, ◌<◌, ◌≤◌, Some, IfSome};
+ghost use Rattle.etagere_base.specs.Lists.{times};
+ghost use Rattle.etagere.specs.AtlasRecords.{shelf_of};
+ghost use Rattle.etagere.specs.Private.ByHeight.{AreInOrder, bound_of, raised, ranked_numbers};
 ghost use Rattle.etagere.specs.Private.ItemReturned as returned;
 ghost use Rattle.etagere.specs.Private.ItemReturned.{CanMergeItem, CanMergeShelves, CanReturn, HeightsFit, WidthsFit};
+ghost use Rattle.etagere.specs.Private.RankedReturned as ranks;
+ghost use Rattle.etagere.specs.Private.RankedReturned.{CanMergeNamedRank, CanMergeRank, CanMergeRanks, CanReturnRanked};
 ghost use Rattle.etagere_links.specs.Edits.{link_at};
 ghost use Rattle.etagere_links.specs.Links.{no_link};
 ghost use Rattle.etagere_links.specs.RecordLists.{first_item_of};
 ghost use Rattle.etagere_links.specs.Records.{item_chain, shelf_chain};
 
 use crate::linked::fields;
+use crate::linked::heights::{RankedShelf, put_in, raise, ranked_shelf, take_out};
 use etagere_links::{Chain, ItemRecord, Link, Records, ShelfRecord, next_of, previous_of};
 
 /// Frees the item of this number, which is allocated, merges what is free with its neighbours, and answers how
 /// many item records were put aside.
-pub(crate) fn return_item(records: &mut Records, number: usize) -> u32
+pub(crate) fn return_item(
+    records: &mut Records,
+    ranked: &mut Vec<RankedShelf>,
+    number: usize,
+) -> u32
     requires number { number < no_link }
     requires fits { CanReturn number records.old }
+    requires ranked { CanReturnRanked (shelf_of records.old.items number) number records.old
+        ranked.old.items }
     ensures records { records.new ≡ returned.item_returned number records.old }
+    ensures ranked { ranked.new.items
+        ≡ ranks.ranked_returned number records.old ranked.old.items }
     ensures put_aside { result ≡ returned.put_aside_by number records.old }
     ensures few { result < 5 }
 {
     let shelf = fields::shelf(records.items(), number);
+    let width = freed_width(records.items(), number);
+    let known = first_free_width(records, shelf);
     let items = merge_item(records, shelf, number);
     say_emptiness(records, shelf);
-    items + merge_shelves(records, shelf)
+    raise_above(records.shelves(), ranked, shelf, known, width);
+    items + merge_shelves(records, ranked, shelf)
+}
+
+/// How wide the first of the free list of a shelf is, which its bound is not below; 0 where there is none.
+fn first_free_width(records: &Records, shelf: usize) -> u16
+    ensures { result ≡ ranks.first_free_width shelf records.now }
+{
+    let first = fields::first_free_link(records.shelves(), shelf).number();
+    named_width(records.items(), first)
+}
+
+/// Raises the bound of a shelf, which is not below a known width, to this one, where it is less. Where the known one
+/// is no less, it searches for nothing.
+fn raise_above(
+    shelves: &[ShelfRecord],
+    ranked: &mut [RankedShelf],
+    shelf: usize,
+    known: u16,
+    width: u16,
+)
+    requires order { AreInOrder shelves.now ranked.old }
+    requires stands { 1 ≤ times shelf (ranked_numbers ranked.old) }
+    requires known { known ≤ bound_of shelf ranked.old }
+    ensures { ranked.new ≡ raised shelf width ranked.old }
+{
+    if known < width {
+        raise(shelves, ranked, shelf, width);
+    }
+}
+
+/// How wide an item is with its free neighbours.
+fn freed_width(items: &[ItemRecord], number: usize) -> u16
+    requires { ranks.freed_width items.now number < 65536 }
+    ensures { result ≡ ranks.freed_width items.now number }
+{
+    fields::width(items, number)
+        + named_width(items, free_next(items, number))
+        + named_width(items, free_previous(items, number))
+}
+
+/// How wide an item is, where there is one.
+fn named_width(items: &[ItemRecord], named: Option<usize>) -> u16
+    ensures { result ≡ ranks.named_width items.now named }
+{
+    match named {
+        None => 0,
+        Some(number) => fields::width(items, number),
+    }
 }
 
 /// Frees an item, and merges it with its free neighbours.
@@ -139,34 +204,43 @@ fn say_emptiness(records: &mut Records, shelf: usize)
 }
 
 /// Merges a shelf with its neighbours, where it and they are empty and stand in one column.
-fn merge_shelves(records: &mut Records, shelf: usize) -> u32
-    requires { CanMergeShelves shelf records.old }
+fn merge_shelves(records: &mut Records, ranked: &mut Vec<RankedShelf>, shelf: usize) -> u32
+    requires fits { CanMergeShelves shelf records.old }
+    requires ranked { CanMergeRanks shelf records.old ranked.old.items }
     ensures records { records.new ≡ (returned.shelves_merged shelf records.old).records }
+    ensures ranked { ranked.new.items
+        ≡ ranks.ranks_merged shelf records.old ranked.old.items }
     ensures put_aside { result ≡ (returned.shelves_merged shelf records.old).put_aside }
     ensures few { result < 3 }
 {
-    let one = merge_shelf(records, shelf);
+    let one = merge_shelf(records, ranked, shelf);
     let previous = previous_of::<Chain, ShelfRecord>(records.shelves(), shelf);
-    one + merge_named_shelf(records, previous)
+    one + merge_named_shelf(records, ranked, previous)
 }
 
 /// Merges the shelf that a link names with the next one, where both are empty and stand in one column.
-fn merge_named_shelf(records: &mut Records, link: Link) -> u32
-    requires { (n : ℕ) → link ≡ Some n → HeightsFit n records.old.shelves }
+fn merge_named_shelf(records: &mut Records, ranked: &mut Vec<RankedShelf>, link: Link) -> u32
+    requires fits { (n : ℕ) → link ≡ Some n → HeightsFit n records.old.shelves }
+    requires ranked { CanMergeNamedRank link records.old ranked.old.items }
     ensures records { records.new ≡ (returned.named_shelf_merged link records.old).records }
+    ensures ranked { ranked.new.items
+        ≡ ranks.named_rank_merged link records.old ranked.old.items }
     ensures put_aside { result ≡ (returned.named_shelf_merged link records.old).put_aside }
     ensures few { result < 2 }
 {
     match link.number() {
         None => 0,
-        Some(shelf) => merge_shelf(records, shelf),
+        Some(shelf) => merge_shelf(records, ranked, shelf),
     }
 }
 
 /// Merges a shelf with the next one, where both are empty and stand in one column.
-fn merge_shelf(records: &mut Records, shelf: usize) -> u32
-    requires { HeightsFit shelf records.old.shelves }
+fn merge_shelf(records: &mut Records, ranked: &mut Vec<RankedShelf>, shelf: usize) -> u32
+    requires fits { HeightsFit shelf records.old.shelves }
+    requires ranked { CanMergeRank shelf records.old ranked.old.items }
     ensures records { records.new ≡ (returned.shelf_merged shelf records.old).records }
+    ensures ranked { ranked.new.items
+        ≡ ranks.rank_merged shelf records.old ranked.old.items }
     ensures put_aside { result ≡ (returned.shelf_merged shelf records.old).put_aside }
     ensures few { result < 2 }
 {
@@ -177,10 +251,13 @@ fn merge_shelf(records: &mut Records, shelf: usize) -> u32
         return 0;
     };
     let height = fields::height(records.shelves(), shelf) + fields::height(records.shelves(), next);
+    take_out(records.shelves(), ranked, next);
+    let widest = take_out(records.shelves(), ranked, shelf);
     records.unlink_shelf(next);
     records.put_item_aside(item);
     records.put_shelf_aside(next);
     records.set_height(shelf, height);
+    put_in(records.shelves(), ranked, ranked_shelf(shelf, widest));
     1
 }
 
@@ -189,6 +266,9 @@ fn empty_next(shelves: &[ShelfRecord], shelf: usize) -> Option<usize>
     ensures value { result ≡ returned.empty_next shelves.now shelf }
     ensures small { IfSome result (λ number. number < no_link) }
 {
+    if !fields::is_empty(shelves, shelf) {
+        return None;
+    }
     let next = next_of::<Chain, ShelfRecord>(shelves, shelf).number()?;
     if are_both_empty(shelves, shelf, next) {
         Some(next)

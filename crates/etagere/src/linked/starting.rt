@@ -1,14 +1,21 @@
-//! The records of a new atlas, and of one that was cleared.
+//! The records of a new atlas, and of one that was cleared, with their shelves ranked; and the shelves of records
+//! that were restored, ranked.
 //!
-//! Definitions: `FreshRecords`. A clear uses the memory of the records that are there, of which there is a
-//! shelf and an item for each column at least.
+//! Definitions: `FreshRecords`, and `ByHeight` for the shelves. A clear uses the memory of the records that are
+//! there, of which there is a shelf and an item for each column at least, and that of the ranked shelves.
 
-ghost use Rattle.std.specs.Prelude.{◌≡◌, ◌+◌, ◌<◌, ◌≤◌, IfOk, length};
-ghost use Rattle.etagere_base.specs.Frames.{IsFrame, longest_side};
+ghost use Rattle.std.specs.Prelude.{◌≡◌, ◌+◌, ◌<◌, ◌≤◌, IfOk, length, map};
+ghost use Rattle.etagere_base.specs.Frames.{HasAllColumns, IsFrame, longest_side};
+ghost use Rattle.etagere_links.specs.Links.{no_link};
+ghost use Rattle.etagere_links.specs.RecordLists.{shelf_walk};
+ghost use Rattle.etagere.specs.Private.ByHeight as heights;
+ghost use Rattle.etagere.specs.Private.ByHeight.{AreRanked};
 ghost use Rattle.etagere.specs.Private.FreshRecords as spec;
+ghost use Rattle.etagere.specs.Private.Kept.{AreKept};
 
+use crate::linked::heights::{RankedShelf, order_of, ranked_shelf};
 use etagere_base::Frame;
-use etagere_links::{ItemRecord, Link, Records, ShelfRecord};
+use etagere_links::{Chain, ItemRecord, Link, Records, ShelfRecord, next_of};
 use std::alloc::{AllocError, Global};
 
 /// The generation of a record that was just made.
@@ -27,6 +34,90 @@ pub(crate) fn fresh_records(alloc: Global, frame: &Frame) -> Result<Records, All
     }
     records.restart();
     Ok(records)
+}
+
+/// The ranked shelves of a new atlas.
+pub(crate) fn fresh_heights(alloc: Global, frame: &Frame) -> Result<Vec<RankedShelf>, AllocError>
+    requires frame { IsFrame longest_side frame.now }
+    requires columns { HasAllColumns frame.now }
+    ensures { IfOk result (λ ranked. AreRanked frame.now (spec.fresh_records frame.now) ranked.items) }
+{
+    let mut ranked = Vec::new(alloc);
+    ranked.reserve(frame.columns as usize)?;
+    for column in 0..frame.columns {
+        ranked.push(newly_ranked(frame, column as usize))?;
+    }
+    Ok(ranked)
+}
+
+/// Makes the ranked shelves those of a new atlas, in the memory that they have.
+pub(crate) fn reset_heights(frame: &Frame, ranked: &mut Vec<RankedShelf>)
+    requires frame { IsFrame longest_side frame.now }
+    requires columns { HasAllColumns frame.now }
+    requires many { frame.now.columns ≤ length ranked.old.items }
+    ensures { AreRanked frame.now (spec.fresh_records frame.now) ranked.new.items }
+{
+    ranked.truncate(frame.columns as usize);
+    for column in 0..frame.columns {
+        ranked[column as usize] = newly_ranked(frame, column as usize);
+    }
+}
+
+/// The shelves in use of records, ranked.
+pub(crate) fn ranked_shelves(
+    alloc: Global,
+    frame: &Frame,
+    records: &Records,
+) -> Result<Vec<RankedShelf>, AllocError>
+    requires { AreKept frame.now records.now }
+    ensures { IfOk result (λ ranked. AreRanked frame.now records.now ranked.items) }
+{
+    let mut ranked = shelves_in_use(alloc, frame, records)?;
+    let shelves = records.shelves();
+    ranked.sort_unstable_by_key(|one| order_or_zero(shelves, usize::from(one.shelf)));
+    Ok(ranked)
+}
+
+/// Where a shelf stands in the order; 0 where there is no such shelf.
+fn order_or_zero(shelves: &[ShelfRecord], shelf: usize) -> u64
+    ensures { result ≡ heights.order_of shelves.now shelf }
+{
+    if shelf < shelves.len() {
+        order_of(shelves, shelf)
+    } else {
+        0
+    }
+}
+
+/// The shelves in use by their chain, newly ranked.
+fn shelves_in_use(
+    alloc: Global,
+    frame: &Frame,
+    records: &Records,
+) -> Result<Vec<RankedShelf>, AllocError>
+    requires { AreKept frame.now records.now }
+    ensures { IfOk result (λ ranked. ranked.items
+        ≡ map (heights.newly_ranked frame.now) (shelf_walk records.now).met) }
+{
+    let mut ranked = Vec::new(alloc);
+    let mut at = records.first_shelf().number();
+    for _step in 0..records.shelves().len() {
+        let Some(shelf) = at else {
+            break;
+        };
+        ranked.push(newly_ranked(frame, shelf))?;
+        at = next_of::<Chain, ShelfRecord>(records.shelves(), shelf).number();
+    }
+    Ok(ranked)
+}
+
+/// A shelf of this number, with the width of its column for a bound.
+fn newly_ranked(frame: &Frame, shelf: usize) -> RankedShelf
+    requires frame { IsFrame longest_side frame.now }
+    requires shelf { shelf < no_link }
+    ensures { result ≡ heights.newly_ranked frame.now shelf }
+{
+    ranked_shelf(shelf, frame.column_width as u16)
 }
 
 /// Makes the records those of a new atlas, in the memory that they have.

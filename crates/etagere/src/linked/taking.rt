@@ -3,13 +3,14 @@
 //! Definitions: `PlacementTaken` of `Private`, and `Taking` for what it means. All memory is taken before
 //! the first change, so an `Err` changes nothing; this has to stay so.
 
-ghost use Rattle.std.specs.Prelude.{◌≡◌, ◌+◌, ◌<◌, ◌≤◌, IfOk, OnOk, OnErr, IfSome, length};
+ghost use Rattle.std.specs.Prelude.{◌≡◌, ◌+◌, ◌<◌, ◌≤◌, Some, IfOk, OnOk, OnErr, IfSome, length, vec_capacity};
 ghost use Rattle.etagere_base.specs.Frames.{longest_side};
 ghost use Rattle.etagere_links.specs.Links.{no_link};
 ghost use Rattle.etagere.specs.Choice.{splits};
 ghost use Rattle.etagere.specs.Private.PlacementTaken as spec;
-ghost use Rattle.etagere.specs.Private.PlacementTaken.{CanTakeFrom, IsItemSplittable, IsShelfSplittable, placement_taken};
+ghost use Rattle.etagere.specs.Private.PlacementTaken.{CanRank, CanTakeFrom, IsItemSplittable, IsRestRankable, IsShelfRankable, IsShelfSplittable, placement_taken, ranked_taken};
 
+use crate::linked::heights::{RankedShelf, put_in, ranked_shelf, take_out};
 use crate::placements::Placement;
 use etagere_base::{AllocId, INDEX_MODULUS};
 use etagere_links::{ItemRecord, Link, Records, ShelfRecord};
@@ -19,18 +20,34 @@ use std::alloc::AllocError;
 /// `Err`, which comes only where something is split, changes nothing.
 pub(crate) fn take_placement(
     records: &mut Records,
+    ranked: &mut Vec<RankedShelf>,
     found: &Placement,
     column_width: u16,
 ) -> Result<AllocId, AllocError>
-    requires { CanTakeFrom column_width found.now records.old }
+    requires takes { CanTakeFrom column_width found.now records.old }
+    requires ranks { CanRank column_width found.now records.old ranked.old.items }
     ensures ok { OnOk result (records.new ≡ placement_taken column_width found.now records.old) }
     ensures id { IfOk result (λ id. id ≡ spec.id_of records.old.items found.now.item) }
     ensures err { OnErr result (records.new ≡ records.old) }
+    ensures ranked { OnOk result
+        (ranked.new.items
+        ≡ ranked_taken column_width found.now records.old ranked.old.items) }
+    ensures ranked_err { OnErr result (ranked.new.items ≡ ranked.old.items) }
     ensures split { OnErr result (0 < splits found.now) }
 {
     let id = id_of(records.items(), found.item);
+    if found.splits_shelf {
+        ranked.reserve(1)?;
+    }
     let rests = records.use_rests(found.splits_shelf, found.splits_item)?;
-    make_shelf_rest(records, found, column_width, rests.shelf, rests.shelf_item);
+    make_shelf_rest(
+        records,
+        ranked,
+        found,
+        column_width,
+        rests.shelf,
+        rests.shelf_item,
+    );
     give_item(records, found, rests.item);
     records.set_empty(found.shelf, false);
     Ok(id)
@@ -39,6 +56,7 @@ pub(crate) fn take_placement(
 /// Splits the shelf of a placement, where these are the numbers of the records of the rest and of its item.
 fn make_shelf_rest(
     records: &mut Records,
+    ranked: &mut Vec<RankedShelf>,
     found: &Placement,
     column_width: u16,
     shelf: Option<usize>,
@@ -47,7 +65,13 @@ fn make_shelf_rest(
     requires splittable { IsShelfSplittable found.now records.old }
     requires shelf { IfSome shelf (λ number. number < no_link) }
     requires item { IfSome item (λ number. number < no_link) }
-    ensures { records.new ≡ spec.with_shelf_rest column_width found.now shelf item records.old }
+    requires ranks { IsRestRankable column_width found.now shelf item records.old ranked.old.items }
+    requires room { IfSome shelf (λ number. length ranked.old.items < vec_capacity ranked.old) }
+    ensures records { records.new
+        ≡ spec.with_shelf_rest column_width found.now shelf item records.old }
+    ensures ranked { ranked.new.items
+        ≡ spec.with_rest_ranked column_width found.now.shelf shelf item records.new.shelves
+        ranked.old.items }
 {
     let Some(shelf) = shelf else {
         return;
@@ -55,12 +79,41 @@ fn make_shelf_rest(
     let Some(item) = item else {
         return;
     };
+    split_shelf(records, ranked, found, column_width, shelf, item);
+}
+
+/// Splits the shelf of a placement, where these are the numbers of the records of the rest and of its item. The list
+/// of ranked shelves has room for one more.
+fn split_shelf(
+    records: &mut Records,
+    ranked: &mut Vec<RankedShelf>,
+    found: &Placement,
+    column_width: u16,
+    shelf: usize,
+    item: usize,
+)
+    requires splittable { IsShelfSplittable found.now records.old }
+    requires shelf { shelf < no_link }
+    requires item { item < no_link }
+    requires ranks { IsShelfRankable found.now.shelf shelf records.old.shelves
+        (spec.with_shelf_rest column_width found.now (Some shelf) (Some item) records.old).shelves
+        ranked.old.items }
+    requires room { length ranked.old.items < vec_capacity ranked.old }
+    ensures records { records.new
+        ≡ spec.with_shelf_rest column_width found.now (Some shelf) (Some item) records.old }
+    ensures ranked { ranked.new.items
+        ≡ spec.with_rest_ranked column_width found.now.shelf (Some shelf) (Some item)
+        records.new.shelves ranked.old.items }
+{
+    let widest = take_out(records.shelves(), ranked, found.shelf);
     let whole = shelf_record(records.shelves(), found.shelf);
     let height = found.height as u16;
     let rest = rest_shelf(&whole, height, item);
     let generation = item_record(records.items(), item).generation;
     let free = free_item(whole.x, column_width, shelf as u16, generation);
     records.split_shelf(found.shelf, height, shelf, rest, item, free);
+    put_in(records.shelves(), ranked, ranked_shelf(found.shelf, widest));
+    put_in(records.shelves(), ranked, ranked_shelf(shelf, column_width));
 }
 
 /// Gives the item of a placement: its front, where this is the number of the rest's record, else all of it.

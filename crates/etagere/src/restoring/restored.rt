@@ -1,6 +1,7 @@
 //! Judging all rules of a snapshot, and making the atlas for which it stands.
 //!
-//! Definitions: `Snapshots`, and `StandsFor` for the rules. Time and steps are linear in the number of records.
+//! Definitions: `Snapshots`, and `StandsFor` for the rules. Steps are linear in the number of records, and so is the
+//! time, but for a sort of the shelves in use.
 
 ghost use Rattle.std.specs.Prelude.{◌≡◌, ◌+◌, ◌*◌, ◌<◌, ◌≤◌, ◌^◌, IfErr, IfOk, OnOk, length};
 ghost use Rattle.etagere_base.specs.Frames.{HasAllColumns, IsFrame, longest_side};
@@ -13,6 +14,7 @@ ghost use Rattle.etagere.specs.State.{items_in_use};
 
 use crate::atlas::AtlasAllocator;
 use crate::judging::WalkedShelf;
+use crate::linked::starting::ranked_shelves;
 use crate::restoring::LoadedAtlas;
 use crate::restoring::rules::judge_rules;
 use crate::restoring::walking::walk_records;
@@ -89,8 +91,12 @@ pub fn restore_atlas(
         Ok(atlas) => atlas,
         Err(fault) => return Err(fault),
     };
-    match judge_atlas(alloc, &atlas, steps) {
-        Ok(items_in_use) => Ok(AtlasAllocator::of_judged(atlas, items_in_use)),
-        Err(fault) => Err(fault),
-    }
+    let items_in_use = match judge_atlas(alloc, &atlas, steps) {
+        Ok(items_in_use) => items_in_use,
+        Err(fault) => return Err(fault),
+    };
+    let Ok(ranked) = ranked_shelves(alloc, &atlas.frame, &atlas.records) else {
+        return Err(RestoreFault::Memory);
+    };
+    Ok(AtlasAllocator::of_judged(atlas, ranked, items_in_use))
 }

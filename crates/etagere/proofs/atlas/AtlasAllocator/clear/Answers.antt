@@ -1,10 +1,13 @@
 use Rattle.std.proofs.Common.{◌≡◌, ap, sym, subst, ◌∙◌}
+use Rattle.etagere_links.specs.RecordLists.{Records}
 use Rattle.etagere.specs.Atlas.{KeepsPromises}
 use Rattle.etagere.specs.Fresh.{fresh}
 use Rattle.etagere.specs.Places.{allocations}
+use Rattle.etagere.specs.Private.ByHeight.{AreRanked}
 use Rattle.etagere.specs.Private.Kept.{AreKept, state_of}
 use Rattle.etagere.specs.Space.{allocated_space}
 use Rattle.etagere.specs.State.{AtlasState, items_in_use}
+use Rattle.etagere.proofs.ByHeight.NewlyRanked.{columns-ranked}
 use Rattle.etagere.proofs.Places.FreshLemmas.{fresh-allocated, fresh-valid, items_in_use-empty_columns, space-fresh}
 use Rattle.etagere.proofs.Promises.{promises}
 use Rattle.etagere.proofs.Spelled.FreshKept.{fresh-kept}
@@ -21,6 +24,11 @@ reset_records-requires c =
       items = kept-item_records inside.frame inside.records kept;
     }
 
+pub reset_heights-requires-clause-many : goal.reset_heights-requires-clause-many
+reset_heights-requires-clause-many c =
+    let inside = c.self.inside in
+    columns-ranked inside.frame inside.records inside.ranked.items c.self.invariant.kept c.self.invariant.ranked
+
 -- the state that the fields stand for at the end
 made : (c : goal.After-self-2-1) → state_of c.self.inside.frame c.reset_records.new.records ≡ fresh c.self.inside.frame
 made c =
@@ -34,6 +42,7 @@ invariant_of-self c =
     let valid = c.self.invariant.kept.valid in
     record {
       kept = subst (AreKept frame) (sym c.reset_records.ensures) (fresh-kept frame valid.frame valid.columns).1;
+      ranked = subst (λ (records : Records). AreRanked frame records c.reset_heights.new.ranked.items) (sym c.reset_records.ensures) c.reset_heights.ensures;
       counted = sym (ap (λ (s : AtlasState). items_in_use s.shelves) (made c) ∙ items_in_use-empty_columns frame 0 frame.columns);
       space = sym (ap allocated_space (made c) ∙ space-fresh frame);
     }

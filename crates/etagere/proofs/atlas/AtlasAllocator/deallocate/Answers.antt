@@ -7,7 +7,7 @@ use Rattle.etagere.specs.Private.Kept.{state_of}
 use Rattle.etagere.specs.Returning.{returned}
 use Rattle.etagere.specs.State.{AtlasState}
 use Rattle.etagere.proofs.Promises.{promises}
-use Rattle.etagere.proofs.Recorded.RecordedReturn.{AfterReturn, after-return, can-return}
+use Rattle.etagere.proofs.Recorded.RecordedReturn.{AfterReturn, after-return, can-return, ranked-after}
 use Rattle.etagere.proofs.Recorded.RecordsOfIds.{kept-allocated}
 use Rattle.etagere.proofs.Returned.Restored.{returned-restores}
 use Rattle.etagere.proofs.atlas.AtlasAllocator.deallocate.Goals as goal
@@ -24,8 +24,8 @@ returns-in_default-clause-promises c = subst KeepsPromises c.self.view_is (promi
 pub return_item-put_aside-requires : goal.return_item-put_aside-requires
 return_item-put_aside-requires c =
     let inside = c.self.inside in
-    let can = can-return inside.frame inside.records c.args.id c.in-Some.number c.self.invariant.kept (sym c.number_of.ensures ∙ c.in-Some.is) in
-    record { number = can.0; fits = can.1 }
+    let can = can-return inside.frame inside.records inside.ranked.items c.args.id c.in-Some.number c.self.invariant.kept c.self.invariant.ranked (sym c.number_of.ensures ∙ c.in-Some.is) in
+    record { number = can.0; fits = can.1; ranked = can.2 }
 
 -- what is known at the end
 after : (c : goal.After-self-2-1) → AfterReturn c.self.inside.frame c.self.inside.records c.args.id c.return_item-put_aside.new.records c.return_item-put_aside.result c.recorded_area-area.result
@@ -50,6 +50,8 @@ overflow_sub-self-2 c =
 pub invariant_of-self : goal.invariant_of-self
 invariant_of-self c = record {
   kept = (after c).kept;
+  ranked = rw (c.return_item-put_aside.ensures.records, c.return_item-put_aside.ensures.ranked)
+      (ranked-after c.self.inside.frame c.self.inside.records c.self.inside.ranked.items c.args.id c.in-Some.number c.self.invariant.kept c.self.invariant.ranked (sym c.number_of.ensures ∙ c.in-Some.is));
   counted = omega (arith, (after c).counted, c.self.invariant.counted);
   space = omega (arith, (after c).space, c.self.invariant.space);
 }

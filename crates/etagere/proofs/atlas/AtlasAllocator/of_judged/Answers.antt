@@ -4,6 +4,7 @@ use Rattle.std.proofs.lemmas.Int.{to_z-of_z}
 use Rattle.etagere_base.specs.Sides.{side}
 use Rattle.etagere.specs.AtlasRecords.{AtlasRecords}
 use Rattle.etagere.specs.Atlas.{KeepsPromises}
+use Rattle.etagere.specs.Private.ByHeight.{AreRanked}
 use Rattle.etagere.specs.Private.Kept.{AreKept}
 use Rattle.etagere.specs.Snapshots.{state_spelled}
 use Rattle.etagere.specs.Space.{space_in}
@@ -18,6 +19,7 @@ invariant_of-result c =
     let sum : ℕ = c.args.items_in_use in
     record {
       kept = subst (λ (atlas : AtlasRecords). AreKept atlas.frame atlas.lists) same c.requires.kept;
+      ranked = subst (λ (atlas : AtlasRecords). AreRanked atlas.frame atlas.lists c.args.ranked.items) same c.requires.ranked;
       counted = subst (λ (atlas : AtlasRecords). sum ≡ items_in_use (state_spelled atlas).shelves) same c.requires.items;
       space = c.side-allocated_space.ensures.value ∙ ap side (to_z-of_z w32 c.atlas.inside.allocated_space fits)
           ∙ ap side (subst (λ (atlas : AtlasRecords). atlas.allocated_space ≡ pos (space_in (state_spelled atlas).shelves)) same c.requires.space);

@@ -1,33 +1,36 @@
-use Rattle.std.proofs.Common.{length, ap, ◌∙◌, arith}
-use Rattle.etagere_links.specs.Edits.{link_at}
-use Rattle.etagere_links.specs.Records.{shelf_chain}
-use Rattle.etagere.specs.Private.Searching.{better}
-use Rattle.etagere.proofs.Searched.SearchSteps.{shelves-begin, shelves-end, shelves-here, shelves-out, shelves-passed}
+use Rattle.std.proofs.Common.{List, Some, ap, drop, map, subst, sym, ◌∙◌, ℕ}
+use Rattle.std.specs.Option.{option_map_or}
+use Rattle.etagere.specs.Private.ByHeight.{IsStart, order_at, ranked_numbers}
+use Rattle.etagere.specs.Private.Opening.{AreTall}
+use Rattle.etagere.specs.Private.Searching.{earliest, offered}
+use Rattle.etagere.proofs.ByHeight.Searches.{found-from, tall-from}
 use Rattle.etagere.proofs.linked.choosing.best_candidate.Goals as goal
 
-pub loop-step-init : goal.loop-step-init
-loop-step-init c =
-    shelves-begin c.args.records.now c.args.width c.args.height c.number-at.result c.requires.linked (c.number-at.ensures.value ∙ c.first_shelf.ensures)
+pub first_good-requires-clause-tall : goal.first_good-requires-clause-tall
+first_good-requires-clause-tall c =
+    let start : IsStart c.args.records.now.shelves c.args.ranked.now (order_at c.args.height 0) c.first_from-start.result.index c.first_from-start.result.probes =
+    rw (c.shelves.ensures, c.order_at.ensures) at c.first_from-start.ensures in
+    tall-from c.args.records.now c.args.height c.first_from-start.result.index c.first_from-start.result.probes c.args.ranked.now c.requires.ranked start
 
-pub returns-in_default : goal.returns-in_default
-returns-in_default c =
-    shelves-end c.args.records.now c.args.width c.args.height c.loop-step.best c.loop-step.at c.loop-step._step c.loop-step.invariant c.in_default.is
+pub first_placed-requires-clause-tall : goal.first_placed-requires-clause-tall
+first_placed-requires-clause-tall c =
+    let start : IsStart c.args.records.now.shelves c.args.ranked.now (order_at c.args.height 0) c.first_from-start.result.index c.first_from-start.result.probes =
+    rw (c.shelves.ensures, c.order_at.ensures) at c.first_from-start.ensures in
+    subst (λ (ns : List ℕ). AreTall c.args.records.now.shelves c.args.height (drop c.first_from-start.result.index ns)) (sym c.first_good.ensures.numbers)
+    (tall-from c.args.records.now c.args.height c.first_from-start.result.index c.first_from-start.result.probes c.args.ranked.now c.requires.ranked start)
 
-pub offered-requires-clause-stands : goal.offered-requires-clause-stands
-offered-requires-clause-stands c =
-    (shelves-here c.args.records.now c.args.width c.args.height c.loop-step.best c.loop-step.at c.in-Some.shelf c.loop-step._step c.loop-step.invariant c.in-Some.is).0
+pub returns-in-Some-clause-value : goal.returns-in-Some-clause-value
+returns-in-Some-clause-value c =
+    let start : IsStart c.args.records.now.shelves c.args.ranked.now (order_at c.args.height 0) c.first_from-start.result.index c.first_from-start.result.probes =
+    rw (c.shelves.ensures, c.order_at.ensures) at c.first_from-start.ensures in
+    ap (λ o. option_map_or Some o (earliest c.args.records.now.shelves (map (offered c.args.records.now c.args.width c.args.height) (drop c.first_from-start.result.index (ranked_numbers c.args.ranked.now))))) c.in-Some.ensures.value
+    ∙ found-from c.args.records.now c.args.width c.args.height c.first_from-start.result.index c.first_from-start.result.probes c.args.ranked.now start
 
-pub offered-requires-clause-within : goal.offered-requires-clause-within
-offered-requires-clause-within c =
-    (shelves-here c.args.records.now c.args.width c.args.height c.loop-step.best c.loop-step.at c.in-Some.shelf c.loop-step._step c.loop-step.invariant c.in-Some.is).1
-
-pub loop-step-preserved : goal.loop-step-preserved
-loop-step-preserved c =
-    shelves-passed c.args.records.now c.args.width c.args.height c.loop-step.best c.better-best.result c.loop-step.at c.number-at-in-loop-step.result c.in-Some.shelf c.loop-step._step c.loop-step.invariant c.in-Some.is
-    (c.better-best.ensures ∙ ap (better c.loop-step.best) c.offered.ensures)
-    (c.number-at-in-loop-step.ensures.value ∙ c.next_of.ensures ∙ ap (λ shelves. link_at shelf_chain.next shelves c.in-Some.shelf) c.shelves.ensures)
-
-pub returns : goal.returns
-returns c =
-    shelves-out c.args.records.now c.args.width c.args.height c.loop-step.best c.loop-step.at c.loop-step._step c.loop-step.invariant
-    (omega (arith, ap length c.shelves-step-end.ensures))
+pub returns-in-None-clause-value : goal.returns-in-None-clause-value
+returns-in-None-clause-value c =
+    let start : IsStart c.args.records.now.shelves c.args.ranked.now (order_at c.args.height 0) c.first_from-start.result.index c.first_from-start.result.probes =
+    rw (c.shelves.ensures, c.order_at.ensures) at c.first_from-start.ensures in
+    c.first_placed.ensures.value
+    ∙ ap (λ (ns : List ℕ). earliest c.args.records.now.shelves (map (offered c.args.records.now c.args.width c.args.height) (drop c.first_from-start.result.index ns))) c.first_good.ensures.numbers
+    ∙ ap (λ o. option_map_or Some o (earliest c.args.records.now.shelves (map (offered c.args.records.now c.args.width c.args.height) (drop c.first_from-start.result.index (ranked_numbers c.args.ranked.now))))) c.in-None.ensures.value
+    ∙ found-from c.args.records.now c.args.width c.args.height c.first_from-start.result.index c.first_from-start.result.probes c.args.ranked.now start

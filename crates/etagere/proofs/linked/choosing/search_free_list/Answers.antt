@@ -5,7 +5,7 @@ use Rattle.etagere_links.specs.RecordLists.{first_free_of}
 use Rattle.etagere_links.specs.declared.records.ShelfRecord.{ShelfRecord}
 use Rattle.etagere.proofs.Recorded.RecordsOfIds.{field_at-read}
 use Rattle.etagere.proofs.Searched.SearchSteps.{free-begins, free-ends, free-found, free-here, free-out, free-passed}
-use Rattle.etagere.proofs.linked.choosing.first_wide.Goals as goal
+use Rattle.etagere.proofs.linked.choosing.search_free_list.Goals as goal
 
 pub loop-step-init : goal.loop-step-init
 loop-step-init c =
@@ -17,16 +17,15 @@ loop-step-init c =
     free-begins records c.args.width c.args.shelf c.number-at.result c.requires.linked c.requires.stands
     (c.number-at.ensures.value ∙ ap (λ (s : ShelfRecord). s.first_unallocated) (sym c.index-shelves-shelf.is) ∙ sym first)
 
-pub returns-in_err-number : goal.returns-in_err-number
-returns-in_err-number c =
-    c.from_residual.ensures
-    ∙ free-ends c.args.records.now c.args.width c.args.shelf c.loop-step.at c.loop-step._step c.loop-step.invariant c.in_err-number.was
+pub returns-in_default : goal.returns-in_default
+returns-in_default c =
+    free-ends c.args.records.now c.args.width c.args.shelf c.loop-step.widest c.loop-step.at c.loop-step._step c.loop-step.invariant c.in_default.is
 
 pub offset_bounds-items-number : goal.offset_bounds-items-number
 offset_bounds-items-number c =
     omega (
       arith,
-      free-here c.args.records.now c.args.width c.args.shelf c.loop-step.at c.in_ok-number.number c.loop-step._step c.loop-step.invariant c.in_ok-number.was,
+      free-here c.args.records.now c.args.width c.args.shelf c.loop-step.widest c.loop-step.at c.in-Some.number c.loop-step._step c.loop-step.invariant c.in-Some.is,
       ap length c.items-items.ensures,
     )
 
@@ -34,22 +33,22 @@ pub bounds-items-number : goal.bounds-items-number
 bounds-items-number c =
     omega (
       arith,
-      free-here c.args.records.now c.args.width c.args.shelf c.loop-step.at c.in_ok-number.number c.loop-step._step c.loop-step.invariant c.in_ok-number.was,
+      free-here c.args.records.now c.args.width c.args.shelf c.loop-step.widest c.loop-step.at c.in-Some.number c.loop-step._step c.loop-step.invariant c.in-Some.is,
       ap length c.items-items.ensures,
     )
 
 pub returns-then-from-width : goal.returns-then-from-width
 returns-then-from-width c =
-    free-found c.args.records.now c.args.width c.args.shelf c.loop-step.at c.in_ok-number.number c.loop-step._step c.index-items-number.result c.loop-step.invariant c.in_ok-number.was
+    free-found c.args.records.now c.args.width c.args.shelf c.loop-step.widest c.loop-step.at c.in-Some.number c.loop-step._step c.index-items-number.result c.loop-step.invariant c.in-Some.is
     (rw c.items-items.ensures at c.index-items-number.is) (omega arith)
 
 pub loop-step-preserved : goal.loop-step-preserved
 loop-step-preserved c =
-    free-passed c.args.records.now c.args.width c.args.shelf c.loop-step.at c.number-at-in-loop-step.result c.in_ok-number.number c.loop-step._step c.index-items-number.result c.loop-step.invariant c.in_ok-number.was
-    (rw c.items-items.ensures at c.index-items-number.is) (omega arith)
-    (c.number-at-in-loop-step.ensures.value ∙ c.next_of.ensures ∙ ap (λ items. link_at free_list.next items c.in_ok-number.number) c.items-items.ensures)
+    free-passed c.args.records.now c.args.width c.args.shelf c.loop-step.widest c.max-widest.result c.loop-step.at c.number-at-in-loop-step.result c.in-Some.number c.loop-step._step c.index-items-number.result c.loop-step.invariant c.in-Some.is
+    (rw c.items-items.ensures at c.index-items-number.is) (omega arith) c.max-widest.ensures
+    (c.number-at-in-loop-step.ensures.value ∙ c.next_of.ensures ∙ ap (λ items. link_at free_list.next items c.in-Some.number) c.items-items.ensures)
 
-pub returns : goal.returns
-returns c =
-    free-out c.args.records.now c.args.width c.args.shelf c.loop-step.at c.loop-step._step c.loop-step.invariant
+pub returns-after-loop-step : goal.returns-after-loop-step
+returns-after-loop-step c =
+    free-out c.args.records.now c.args.width c.args.shelf c.loop-step.widest c.loop-step.at c.loop-step._step c.loop-step.invariant
     (omega (arith, ap length c.items-items.ensures))

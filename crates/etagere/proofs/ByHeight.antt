@@ -1,0 +1,23 @@
+-- The shelves in use by height: how the list is searched and changed.
+pub mod BestByHeight
+pub mod CollectedShelves
+pub mod Edited
+pub mod FreedBounds
+pub mod FreedRanks
+pub mod KeptRanks
+pub mod KnownBounds
+pub mod LeastOffers
+pub mod MergedRanks
+pub mod NewlyRanked
+pub mod NumberedBounds
+pub mod PassedBounds
+pub mod PlacesRise
+pub mod Positions
+pub mod RisingNumbers
+pub mod SearchableShelves
+pub mod SearchedOnes
+pub mod Searches
+pub mod SplitOrders
+pub mod SplitRanked
+pub mod TakenBounds
+pub mod TakenRanked

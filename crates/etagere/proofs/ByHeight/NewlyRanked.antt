@@ -1,0 +1,199 @@
+-- Newly ranked shelves: the width of a column is a bound, those of a new atlas are in order, and those in use are
+-- once they were sorted.
+use Rattle.std.proofs.Common.{◌≡◌, ℕ, zero, suc, ◌+◌, ◌*◌, ◌<◌, ◌≤◌, true, List, [], ◌∷◌, get_or, length, map, take, refl, ap, arith, subst, sym, ◌∙◌}
+use Rattle.std.proofs.lemmas.List.Elements.{All-cons, All-head, All-nil, All-tail}
+use Rattle.std.proofs.lemmas.List.Sorted.{All-permutation, all_adjacent_from_non_decreasing, sum_by-IsPermutation}
+use Rattle.std.proofs.lemmas.List.Sums.{sum_by-cons}
+use Rattle.std.proofs.lemmas.List.{length-map}
+use Rattle.std.specs.List.{All, AllAdjacentBelow, sum_by}
+use Rattle.std.specs.List.Sorted.{IsNonDecreasingBy, IsPermutation}
+use Rattle.etagere_base.specs.Frames.{HasAllColumns, IsFrame, across_side}
+use Rattle.etagere_base.specs.Lists.{Each, times}
+use Rattle.etagere_base.specs.declared.frames.Frame.{Frame}
+use Rattle.etagere_base.proofs.EachLemmas.{Each-all, Each-weaken}
+use Rattle.etagere_base.proofs.FrameSides.{columns-apart}
+use Rattle.etagere_base.proofs.TimesLemmas.{hit}
+use Rattle.etagere_links.proofs.AllLists.LinkedWalks.{walked-numbers}
+use Rattle.etagere_links.specs.declared.records.ShelfRecord.{ShelfRecord}
+use Rattle.etagere_links.specs.RecordLists.{Entry, Records, shelf_numbers, shelf_walk, walked_lists}
+use Rattle.etagere.specs.AtlasRecords.{height_of, spelled_shelf}
+use Rattle.etagere.specs.Listing.{RiseFrom}
+use Rattle.etagere.specs.Private.ByHeight.{AreBounds, AreRanked, IsBound, newly_ranked, order_at, order_of, place_number, ranked_numbers}
+use Rattle.etagere.specs.Private.FreshRecords.{fresh_records, fresh_shelf, numbered}
+use Rattle.etagere.specs.Private.Kept.{AreKept, bare, state_of}
+use Rattle.etagere.specs.State.{Item, is_free, total_width}
+use Rattle.etagere.specs.Valid.{IsShelf}
+use Rattle.etagere.specs.declared.linked.heights.RankedShelf.{RankedShelf}
+use Rattle.etagere.proofs.ByHeight.CollectedShelves.{in_use}
+use Rattle.etagere.proofs.ByHeight.LeastOffers.{same-place}
+use Rattle.etagere.proofs.ByHeight.PlacesRise.{LiesWithin, kept-within, places-rise}
+use Rattle.etagere.proofs.ByHeight.RisingNumbers.{rise-same}
+use Rattle.etagere.proofs.Judged.EqualTimes.{length-fewer}
+use Rattle.etagere.proofs.Places.ColumnShelves.{columns-le-shelves}
+use Rattle.etagere.proofs.Recorded.Members.{Each-member}
+use Rattle.etagere.proofs.Searched.LinkedParts.{shelves-part}
+use Rattle.etagere.proofs.Spelled.FreshKept.{fresh-kept, fresh-met}
+use Rattle.etagere.proofs.Spelled.KeptCounts.{shelf_numbers-length}
+use Rattle.etagere.proofs.Spelled.NumberedLists.{numbered-each, numbered-field}
+use Rattle.etagere.proofs.Spelled.Witnesses.{Each-unmap}
+
+-- items that are no wider altogether are no wider each
+widths-within : (width : ℕ) (items : List Item) → total_width items ≤ width → Each (λ item. is_free item ≡ true → item.width ≤ width) items
+widths-within width [] low = tt
+widths-within width (item ∷ items) low = (λ _. omega (arith, low), widths-within width items (omega (arith, low)))
+
+-- the width of a column is a bound of each shelf
+pub column-bounds : (frame : Frame) (records : Records) (ranked : List RankedShelf) → AreKept frame records → Each (λ (one : RankedShelf). one.widest ≡ frame.column_width) ranked
+    → AreBounds (bare frame records) (walked_lists records).entries ranked
+column-bounds frame records ranked kept wide =
+    Each-weaken (λ (one : RankedShelf). one.widest ≡ frame.column_width)
+    (λ (one : RankedShelf). Each (λ (entry : Entry). entry.number ≡ one.shelf → IsBound one.widest (spelled_shelf (bare frame records) entry)) entries) ranked
+    (λ one width. Each-weaken (λ (entry : Entry). IsShelf frame (spelled_shelf (bare frame records) entry))
+    (λ (entry : Entry). entry.number ≡ one.shelf → IsBound one.widest (spelled_shelf (bare frame records) entry)) entries
+    (λ entry is _. widths-within one.widest (spelled_shelf (bare frame records) entry).items (omega (arith, is.width, width)))
+    (Each-unmap (IsShelf frame) (spelled_shelf (bare frame records)) entries kept.valid.shelves)) wide
+  where
+    entries : List Entry
+    entries = (walked_lists records).entries
+
+-- the numbers of newly ranked shelves
+numbers-numbered : (frame : Frame) (from n : ℕ) → ranked_numbers (numbered (newly_ranked frame) from n) ≡ numbered (λ number. number) from n
+numbers-numbered frame from zero = refl
+numbers-numbered frame from (suc n) = ap (λ ns. from ∷ ns) (numbers-numbered frame (suc from) n)
+
+-- where the shelf of a column stands in the order
+column-order : (frame : Frame) (column : ℕ) → column < frame.columns → order_of (fresh_records frame).shelves column ≡ order_at (across_side frame) (column * frame.column_width * 65536)
+column-order frame column below =
+    omega (
+      arith,
+      numbered-field (λ (s : ShelfRecord). s.height) 0 (fresh_shelf frame) frame.columns column below,
+      numbered-field (λ (s : ShelfRecord). s.x) 0 (fresh_shelf frame) frame.columns column below,
+      numbered-field (λ (s : ShelfRecord). s.y) 0 (fresh_shelf frame) frame.columns column below,
+    )
+
+-- the shelves of the columns from one on are in order
+columns-rise : (frame : Frame) (low from n : ℕ) → 1 ≤ frame.column_width → from + n ≤ frame.columns → low ≤ order_at (across_side frame) (from * frame.column_width * 65536)
+    → RiseFrom low (map (order_of (fresh_records frame).shelves) (numbered (λ number. number) from n))
+columns-rise frame low from zero wide within first = tt
+columns-rise frame low from (suc n) wide within first =
+    let here : order_of (fresh_records frame).shelves from ≡ order_at (across_side frame) (from * frame.column_width * 65536) = column-order frame from (omega (arith, within)) in
+    let later : from * frame.column_width + frame.column_width ≤ suc from * frame.column_width = columns-apart from (suc from) frame.column_width (omega arith) in (
+      omega (arith, here, first),
+      columns-rise frame (order_of (fresh_records frame).shelves from + 1) (suc from) n wide (omega (arith, within)) (omega (arith, here, later, wide)),
+    )
+
+-- the newly ranked shelves of a new atlas are ranked
+pub fresh-ranked : (frame : Frame) → IsFrame 65535 frame → HasAllColumns frame → AreRanked frame (fresh_records frame) (numbered (newly_ranked frame) 0 frame.columns)
+fresh-ranked frame is_frame all =
+    record {
+      once = λ shelf. ap (times shelf) (numbers-numbered frame 0 frame.columns ∙ sym (fresh-met frame is_frame) ∙ sym (walked-numbers (fresh_records frame) (shelf_walk (fresh_records frame)).met));
+      rising = subst (λ (ns : List ℕ). RiseFrom 0 (map (order_of (fresh_records frame).shelves) ns)) (sym (numbers-numbered frame 0 frame.columns)) (columns-rise frame 0 0 frame.columns is_frame.column_width (omega arith) (omega arith));
+      bounds = column-bounds frame (fresh_records frame) (numbered (newly_ranked frame) 0 frame.columns) (fresh-kept frame is_frame all).1
+          (numbered-each (λ (one : RankedShelf). one.widest ≡ frame.column_width) (newly_ranked frame) 0 frame.columns (λ k below. refl));
+    }
+
+-- a total by the numbers of shelves, as a sum
+times-sum : (k : ℕ) (ranked : List RankedShelf) → times k (ranked_numbers ranked) ≡ sum_by (λ (one : RankedShelf). hit one.shelf k) ranked
+times-sum k [] = refl
+times-sum k (one ∷ others) = ap (λ n. hit one.shelf k + n) (times-sum k others) ∙ sym (sum_by-cons (λ (one : RankedShelf). hit one.shelf k) one others)
+
+-- a fact of each, as std says it, and back
+All-each : (P : RankedShelf → Type 0) (ranked : List RankedShelf) → Each P ranked → All P ranked
+All-each P [] each = All-nil P
+All-each P (one ∷ others) each = All-cons P one others each.0 (All-each P others each.1)
+
+each-All : (P : RankedShelf → Type 0) (ranked : List RankedShelf) → All P ranked → Each P ranked
+each-All P [] all = tt
+each-All P (one ∷ others) all = (All-head P one others all, each-All P others (All-tail P one others all))
+
+-- numbers that don't fall, none of which stands twice, rise where no two measure the same
+sorted-rise : (measure : ℕ → ℕ) (low : ℕ) (ranked : List RankedShelf) → AllAdjacentBelow (λ (x y : RankedShelf). measure x.shelf ≤ measure y.shelf) ranked (length ranked)
+    → ((k : ℕ) → times k (ranked_numbers ranked) ≤ 1)
+    → ((k l : ℕ) → 1 ≤ times k (ranked_numbers ranked) → 1 ≤ times l (ranked_numbers ranked) → measure k ≡ measure l → k ≡ l)
+    → Each (λ (one : RankedShelf). low ≤ measure one.shelf) (take 1 ranked)
+    → RiseFrom low (map measure (ranked_numbers ranked))
+sorted-rise measure low [] sorted once apart first = tt
+sorted-rise measure low (one ∷ []) sorted once apart first = (first.0, tt)
+sorted-rise measure low (one ∷ other ∷ others) sorted once apart first =
+    let no_less : measure one.shelf ≤ measure other.shelf = sorted 0 one (omega arith) in
+    let differ : measure one.shelf ≡ measure other.shelf → ⊥ =
+    λ same.
+    let alike : one.shelf ≡ other.shelf = apart one.shelf other.shelf (grind arith) (grind arith) same in
+    twice one.shelf other.shelf (ranked_numbers others) alike (once one.shelf) in
+    let later : (k : ℕ) (d : RankedShelf) → k + 1 < length (other ∷ others) → measure (get_or (other ∷ others) k d).shelf ≤ measure (get_or (other ∷ others) (k + 1) d).shelf =
+    λ k d below.
+    let next : suc k + 1 ≡ suc (k + 1) = omega arith in
+    subst (λ (n : ℕ). measure (get_or (other ∷ others) k d).shelf ≤ measure (get_or (one ∷ other ∷ others) n d).shelf) next (sorted (suc k) d (omega (arith, below))) in (
+      first.0,
+      sorted-rise measure (measure one.shelf + 1) (other ∷ others) later
+          (λ k. omega (arith, once k))
+          (λ k l stands also. apart k l (omega (arith, stands)) (omega (arith, also)))
+          (above (measure one.shelf) (measure other.shelf) no_less differ, tt),
+    )
+  where
+    above : (m n : ℕ) → m ≤ n → (m ≡ n → ⊥) → m + 1 ≤ n
+    above m n less differ = omega (arith, less, differ)
+
+    twice : (k l : ℕ) (ns : List ℕ) → k ≡ l → times k (k ∷ l ∷ ns) ≤ 1 → ⊥
+    twice k l ns same once = absurd (grind arith)
+
+-- the numbers of the shelves in use
+numbers-in_use : (frame : Frame) (numbers : List ℕ) → ranked_numbers (map (newly_ranked frame) numbers) ≡ numbers
+numbers-in_use frame [] = refl
+numbers-in_use frame (n ∷ ns) = ap (λ ms. n ∷ ms) (numbers-in_use frame ns)
+
+-- and their bounds
+bounds-in_use : (frame : Frame) (numbers : List ℕ) → Each (λ (one : RankedShelf). one.widest ≡ frame.column_width) (map (newly_ranked frame) numbers)
+bounds-in_use frame [] = tt
+bounds-in_use frame (n ∷ ns) = (refl, bounds-in_use frame ns)
+
+-- the shelves in use that were sorted by their order are ranked
+pub sorted-ranked : (frame : Frame) (records : Records) (ranked : List RankedShelf) → AreKept frame records → IsPermutation (in_use frame records) ranked
+    → IsNonDecreasingBy (λ (one : RankedShelf). order_of records.shelves one.shelf) ranked → AreRanked frame records ranked
+sorted-ranked frame records ranked kept moved sorted =
+    record {
+      once = λ shelf. same shelf ∙ ap (times shelf) (sym (walked-numbers records chain));
+      rising = sorted-rise (order_of records.shelves) 0 ranked
+          (all_adjacent_from_non_decreasing (λ (one : RankedShelf). order_of records.shelves one.shelf) ranked sorted)
+          (λ k. omega (arith, same k, (shelves-part records kept.linked).once k)) apart low;
+      bounds = column-bounds frame records ranked kept
+          (each-All (λ (one : RankedShelf). one.widest ≡ frame.column_width) ranked
+          (All-permutation (λ (one : RankedShelf). one.widest ≡ frame.column_width) (in_use frame records) ranked moved
+          (All-each (λ (one : RankedShelf). one.widest ≡ frame.column_width) (in_use frame records) (bounds-in_use frame chain))));
+    }
+  where
+    chain : List ℕ
+    chain = (shelf_walk records).met
+
+    same : (k : ℕ) → times k (ranked_numbers ranked) ≡ times k chain
+    same k =
+        times-sum k ranked
+        ∙ sum_by-IsPermutation (λ (one : RankedShelf). hit one.shelf k) (in_use frame records) ranked moved
+        ∙ sym (times-sum k (in_use frame records))
+        ∙ ap (times k) (numbers-in_use frame chain)
+
+    apart : (k l : ℕ) → 1 ≤ times k (ranked_numbers ranked) → 1 ≤ times l (ranked_numbers ranked) → order_of records.shelves k ≡ order_of records.shelves l → k ≡ l
+    apart k l stands also alike =
+        let here : 1 ≤ times k chain = omega (arith, stands, same k) in
+        let there : 1 ≤ times l chain = omega (arith, also, same l) in
+        let one : LiesWithin frame records.shelves k = Each-member (LiesWithin frame records.shelves) chain k (kept-within frame records kept) here in
+        let other : LiesWithin frame records.shelves l = Each-member (LiesWithin frame records.shelves) chain l (kept-within frame records kept) there in
+        rise-same (place_number records.shelves) 0 chain (places-rise frame records kept) k l here there
+        (same-place (height_of records.shelves k) (height_of records.shelves l) (place_number records.shelves k) (place_number records.shelves l)
+        (omega (arith, one.along, one.across)) (omega (arith, other.along, other.across)) alike)
+
+    low : Each (λ (one : RankedShelf). 0 ≤ order_of records.shelves one.shelf) (take 1 ranked)
+    low = Each-all (λ (one : RankedShelf). 0 ≤ order_of records.shelves one.shelf) (λ one. omega arith) (take 1 ranked)
+
+-- ranked shelves are no fewer than the columns
+pub columns-ranked : (frame : Frame) (records : Records) (ranked : List RankedShelf) → AreKept frame records → AreRanked frame records ranked → frame.columns ≤ length ranked
+columns-ranked frame records ranked kept are =
+    let entries : List Entry = (walked_lists records).entries in
+    omega (
+      arith,
+      columns-le-shelves (state_of frame records) kept.valid,
+      length-map entries (spelled_shelf (bare frame records)),
+      shelf_numbers-length entries,
+      length-fewer (shelf_numbers entries) (ranked_numbers ranked) (λ k. omega (arith, are.once k)),
+      length-map ranked (λ (one : RankedShelf). one.shelf),
+    )

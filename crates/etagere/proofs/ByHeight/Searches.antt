@@ -1,0 +1,236 @@
+-- Where a search of the ranked shelves has come to, from shelf to shelf.
+use Rattle.std.proofs.Common.{◌≡◌, ℕ, zero, suc, ◌+◌, ◌<◌, ◌≤◌, Bool, true, false, cond, Option, None, Some, List, [], ◌∷◌, ◌++◌, add-one, drop, get_or, length, length-set, map, set, take, refl, ap, arith, sym, ◌∙◌, subst}
+use Rattle.std.proofs.Math.Seq.{map-set_same}
+use Rattle.std.proofs.lemmas.List.{drop-map, map-append, take-append-drop, take-map}
+use Rattle.std.proofs.lemmas.Bool.Decides.{nat_tests}
+use Rattle.std.specs.Option.{option_map_or}
+use Rattle.std.specs.Prelude.{IfSome, nat_lt}
+use Rattle.etagere_base.specs.Lists.{Each}
+use Rattle.etagere_base.proofs.EachLemmas.{Each-back}
+use Rattle.etagere_links.specs.RecordLists.{Records}
+use Rattle.etagere_links.specs.declared.records.ShelfRecord.{ShelfRecord}
+use Rattle.etagere.specs.AtlasRecords.{height_of}
+use Rattle.etagere.specs.Private.ByHeight.{IsFirstAsWide, IsStart, order_at, order_of, place_number, ranked_numbers}
+use Rattle.etagere.specs.Private.Opening.{AreSearchable, AreTall, IsSearchable}
+use Rattle.etagere.specs.Private.Searching.{earlier, earliest, first_by_height, first_offer, good_offer, offered}
+use Rattle.etagere.specs.declared.linked.choosing.Candidate.{Candidate}
+use Rattle.etagere.specs.declared.linked.heights.RankedShelf.{RankedShelf}
+use Rattle.etagere.proofs.ByHeight.SearchedOnes.{good-none, offered-low, offered-short}
+
+-- a fact of each after some, of some of the first, and with one replaced
+Each-drop : {X : Type 0} (P : X → Type 0) (n : ℕ) (xs : List X) → Each P xs → Each P (drop n xs)
+Each-drop P zero xs each = each
+Each-drop P (suc n) [] each = tt
+Each-drop P (suc n) (x ∷ xs) each = Each-drop P n xs each.1
+
+Each-take : {X : Type 0} (P : X → Type 0) (n : ℕ) (xs : List X) → Each P xs → Each P (take n xs)
+Each-take P zero xs each = tt
+Each-take P (suc n) [] each = tt
+Each-take P (suc n) (x ∷ xs) each = (each.0, Each-take P n xs each.1)
+
+Each-set : {X : Type 0} (P : X → Type 0) (xs : List X) (n : ℕ) (y : X) → Each P xs → P y → Each P (set xs n y)
+Each-set P [] n y each own = tt
+Each-set P (x ∷ xs) zero y each own = (own, each.1)
+Each-set P (x ∷ xs) (suc n) y each own = (each.0, Each-set P xs n y each.1 own)
+
+Each-at : {X : Type 0} (P : X → Type 0) (xs : List X) (n : ℕ) (d : X) → n < length xs → Each P xs → P (get_or xs n d)
+Each-at P [] n d within each = absurd (omega arith)
+Each-at P (x ∷ xs) zero d within each = each.0
+Each-at P (x ∷ xs) (suc n) d within each = Each-at P xs n d (omega arith) each.1
+
+-- shelves whose bounds are below a width offer nothing
+offered-vain : (records : Records) (width height : ℕ) (ranked : List RankedShelf) → AreSearchable records ranked → Each (λ (one : RankedShelf). one.widest < width) ranked
+    → Each (λ shelf. offered records width height shelf ≡ None) (ranked_numbers ranked)
+offered-vain records width height [] searchable low = tt
+offered-vain records width height (one ∷ others) searchable low =
+    (offered-low records width height one searchable.0 low.0, offered-vain records width height others searchable.1 low.1)
+
+-- from one position on: what stands before another, what stands there, and what stands after it
+between : (ranked : List RankedShelf) (from index : ℕ) (d : RankedShelf) → from ≤ index → index < length ranked → drop from ranked ≡ drop from (take index ranked) ++ get_or ranked index d ∷ drop (suc index) ranked
+between [] from index d after within = absurd (omega arith)
+between (x ∷ xs) zero zero d after within = refl
+between (x ∷ xs) zero (suc index) d after within = ap (λ (ys : List RankedShelf). x ∷ ys) (between xs zero index d (omega arith) (omega arith))
+between (x ∷ xs) (suc from) zero d after within = absurd (omega arith)
+between (x ∷ xs) (suc from) (suc index) d after within = between xs from index d (omega arith) (omega arith)
+
+-- shelves that offer nothing are passed
+passed-first : (offers : ℕ → Option Candidate) (shelves others : List ℕ) → Each (λ shelf. offers shelf ≡ None) shelves → first_offer offers (shelves ++ others) ≡ first_offer offers others
+passed-first offers [] others vain = refl
+passed-first offers (n ∷ ns) others vain =
+    ap (λ o. option_map_or Some o (first_offer offers (ns ++ others))) vain.0 ∙ passed-first offers ns others vain.1
+
+passed-earliest : (records : List ShelfRecord) (offers : ℕ → Option Candidate) (shelves others : List ℕ) → Each (λ shelf. offers shelf ≡ None) shelves → earliest records (map offers (shelves ++ others)) ≡ earliest records (map offers others)
+passed-earliest records offers [] others vain = refl
+passed-earliest records offers (n ∷ ns) others vain =
+    ap (λ o. earlier records o (earliest records (map offers (ns ++ others)))) vain.0 ∙ passed-earliest records offers ns others vain.1
+
+good-vain : (records : Records) (width height : ℕ) (shelves : List ℕ) → Each (λ shelf. offered records width height shelf ≡ None) shelves → Each (λ shelf. good_offer records width height shelf ≡ None) shelves
+good-vain records width height [] vain = tt
+good-vain records width height (n ∷ ns) vain = (good-none records width height n vain.0, good-vain records width height ns vain.1)
+
+-- the shelf that is read at an index
+abbrev pub read : List RankedShelf → ℕ → RankedShelf
+read ranked index = get_or ranked index (record { widest = 0; shelf = 0 })
+
+-- the earlier of three, either way round
+earlier-three : (shelves : List ShelfRecord) (a b c : Candidate) → earlier shelves (Some a) (earlier shelves (Some b) (Some c)) ≡ earlier shelves (earlier shelves (Some a) (Some b)) (Some c)
+earlier-three shelves a b c = by_tests (nat_lt (place_number shelves a.shelf) (place_number shelves b.shelf)) (nat_lt (place_number shelves b.shelf) (place_number shelves c.shelf)) (nat_lt (place_number shelves a.shelf) (place_number shelves c.shelf)) refl refl refl
+  where
+    by_tests : (p q r : Bool) → nat_lt (place_number shelves a.shelf) (place_number shelves b.shelf) ≡ p → nat_lt (place_number shelves b.shelf) (place_number shelves c.shelf) ≡ q → nat_lt (place_number shelves a.shelf) (place_number shelves c.shelf) ≡ r
+        → earlier shelves (Some a) (cond q (Some b) (Some c)) ≡ earlier shelves (cond p (Some a) (Some b)) (Some c)
+    by_tests true true true e f g = rw (e, g) refl
+    by_tests true true false e f g = absurd (grind (arith, nat_tests))
+    by_tests true false r e f g = refl
+    by_tests false true r e f g = rw (e, f) refl
+    by_tests false false true e f g = absurd (grind (arith, nat_tests))
+    by_tests false false false e f g = rw (f, g) refl
+
+-- what was found before stands against the next, and then against the rest
+pub earlier-assoc : (shelves : List ShelfRecord) (a b c : Option Candidate) → earlier shelves a (earlier shelves b c) ≡ earlier shelves (earlier shelves a b) c
+earlier-assoc shelves None b c = refl
+earlier-assoc shelves (Some a) None c = refl
+earlier-assoc shelves (Some a) (Some b) None = by_test (nat_lt (place_number shelves a.shelf) (place_number shelves b.shelf))
+  where
+    by_test : (p : Bool) → cond p (Some a) (Some b) ≡ earlier shelves (cond p (Some a) (Some b)) None
+    by_test true = refl
+    by_test false = refl
+earlier-assoc shelves (Some a) (Some b) (Some c) = earlier-three shelves a b c
+
+-- nothing comes after the last
+pub earlier-none : (shelves : List ShelfRecord) (a : Option Candidate) → earlier shelves a None ≡ a
+earlier-none shelves None = refl
+earlier-none shelves (Some a) = refl
+
+-- the earlier of two is of a record where they are
+pub earlier-within : (shelves : List ShelfRecord) (a b : Option Candidate) → IfSome a (λ (candidate : Candidate). candidate.shelf < length shelves) → IfSome b (λ (candidate : Candidate). candidate.shelf < length shelves)
+    → IfSome (earlier shelves a b) (λ (candidate : Candidate). candidate.shelf < length shelves)
+earlier-within shelves None b one other = other
+earlier-within shelves (Some a) None one other = one
+earlier-within shelves (Some a) (Some b) one other = by_test (nat_lt (place_number shelves a.shelf) (place_number shelves b.shelf))
+  where
+    by_test : (p : Bool) → IfSome (cond p (Some a) (Some b)) (λ (candidate : Candidate). candidate.shelf < length shelves)
+    by_test true = one
+    by_test false = other
+
+-- where a search has come to: the shelves are those of these numbers, and from here on each is tall enough
+pub record SearchesFrom (records : Records) (height from : ℕ) (numbers : List ℕ) (ranked : List RankedShelf) : Type 0 where
+  pub same : ranked_numbers ranked ≡ numbers
+  pub searchable : AreSearchable records ranked
+  pub within : from ≤ length ranked
+  pub tall : AreTall records.shelves height (drop from numbers)
+
+-- the shelf to open next: those before it offer nothing
+pub record IsReached (records : Records) (width height from index : ℕ) (numbers : List ℕ) (one : RankedShelf) : Type 0 where
+  pub skipped : List ℕ
+  pub whole : drop from numbers ≡ skipped ++ one.shelf ∷ drop (index + 1) numbers
+  pub vain : Each (λ shelf. offered records width height shelf ≡ None) skipped
+  pub searchable : IsSearchable records one
+  pub tall : height ≤ height_of records.shelves one.shelf
+  pub others : AreTall records.shelves height (drop (index + 1) numbers)
+
+pub reached : (records : Records) (width height from index : ℕ) (numbers : List ℕ) (ranked : List RankedShelf) → SearchesFrom records height from numbers ranked → IsFirstAsWide from width ranked (Some index)
+    → IsReached records width height from index numbers (read ranked index)
+reached records width height from index numbers ranked search first =
+    let none : RankedShelf = record { widest = 0; shelf = 0 } in
+    let front : List RankedShelf = drop from (take index ranked) in
+    let one : RankedShelf = read ranked index in
+    let parts : drop from ranked ≡ front ++ one ∷ drop (index + 1) ranked =
+    between ranked from index none first.0 first.1 ∙ ap (λ n. front ++ one ∷ drop n ranked) (sym (add-one index)) in
+    let whole : drop from numbers ≡ ranked_numbers front ++ one.shelf ∷ drop (index + 1) numbers =
+    ap (drop from) (sym search.same)
+    ∙ drop-map (λ (x : RankedShelf). x.shelf) from ranked
+    ∙ ap ranked_numbers parts
+    ∙ map-append (λ (x : RankedShelf). x.shelf) front (one ∷ drop (index + 1) ranked)
+    ∙ ap (λ (ns : List ℕ). ranked_numbers front ++ one.shelf ∷ ns) (sym (drop-map (λ (x : RankedShelf). x.shelf) (index + 1) ranked) ∙ ap (drop (index + 1)) search.same) in
+    let tall : AreTall records.shelves height (ranked_numbers front ++ one.shelf ∷ drop (index + 1) numbers) =
+    subst (AreTall records.shelves height) whole search.tall in
+    let after = Each-back (λ shelf. height ≤ height_of records.shelves shelf) (ranked_numbers front) (one.shelf ∷ drop (index + 1) numbers) tall in
+    record {
+      skipped = ranked_numbers front;
+      whole = whole;
+      vain = offered-vain records width height front (Each-drop (IsSearchable records) from (take index ranked) (Each-take (IsSearchable records) index ranked search.searchable)) first.2;
+      searchable = Each-at (IsSearchable records) ranked index none first.1 search.searchable;
+      tall = after.0;
+      others = after.1;
+    }
+
+-- after a shelf that keeps its number, the search goes on behind it
+pub behind : (records : Records) (width height from index : ℕ) (numbers : List ℕ) (ranked : List RankedShelf) (new : RankedShelf) → SearchesFrom records height from numbers ranked → IsFirstAsWide from width ranked (Some index)
+    → new.shelf ≡ (read ranked index).shelf → IsSearchable records new → SearchesFrom records height (index + 1) numbers (set ranked index new)
+behind records width height from index numbers ranked new search first same searchable =
+    record {
+      same = map-set_same (λ (x : RankedShelf). x.shelf) ranked index new (record { widest = 0; shelf = 0 }) same ∙ search.same;
+      searchable = Each-set (IsSearchable records) ranked index new search.searchable searchable;
+      within = omega (arith, first.1, length-set ranked index new);
+      tall = (reached records width height from index numbers ranked search first).others;
+    }
+
+-- what the shelf that is reached offers stands before what those behind it offer
+pub good-reached : (records : Records) (width height from index : ℕ) (numbers : List ℕ) (one : RankedShelf) → IsReached records width height from index numbers one
+    → first_offer (good_offer records width height) (drop from numbers)
+    ≡ option_map_or Some (good_offer records width height one.shelf) (first_offer (good_offer records width height) (drop (index + 1) numbers))
+good-reached records width height from index numbers one here =
+    ap (first_offer (good_offer records width height)) here.whole
+    ∙ passed-first (good_offer records width height) here.skipped (one.shelf ∷ drop (index + 1) numbers) (good-vain records width height here.skipped here.vain)
+
+pub placed-reached : (records : Records) (width height from index : ℕ) (numbers : List ℕ) (one : RankedShelf) → IsReached records width height from index numbers one
+    → earliest records.shelves (map (offered records width height) (drop from numbers))
+    ≡ earlier records.shelves (offered records width height one.shelf) (earliest records.shelves (map (offered records width height) (drop (index + 1) numbers)))
+placed-reached records width height from index numbers one here =
+    ap (λ (ns : List ℕ). earliest records.shelves (map (offered records width height) ns)) here.whole
+    ∙ passed-earliest records.shelves (offered records width height) here.skipped (one.shelf ∷ drop (index + 1) numbers) here.vain
+
+-- where no bound is as wide, nothing is offered from here on
+pub none_left : (records : Records) (width height from : ℕ) (numbers : List ℕ) (ranked : List RankedShelf) → SearchesFrom records height from numbers ranked → IsFirstAsWide from width ranked None
+    → Each (λ shelf. offered records width height shelf ≡ None) (drop from numbers)
+none_left records width height from numbers ranked search low =
+    let numbers_is : ranked_numbers (drop from ranked) ≡ drop from numbers = sym (drop-map (λ (x : RankedShelf). x.shelf) from ranked) ∙ ap (drop from) search.same in
+    rw (← numbers_is) (offered-vain records width height (drop from ranked) (Each-drop (IsSearchable records) from ranked search.searchable) low)
+
+-- so there is no good fit, and no other
+pub good-ended : (records : Records) (width height from : ℕ) (numbers : List ℕ) (ranked : List RankedShelf) → SearchesFrom records height from numbers ranked → IsFirstAsWide from width ranked None
+    → first_offer (good_offer records width height) (drop from numbers) ≡ None
+good-ended records width height from numbers ranked search low =
+    none-first (drop from numbers) (good-vain records width height (drop from numbers) (none_left records width height from numbers ranked search low))
+  where
+    none-first : (ns : List ℕ) → Each (λ shelf. good_offer records width height shelf ≡ None) ns → first_offer (good_offer records width height) ns ≡ None
+    none-first [] vain = refl
+    none-first (n ∷ ns) vain = ap (λ o. option_map_or Some o (first_offer (good_offer records width height) ns)) vain.0 ∙ none-first ns vain.1
+
+pub placed-ended : (records : Records) (width height from : ℕ) (numbers : List ℕ) (ranked : List RankedShelf) → SearchesFrom records height from numbers ranked → IsFirstAsWide from width ranked None
+    → earliest records.shelves (map (offered records width height) (drop from numbers)) ≡ None
+placed-ended records width height from numbers ranked search low =
+    none-earliest (drop from numbers) (none_left records width height from numbers ranked search low)
+  where
+    none-earliest : (ns : List ℕ) → Each (λ shelf. offered records width height shelf ≡ None) ns → earliest records.shelves (map (offered records width height) ns) ≡ None
+    none-earliest [] vain = refl
+    none-earliest (n ∷ ns) vain = ap (λ o. earlier records.shelves o (earliest records.shelves (map (offered records width height) ns))) vain.0 ∙ none-earliest ns vain.1
+
+-- from where the shelves begin that don't come before a height, each is as tall
+pub tall-from : (records : Records) (height start probes : ℕ) (ranked : List RankedShelf) → AreSearchable records ranked → IsStart records.shelves ranked (order_at height 0) start probes
+    → AreTall records.shelves height (drop start (ranked_numbers ranked))
+tall-from records height start probes ranked searchable is =
+    rw (drop-map (λ (x : RankedShelf). x.shelf) start ranked) (each-tall (drop start ranked) (Each-drop (IsSearchable records) start ranked searchable) is.after)
+  where
+    each-tall : (ones : List RankedShelf) → AreSearchable records ones → Each (λ (one : RankedShelf). order_at height 0 ≤ order_of records.shelves one.shelf) ones → AreTall records.shelves height (ranked_numbers ones)
+    each-tall [] searchable after = tt
+    each-tall (one ∷ others) searchable after = (omega (arith, searchable.0.place, after.0), each-tall others searchable.1 after.1)
+
+-- those before offer nothing, so the search may start behind them
+pub found-from : (records : Records) (width height start probes : ℕ) (ranked : List RankedShelf) → IsStart records.shelves ranked (order_at height 0) start probes
+    → first_by_height records width height (drop start (ranked_numbers ranked)) ≡ first_by_height records width height (ranked_numbers ranked)
+found-from records width height start probes ranked is =
+    let front : List ℕ = ranked_numbers (take start ranked) in
+    let back : List ℕ = drop start (ranked_numbers ranked) in
+    let vain : Each (λ shelf. offered records width height shelf ≡ None) front = each-short (take start ranked) is.before in
+    let whole : ranked_numbers ranked ≡ front ++ back =
+    sym (take-append-drop start (ranked_numbers ranked)) ∙ ap (λ (ns : List ℕ). ns ++ back) (take-map (λ (x : RankedShelf). x.shelf) start ranked) in
+    sym (
+    ap (first_by_height records width height) whole
+    ∙ ap (λ o. option_map_or Some o (earliest records.shelves (map (offered records width height) (front ++ back)))) (passed-first (good_offer records width height) front back (good-vain records width height front vain))
+    ∙ ap (λ o. option_map_or Some (first_offer (good_offer records width height) back) o) (passed-earliest records.shelves (offered records width height) front back vain)
+    )
+  where
+    each-short : (ones : List RankedShelf) → Each (λ (one : RankedShelf). order_of records.shelves one.shelf < order_at height 0) ones → Each (λ shelf. offered records width height shelf ≡ None) (ranked_numbers ones)
+    each-short [] before = tt
+    each-short (one ∷ others) before = (offered-short records width height one.shelf (omega (arith, before.0)), each-short others before.1)

@@ -1,6 +1,0 @@
-use Rattle.etagere.proofs.Searched.SearchSteps.{SearchesFree}
-use Rattle.etagere.proofs.linked.choosing.first_wide.Given as goal
-
--- the first wide one of what is left of the free list is that of all
-abbrev pub invariant-loop-step : goal.invariant-loop-step
-invariant-loop-step l = SearchesFree l.records l.width l.shelf l.at l._step

@@ -1,0 +1,21 @@
+use Rattle.std.proofs.Common.{ℕ, ◌-◌, ◌<◌, ◌≤◌, length, take, drop}
+use Rattle.std.specs.Prelude.{◌^◌}
+use Rattle.etagere_base.specs.Lists.{Each}
+use Rattle.etagere.specs.Private.ByHeight.{order_of}
+use Rattle.etagere.specs.declared.linked.heights.RankedShelf.{RankedShelf}
+use Rattle.etagere.proofs.ByHeight.Positions.{HasDigits}
+use Rattle.etagere.proofs.linked.heights.first_from.Given as goal
+
+-- those before the start come before the order, and those from the end on don't; each probe halved what is between
+abbrev pub invariant-loop-start : goal.invariant-loop-start
+invariant-loop-start l = record {
+  bounds : l.start.index ≤ l.end;
+  few : length l.ranked < 2 ^ 64;
+  within : l.end ≤ length l.ranked;
+  before : Each (λ (one : RankedShelf). order_of l.shelves one.shelf < l.order) (take l.start.index l.ranked);
+  after : Each (λ (one : RankedShelf). l.order ≤ order_of l.shelves one.shelf) (drop l.end l.ranked);
+  digits : (digits : ℕ) → length l.ranked < 2 ^ digits → HasDigits (l.end - l.start.index) l.start.probes digits;
+}
+
+abbrev pub decreases-loop-start : goal.decreases-loop-start
+decreases-loop-start l = l.end - l.start.index
