@@ -15,6 +15,8 @@ mod clones;
 #[cfg(test)]
 mod dumps;
 #[cfg(test)]
+mod glyphs;
+#[cfg(test)]
 mod ids;
 #[cfg(test)]
 mod json;
@@ -26,6 +28,8 @@ mod places;
 mod plain_types;
 #[cfg(test)]
 mod plain_walks;
+#[cfg(test)]
+mod range_ends;
 #[cfg(test)]
 mod restoring;
 #[cfg(test)]

@@ -1,0 +1,235 @@
+//! Tests of the glyph cache: worked calls, the calls beside placing, and a long text through a small cache, compared
+//! with a plain one.
+
+use etagere::{
+    Allocation, AllocatorOptions, AtlasAllocator, DEFAULT_OPTIONS, OptionsFault, Size, size2,
+};
+use glyph_shelf::{GlyphCache, GlyphFault};
+use std::alloc::Global;
+use std::num::NonZeroUsize;
+use std::process::Abort;
+use std::test::Fail;
+use test_support::corners::corners;
+
+/// A key, its size, and what its placement answers: the corners of its rectangle, or that it is too large; and the keys
+/// that were evicted.
+type Row<'a> = (u64, (i32, i32), Option<[i32; 4]>, &'a [u64]);
+
+fn cache_of(
+    alloc: Global,
+    (width, height): (i32, i32),
+    num_columns: i32,
+    capacity: usize,
+) -> Result<GlyphCache, Fail> {
+    let options = AllocatorOptions {
+        num_columns,
+        ..DEFAULT_OPTIONS
+    };
+    let capacity = NonZeroUsize::new(capacity).ok_or("no capacity")?;
+    Ok(GlyphCache::new(alloc, size2(width, height), &options, capacity)?)
+}
+
+/// Places keys one after the other, and compares each answer.
+fn try_rows(
+    rt: &(impl AllocGlobal + Abort),
+    cache: &mut GlyphCache,
+    rows: &[Row<'_>],
+) -> Result<(), Fail> {
+    for (key, (width, height), wanted, evicted) in rows {
+        let place = match cache.place(*key, size2(*width, *height)) {
+            Ok(placed) => {
+                assert_eq!(rt; placed.evicted.as_slice(), *evicted);
+                Some(corners(placed.rectangle))
+            }
+            Err(fault) => {
+                assert_eq!(rt; fault.number(), 1);
+                None
+            }
+        };
+        assert_eq!(rt; place, *wanted);
+    }
+    Ok(())
+}
+
+#[test]
+fn the_least_recent_keys_go_first(rt: HostRuntime) -> Result<(), Fail> {
+    let mut cache = cache_of(rt.alloc(), (32, 32), 1, 3)?;
+    let rows: [Row<'_>; 8] = [
+        (1, (32, 8), Some([0, 0, 32, 8]), &[]),
+        (2, (32, 8), Some([0, 8, 32, 16]), &[]),
+        (3, (32, 8), Some([0, 16, 32, 32]), &[]),
+        (1, (1, 1), Some([0, 0, 32, 8]), &[]),
+        (4, (32, 8), Some([0, 8, 32, 16]), &[2]),
+        (5, (32, 32), Some([0, 0, 32, 32]), &[3, 1, 4]),
+        (6, (33, 1), None, &[]),
+        (5, (7, 7), Some([0, 0, 32, 32]), &[]),
+    ];
+    try_rows(&rt, &mut cache, &rows)
+}
+
+#[test]
+fn a_full_atlas_evicts_below_the_capacity(rt: HostRuntime) -> Result<(), Fail> {
+    let mut cache = cache_of(rt.alloc(), (16, 16), 1, 10)?;
+    let rows: [Row<'_>; 2] = [
+        (1, (16, 8), Some([0, 0, 16, 16]), &[]),
+        (2, (16, 8), Some([0, 0, 16, 16]), &[1]),
+    ];
+    try_rows(&rt, &mut cache, &rows)
+}
+
+#[test]
+fn a_full_cache_evicts_where_the_atlas_has_room(rt: HostRuntime) -> Result<(), Fail> {
+    let mut cache = cache_of(rt.alloc(), (64, 64), 1, 1)?;
+    let rows: [Row<'_>; 2] = [
+        (1, (8, 8), Some([0, 0, 8, 8]), &[]),
+        (2, (8, 8), Some([0, 0, 8, 8]), &[1]),
+    ];
+    try_rows(&rt, &mut cache, &rows)
+}
+
+#[test]
+fn a_size_that_lacks_records_for_its_splits_is_too_large(rt: HostRuntime) -> Result<(), Fail> {
+    let mut cache = cache_of(rt.alloc(), (65535, 100), 65535, 4)?;
+    let rows: [Row<'_>; 2] = [
+        (1, (1, 1), None, &[]),
+        (1, (1, 92), Some([0, 0, 1, 100]), &[]),
+    ];
+    try_rows(&rt, &mut cache, &rows)
+}
+
+#[test]
+fn faults_have_numbers_and_names(rt: HostRuntime) -> Result<(), Fail> {
+    let alloc = rt.alloc();
+    let refused = GlyphCache::new(alloc, size2(0, 5), &DEFAULT_OPTIONS, NonZeroUsize::MIN);
+    assert_eq!(&rt;
+        refused.err().map(|fault| fault.number()),
+        Some(OptionsFault::Size.number())
+    );
+    let memory = GlyphFault::Memory(Vec::new(alloc));
+    assert_eq!(&rt; (GlyphFault::TooLarge.number(), memory.number()), (1, 2));
+    assert_eq!(&rt;
+        format!(in alloc; "{} {memory}", GlyphFault::TooLarge)?.as_str(),
+        "TooLarge Memory"
+    );
+    Ok(())
+}
+
+#[test]
+fn keys_are_looked_up_and_taken_out(rt: HostRuntime) -> Result<(), Fail> {
+    let mut cache = cache_of(rt.alloc(), (32, 32), 1, 3)?;
+    assert_eq!(&rt;
+        (cache.len(), cache.is_empty(), cache.capacity().get()),
+        (0, true, 3)
+    );
+    for key in [1, 2, 3] {
+        cache.place(key, size2(32, 8))?;
+    }
+    assert_eq!(&rt; cache.get(1).map(corners), Some([0, 0, 32, 8]));
+    assert_eq!(&rt; cache.get(4), None);
+    assert_eq!(&rt; cache.atlas().allocated_space(), 32 * 32);
+    assert_eq!(&rt; cache.remove(3).map(corners), Some([0, 16, 32, 32]));
+    assert_eq!(&rt; (cache.remove(3), cache.len()), (None, 2));
+    let rows: [Row<'_>; 2] = [
+        (4, (32, 9), Some([0, 16, 32, 32]), &[]),
+        (5, (32, 8), Some([0, 8, 32, 16]), &[2]),
+    ];
+    try_rows(&rt, &mut cache, &rows)?;
+    cache.clear();
+    assert_eq!(&rt;
+        (cache.len(), cache.get(5), cache.atlas().is_empty()),
+        (0, None, true)
+    );
+    try_rows(&rt, &mut cache, &[(5, (32, 32), Some([0, 0, 32, 32]), &[])])
+}
+
+/// A text whose letters come as often as they do in English.
+const TEXT: &[u8] =
+    b"The shelf that is tall enough and not much too tall takes the letter, and where no shelf is, \
+a new one begins above the last. What was used least of late is put away first, the rest stays where it stands; \
+so a page of text soon finds each of its letters where the page before it left them, but for a few: Q, X, Z and J.";
+
+const PLACEMENTS: usize = 100_000;
+
+/// How wide and how tall a letter is, in one of four sizes of type.
+fn letter_size(letter: u8, type_size: u8) -> Size {
+    let larger = i32::from(type_size);
+    let tall = if letter.is_ascii_uppercase() { 4 } else { 0 };
+    size2(
+        3 + i32::from(letter % 5) + 2 * larger,
+        6 + tall + 3 * larger,
+    )
+}
+
+/// A cache as its rules say: keys with what they were given, the most recently used first, and an atlas.
+#[derive(Drop)]
+struct PlainCache {
+    entries: Vec<(u64, Allocation)>,
+    atlas: AtlasAllocator,
+    capacity: usize,
+}
+
+impl PlainCache {
+    /// The corners of a key's rectangle, and whether it was there; the keys that were evicted go to the list.
+    fn place(
+        &mut self,
+        key: u64,
+        size: Size,
+        evicted: &mut Vec<u64>,
+    ) -> Result<([i32; 4], bool), Fail> {
+        if let Some(index) = self.entries.iter().position(|entry| entry.0 == key) {
+            let entry = self.entries.remove(index);
+            let place = corners(entry.1.rectangle);
+            self.entries.insert(0, entry)?;
+            return Ok((place, true));
+        }
+        for _step in 0..=self.entries.len() {
+            if let Some(allocation) = self.allocate(size)? {
+                let place = corners(allocation.rectangle);
+                self.entries.insert(0, (key, allocation))?;
+                return Ok((place, false));
+            }
+            let (last, allocation) = self.entries.pop().ok_or("too large")?;
+            self.atlas.deallocate(allocation.id)?;
+            evicted.push(last)?;
+        }
+        Err("no place in an empty atlas".into())
+    }
+
+    fn allocate(&mut self, size: Size) -> Result<Option<Allocation>, Fail> {
+        if self.entries.len() == self.capacity {
+            return Ok(None);
+        }
+        Ok(self.atlas.allocate(size)?)
+    }
+}
+
+#[test]
+fn a_long_text_is_placed_as_a_plain_cache_places_it(rt: HostRuntime) -> Result<(), Fail> {
+    let mut cache = cache_of(rt.alloc(), (96, 96), 1, 60)?;
+    let mut plain = PlainCache {
+        entries: Vec::new(rt.alloc()),
+        atlas: AtlasAllocator::new(rt.alloc(), size2(96, 96))?,
+        capacity: 60,
+    };
+    let mut evicted = Vec::new(rt.alloc());
+    let mut random: u32 = 2024;
+    let (mut hits, mut evictions) = (0_usize, 0_usize);
+    for _placement in 0..PLACEMENTS {
+        random = random.wrapping_mul(1_664_525).wrapping_add(1_013_904_223);
+        let letter = TEXT[(random / 256) as usize % TEXT.len()];
+        let type_size = (random / 65536 % 4) as u8;
+        let size = letter_size(letter, type_size);
+        let key = u64::from(letter) * 4 + u64::from(type_size);
+        let placed = cache.place(key, size)?;
+        let (place, is_hit) = plain.place(key, size, &mut evicted)?;
+        assert_eq!(&rt; corners(placed.rectangle), place);
+        assert_eq!(&rt; placed.evicted.as_slice(), evicted.as_slice());
+        evictions = evictions.saturating_add(evicted.len());
+        evicted.clear();
+        hits = hits.saturating_add(usize::from(is_hit));
+    }
+    assert_eq!(&rt; cache.len(), plain.entries.len());
+    // So many letters that no rectangle is ever found, or none ever evicted, would show nothing.
+    assert!(&rt; hits > PLACEMENTS / 4 && evictions > PLACEMENTS / 10);
+    Ok(())
+}

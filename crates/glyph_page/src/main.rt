@@ -1,0 +1,72 @@
+//! A page of text through a small cache of glyphs: each letter of standard input gets a place in one atlas, and the
+//! atlas is drawn to standard output as it is in the end.
+#![tactic(auto)]
+
+use etagere::{DEFAULT_OPTIONS, Size, size2};
+use glyph_shelf::GlyphCache;
+use std::io::{self, Read};
+use std::num::NonZeroUsize;
+use std::process::ExitCode;
+
+/// The atlas has these sides in pixels.
+const SIDES: (i32, i32) = (160, 96);
+
+/// At most so many glyphs are kept.
+const MOST_GLYPHS: usize = 64;
+
+fn main(rt: HostRuntime) -> ExitCode {
+    match draw_page(&rt) {
+        Ok(()) => ExitCode::SUCCESS,
+        Err(why) => {
+            let _ = rt.eprintln(why);
+            ExitCode::from(3)
+        }
+    }
+}
+
+fn draw_page(rt: &(impl Input + Print + AllocGlobal)) -> Result<(), &'static str> {
+    let mut text = Vec::new(rt.alloc());
+    let read = rt.reader().read_to_end(&mut text);
+    read.map_err(|_| "read fault")?;
+    let capacity = NonZeroUsize::new(MOST_GLYPHS).ok_or("no capacity")?;
+    let (width, height) = SIDES;
+    let made = GlyphCache::new(rt.alloc(), size2(width, height), &DEFAULT_OPTIONS, capacity);
+    let mut cache = made.map_err(|_| "no memory")?;
+    for line in text.split(|byte| *byte == b'\n') {
+        place_line(&mut cache, line)?;
+    }
+    let drawn = cache.atlas().dump_svg(&mut io::writer(rt));
+    drawn.map_err(|_| "write fault")
+}
+
+/// Places the glyphs of a line. One that begins with `#` is a heading.
+fn place_line(cache: &mut GlyphCache, line: &[u8]) -> Result<(), &'static str> {
+    let is_heading = line.first() == Some(&b'#');
+    for letter in line {
+        if letter.is_ascii_graphic() {
+            let placed = cache.place(key_of(*letter, is_heading), glyph_size(*letter, is_heading));
+            placed.map_err(|_| "no place")?;
+        }
+    }
+    Ok(())
+}
+
+/// The key of a letter in the type of headings or of text.
+fn key_of(letter: u8, is_heading: bool) -> u64 {
+    u64::from(letter) + if is_heading { 256 } else { 0 }
+}
+
+/// How large a letter is drawn, in pixels.
+fn glyph_size(letter: u8, is_heading: bool) -> Size {
+    let type_size = if is_heading { 2 } else { 1 };
+    let wide = if letter == b'm' || letter == b'w' {
+        3
+    } else {
+        0
+    };
+    let tall = if letter.is_ascii_uppercase() { 4 } else { 0 };
+    size2(
+        (5 + wide + i32::from(letter % 3)) * type_size,
+        (8 + tall) * type_size,
+    )
+}

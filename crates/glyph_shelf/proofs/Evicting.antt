@@ -1,0 +1,290 @@
+-- Evictions: what has gone after some of them, that there is room in the end, and what a placement made of them.
+use Rattle.std.proofs.Common.{◌≡◌, ℕ, zero, suc, ◌+◌, ◌-◌, ◌<◌, ◌≤◌, Bool, true, false, Option, Some, None, List, [], ◌∷◌, ◌++◌, append_assoc, length, take, reverse, refl, ap, sym, ◌∙◌, subst, arith}
+use Rattle.std.specs.Map.{keys_of, lookup, values_of}
+use Rattle.std.specs.Option.{option_map_or}
+use Rattle.std.specs.Prelude.{is_some, nat_eq, nat_lt, option_map}
+use Rattle.std.proofs.lemmas.Bool.Decides.{nat_tests}
+use Rattle.std.proofs.lemmas.List.{length-append, length-take, map-append, reverse-append}
+use Rattle.std.proofs.Math.Seq.{take-append_seam}
+use Rattle.lru.specs.LruCache.{last_entry}
+use Rattle.etagere.proofs.Callers.{tied-empty}
+use Rattle.etagere.specs.Callers.{AreTied}
+use Rattle.etagere.specs.Choice.{placement_of}
+use Rattle.etagere.specs.Fresh.{fresh, without_records}
+use Rattle.etagere.specs.Places.{allocations}
+use Rattle.etagere.specs.Returning.{returned}
+use Rattle.etagere.specs.State.{AtlasState}
+use Rattle.etagere_base.specs.declared.frames.Frame.{Frame}
+use Rattle.etagere_base.specs.declared.geometry.Rectangle.{Rectangle}
+use Rattle.etagere_base.specs.declared.geometry.Size.{Size}
+use Rattle.etagere_base.specs.declared.ids.Allocation.{Allocation}
+use Rattle.glyph_shelf.specs.Cache.{CacheState, after_dropping, dropped_keys, without_last}
+use Rattle.glyph_shelf.specs.Placing.{Enters, IsEvictionCount, Places, RanOut, SameLayout, has_room}
+use Rattle.glyph_shelf.specs.Promises.{KeepsCachePromises}
+use Rattle.glyph_shelf.proofs.EntryLemmas.{last-none, last-split, unknown-take}
+use Rattle.glyph_shelf.proofs.Keeping.{keeps-without_last}
+
+-- an empty atlas of the frame has a place for the size
+abbrev pub Fits : Frame → Size → Type 0
+Fits frame size = is_some (placement_of (fresh frame) size) ≡ true
+
+-- these keys were evicted of a cache, and this is left: there was no room for the size before
+pub record HasEvicted (old : CacheState) (size : Size) (evicted : List ℕ) (left : CacheState) : Type 0 where
+  pub gone : List (ℕ × Allocation)
+  pub parts : old.entries ≡ left.entries ++ gone
+  pub keys : evicted ≡ reverse (keys_of gone)
+  pub dropped : left ≡ after_dropping old (length evicted)
+  pub none : (fewer : ℕ) → fewer < length evicted → has_room (after_dropping old fewer) size ≡ false
+
+-- places don't depend on the count of records
+placement-unused : (state other : AtlasState) (size : Size) → without_records state ≡ without_records other
+    → placement_of state size ≡ placement_of other size
+placement-unused state other size same = ap (λ (s : AtlasState). placement_of s size) same
+
+-- where nothing is kept there is room for what fits
+has_room-nothing : (state : CacheState) (size : Size) → KeepsCachePromises state → state.entries ≡ []
+    → Fits state.atlas.frame size → has_room state size ≡ true
+has_room-nothing state size promises nothing fits =
+    let tied = subst (λ (l : List (ℕ × Allocation)). AreTied (values_of l) (allocations state.atlas)) nothing promises.tied in
+    let new = promises.atlas.empty (tied-empty (allocations state.atlas) tied) in
+    let place = ap is_some (placement-unused state.atlas (fresh state.atlas.frame) size new) ∙ fits in
+    let room = promises.capacity in
+    let short : nat_lt (length state.entries) state.capacity ≡ true = rw nothing (grind (arith, nat_tests)) in
+    rw (short, place) refl
+
+-- a cache without the entry that stands last
+without_last-some : (state : CacheState) (e : ℕ × Allocation) → last_entry state.entries ≡ Some e
+    → without_last state ≡ record { entries = take (length state.entries - 1) state.entries; capacity = state.capacity; atlas = returned state.atlas e.1.id }
+without_last-some state e last =
+    ap (λ (o : Option (ℕ × Allocation)). option_map_or (λ entry. record { entries = take (length state.entries - 1) state.entries; capacity = state.capacity; atlas = returned state.atlas entry.1.id }) o state) last
+
+-- what stays in a cache without its last entry
+parts-without_last : (state : CacheState) (e : ℕ × Allocation) → last_entry state.entries ≡ Some e
+    → state.entries ≡ (without_last state).entries ++ e ∷ []
+parts-without_last state e last =
+    last-split state.entries e last ∙ ap (λ (s : CacheState). s.entries ++ e ∷ []) (sym (without_last-some state e last))
+
+-- the keys that have gone stand first in the other order
+dropped-gone : (old : CacheState) (size : Size) (evicted : List ℕ) (left : CacheState) → HasEvicted old size evicted left
+    → evicted ≡ dropped_keys old (length evicted)
+dropped-gone old size evicted left has =
+    let order : reverse (keys_of old.entries) ≡ evicted ++ reverse (keys_of left.entries) =
+    ap (λ l. reverse (keys_of l)) has.parts
+    ∙ ap reverse (map-append (λ (e : ℕ × Allocation). e.0) left.entries has.gone)
+    ∙ reverse-append (keys_of left.entries) (keys_of has.gone)
+    ∙ ap (λ l. l ++ reverse (keys_of left.entries)) (sym has.keys) in
+    sym (ap (take (length evicted)) order ∙ take-append_seam evicted (reverse (keys_of left.entries)))
+
+-- a number below the next one is below, or is this one
+below_next : (P : ℕ → Type 0) (n : ℕ) → ((k : ℕ) → k < n → P k) → P n → (k : ℕ) → k < suc n → P k
+below_next P n below here k lt = elim (nat_lt k n) as (λ b. nat_lt k n ≡ b → P k) [
+  | true ↦ λ is. below k (grind (arith, nat_tests))
+  | false ↦ λ is. let same : n ≡ k = grind (arith, nat_tests) in subst P same here
+] refl
+
+-- one more goes
+evicted-more : (old : CacheState) (size : Size) (evicted : List ℕ) (left : CacheState) (e : ℕ × Allocation)
+    → HasEvicted old size evicted left → has_room left size ≡ false → last_entry left.entries ≡ Some e
+    → HasEvicted old size (evicted ++ e.0 ∷ []) (without_last left)
+evicted-more old size evicted left e has full last =
+    let longer : length (evicted ++ e.0 ∷ []) ≡ suc (length evicted) = omega (arith, length-append evicted (e.0 ∷ [])) in
+    record {
+      gone = e ∷ has.gone;
+      parts = has.parts ∙ ap (λ l. l ++ has.gone) (parts-without_last left e last)
+          ∙ append_assoc (without_last left).entries (e ∷ []) has.gone;
+      keys = ap (λ l. l ++ e.0 ∷ []) has.keys ∙ sym (reverse-append (e.0 ∷ []) (keys_of has.gone));
+      dropped = ap without_last has.dropped ∙ ap (after_dropping old) (sym longer);
+      none = rw longer (below_next (λ n. has_room (after_dropping old n) size ≡ false) (length evicted) has.none
+          (ap (λ (s : CacheState). has_room s size) (sym has.dropped) ∙ full));
+    }
+
+-- where there is room, so many were the evictions
+evictions-made : (old : CacheState) (size : Size) (evicted : List ℕ) (left : CacheState)
+    → HasEvicted old size evicted left → has_room left size ≡ true → IsEvictionCount old size (length evicted)
+evictions-made old size evicted left has room =
+    record {
+      room = ap (λ (s : CacheState). has_room s size) (sym has.dropped) ∙ room;
+      least = has.none;
+    }
+
+-- a key that enters then was placed
+pub evicted-places : (old : CacheState) (key : ℕ) (size : Size) (evicted : List ℕ) (left : CacheState) (rectangle : Rectangle) (new : CacheState)
+    → HasEvicted old size evicted left → has_room left size ≡ true → Enters left key size rectangle new
+    → Places old key size rectangle evicted new
+evicted-places old key size evicted left rectangle new has room enters =
+    record {
+      least = evictions-made old size evicted left has room;
+      listed = dropped-gone old size evicted left has;
+      entered = subst (λ (s : CacheState). Enters s key size rectangle new) has.dropped enters;
+    }
+
+-- where memory runs out then
+pub evicted-ran_out : (old : CacheState) (size : Size) (evicted : List ℕ) (left new : CacheState)
+    → HasEvicted old size evicted left → has_room left size ≡ true → SameLayout left new → RanOut old size evicted new
+evicted-ran_out old size evicted left new has room same =
+    record {
+      evictions = length evicted;
+      least = evictions-made old size evicted left has room;
+      few = omega arith;
+      listed = dropped-gone old size evicted left has;
+      rest = subst (λ (s : CacheState). SameLayout s new) has.dropped same;
+    }
+
+-- the least number that passes, of those up to one that does
+least-passing : (test : ℕ → Bool) (n : ℕ) → test n ≡ true
+    → (m : ℕ) × (test m ≡ true) × ((k : ℕ) → k < m → test k ≡ false)
+least-passing test zero passes = (0, passes, λ k lt. absurd (omega arith))
+least-passing test (suc n) passes = by_first (test 0) refl (least-passing (λ k. test (suc k)) n passes)
+  where
+    after_first : test 0 ≡ false → (m : ℕ) → ((k : ℕ) → k < m → test (suc k) ≡ false) → (k : ℕ) → k < suc m → test k ≡ false
+    after_first fails m below zero lt = fails
+    after_first fails m below (suc k) lt = below k (omega arith)
+
+    by_first : (b : Bool) → test 0 ≡ b
+        → (m : ℕ) × (test (suc m) ≡ true) × ((k : ℕ) → k < m → test (suc k) ≡ false)
+        → (m : ℕ) × (test m ≡ true) × ((k : ℕ) → k < m → test k ≡ false)
+    by_first true is later = (0, is, λ k lt. absurd (omega arith))
+    by_first false is later = (suc later.0, later.1, after_first is later.0 later.2)
+
+-- dropping keeps the promises
+keeps-after_dropping : (state : CacheState) (n : ℕ) → KeepsCachePromises state → KeepsCachePromises (after_dropping state n)
+keeps-after_dropping state zero promises = promises
+keeps-after_dropping state (suc n) promises = keeps-without_last (after_dropping state n) (keeps-after_dropping state n promises)
+
+-- a cache without its last entry has the same frame, and one entry less
+frame-without_last : (state : CacheState) → (without_last state).atlas.frame ≡ state.atlas.frame
+frame-without_last state = by_last (last_entry state.entries)
+  where
+    by_last : (o : Option (ℕ × Allocation))
+        → (option_map_or (λ entry. record { entries = take (length state.entries - 1) state.entries; capacity = state.capacity; atlas = returned state.atlas entry.1.id }) o state).atlas.frame
+        ≡ state.atlas.frame
+    by_last None = refl
+    by_last (Some e) = refl
+
+length-without_last : (state : CacheState) → length (without_last state).entries ≡ length state.entries - 1
+length-without_last state = by_last (last_entry state.entries) refl
+  where
+    by_last : (o : Option (ℕ × Allocation)) → last_entry state.entries ≡ o
+        → length (option_map_or (λ entry. record { entries = take (length state.entries - 1) state.entries; capacity = state.capacity; atlas = returned state.atlas entry.1.id }) o state).entries
+        ≡ length state.entries - 1
+    by_last None last = rw (last-none state.entries last) refl
+    by_last (Some e) last = omega (arith, length-take (length state.entries - 1) state.entries)
+
+frame-after_dropping : (state : CacheState) (n : ℕ) → (after_dropping state n).atlas.frame ≡ state.atlas.frame
+frame-after_dropping state zero = refl
+frame-after_dropping state (suc n) = frame-without_last (after_dropping state n) ∙ frame-after_dropping state n
+
+length-after_dropping : (state : CacheState) (n : ℕ) → length (after_dropping state n).entries ≡ length state.entries - n
+length-after_dropping state zero = omega arith
+length-after_dropping state (suc n) = omega (arith, length-without_last (after_dropping state n), length-after_dropping state n)
+
+-- a list of no length
+nothing_long : (es : List (ℕ × Allocation)) → length es ≡ 0 → es ≡ []
+nothing_long [] none = refl
+nothing_long (e ∷ es) none = absurd (omega arith)
+
+-- what fits has its evictions
+evictions-exist : (state : CacheState) (size : Size) → KeepsCachePromises state → Fits state.atlas.frame size
+    → (n : ℕ) × IsEvictionCount state size n
+evictions-exist state size promises fits =
+    let all = after_dropping state (length state.entries) in
+    let nothing : all.entries ≡ [] = nothing_long all.entries (omega (arith, length-after_dropping state (length state.entries))) in
+    let room = has_room-nothing all size (keeps-after_dropping state (length state.entries) promises) nothing
+    (ap (λ (frame : Frame). is_some (placement_of (fresh frame) size)) (frame-after_dropping state (length state.entries)) ∙ fits) in
+    let found = least-passing (λ n. has_room (after_dropping state n) size) (length state.entries) room in
+    (found.0, record { room = found.1; least = found.2 })
+
+-- where memory runs out before the first eviction
+pub ran_out-first : (state : CacheState) (size : Size) → KeepsCachePromises state → Fits state.atlas.frame size
+    → RanOut state size [] state
+ran_out-first state size promises fits =
+    let found = evictions-exist state size promises fits in
+    record {
+      evictions = found.0;
+      least = found.1;
+      few = omega arith;
+      listed = refl;
+      rest = record { entries = refl; capacity = refl; layout = refl };
+    }
+
+-- in the course of evictions for a new key: what has gone, and what is kept on the way
+pub record IsEvicting (old : CacheState) (key : ℕ) (size : Size) (room : ℕ) (evicted : List ℕ) (left : CacheState)
+    : Type 0 where
+  pub has : HasEvicted old size evicted left
+  pub promises : KeepsCachePromises left
+  pub frame : left.atlas.frame ≡ old.atlas.frame
+  pub new : lookup (nat_eq key) left.entries ≡ None
+  pub fits : Fits old.atlas.frame size
+  pub few : length left.entries + length evicted ≤ room
+
+-- a key that isn't there isn't there without the last entry
+unknown-without_last : (state : CacheState) (key : ℕ) → lookup (nat_eq key) state.entries ≡ None
+    → lookup (nat_eq key) (without_last state).entries ≡ None
+unknown-without_last state key unknown = by_last (last_entry state.entries)
+  where
+    by_last : (o : Option (ℕ × Allocation))
+        → lookup (nat_eq key) (option_map_or (λ entry. record { entries = take (length state.entries - 1) state.entries; capacity = state.capacity; atlas = returned state.atlas entry.1.id }) o state).entries ≡ None
+    by_last None = unknown
+    by_last (Some e) = unknown-take (nat_eq key) (length state.entries - 1) state.entries unknown
+
+-- an entry stands last where its key does
+entry_of : (dropped : ℕ) (o : Option (ℕ × Allocation)) → Some dropped ≡ option_map (λ e. e.0) o
+    → (e : ℕ × Allocation) × (o ≡ Some e) × (e.0 ≡ dropped)
+entry_of dropped None h = absurd (cc)
+entry_of dropped (Some e) h = (e, refl, cc)
+
+-- where an entry stands last, there is one
+some_last : (es : List (ℕ × Allocation)) (e : ℕ × Allocation) → last_entry es ≡ Some e → 1 ≤ length es
+some_last [] e last = absurd (cc)
+some_last (f ∷ es) e last = omega arith
+
+evicting-more : (old : CacheState) (key : ℕ) (size : Size) (room : ℕ) (more : ℕ) (evicted : List ℕ) (left : CacheState) (dropped : ℕ)
+    → IsEvicting old key size room evicted left → room ≤ more → has_room left size ≡ false
+    → Some dropped ≡ option_map (λ e. e.0) (last_entry left.entries)
+    → IsEvicting old key size more (evicted ++ dropped ∷ []) (without_last left)
+evicting-more old key size room more evicted left dropped is wider full at =
+    let e = entry_of dropped (last_entry left.entries) at in
+    let some = some_last left.entries e.0 e.1 in
+    let few = is.few in
+    record {
+      has = subst (λ (k : ℕ). HasEvicted old size (evicted ++ k ∷ []) (without_last left)) e.2
+          (evicted-more old size evicted left e.0 is.has full e.1);
+      promises = keeps-without_last left is.promises;
+      frame = frame-without_last left ∙ is.frame;
+      new = unknown-without_last left key is.new;
+      fits = is.fits;
+      few = omega (arith, length-without_last left, length-append evicted (dropped ∷ []));
+    }
+
+-- the same, of what it became
+pub evicting-step : (old : CacheState) (key : ℕ) (size : Size) {room more : ℕ} {evicted longer : List ℕ} {left new : CacheState} {dropped : ℕ}
+    → IsEvicting old key size room evicted left → room ≤ more → has_room left size ≡ false
+    → Some dropped ≡ option_map (λ e. e.0) (last_entry left.entries)
+    → longer ≡ evicted ++ dropped ∷ [] → new ≡ without_last left → IsEvicting old key size more longer new
+evicting-step old key size {room} {more} {evicted} {longer} {left} {new} {dropped} is wider full at listed after =
+    subst (λ (l : List ℕ). IsEvicting old key size more l new) (sym listed)
+    (subst (λ (s : CacheState). IsEvicting old key size more (evicted ++ dropped ∷ []) s) (sym after)
+    (evicting-more old key size room more evicted left dropped is wider full at))
+
+-- one entry less is left
+pub evicting-shorter : (left new : CacheState) (dropped : ℕ) → Some dropped ≡ option_map (λ e. e.0) (last_entry left.entries)
+    → new ≡ without_last left → length new.entries < length left.entries
+evicting-shorter left new dropped at after =
+    let e = entry_of dropped (last_entry left.entries) at in
+    let some = some_last left.entries e.0 e.1 in
+    let same : length new.entries ≡ length (without_last left).entries = ap (λ (s : CacheState). length s.entries) after in
+    omega (arith, length-without_last left)
+
+-- evictions don't end without room
+pub evicting-some : (old : CacheState) (key : ℕ) (size : Size) (room : ℕ) (evicted : List ℕ) (left : CacheState)
+    → IsEvicting old key size room evicted left → has_room left size ≡ false
+    → None ≡ option_map (λ e. e.0) (last_entry left.entries) → ⊥
+evicting-some old key size room evicted left is full at = stuck (has_room-nothing left size is.promises (last-none left.entries (none (last_entry left.entries) at))
+    (ap (λ (frame : Frame). is_some (placement_of (fresh frame) size)) is.frame ∙ is.fits))
+  where
+    none : (o : Option (ℕ × Allocation)) → None ≡ option_map (λ e. e.0) o → o ≡ None
+    none None h = refl
+    none (Some e) h = absurd (cc)
+
+    stuck : has_room left size ≡ true → ⊥
+    stuck room = cc

@@ -1,0 +1,159 @@
+-- Every cache keeps its promises: a new one does, and so does what becomes of one that does.
+use Rattle.std.proofs.Common.{◌≡◌, ℕ, ◌-◌, ◌<◌, ◌≤◌, true, false, Option, Some, None, List, ◌∷◌, length, take, refl, ap, sym, ◌∙◌, subst, arith}
+use Rattle.std.specs.Map.{keys_of, lookup, remove_entry, values_of}
+use Rattle.std.specs.Option.{option_map_or}
+use Rattle.std.specs.Prelude.{nat_eq, option_map}
+use Rattle.std.proofs.lemmas.List.{length-map, length-take}
+use Rattle.lru.specs.LruCache.{last_entry}
+use Rattle.etagere_base.specs.declared.ids.Allocation.{Allocation}
+use Rattle.etagere_base.specs.Lists.{Each, times}
+use Rattle.etagere_base.specs.Rectangles.{IsInside}
+use Rattle.etagere_base.proofs.EachLemmas.{Each-middle}
+use Rattle.etagere.specs.Atlas.{Adds, KeepsPromises, without_id}
+use Rattle.etagere.specs.Callers.{AreTied, IsFound}
+use Rattle.etagere.specs.Places.{allocations, is_allocated}
+use Rattle.etagere.specs.Returning.{returned}
+use Rattle.etagere.specs.State.{AtlasState}
+use Rattle.etagere.proofs.Callers.{found-allocated, not_allocated-any, promises-returned, returned-allocated, tied-added, tied-apart, tied-each, tied-returned}
+use Rattle.glyph_shelf.specs.Cache.{CacheState, kept_allocations, rectangle_at, used, without_key, without_last}
+use Rattle.glyph_shelf.specs.Promises.{KeepsCachePromises}
+use Rattle.glyph_shelf.proofs.EntryLemmas.{found-among, last-among, length-removed, promoted-known, promoted-unknown}
+use Rattle.glyph_shelf.proofs.KeyCounts.{times-entered, times-last, times-promoted, times-removed}
+use Rattle.glyph_shelf.proofs.Tying.{first-added, tied-front}
+
+-- what an atlas promises is promised of what a cache keeps of it
+keeps : (state : CacheState) → KeepsPromises state.atlas → length state.entries ≤ state.capacity → 1 ≤ state.capacity
+    → ((key : ℕ) → times key (keys_of state.entries) ≤ 1) → AreTied (kept_allocations state) (allocations state.atlas)
+    → KeepsCachePromises state
+keeps state atlas few capacity keys tied =
+    record {
+      atlas = atlas;
+      few = few;
+      capacity = capacity;
+      keys = keys;
+      tied = tied;
+      inside = tied-each (λ (a : Allocation). IsInside state.atlas.frame a.rectangle) (kept_allocations state)
+          (allocations state.atlas) tied atlas.inside;
+      apart = tied-apart (kept_allocations state) (allocations state.atlas) tied atlas.apart atlas.ids;
+    }
+
+-- what is kept is allocated under its id
+pub kept-allocated : (state : CacheState) (others : List Allocation) (a : Allocation) → KeepsCachePromises state
+    → Adds others a (kept_allocations state) → is_allocated state.atlas a.id ≡ true
+kept-allocated state others a promises adds =
+    let found = IsFound (allocations state.atlas) in
+    found-allocated state.atlas a
+    (Each-middle found adds.front a adds.back (subst (Each found) adds.after promises.tied.found))
+
+-- a cache of which one was given back
+keeps-returned : (state : CacheState) (entries : List (ℕ × Allocation)) (a : Allocation) → KeepsCachePromises state
+    → Adds (values_of entries) a (kept_allocations state) → length entries ≤ length state.entries
+    → ((key : ℕ) → times key (keys_of entries) ≤ times key (keys_of state.entries))
+    → KeepsCachePromises (record { entries = entries; capacity = state.capacity; atlas = returned state.atlas a.id })
+keeps-returned state entries a promises adds fewer rarer =
+    let few = promises.few in
+    keeps (record { entries = entries; capacity = state.capacity; atlas = returned state.atlas a.id })
+    (promises-returned state.atlas a.id promises.atlas.valid) (omega arith) promises.capacity
+    (λ key. omega (arith, promises.keys key, rarer key))
+    (tied-returned (kept_allocations state) (values_of entries) (allocations state.atlas)
+    (allocations (returned state.atlas a.id)) a promises.tied adds promises.atlas.ids
+    (returned-allocated state.atlas a.id promises.atlas.valid))
+
+-- a cache whose last entry went
+pub keeps-last_returned : (state : CacheState) (e : ℕ × Allocation) → KeepsCachePromises state → last_entry state.entries ≡ Some e
+    → KeepsCachePromises (record { entries = take (length state.entries - 1) state.entries; capacity = state.capacity; atlas = returned state.atlas e.1.id })
+keeps-last_returned state e promises last =
+    let shorter = length-take (length state.entries - 1) state.entries in
+    keeps-returned state (take (length state.entries - 1) state.entries) e.1 promises (last-among state.entries e last) (omega arith)
+    (λ key. times-last key state.entries e last)
+
+pub keeps-without_last : (state : CacheState) → KeepsCachePromises state → KeepsCachePromises (without_last state)
+keeps-without_last state promises = by_last (last_entry state.entries) refl
+  where
+    by_last : (o : Option (ℕ × Allocation)) → last_entry state.entries ≡ o
+        → KeepsCachePromises (option_map_or
+        (λ entry. record { entries = take (length state.entries - 1) state.entries; capacity = state.capacity; atlas = returned state.atlas entry.1.id })
+        o state)
+    by_last None last = promises
+    by_last (Some e) last = keeps-last_returned state e promises last
+
+-- a cache of which a key went
+pub keeps-key_returned : (state : CacheState) (key : ℕ) (a : Allocation) → KeepsCachePromises state
+    → lookup (nat_eq key) state.entries ≡ Some a
+    → KeepsCachePromises (record { entries = remove_entry (nat_eq key) state.entries; capacity = state.capacity; atlas = returned state.atlas a.id })
+keeps-key_returned state key a promises found =
+    let shorter = length-removed (nat_eq key) state.entries a found in
+    keeps-returned state (remove_entry (nat_eq key) state.entries) a promises (found-among (nat_eq key) state.entries a found) (omega arith)
+    (times-removed (nat_eq key) state.entries)
+
+-- a cache in which a key moved to the front
+pub keeps-used : (state : CacheState) (key : ℕ) → KeepsCachePromises state → KeepsCachePromises (used state key)
+keeps-used state key promises = by_found (lookup (nat_eq key) state.entries) refl
+  where
+    by_found : (o : Option Allocation) → lookup (nat_eq key) state.entries ≡ o → KeepsCachePromises (used state key)
+    by_found None found =
+        subst (λ (entries : List (ℕ × Allocation)). KeepsCachePromises (record { entries = entries; capacity = state.capacity; atlas = state.atlas }))
+        (sym (promoted-unknown (nat_eq key) state.entries found)) promises
+    by_found (Some a) found =
+        let few = promises.few in
+        let values = promoted-known (nat_eq key) state.entries a found in
+        let held : ℕ × Allocation → Allocation = λ e. e.1 in
+        let others = remove_entry (nat_eq key) state.entries in
+        let as_long : length (used state key).entries ≡ length state.entries =
+        omega (arith, ap length values, length-map (used state key).entries held, length-map others held, length-removed (nat_eq key) state.entries a found) in
+        keeps (used state key) promises.atlas (omega arith) promises.capacity
+        (λ k. omega (arith, promises.keys k, times-promoted (nat_eq key) state.entries k))
+        (subst (λ (kept : List Allocation). AreTied kept (allocations state.atlas)) (sym values)
+        (tied-front (values_of others) (kept_allocations state) (allocations state.atlas) a
+        (found-among (nat_eq key) state.entries a found) promises.tied))
+
+-- what was allocated is tied to what a cache keeps, and one more
+entered-tied : (old : CacheState) (a : Allocation) (after : List Allocation) → KeepsCachePromises old
+    → Adds (allocations old.atlas) a after → is_allocated old.atlas a.id ≡ false → AreTied (a ∷ kept_allocations old) after
+entered-tied old a after promises adds fresh_id =
+    tied-added (kept_allocations old) (a ∷ kept_allocations old) (allocations old.atlas) after a promises.tied
+    (first-added a (kept_allocations old)) adds (not_allocated-any old.atlas a.id fresh_id)
+
+-- a cache that a key entered
+pub keeps-entered : (old : CacheState) (key : ℕ) (a : Allocation) (atlas : AtlasState) → KeepsCachePromises old
+    → lookup (nat_eq key) old.entries ≡ None → length old.entries < old.capacity → KeepsPromises atlas → Adds (allocations old.atlas) a (allocations atlas)
+    → is_allocated old.atlas a.id ≡ false
+    → KeepsCachePromises (record { entries = (key, a) ∷ old.entries; capacity = old.capacity; atlas = atlas })
+keeps-entered old key a atlas promises new room kept adds fresh_id =
+    keeps (record { entries = (key, a) ∷ old.entries; capacity = old.capacity; atlas = atlas }) kept (omega arith)
+    promises.capacity (times-entered key a old.entries new promises.keys) (entered-tied old a (allocations atlas) promises adds fresh_id)
+
+-- a cache that gave back what got no entry
+pub keeps-refused : (old : CacheState) (a : Allocation) (middle atlas : AtlasState) → KeepsCachePromises old
+    → KeepsPromises middle → KeepsPromises atlas → Adds (allocations old.atlas) a (allocations middle)
+    → is_allocated old.atlas a.id ≡ false → allocations atlas ≡ without_id a.id (allocations middle)
+    → KeepsCachePromises (record { entries = old.entries; capacity = old.capacity; atlas = atlas })
+keeps-refused old a middle atlas promises before kept adds fresh_id after =
+    keeps (record { entries = old.entries; capacity = old.capacity; atlas = atlas }) kept promises.few promises.capacity promises.keys
+    (tied-returned (a ∷ kept_allocations old) (kept_allocations old) (allocations middle) (allocations atlas) a
+    (entered-tied old a (allocations middle) promises adds fresh_id) (first-added a (kept_allocations old)) before.ids after)
+
+-- a key that isn't there is no entry
+pub used-unknown : (state : CacheState) (key : ℕ) → lookup (nat_eq key) state.entries ≡ None → used state key ≡ state
+used-unknown state key unknown =
+    ap (λ (entries : List (ℕ × Allocation)). record { entries = entries; capacity = state.capacity; atlas = state.atlas })
+    (promoted-unknown (nat_eq key) state.entries unknown)
+
+-- nor has it a rectangle, and then taking it out takes nothing
+pub without_key-unknown : (state : CacheState) (key : ℕ) → lookup (nat_eq key) state.entries ≡ None → without_key state key ≡ state
+without_key-unknown state key unknown =
+    ap (λ (o : Option Allocation). option_map_or
+    (λ (a : Allocation). record { entries = remove_entry (nat_eq key) state.entries; capacity = state.capacity; atlas = returned state.atlas a.id }) o state)
+    unknown
+
+-- a key without a rectangle isn't there
+pub unknown-rectangle : (state : CacheState) (key : ℕ) → rectangle_at state key ≡ None → lookup (nat_eq key) state.entries ≡ None
+unknown-rectangle state key none = by_found (lookup (nat_eq key) state.entries) none
+  where
+    by_found : (o : Option Allocation) → option_map (λ (a : Allocation). a.rectangle) o ≡ None → o ≡ None
+    by_found None h = refl
+    by_found (Some a) h = absurd (cc)
+
+-- looking for it changes nothing
+pub looked-unknown : (old new : CacheState) (key : ℕ) → rectangle_at old key ≡ None → new ≡ used old key → new ≡ old
+looked-unknown old new key none is = is ∙ used-unknown old key (unknown-rectangle old key none)

@@ -1,0 +1,7 @@
+mod EntryLemmas
+mod Evicting
+mod Keeping
+mod KeyCounts
+mod Trying
+mod Tying
+mod WorkedRows

@@ -1,0 +1,75 @@
+-- The model of a cache, as callers see it: its entries in the order of use, and the atlas in which they lie; and what
+-- becomes of it when entries go.
+use Rattle.std.specs.Prelude.{ℕ, zero, suc, ◌-◌, Option, option_map, nat_eq, List, [], length, reverse, take}
+use Rattle.std.specs.Map.{keys_of, lookup, remove_entry, values_of}
+use Rattle.std.specs.Option.{option_map_or}
+use Rattle.lru.specs.LruCache.{last_entry, promoted}
+use Rattle.etagere.specs.Fresh.{fresh}
+use Rattle.etagere.specs.Returning.{returned}
+use Rattle.etagere.specs.State.{AtlasState}
+use Rattle.etagere_base.specs.declared.frames.Frame.{Frame}
+use Rattle.etagere_base.specs.declared.geometry.Rectangle.{Rectangle}
+use Rattle.etagere_base.specs.declared.ids.Allocation.{Allocation}
+
+-- a cache: keys with what is allocated for them, the most recently used first; how many there may
+-- be; and the atlas in which they lie
+pub record CacheState : Type 0 where
+  pub entries : List (ℕ × Allocation)
+  pub capacity : ℕ
+  pub atlas : AtlasState
+
+-- a new cache
+abbrev pub empty_cache : Frame → ℕ → CacheState
+empty_cache frame capacity = record { entries = []; capacity = capacity; atlas = fresh frame }
+
+-- the rectangle of a key; none where the key isn't there
+abbrev pub rectangle_at : CacheState → ℕ → Option Rectangle
+rectangle_at state key =
+    option_map (λ (allocation : Allocation). allocation.rectangle)
+    (lookup (nat_eq key) state.entries)
+
+-- what is allocated for the keys
+abbrev pub kept_allocations : CacheState → List Allocation
+kept_allocations state = values_of state.entries
+
+-- the cache with a key at the front, if it is there
+abbrev pub used : CacheState → ℕ → CacheState
+used state key =
+    record {
+      entries = promoted (nat_eq key) state.entries;
+      capacity = state.capacity;
+      atlas = state.atlas;
+    }
+
+-- the cache without a key, whose rectangle is given back
+abbrev pub without_key : CacheState → ℕ → CacheState
+without_key state key =
+    option_map_or
+    (λ (allocation : Allocation).
+    record {
+      entries = remove_entry (nat_eq key) state.entries;
+      capacity = state.capacity;
+      atlas = returned state.atlas allocation.id;
+    })
+    (lookup (nat_eq key) state.entries) state
+
+-- the cache without its least recently used entry, whose rectangle is given back
+abbrev pub without_last : CacheState → CacheState
+without_last state =
+    option_map_or
+    (λ entry.
+    record {
+      entries = take (length state.entries - 1) state.entries;
+      capacity = state.capacity;
+      atlas = returned state.atlas entry.1.id;
+    })
+    (last_entry state.entries) state
+
+-- the cache after dropping so many entries, the least recently used first
+abbrev pub after_dropping : CacheState → ℕ → CacheState
+after_dropping state zero = state
+after_dropping state (suc n) = without_last (after_dropping state n)
+
+-- the keys of so many entries, the least recently used first
+abbrev pub dropped_keys : CacheState → ℕ → List ℕ
+dropped_keys state n = take n (reverse (keys_of state.entries))

@@ -1,0 +1,5 @@
+pub mod Cache
+pub mod Faults
+pub mod Placing
+pub mod Private
+pub mod Promises

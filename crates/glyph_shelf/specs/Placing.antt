@@ -1,0 +1,68 @@
+-- What becomes of a cache when a new key is placed: what is evicted, and what stands after it.
+use Rattle.std.specs.Prelude.{◌≡◌, ℕ, ◌<◌, ◌≤◌, Bool, ◌&&◌, true, false, is_some, nat_eq, nat_lt, None, List, ◌∷◌, length}
+use Rattle.std.specs.Map.{lookup}
+use Rattle.etagere.specs.Atlas.{Allocates}
+use Rattle.etagere.specs.Choice.{placement_of, IsRefused}
+use Rattle.etagere.specs.Fresh.{fresh}
+use Rattle.etagere.specs.Layout.{layout}
+use Rattle.etagere_base.specs.declared.geometry.Rectangle.{Rectangle}
+use Rattle.etagere_base.specs.declared.geometry.Size.{Size}
+use Rattle.etagere_base.specs.declared.ids.Allocation.{Allocation}
+use Rattle.glyph_shelf.specs.Cache.{CacheState, after_dropping, dropped_keys}
+use Rattle.glyph_shelf.specs.declared.faults.GlyphFault.{GlyphFault}
+use Rattle.glyph_shelf.specs.declared.faults.GlyphFault.TheVariants.{TooLarge, Memory}
+
+-- there is room for one entry more, and a place for its size
+abbrev pub has_room : CacheState → Size → Bool
+has_room state size =
+    nat_lt (length state.entries) state.capacity && is_some (placement_of state.atlas size)
+
+-- the key isn't there
+abbrev pub IsNew : CacheState → ℕ → Type 0
+IsNew state key = lookup (nat_eq key) state.entries ≡ None
+
+-- the size is too large for a new atlas
+abbrev pub IsTooLarge : CacheState → Size → Type 0
+IsTooLarge state size = IsRefused (fresh state.atlas.frame) size
+
+-- so many entries are evicted for a size: the least number after which there is room
+pub record IsEvictionCount (state : CacheState) (size : Size) (count : ℕ) : Type 0 where
+  pub room : has_room (after_dropping state count) size ≡ true
+  pub least : (fewer : ℕ) → fewer < count → has_room (after_dropping state fewer) size ≡ false
+
+-- a key stands first, with what the atlas allocated for its size
+pub record Enters (old : CacheState) (key : ℕ) (size : Size) (rectangle : Rectangle)
+    (new : CacheState) : Type 0 where
+  pub allocation : Allocation
+  pub given : allocation.rectangle ≡ rectangle
+  pub allocated : Allocates old.atlas size allocation new.atlas
+  pub entries : new.entries ≡ (key, allocation) ∷ old.entries
+  pub capacity : new.capacity ≡ old.capacity
+
+-- a new key was placed: just the evictions that its size needs went, the least recently used first,
+-- and then it entered
+pub record Places (old : CacheState) (key : ℕ) (size : Size) (rectangle : Rectangle)
+    (evicted : List ℕ) (new : CacheState) : Type 0 where
+  pub least : IsEvictionCount old size (length evicted)
+  pub listed : evicted ≡ dropped_keys old (length evicted)
+  pub entered : Enters (after_dropping old (length evicted)) key size rectangle new
+
+-- the entries are the same, and the layout of the atlas is
+pub record SameLayout (old new : CacheState) : Type 0 where
+  pub entries : new.entries ≡ old.entries
+  pub capacity : new.capacity ≡ old.capacity
+  pub layout : layout new.atlas ≡ layout old.atlas
+
+-- memory ran out when so many of the evictions that a size needs had gone
+pub record RanOut (old : CacheState) (size : Size) (evicted : List ℕ) (new : CacheState)
+    : Type 0 where
+  pub evictions : ℕ
+  pub least : IsEvictionCount old size evictions
+  pub few : length evicted ≤ evictions
+  pub listed : evicted ≡ dropped_keys old (length evicted)
+  pub rest : SameLayout (after_dropping old (length evicted)) new
+
+-- what a fault of a new key left: all, or what memory running out did
+abbrev pub IsLeft : CacheState → Size → GlyphFault → CacheState → Type 0
+IsLeft old size TooLarge new = new ≡ old
+IsLeft old size (Memory evicted) new = RanOut old size evicted.items new

@@ -1,0 +1,32 @@
+//! Why a cache has no place for a glyph.
+//!
+//! Definitions: `Faults`. Numbers and messages are public: a new fault gets a new number.
+
+ghost use Rattle.std.specs.Prelude.{◌≡◌};
+ghost use Rattle.glyph_shelf.specs.Faults.{glyph_fault_number};
+
+use thiserror::Error;
+
+/// Why a key has no place.
+#[derive(Debug, Drop, PartialEq, Eq, Error)]
+pub enum GlyphFault {
+    /// The key is new, and an empty atlas of the same size and options has no place for its size. Nothing changed.
+    #[error("TooLarge")]
+    TooLarge,
+    /// The key is new, and there was no memory. These keys were evicted before that was found, the least recently
+    /// used first; the others stand.
+    #[error("Memory")]
+    Memory(Vec<u64>),
+}
+
+impl GlyphFault {
+    /// The fault's number, 1 or 2.
+    pub fn number(&self) -> u32
+        ensures { result ≡ glyph_fault_number self.now }
+    {
+        match self {
+            GlyphFault::TooLarge => 1,
+            GlyphFault::Memory(_) => 2,
+        }
+    }
+}
