@@ -157,18 +157,33 @@ refuse_arguments() {
     (($# == 1)) || { echo "usage: $1" >&2 && exit 2; }
 }
 
+# Prints the path of the kept program of the crate $1 under the name $2, if there is one: the proved one if it is there.
+program_kept() {
+    local program
+    program=$(kept "$2-proved")
+    if [[ -z $program ]] && is_left_by_run "$1"; then
+        keep "$root/crates/$1/out/$1" "$2-proved" "$1"
+        program=$(kept "$2-proved")
+    fi
+    echo "${program:-$(kept "$2")}"
+}
+
+# Prints the path of the program of the crate $1, and builds it first where it has to.
+program_of() {
+    local name program
+    name=$1-$(content_of "$1")
+    program=$(program_kept "$1" "$name")
+    [[ -n $program ]] || build "$1" "$name"
+    echo "${program:-$(kept "$name")}"
+}
+
 # Runs the program of the crate $1 with the other arguments, in place of this script.
 run_program() {
     local crate=$1 name program
     shift
     command -v rt > /dev/null || give_up "the toolchain's command rt has to be in PATH"
     name=$crate-$(content_of "$crate")
-    program=$(kept "$name-proved")
-    if [[ -z $program ]] && is_left_by_run "$crate"; then
-        keep "$root/crates/$crate/out/$crate" "$name-proved" "$crate"
-        program=$(kept "$name-proved")
-    fi
-    program=${program:-$(kept "$name")}
+    program=$(program_kept "$crate" "$name")
     if [[ -z $program ]]; then
         build "$crate" "$name"
         program=$(kept "$name")

@@ -2,8 +2,8 @@
  * Preloaded into a program: counts its growths of memory and refuses some.
  *
  * REFUSED_GROWTH=N refuses growth N, counted from 1; with REFUSED_FROM=1 each one from it on. At the end the
- * number of growths asked for, and the most bytes that were there at once, are written to the file that GROWTHS_TO
- * names.
+ * number of growths asked for, the most bytes that were there at once and those that are left are written to the file
+ * that GROWTHS_TO names.
  */
 #define _GNU_SOURCE
 #include <errno.h>
@@ -38,7 +38,7 @@ __attribute__((destructor)) static void tell_growths(void)
     const char *path = getenv("GROWTHS_TO");
     int file = path ? open(path, O_WRONLY | O_CREAT | O_TRUNC, 0600) : -1;
     if (file >= 0) {
-        dprintf(file, "%ld %ld\n", growths, most);
+        dprintf(file, "%ld %ld %ld\n", growths, most, there);
         close(file);
     }
 }

@@ -233,6 +233,14 @@ fn an_atlas_of_columns_and_of_vertical_shelves_is_restored(rt: HostRuntime) -> R
     atlas_is_restored(&rt, (2048, 2048), options, &three)
 }
 
+/// A column for each pixel, so that all records are in use: the first size needs one more and is refused, the second
+/// takes a column whole. Its text has 17 million bytes.
+#[test]
+fn an_atlas_with_all_records_in_use_is_restored(rt: HostRuntime) -> Result<(), Fail> {
+    let options = in_columns(65535, false);
+    atlas_is_restored(&rt, (65535, 100), options, &[Of(1, 1), Of(1, 92)])
+}
+
 #[test]
 fn a_bucketed_atlas_of_one_column_is_restored(rt: HostRuntime) -> Result<(), Fail> {
     buckets_are_restored(&rt, (16, 16), DEFAULT_OPTIONS, &[])?;

@@ -343,6 +343,27 @@ fn three_empty_shelves_become_one(rt: HostRuntime) -> Result<(), Fail> {
     Ok(())
 }
 
+/// One bucket has the whole shelf, and gives 4095 items before it has to be empty again; the shelf is dropped with the
+/// last of them, and comes again in the generation after the next.
+#[test]
+fn a_bucket_gives_4095_items_before_it_is_empty_again(rt: HostRuntime) -> Result<(), Fail> {
+    let mut table = Table::new(rt.alloc());
+    for x in 0..4095 {
+        table.places([1, 4032], [x, 0, x + 1, 4032])?;
+    }
+    table.refuses([1, 4032])?;
+    table.returns(0)?;
+    table.refuses([1, 4032])?;
+    for position in 1..4095 {
+        table.returns(position)?;
+    }
+    table.places([1, 4032], [0, 0, 1, 4032])?;
+    let ids = table.run(&rt, [20000, 5000], &DEFAULT_OPTIONS)?;
+    assert_eq!(&rt; *ids.get(0).ok_or("no id")?, 4096);
+    assert_eq!(&rt; *ids.get(4095).ok_or("no id")?, 33558528);
+    Ok(())
+}
+
 #[test]
 fn a_cleared_atlas_keeps_its_grown_size(rt: HostRuntime) -> Result<(), Fail> {
     let mut table = Table::new(rt.alloc());

@@ -232,10 +232,10 @@ fn few_bytes_at_once_give_the_same_line(rt: HostRuntime) -> Result<(), Fail> {
 }
 
 #[test]
-fn nothing_is_written_where_the_reader_fails(rt: HostRuntime) -> Result<(), Fail> {
+fn nothing_is_written_where_the_reader_fails(rt: HostRuntime) {
     for end in [End::Failure, End::Interruption] {
-        for given in [0, 1, 200, 400] {
-            let first = NEW_ATLAS.as_bytes().get(..given).ok_or("too long")?;
+        for given in 0..=NEW_ATLAS.len() {
+            let (first, _) = NEW_ATLAS.as_bytes().split_at(given);
             let mut reader = FakeReader::new(first, 64, end).then_gives(b"x");
             let mut writer = FakeWriter::new(rt.alloc(), 1000, 7, End::Failure);
             let fault = check(rt.alloc(), &mut reader, &mut writer);
@@ -244,7 +244,6 @@ fn nothing_is_written_where_the_reader_fails(rt: HostRuntime) -> Result<(), Fail
             assert!(rt; writer.written().is_empty());
         }
     }
-    Ok(())
 }
 
 #[test]

@@ -122,6 +122,29 @@ fn a_position_names_an_allocation_alone(rt: HostRuntime) -> Result<(), Fail> {
     replies(&rt, size2(8, 8), &DEFAULT_OPTIONS, &table)
 }
 
+/// The columns leave six records for splits.
+#[test]
+fn a_size_is_refused_where_the_last_record_is_in_use(rt: HostRuntime) -> Result<(), Fail> {
+    let options = AllocatorOptions {
+        num_columns: 65529,
+        ..DEFAULT_OPTIONS
+    };
+    let table = [
+        (allocate(1, 8), Shape::Placed([0, 0, 1, 8])),
+        (allocate(1, 8), Shape::Placed([0, 8, 1, 16])),
+        (allocate(1, 8), Shape::Placed([0, 16, 1, 24])),
+        (allocate(1, 8), Shape::Placed([0, 24, 1, 32])),
+        (allocate(1, 8), Shape::Placed([0, 32, 1, 40])),
+        (allocate(1, 8), Shape::Placed([0, 40, 1, 48])),
+        (allocate(1, 8), Shape::Refused),
+        (allocate(1, 48), Shape::Placed([0, 48, 1, 100])),
+        (allocate(1, 8), Shape::Refused),
+        (AtlasCommand::Return(0), Shape::Returned),
+        (allocate(1, 8), Shape::Placed([0, 0, 1, 8])),
+    ];
+    replies(&rt, size2(65529, 100), &options, &table)
+}
+
 #[test]
 fn bad_options_stop_a_run(rt: HostRuntime) -> Result<(), Fail> {
     let options = AllocatorOptions {

@@ -55,6 +55,32 @@ fn columns_of_vertical_shelves_are_replayed(rt: HostRuntime) -> Result<(), Fail>
 }
 
 #[test]
+fn a_position_that_was_not_given_is_not_live(rt: HostRuntime) -> Result<(), Fail> {
+    writes(
+        &rt,
+        b"atlas 8 8 1 1 1 h\na 8 8\nr 4294967295\nr 3\nr 2\nr 0\nr 0\n",
+        Outcome::Done,
+        "placed 65536 0 0 8 8\nnot live\nnot live\nnot live\nreturned\nnot live\n",
+    )
+}
+
+#[test]
+fn a_script_that_is_cut_is_good_up_to_a_whole_line(rt: HostRuntime) -> Result<(), Fail> {
+    is_bad(&rt, b"atlas 1000 1000 1 1 1", 1)?;
+    writes(
+        &rt,
+        b"atlas 1000 1000 1 1 1 h\na 100 10",
+        Outcome::Done,
+        "placed 65536 0 0 100 16\n",
+    )?;
+    is_bad(
+        &rt,
+        b"atlas 1000 1000 1 1 1 h\na 100 100\na 900 200\nr 0\na 300 200\nl 3\nr",
+        7,
+    )
+}
+
+#[test]
 fn the_first_line_with_bytes_is_the_header(rt: HostRuntime) -> Result<(), Fail> {
     is_bad(&rt, b"", 1)?;
     is_bad(&rt, b"\n\n", 3)?;

@@ -82,8 +82,10 @@ fn a_hundred_thousand_commands_are_streamed(rt: HostRuntime) -> Result<(), Fail>
     Ok(())
 }
 
-#[test]
-fn a_bucketed_run_is_streamed(rt: HostRuntime) -> Result<(), Fail> {
+const BUCKETED_TEXT: &[u8] = b"not live\nrefused\ngrow refused 2\ngrown\ncleared\n";
+
+/// Streams commands to a bucketed atlas, one of each reply that has no place.
+fn stream_buckets(rt: &impl AllocGlobal, writer: &mut FakeWriter) -> Result<(), StreamFault> {
     let commands = [
         BucketedCommand::Return(0),
         BucketedCommand::Allocate(size2(9, 8)),
@@ -91,15 +93,23 @@ fn a_bucketed_run_is_streamed(rt: HostRuntime) -> Result<(), Fail> {
         BucketedCommand::Grow(size2(16, 8)),
         BucketedCommand::Clear,
     ];
-    let mut text = Vec::new(rt.alloc());
-    let size = size2(8, 8);
-    stream_bucketed(rt.alloc(), size, &DEFAULT_OPTIONS, &commands, &mut text)?;
-    let lines = b"not live\nrefused\ngrow refused 2\ngrown\ncleared\n";
-    assert_eq!(rt; text.as_slice(), lines.as_slice());
-    let mut writer = FakeWriter::new(rt.alloc(), 10, 3, End::Failure);
-    let fault = stream_bucketed(rt.alloc(), size, &DEFAULT_OPTIONS, &commands, &mut writer);
-    assert_eq!(rt; fault, Err(StreamFault::Write));
-    assert_eq!(rt; writer.written(), &lines[..10]);
+    stream_bucketed(rt.alloc(), size2(8, 8), &DEFAULT_OPTIONS, &commands, writer)
+}
+
+#[test]
+fn a_bucketed_run_is_streamed(rt: HostRuntime) -> Result<(), Fail> {
+    let mut writer = FakeWriter::new(rt.alloc(), 1000, 1000, End::Failure);
+    stream_buckets(&rt, &mut writer)?;
+    assert_eq!(rt; writer.written(), BUCKETED_TEXT);
+    for end in [End::Nothing, End::Failure, End::Interruption] {
+        for room in 0..BUCKETED_TEXT.len() {
+            let mut writer = FakeWriter::new(rt.alloc(), room, 3, end).then_works(true);
+            let fault = stream_buckets(&rt, &mut writer);
+            assert_eq!(rt; fault, Err(StreamFault::Write), "at {room} bytes");
+            assert_eq!(rt; writer.written(), &BUCKETED_TEXT[..room]);
+            assert_eq!(rt; writer.later_calls(), 0, "at {room} bytes");
+        }
+    }
     Ok(())
 }
 

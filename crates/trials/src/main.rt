@@ -1,0 +1,118 @@
+//! Trials of calls that no script reaches. Standard input names one, as `clone atlas` or `run bucketed`: it is run, and
+//! writes a line for each answer, as a replay writes it, and pictures of the atlas between them. A trial whose
+//! preparations are refused memory writes nothing, and ends as a replay does.
+//!
+//! `tests/refused_growths/run` refuses each growth of memory of each trial. A new call gets a trial here and its name
+//! there.
+#![tactic(auto)]
+
+mod checks;
+mod copies;
+mod glyphs;
+mod growths;
+mod lines;
+mod quiet;
+mod runs;
+mod tried;
+mod walks;
+
+use crate::tried::Used;
+use etagere::{AtlasAllocator, BucketedAtlasAllocator};
+use etagere_run::ReplayFault;
+use std::io::Read;
+use std::process::ExitCode;
+
+fn main(rt: HostRuntime) -> ExitCode {
+    match named_trial(&rt) {
+        Ok(true) => ExitCode::SUCCESS,
+        Ok(false) => {
+            let _ = rt.eprintln("no such trial");
+            ExitCode::from(2)
+        }
+        Err(why) => {
+            let _ = rt.eprintln(why.words());
+            ExitCode::from(why.status())
+        }
+    }
+}
+
+/// Runs the trial that standard input names, if there is one.
+fn named_trial(rt: &(impl Input + Print + AllocGlobal)) -> Result<bool, ReplayFault> {
+    let mut buffer = [0; 64];
+    let count = rt
+        .reader()
+        .read(&mut buffer)
+        .map_err(|_| ReplayFault::Read)?;
+    let Ok(name) = str::from_utf8(&buffer[..count]) else {
+        return Ok(false);
+    };
+    let Some((call, kind)) = name.trim_end().split_once(' ') else {
+        return Ok(false);
+    };
+    match kind {
+        "atlas" => Ok(shelf_trial(rt, call)? || trial::<AtlasAllocator, _>(rt, call)?),
+        "bucketed" => Ok(bucket_trial(rt, call)? || trial::<BucketedAtlasAllocator, _>(rt, call)?),
+        "links" => link_trial(rt, call),
+        "glyphs" => glyph_trial(rt, call),
+        _ => Ok(false),
+    }
+}
+
+/// Runs a trial of a cache of glyphs, if there is one of this name.
+fn glyph_trial(rt: &(impl Print + AllocGlobal), call: &str) -> Result<bool, ReplayFault> {
+    if call != "place" {
+        return Ok(false);
+    }
+    glyphs::place_glyphs(rt)?;
+    Ok(true)
+}
+
+/// Runs a trial of calls that both atlases have, if there is one of this name.
+fn trial<A: Used + Drop, R: Print + AllocGlobal>(rt: &R, call: &str) -> Result<bool, ReplayFault> {
+    match call {
+        "new" => copies::new::<A, R>(rt)?,
+        "with_options" => copies::with_options::<A, R>(rt)?,
+        "clone" => copies::clone::<A, R>(rt)?,
+        "snapshot" => copies::snapshot::<A, R>(rt)?,
+        "restore" => copies::restore::<A, R>(rt)?,
+        _ => return Ok(false),
+    }
+    Ok(true)
+}
+
+/// Runs a trial of a shelf atlas, if there is one of this name.
+fn shelf_trial(rt: &(impl Print + AllocGlobal), call: &str) -> Result<bool, ReplayFault> {
+    match call {
+        "run" => runs::run_shelves(rt)?,
+        "stream" => runs::stream_shelves(rt)?,
+        "check" => checks::check_shelves(rt)?,
+        "quiet" => quiet::quiet_shelves(rt)?,
+        _ => return Ok(false),
+    }
+    Ok(true)
+}
+
+/// Runs a trial of a bucketed atlas, if there is one of this name.
+fn bucket_trial(rt: &(impl Print + AllocGlobal), call: &str) -> Result<bool, ReplayFault> {
+    match call {
+        "run_merged" => runs::run_merged(rt)?,
+        "run_taller" => runs::run_taller(rt)?,
+        "run_wider" => runs::run_wider(rt)?,
+        "run_in_columns" => runs::run_in_columns(rt)?,
+        "stream" => runs::stream_buckets(rt)?,
+        "check" => checks::check_buckets(rt)?,
+        "grow" => growths::grow_buckets(rt)?,
+        "quiet" => quiet::quiet_buckets(rt)?,
+        _ => return Ok(false),
+    }
+    Ok(true)
+}
+
+/// Runs a trial on links, if there is one of this name.
+fn link_trial(rt: &(impl Print + AllocGlobal), call: &str) -> Result<bool, ReplayFault> {
+    if call != "walk" {
+        return Ok(false);
+    }
+    walks::walk_links(rt)?;
+    Ok(true)
+}
