@@ -10,7 +10,7 @@ use Rattle.etagere_base.specs.declared.ids.Allocation.{Allocation}
 use Rattle.etagere_base.specs.Lists.{Each}
 use Rattle.etagere_base.specs.Places.{rectangle_at}
 use Rattle.etagere_base.specs.Rectangles.{Covers, SharesNone, IsInside, AreApart}
-use Rattle.etagere_base.proofs.EachLemmas.{Each-append, Each-middle}
+use Rattle.etagere_base.proofs.EachLemmas.{Each-append}
 
 -- a rectangle with an area lies between two places along and two places across
 pub record LiesIn (frame : Frame) (left right top bottom : ℕ) (rectangle : Rectangle) : Type 0 where
@@ -125,10 +125,3 @@ pub AreApart-append : (xs ys : List Allocation)
 AreApart-append [] ys front back across = back
 AreApart-append (x ∷ xs) ys front back across =
     (Each-append _ xs ys front.0 across.0, AreApart-append xs ys front.1 back across.1)
-
--- the one in the middle is apart from each of the others
-pub AreApart-middle : (xs : List Allocation) (y : Allocation) (ys : List Allocation)
-    → AreApart (xs ++ y ∷ ys) → IsApartFrom (xs ++ ys) y
-AreApart-middle [] y ys apart = apart.0
-AreApart-middle (x ∷ xs) y ys apart =
-    (SharesNone-swap x.rectangle y.rectangle (Each-middle _ xs y ys apart.0), AreApart-middle xs y ys apart.1)

@@ -1,6 +1,6 @@
 -- Tests that decide a fact: both of two, one for each element, and one for the rest of a list that a loop has left.
-use Rattle.std.proofs.Common.{◌≡◌, ℕ, ◌+◌, ◌<◌, ◌≤◌, Bool, true, false, ◌&&◌, not, List, [], ◌∷◌, length, drop, get_or, refl, ap, subst, sym, arith, ◌∙◌}
-use Rattle.std.proofs.lemmas.List.{drop_more, drop_all}
+use Rattle.std.proofs.Common.{◌≡◌, ℕ, ◌+◌, ◌<◌, Bool, true, false, ◌&&◌, List, ◌∷◌, length, drop, get_or, refl, ap, subst, sym, arith, ◌∙◌}
+use Rattle.std.proofs.lemmas.List.{drop_more}
 use Rattle.std.specs.Prelude.{◌==◌}
 use Rattle.etagere_base.specs.Deciding.{Decides}
 
@@ -43,16 +43,6 @@ decides-equal m n P to from = by_test (m == n) refl
     by_test true e = to (grind arith)
     by_test false e = λ p. let same : m ≡ n = from p in grind arith
 
--- a test is decided by itself
-pub decides-true : (b : Bool) → Decides b (b ≡ true)
-decides-true true = refl
-decides-true false = λ e. cc
-
--- a test is refuted by itself
-pub decides-false : (b : Bool) → Decides (not b) (b ≡ false)
-decides-false true = λ e. cc
-decides-false false = refl
-
 -- a loop has left the rest of a list: a fact of this rest is as much as the fact of the whole
 pub record IsLeft {X : Type 0} (whole : Type 0) (Rest : List X → Type 0) (i : ℕ) (xs : List X) : Type 0 where
   pub to : whole → Rest (drop i xs)
@@ -72,17 +62,3 @@ left-less whole Rest Next Here i xs d x to from below is here left =
       to = λ all. (to (drop (i + 1) xs) (subst Rest more (left.to all))).1;
       from = λ rest. left.from (subst Rest (sym more) (from (drop (i + 1) xs) (here, rest)));
     }
-
--- where one breaks its fact, the whole is broken
-pub left-broken : {X : Type 0} (whole : Type 0) (Rest Next : List X → Type 0) (Here : Type 0) (i : ℕ) (xs : List X) (d x : X)
-    → ((rest : List X) → Rest (x ∷ rest) → Here × Next rest)
-    → i < length xs → x ≡ get_or xs i d → (Here → ⊥) → IsLeft whole Rest i xs → whole → ⊥
-left-broken whole Rest Next Here i xs d x to below is broken left all =
-    let more : drop i xs ≡ x ∷ drop (i + 1) xs = drop_more xs i d below ∙ ap (λ y. y ∷ drop (i + 1) xs) (sym is) in
-    broken (to (drop (i + 1) xs) (subst Rest more (left.to all))).0
-
--- at the end nothing is left
-pub left-none : {X : Type 0} (whole : Type 0) (Rest : List X → Type 0) (i : ℕ) (xs : List X) → length xs ≤ i → Rest [] → IsLeft whole Rest i xs → whole
-left-none whole Rest i xs past rest left =
-    let none : drop i xs ≡ [] = drop_all i xs past in
-    left.from (subst Rest (sym none) rest)

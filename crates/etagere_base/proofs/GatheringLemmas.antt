@@ -31,16 +31,6 @@ begins-first old new one other (n, short, out) = (
   subst (λ (l : List ℕ). Appends old new l) (sym (take-append-le n one other short)) out,
 )
 
--- a piece is gathered
-pub gathers-piece : (now : Option (List ℕ)) (gathered piece : List ℕ) → GathersMore now gathered now (gathered ++ piece) piece
-gathers-piece now gathered piece start text is =
-    record { sent = is.sent; out = is.out; whole = ap (λ l. l ++ piece) is.whole ∙ append_assoc is.sent gathered piece }
-
--- what was gathered goes out
-pub sends-gathered : (old new : Option (List ℕ)) (gathered : List ℕ) → Appends old new gathered → SendsWhole old gathered new
-sends-gathered old new gathered out start text is =
-    subst (λ (l : List ℕ). Appends start new l) (sym is.whole) (appends-both start old new is.sent gathered is.out out)
-
 -- what was gathered goes out with a piece after it
 pub sends-piece : (old new : Option (List ℕ)) (gathered piece : List ℕ) → Appends old new (gathered ++ piece) → GathersMore old gathered new [] piece
 sends-piece old new gathered piece out start text is =

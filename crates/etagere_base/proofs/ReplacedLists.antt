@@ -1,6 +1,6 @@
 -- Lists with one element in view, which is read or split: what stands before it, the element, and what stands after it.
-use Rattle.std.proofs.Common.{◌≡◌, ℕ, suc, Some, List, [], ◌∷◌, ◌++◌, length, refl, ap, arith, zero, ◌<◌, get_or, set, subst, take}
-use Rattle.std.specs.Prelude.{slice_get, insert}
+use Rattle.std.proofs.Common.{◌≡◌, ℕ, suc, Some, List, [], ◌∷◌, ◌++◌, length, refl, ap, arith, zero, subst, take}
+use Rattle.std.specs.Prelude.{slice_get}
 use Rattle.etagere_base.specs.Lists.{replaced_at}
 
 -- the list has this element at this number, between a front and a back
@@ -44,15 +44,3 @@ slice_get-append front x back n h = rw (← h) (at_length front x back)
     at_length : {X : Type 0} (front : List X) (x : X) (back : List X) → slice_get (front ++ x ∷ back) (length front) ≡ Some x
     at_length [] x back = refl
     at_length (y ∷ front) x back = at_length front x back
-
--- an element that becomes one piece is set
-pub replaced_at-set : {X : Type 0} (pieces : X → List X) (n : ℕ) (xs : List X) (d y : X) → n < length xs → pieces (get_or xs n d) ≡ y ∷ [] → replaced_at n pieces xs ≡ set xs n y
-replaced_at-set pieces n [] d y h p = refl
-replaced_at-set pieces zero (x ∷ xs) d y h p = ap (λ (ys : List _). ys ++ xs) p
-replaced_at-set pieces (suc n) (x ∷ xs) d y h p = ap (λ (ys : List _). x ∷ ys) (replaced_at-set pieces n xs d y (omega arith) p)
-
--- an element that becomes two pieces is set to the first, and the second is inserted after it
-pub replaced_at-insert : {X : Type 0} (pieces : X → List X) (n : ℕ) (xs : List X) (d y z : X) → n < length xs → pieces (get_or xs n d) ≡ y ∷ z ∷ [] → replaced_at n pieces xs ≡ insert (set xs n y) (suc n) z
-replaced_at-insert pieces n [] d y z h p = absurd (omega arith)
-replaced_at-insert pieces zero (x ∷ xs) d y z h p = ap (λ (ys : List _). ys ++ xs) p
-replaced_at-insert pieces (suc n) (x ∷ xs) d y z h p = ap (λ (ys : List _). x ∷ ys) (replaced_at-insert pieces n xs d y z (omega arith) p)

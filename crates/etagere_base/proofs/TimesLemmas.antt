@@ -104,16 +104,6 @@ abbrev pub unused : List ℕ → ℕ
 unused [] = 0
 unused (n ∷ ns) = suc n + unused ns
 
--- a number that is below another does not count as that one
-other_number : (b : Bool) (n m k : ℕ) → (n == m) ≡ b → suc n ≤ m → k ≡ 0 → cond b 1 0 + k ≡ 0
-other_number true n m k e h z = absurd (grind arith)
-other_number false n m k e h z = omega arith
-
--- a number above all of a list does not stand in it
-pub times-above : (m : ℕ) (ns : List ℕ) → unused ns ≤ m → times m ns ≡ 0
-times-above m [] h = refl
-times-above m (n ∷ ns) h = other_number (n == m) n m (times m ns) refl (omega arith) (times-above m ns (omega arith))
-
 -- an id stands in a list
 abbrev pub is_among : ℕ → List ℕ → Bool
 is_among id numbers = list_any (λ number. number == id) numbers

@@ -7,7 +7,6 @@ use Rattle.std.specs.Prelude.{◌==◌, nat_lt, if◌then◌else◌}
 use Rattle.etagere_base.proofs.TimesLemmas.{times-append}
 use Rattle.etagere_base.specs.Lists.{Each, times}
 use Rattle.etagere_links.specs.Marks.{HasTwice, IsMarkedBy}
-use Rattle.etagere_links.specs.RecordLists.{HasEachOnce}
 use Rattle.etagere_links.proofs.ListEnds.{times-here, times-other}
 use Rattle.etagere_links.proofs.Tallies.{length-once}
 
@@ -54,22 +53,6 @@ marked-twice marks numbers met i at below is was marked =
     let split : met ≡ take i met ++ at ∷ drop (suc i) met = split_at met i 0 below ∙ ap (λ (n : ℕ). take i met ++ n ∷ drop (suc i) met) (sym is) in
     let count : times at met ≡ times at (take i met) + times at (at ∷ drop (suc i) met) = ap (times at) split ∙ times-append at (take i met) (at ∷ drop (suc i) met) in
     (at, omega (arith, once, count, times-append at numbers (take i met), times-append at numbers met, times-here at (drop (suc i) met)))
-
--- where all are marked, each stands once
-pub marked-all : (marks : List Bool) (numbers : List ℕ) → ((k : ℕ) → k < length marks → get_or marks k false ≡ true)
-    → IsMarkedBy marks numbers → HasEachOnce (length marks) numbers
-marked-all marks numbers all marked k = by_test (nat_lt k (length marks)) refl
-  where
-    by_test : (b : Bool) → nat_lt k (length marks) ≡ b → times k numbers ≡ (if b then 1 else 0)
-    by_test true e = marked k ∙ ap (λ (b : Bool). if b then 1 else 0) (all k (grind arith))
-    by_test false e = marked k ∙ ap (λ (b : Bool). if b then 1 else 0) (get_or_past marks k false (grind arith))
-
--- where one is not marked, it does not stand there
-pub marked-missing : (marks : List Bool) (numbers : List ℕ) (k : ℕ) → k < length marks → get_or marks k false ≡ false
-    → IsMarkedBy marks numbers → HasEachOnce (length marks) numbers → ⊥
-marked-missing marks numbers k within unmarked marked once =
-    let none : times k numbers ≡ 0 = marked k ∙ ap (λ (b : Bool). if b then 1 else 0) unmarked in
-    grind (arith, once k)
 
 -- what is marked is no more than all
 pub marked-length : (marks : List Bool) (numbers : List ℕ) → IsMarkedBy marks numbers → length numbers ≤ length marks

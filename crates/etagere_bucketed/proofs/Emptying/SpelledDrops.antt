@@ -144,11 +144,6 @@ pub row-step : (records : List BucketRecord) (steps rest count at next : ℕ) �
     → row_from steps records count at ≡ row_from rest records (count + 1) next
 row-step records steps rest count at next e link = rw (e, link) (ap (λ (n : ℕ). row_from rest records n next) (omega arith))
 
--- a list ends where there is no link
-pub row-stop : (records : List BucketRecord) (steps count at : ℕ) → next_of records at ≡ None → row_from steps records count at ≡ record { last = at; count = count }
-row-stop records zero count at none = refl
-row-stop records (suc steps) count at none = rw none refl
-
 -- nothing is dropped where there is no shelf
 pub end-none : (steps : ℕ) (done : Dropping) → last_kept done.stored.shelves ≡ None → end_dropped steps done ≡ done
 end-none zero done none = refl

@@ -2,7 +2,7 @@
 use Rattle.std.proofs.Common.{◌≡◌, ℕ, ◌≤◌, Bool, Option, List, ◌++◌, length, ap, arith, subst, sym, ◌∙◌, ◌<◌}
 use Rattle.std.proofs.lemmas.List.{length-map}
 use Rattle.etagere_base.specs.declared.faults.RestoreFault.{RestoreFault}
-use Rattle.etagere_base.specs.declared.faults.RestoreFault.TheVariants.{Link, Runs, Sharing, Unused, Memory}
+use Rattle.etagere_base.specs.declared.faults.RestoreFault.TheVariants.{Link, Sharing, Unused, Memory}
 use Rattle.etagere_base.specs.declared.frames.Frame.{Frame}
 use Rattle.etagere_base.proofs.EachLemmas.{Each-weaken}
 use Rattle.etagere_base.specs.Lists.{Each}
@@ -14,7 +14,6 @@ use Rattle.etagere_links.specs.Walks.{walk}
 use Rattle.etagere_bucketed.specs.declared.records.BucketRecord.{BucketRecord}
 use Rattle.etagere_bucketed.specs.declared.records.BucketShelfRecord.{BucketShelfRecord}
 use Rattle.etagere_bucketed.specs.BucketRecords.{BucketRecords, bucket_walk}
-use Rattle.etagere_bucketed.specs.Private.Judging.{BreaksRow}
 use Rattle.etagere_bucketed.specs.Private.Walking.{BreaksShelf, BreaksUnused, BreaksWalk, links_of}
 use Rattle.etagere_bucketed.specs.Restoring.{Breaks}
 use Rattle.etagere_bucketed.specs.StandsFor.{StopsInRange, walked_numbers}
@@ -47,12 +46,6 @@ walk-breaks frame buckets marks number shelf Link h =
 walk-breaks frame buckets marks number shelf Sharing h = h
 walk-breaks frame buckets marks number shelf Memory h = h
 walk-breaks frame buckets marks number shelf _ h = absurd h
-
-pub row-breaks : (frame : Frame) (buckets : List BucketRecord) (marks : List Bool) (number : ℕ) (shelf : BucketShelfRecord) (fault : RestoreFault)
-    → BreaksRow frame buckets number shelf (bucket_walk buckets shelf.first_bucket).met fault → BreaksShelf frame buckets marks number shelf fault
-row-breaks frame buckets marks number shelf Link h = λ _ owned. h owned
-row-breaks frame buckets marks number shelf Runs h = λ is free. h (is, free)
-row-breaks frame buckets marks number shelf _ h = absurd h
 
 pub walk-breaks-unused : (buckets : List BucketRecord) (marks : List Bool) (unused : Option ℕ) (fault : RestoreFault)
     → BreaksWalk (links_of buckets) marks (bucket_walk buckets unused) fault → BreaksUnused buckets marks unused fault

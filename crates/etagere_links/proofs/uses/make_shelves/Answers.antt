@@ -1,4 +1,4 @@
-use Rattle.std.proofs.Common.{◌+◌, ◌-◌, List, [], ◌∷◌, ◌++◌, ap, ◌∙◌, arith}
+use Rattle.std.proofs.Common.{◌+◌, ◌-◌, [], ◌∷◌, ◌++◌, ap, ◌∙◌, arith}
 use Rattle.etagere_links.proofs.MadeRecords.{shelves-next}
 use Rattle.etagere_links.proofs.uses.make_shelves.Goals as goal
 
