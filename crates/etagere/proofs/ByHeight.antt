@@ -11,6 +11,7 @@ pub mod MergedRanks
 pub mod NewlyRanked
 pub mod NumberedBounds
 pub mod PassedBounds
+pub mod PassedShelves
 pub mod PlacesRise
 pub mod Positions
 pub mod RisingNumbers

@@ -1,5 +1,6 @@
 -- The shelves in use, collected along their chain.
-use Rattle.std.proofs.Common.{◌≡◌, ℕ, ◌+◌, ◌<◌, ◌≤◌, Option, None, Some, List, [], ◌∷◌, ◌++◌, length, map, refl, ap, append_assoc, append-nil, sym, ◌∙◌}
+use Rattle.std.proofs.Common.{◌≡◌, ℕ, ◌+◌, ◌<◌, Option, None, Some, List, [], ◌∷◌, ◌++◌, length, map, refl, ap, append_assoc, append-nil, sym, ◌∙◌, arith}
+use Rattle.std.proofs.lemmas.List.{length-append, length-map}
 use Rattle.etagere_base.specs.declared.frames.Frame.{Frame}
 use Rattle.etagere_links.specs.Edits.{link_at}
 use Rattle.etagere_links.specs.RecordLists.{Records, shelf_walk}
@@ -7,7 +8,7 @@ use Rattle.etagere_links.specs.Records.{shelf_chain}
 use Rattle.etagere.specs.Private.ByHeight.{newly_ranked}
 use Rattle.etagere.specs.Private.Kept.{AreKept}
 use Rattle.etagere.specs.declared.linked.heights.RankedShelf.{RankedShelf}
-use Rattle.etagere.proofs.Searched.Following.{IsLeft, IsStep, all-left, none-left, step-left}
+use Rattle.etagere.proofs.Searched.Following.{IsLeft, IsStep, none-left, step-left}
 use Rattle.etagere.proofs.Searched.LinkedParts.{shelves-left}
 
 -- the shelves in use, newly ranked
@@ -35,14 +36,22 @@ pub collects-end : (frame : Frame) (records : Records) (ranked : List RankedShel
 collects-end frame records ranked at steps so_far ends =
     none-rest frame records ranked so_far.rest (none-left shelf_chain.next records.shelves at steps so_far.rest so_far.left ends) so_far.whole
 
--- nor after as many steps as there are records
-pub collects-out : (frame : Frame) (records : Records) (ranked : List RankedShelf) (at : Option ℕ) (steps : ℕ) → Collects frame records ranked at steps → length records.shelves ≤ steps → ranked ≡ in_use frame records
-collects-out frame records ranked at steps so_far out =
-    none-rest frame records ranked so_far.rest (all-left shelf_chain.next records.shelves at steps so_far.rest so_far.left out) so_far.whole
-
 -- the shelf at hand is a record
 pub collects-here : (frame : Frame) (records : Records) (ranked : List RankedShelf) (at : Option ℕ) (shelf steps : ℕ) → Collects frame records ranked at steps → at ≡ Some shelf → shelf < length records.shelves
 collects-here frame records ranked at shelf steps so_far is = (step-left shelf_chain.next records.shelves at shelf steps so_far.rest so_far.left is).here
+
+-- there is one shelf at least that isn't collected yet
+pub collects-fewer : (frame : Frame) (records : Records) (ranked : List RankedShelf) (at : Option ℕ) (shelf steps : ℕ) → Collects frame records ranked at steps → at ≡ Some shelf → length ranked < length (shelf_walk records).met
+collects-fewer frame records ranked at shelf steps so_far is =
+    let step : IsStep shelf_chain.next records.shelves shelf steps so_far.rest = step-left shelf_chain.next records.shelves at shelf steps so_far.rest so_far.left is in
+    omega (
+      arith,
+      ap (λ (l : List RankedShelf). length l) so_far.whole,
+      ap (λ (ns : List ℕ). length ns) step.whole,
+      length-append ranked (map (newly_ranked frame) so_far.rest),
+      length-map so_far.rest (newly_ranked frame),
+      length-map (shelf_walk records).met (newly_ranked frame),
+    )
 
 -- the shelf at hand was collected
 pub collects-more : (frame : Frame) (records : Records) (ranked new : List RankedShelf) (at next : Option ℕ) (shelf steps : ℕ) → Collects frame records ranked at steps → at ≡ Some shelf → new ≡ ranked ++ newly_ranked frame shelf ∷ [] → next ≡ link_at shelf_chain.next records.shelves shelf → Collects frame records new next (steps + 1)

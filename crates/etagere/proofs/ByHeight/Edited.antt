@@ -107,45 +107,6 @@ bound_of-each P shelf (one ∷ others) stands each = by_test (one.shelf == shelf
         let other : one.shelf ≢ shelf = grind arith in
         later (omega (arith, stands, times-other shelf one.shelf (ranked_numbers others) other))
 
--- the length once a shelf that stood there once was taken out
-pub length-taken_out : (shelf : ℕ) (ranked : List RankedShelf)
-    → times shelf (ranked_numbers ranked) ≡ 1 → length (taken_out shelf ranked) + 1 ≡ length ranked
-length-taken_out shelf [] once = absurd (omega (arith, once))
-length-taken_out shelf (one ∷ others) once = by_test (one.shelf == shelf) refl (length-taken_out shelf others)
-  where
-    absent : (ones : List RankedShelf) → times shelf (ranked_numbers ones) ≡ 0 → length (taken_out shelf ones) ≡ length ones
-    absent [] none = refl
-    absent (first ∷ ones) none =
-        let other : (first.shelf == shelf) ≡ false = grind arith in
-        let rest : length (taken_out shelf ones) ≡ length ones = absent ones (omega (arith, none)) in
-        rw other (omega (arith, rest))
-
-    by_test : (b : Bool) → (one.shelf == shelf) ≡ b → (times shelf (ranked_numbers others) ≡ 1 → length (taken_out shelf others) + 1 ≡ length others)
-        → length (cond (not b) (one ∷ taken_out shelf others) (taken_out shelf others)) + 1 ≡ length (one ∷ others)
-    by_test true e later =
-        let same : one.shelf ≡ shelf = grind arith in
-        let here : times shelf (one.shelf ∷ ranked_numbers others) ≡ 1 + times shelf (ranked_numbers others) = rw same (times-here shelf (ranked_numbers others)) in
-        omega (arith, absent others (omega (arith, once, here)))
-    by_test false e later =
-        let other : one.shelf ≢ shelf = grind arith in
-        omega (arith, later (omega (arith, once, times-other shelf one.shelf (ranked_numbers others) other)))
-
--- the length once a shelf was put in
-pub length-put_in : (shelves : List ShelfRecord) (one : RankedShelf) (ranked : List RankedShelf)
-    → length (put_in shelves one ranked) ≡ length ranked + 1
-length-put_in shelves one [] = refl
-length-put_in shelves one (other ∷ others) = by_test (nat_lt (order_of shelves other.shelf) (order_of shelves one.shelf)) (length-put_in shelves one others)
-  where
-    by_test : (b : Bool) → length (put_in shelves one others) ≡ length others + 1
-        → length (cond b (other ∷ put_in shelves one others) (one ∷ other ∷ others)) ≡ length (other ∷ others) + 1
-    by_test true rest = omega (arith, rest)
-    by_test false rest = omega arith
-
--- the length stays when a bound is raised
-pub length-raised : (shelf width : ℕ) (ranked : List RankedShelf) → length (raised shelf width ranked) ≡ length ranked
-length-raised shelf width [] = refl
-length-raised shelf width (one ∷ others) = omega (arith, length-raised shelf width others)
-
 -- what holds of each number that stands in a list holds of each
 pub Each-times : (P : ℕ → Type 0) (ns : List ℕ) → ((k : ℕ) → 1 ≤ times k ns → P k) → Each P ns
 Each-times P [] all = tt

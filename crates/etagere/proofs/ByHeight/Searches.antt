@@ -18,12 +18,12 @@ use Rattle.etagere.specs.declared.linked.heights.RankedShelf.{RankedShelf}
 use Rattle.etagere.proofs.ByHeight.SearchedOnes.{good-none, offered-low, offered-short}
 
 -- a fact of each after some, of some of the first, and with one replaced
-Each-drop : {X : Type 0} (P : X → Type 0) (n : ℕ) (xs : List X) → Each P xs → Each P (drop n xs)
+pub Each-drop : {X : Type 0} (P : X → Type 0) (n : ℕ) (xs : List X) → Each P xs → Each P (drop n xs)
 Each-drop P zero xs each = each
 Each-drop P (suc n) [] each = tt
 Each-drop P (suc n) (x ∷ xs) each = Each-drop P n xs each.1
 
-Each-take : {X : Type 0} (P : X → Type 0) (n : ℕ) (xs : List X) → Each P xs → Each P (take n xs)
+pub Each-take : {X : Type 0} (P : X → Type 0) (n : ℕ) (xs : List X) → Each P xs → Each P (take n xs)
 Each-take P zero xs each = tt
 Each-take P (suc n) [] each = tt
 Each-take P (suc n) (x ∷ xs) each = (each.0, Each-take P n xs each.1)
@@ -39,7 +39,7 @@ Each-at P (x ∷ xs) zero d within each = each.0
 Each-at P (x ∷ xs) (suc n) d within each = Each-at P xs n d (omega arith) each.1
 
 -- shelves whose bounds are below a width offer nothing
-offered-vain : (records : Records) (width height : ℕ) (ranked : List RankedShelf) → AreSearchable records ranked → Each (λ (one : RankedShelf). one.widest < width) ranked
+pub offered-vain : (records : Records) (width height : ℕ) (ranked : List RankedShelf) → AreSearchable records ranked → Each (λ (one : RankedShelf). one.widest < width) ranked
     → Each (λ shelf. offered records width height shelf ≡ None) (ranked_numbers ranked)
 offered-vain records width height [] searchable low = tt
 offered-vain records width height (one ∷ others) searchable low =
@@ -59,7 +59,7 @@ passed-first offers [] others vain = refl
 passed-first offers (n ∷ ns) others vain =
     ap (λ o. option_map_or Some o (first_offer offers (ns ++ others))) vain.0 ∙ passed-first offers ns others vain.1
 
-passed-earliest : (records : List ShelfRecord) (offers : ℕ → Option Candidate) (shelves others : List ℕ) → Each (λ shelf. offers shelf ≡ None) shelves → earliest records (map offers (shelves ++ others)) ≡ earliest records (map offers others)
+pub passed-earliest : (records : List ShelfRecord) (offers : ℕ → Option Candidate) (shelves others : List ℕ) → Each (λ shelf. offers shelf ≡ None) shelves → earliest records (map offers (shelves ++ others)) ≡ earliest records (map offers others)
 passed-earliest records offers [] others vain = refl
 passed-earliest records offers (n ∷ ns) others vain =
     ap (λ o. earlier records o (earliest records (map offers (ns ++ others)))) vain.0 ∙ passed-earliest records offers ns others vain.1

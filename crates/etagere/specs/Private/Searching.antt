@@ -1,7 +1,8 @@
 -- How the place of a size is found by records: the shelf of least rank, and in it the first item
 -- that is wide enough.
-use Rattle.std.specs.Prelude.{◌≡◌, ℕ, ◌+◌, ◌/◌, Bool, ◌&&◌, ◌||◌, Option, None, Some, option_map, List, [], ◌∷◌, find, map, nat_le, nat_lt, if◌then◌else◌}
+use Rattle.std.specs.Prelude.{◌≡◌, ℕ, ◌+◌, ◌/◌, ◌≤◌, Bool, ◌&&◌, ◌||◌, Option, None, Some, option_map, List, [], ◌∷◌, drop, find, length, map, nat_le, nat_lt, take, if◌then◌else◌}
 use Rattle.std.specs.Option.{option_map_or}
+use Rattle.etagere_base.specs.Lists.{Each}
 use Rattle.etagere_base.specs.declared.frames.Frame.{Frame}
 use Rattle.etagere_base.specs.declared.geometry.Size.{Size}
 use Rattle.etagere_base.specs.declared.sides.Sides.{Sides}
@@ -12,6 +13,8 @@ use Rattle.etagere.specs.Choice.{Placement, bad_fit_rank, is_item_split, placeme
 use Rattle.etagere.specs.Private.ByHeight.{place_number}
 use Rattle.etagere.specs.Private.Kept.{Locates, state_of}
 use Rattle.etagere.specs.declared.linked.choosing.Candidate.{Candidate}
+use Rattle.etagere.specs.declared.linked.choosing.FirstGood.{FirstGood}
+use Rattle.etagere.specs.declared.linked.choosing.FirstGood.TheVariants.{Found, Rest}
 
 -- the first item of a shelf's free list that is wide enough
 abbrev pub first_wide : Records → ℕ → ℕ → Option ℕ
@@ -66,6 +69,17 @@ abbrev pub first_offer : (ℕ → Option Candidate) → List ℕ → Option Cand
 first_offer offers [] = None
 first_offer offers (shelf ∷ shelves) =
     option_map_or Some (offers shelf) (first_offer offers shelves)
+
+-- what a search for a good fit comes to from a position on: the first one; where there is none, a position
+-- before which no shelf offers a place
+abbrev pub IsFirstGood : Records → ℕ → ℕ → ℕ → List ℕ → FirstGood → Type 0
+IsFirstGood records width height start shelves (Found candidate) =
+    first_offer (good_offer records width height) (drop start shelves) ≡ Some candidate
+IsFirstGood records width height start shelves (Rest rest) =
+    (first_offer (good_offer records width height) (drop start shelves) ≡ None)
+    × (start ≤ rest)
+    × (rest ≤ length shelves)
+    × Each (λ shelf. offered records width height shelf ≡ None) (drop start (take rest shelves))
 
 -- of two candidates the one whose shelf has the earlier place
 abbrev pub earlier : List ShelfRecord → Option Candidate → Option Candidate → Option Candidate

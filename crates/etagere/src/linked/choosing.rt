@@ -2,31 +2,32 @@
 //!
 //! Definitions: `Choice`, `Searching` for the same by records, and `ByHeight` for the order. A search starts
 //! at the first shelf that is tall enough, and takes the first good fit; only where there is none, it looks for the
-//! first bad one by place. It opens a shelf only where the bound on its free items lets it hope, and corrects that
-//! where it hoped in vain. Nothing here changes the records.
+//! first bad one by place, from the first bad fit on that it met. It opens a shelf only where the bound on its free
+//! items lets it hope, and corrects that where it hoped in vain. Nothing here changes the records.
 
-ghost use Rattle.std.specs.Prelude.{◌≡◌, ◌≤◌, ◌<◌, None, Some, IfSome, drop, length, map};
+ghost use Rattle.std.specs.Prelude.{◌≡◌, ◌≤◌, ◌<◌, None, Some, IfSome, drop, length, map, nat_lt};
 ghost use Rattle.etagere_base.specs.Frames.{IsFrame, longest_side};
 ghost use Rattle.etagere_base.specs.Lists.{Each, times};
 ghost use Rattle.etagere_links.specs.RecordLists.{IsLinked, shelf_walk, walked_lists};
 ghost use Rattle.etagere.specs.AtlasRecords.{height_of};
 ghost use Rattle.etagere.specs.Choice as choice;
+ghost use Rattle.etagere.specs.Choice.{bad_fit_rank};
 ghost use Rattle.etagere.specs.Private.ByHeight as heights;
 ghost use Rattle.etagere.specs.Private.ByHeight.{AreInOrder, AreRanked, ranked_numbers};
 ghost use Rattle.etagere.specs.Private.Kept.{AreKept, state_of};
 ghost use Rattle.etagere.specs.Private.Opening as opening;
 ghost use Rattle.etagere.specs.Private.Opening.{AreSearchable, AreTall, IsSearchable};
 ghost use Rattle.etagere.specs.Private.Searching as searching;
-ghost use Rattle.etagere.specs.Private.Searching.{Finds};
+ghost use Rattle.etagere.specs.Private.Searching.{Finds, IsFirstGood};
 ghost use Rattle.etagere.specs.State as state;
 
-use crate::linked::heights::{RankedShelf, first_as_wide, first_from, order_at, place_number};
+use crate::linked::heights::{RankedShelf, first_as_wide, first_from, place_number};
 use crate::placements::Placement;
 use etagere_base::{Frame, Sides, Size, asked, step};
 use etagere_links::{FreeList, ItemRecord, Records, ShelfRecord, next_of};
 
 /// An atlas has no more items than this.
-const MOST_ITEMS: u32 = 65535;
+pub(crate) const MOST_ITEMS: u32 = 65535;
 
 /// The rank of a bad fit, which is above each height.
 const BAD_FIT_RANK: u32 = 65536;
@@ -44,6 +45,12 @@ pub(crate) struct Candidate {
     shelf: usize,
     item: usize,
     rank: u32,
+}
+
+/// What a search for a good fit comes to: the first one, or from where on a shelf may offer a bad one.
+enum FirstGood {
+    Found(Candidate),
+    Rest(usize),
 }
 
 /// What a search of a free list came to: an item that is wide enough, or how wide the widest is.
@@ -130,40 +137,44 @@ fn best_candidate(
     ensures numbers { ranked_numbers ranked.new ≡ ranked_numbers ranked.old }
     ensures ranked { AreSearchable records.now ranked.new }
 {
-    let start = first_from(records.shelves(), ranked, order_at(height, 0)).index;
+    let start = first_from(records.shelves(), ranked, height, 0).index;
     match first_good(records, ranked, start, width, height) {
-        Some(candidate) => Some(candidate),
-        None => first_placed(records, ranked, start, width, height),
+        FirstGood::Found(candidate) => Some(candidate),
+        FirstGood::Rest(rest) => first_placed(records, ranked, rest, width, height),
     }
 }
 
-/// The first good fit from this position on, where all shelves are tall enough.
+/// The first good fit from this position on, where all shelves are tall enough. Where there is none, no shelf before
+/// the first bad fit whose bound let it hope has a place.
 fn first_good(
     records: &Records,
     ranked: &mut [RankedShelf],
     start: usize,
     width: u32,
     height: u32,
-) -> Option<Candidate>
+) -> FirstGood
     requires linked { IsLinked records.now (walked_lists records.now) }
     requires start { start ≤ length ranked.old }
     requires ranked { AreSearchable records.now ranked.old }
     requires tall { AreTall records.now.shelves height (drop start (ranked_numbers ranked.old)) }
     requires short { height ≤ longest_side }
-    ensures value { result
-        ≡ searching.first_offer (searching.good_offer records.now width height)
-        (drop start (ranked_numbers ranked.old)) }
+    ensures value { IsFirstGood records.now width height start (ranked_numbers ranked.old) result }
     ensures numbers { ranked_numbers ranked.new ≡ ranked_numbers ranked.old }
     ensures ranked { AreSearchable records.now ranked.new }
 {
+    let mut bad = None;
     let mut from = start;
     while let Some(index) = first_as_wide(ranked, from, width) {
-        if let Some(candidate) = good_fit(records, &mut ranked[index], width, height) {
-            return Some(candidate);
+        if is_good(records, height, usize::from(ranked[index].shelf)) {
+            if let Some(candidate) = fit(records, &mut ranked[index], width, height) {
+                return FirstGood::Found(candidate);
+            }
+        } else if bad.is_none() {
+            bad = Some(index);
         }
         from = index + 1;
     }
-    None
+    FirstGood::Rest(bad.unwrap_or(ranked.len()))
 }
 
 /// The fit in the first place from this position on, where all shelves are tall enough.
@@ -234,26 +245,13 @@ fn place_of(shelves: &[ShelfRecord], candidate: &Candidate) -> u32
     place_number(record.x, record.y)
 }
 
-/// What a shelf that is tall enough offers where it is a good fit.
-fn good_fit(
-    records: &Records,
-    ranked: &mut RankedShelf,
-    width: u32,
-    height: u32,
-) -> Option<Candidate>
-    requires linked { IsLinked records.now (walked_lists records.now) }
-    requires ranked { IsSearchable records.now ranked.old }
-    requires tall { height ≤ height_of records.now.shelves ranked.old.shelf }
+/// Whether a shelf that fits is a good fit.
+fn is_good(records: &Records, height: u32, shelf: usize) -> bool
+    requires within { shelf < length records.now.shelves }
     requires short { height ≤ longest_side }
-    ensures value { result ≡ searching.good_offer records.now width height ranked.old.shelf }
-    ensures shelf { ranked.new.shelf ≡ ranked.old.shelf }
-    ensures ranked { IsSearchable records.now ranked.new }
+    ensures { result ≡ nat_lt (searching.rank_of records.now.shelves height shelf) bad_fit_rank }
 {
-    if rank_of(records, height, usize::from(ranked.shelf)) < BAD_FIT_RANK {
-        fit(records, ranked, width, height)
-    } else {
-        None
-    }
+    rank_of(records, height, shelf) < BAD_FIT_RANK
 }
 
 /// What a shelf offers that is tall enough.

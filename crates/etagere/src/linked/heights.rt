@@ -3,7 +3,7 @@
 //! Definitions: `ByHeight`. Each shelf has beside it a width that none of its free items passes, so a search
 //! passes over a shelf by one comparison. A list is changed by moves of whole blocks.
 
-ghost use Rattle.std.specs.Prelude.{◌≡◌, ◌+◌, ◌*◌, ◌<◌, ◌≤◌, None, Some, IfSome, drop, length, take, vec_capacity};
+ghost use Rattle.std.specs.Prelude.{◌≡◌, ◌+◌, ◌*◌, ◌<◌, ◌≤◌, None, Some, IfSome, drop, length, nat_lt, take, vec_capacity};
 ghost use Rattle.etagere_base.specs.Lists.{Each, times};
 ghost use Rattle.etagere_links.specs.Links.{no_link};
 ghost use Rattle.etagere.specs.Private.ByHeight as spec;
@@ -50,7 +50,7 @@ pub(crate) fn place_number(along: u16, across: u16) -> u32
 }
 
 /// Where a shelf of this height that begins there stands in the order.
-pub(crate) fn order_at(height: u32, place: u32) -> u64
+fn order_at(height: u32, place: u32) -> u64
     ensures { result ≡ spec.order_at height place }
 {
     u64::from(height) * (65536 * 65536) + u64::from(place)
@@ -65,10 +65,30 @@ pub(crate) fn order_of(shelves: &[ShelfRecord], shelf: usize) -> u64
     order_at(u32::from(record.height), place_number(record.x, record.y))
 }
 
-/// Where the shelves begin that don't come before an order, by halves.
-pub(crate) fn first_from(shelves: &[ShelfRecord], ranked: &[RankedShelf], order: u64) -> Start
+/// Whether a shelf comes before this height and place: the place decides only where the heights are equal.
+fn comes_before(shelves: &[ShelfRecord], shelf: usize, height: u32, place: u32) -> bool
+    requires { shelf < length shelves.now }
+    ensures { result ≡ nat_lt (spec.order_of shelves.now shelf) (spec.order_at height place) }
+{
+    let record = &shelves[shelf];
+    let own = u32::from(record.height);
+    let here = place_number(record.x, record.y);
+    if own == height {
+        here < place
+    } else {
+        own < height
+    }
+}
+
+/// Where the shelves begin that don't come before this height and place, by halves.
+pub(crate) fn first_from(
+    shelves: &[ShelfRecord],
+    ranked: &[RankedShelf],
+    height: u32,
+    place: u32,
+) -> Start
     requires { AreInOrder shelves.now ranked.now }
-    ensures { IsStart shelves.now ranked.now order result.index result.probes }
+    ensures { IsStart shelves.now ranked.now (spec.order_at height place) result.index result.probes }
 {
     let mut start = Start {
         index: 0,
@@ -78,13 +98,24 @@ pub(crate) fn first_from(shelves: &[ShelfRecord], ranked: &[RankedShelf], order:
     while start.index < end {
         let middle = start.index + (end - start.index) / 2;
         start.probes += 1;
-        if order_of(shelves, usize::from(ranked[middle].shelf)) < order {
+        if comes_before(shelves, usize::from(ranked[middle].shelf), height, place) {
             start.index = middle + 1;
         } else {
             end = middle;
         }
     }
     start
+}
+
+/// Where the shelves begin that don't come before this one.
+fn start_of(shelves: &[ShelfRecord], ranked: &[RankedShelf], shelf: usize) -> Start
+    requires order { AreInOrder shelves.now ranked.now }
+    requires within { shelf < length shelves.now }
+    ensures { IsStart shelves.now ranked.now (spec.order_of shelves.now shelf) result.index result.probes }
+{
+    let record = &shelves[shelf];
+    let place = place_number(record.x, record.y);
+    first_from(shelves, ranked, u32::from(record.height), place)
 }
 
 /// Takes a shelf out, and gives its bound.
@@ -96,7 +127,7 @@ pub(crate) fn take_out(shelves: &[ShelfRecord], ranked: &mut Vec<RankedShelf>, s
     ensures capacity { vec_capacity ranked.new ≡ vec_capacity ranked.old }
     ensures room { length ranked.new.items + 1 ≡ length ranked.old.items }
 {
-    let index = first_from(shelves, ranked, order_of(shelves, shelf)).index;
+    let index = start_of(shelves, ranked, shelf).index;
     ranked.remove(index).widest
 }
 
@@ -109,8 +140,7 @@ pub(crate) fn put_in(shelves: &[ShelfRecord], ranked: &mut Vec<RankedShelf>, one
     ensures capacity { vec_capacity ranked.new ≡ vec_capacity ranked.old }
     ensures len { length ranked.new.items ≡ length ranked.old.items + 1 }
 {
-    let order = order_of(shelves, usize::from(one.shelf));
-    let index = first_from(shelves, ranked, order).index;
+    let index = start_of(shelves, ranked, usize::from(one.shelf)).index;
     let _inserted = ranked.insert(index, one);
 }
 
@@ -120,7 +150,7 @@ pub(crate) fn raise(shelves: &[ShelfRecord], ranked: &mut [RankedShelf], shelf: 
     requires stands { 1 ≤ times shelf (spec.ranked_numbers ranked.old) }
     ensures { ranked.new ≡ spec.raised shelf width ranked.old }
 {
-    let index = first_from(shelves, ranked, order_of(shelves, shelf)).index;
+    let index = start_of(shelves, ranked, shelf).index;
     let one = &mut ranked[index];
     if one.widest < width {
         one.widest = width;

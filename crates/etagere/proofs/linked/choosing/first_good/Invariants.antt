@@ -1,13 +1,15 @@
 use Rattle.std.proofs.Common.{◌≡◌, ◌-◌, drop, length}
 use Rattle.etagere.specs.Private.ByHeight.{ranked_numbers}
 use Rattle.etagere.specs.Private.Searching.{first_offer, good_offer}
+use Rattle.etagere.proofs.ByHeight.PassedShelves.{HasPassed}
 use Rattle.etagere.proofs.ByHeight.Searches.{SearchesFrom}
 use Rattle.etagere.proofs.linked.choosing.first_good.Given as goal
 
--- the first good fit from here on is that from the start on
+-- the first good fit from here on is that from the start on, and no shelf before the rest has a place
 abbrev pub invariant-loop-index : goal.invariant-loop-index
 invariant-loop-index l = record {
   search : SearchesFrom l.records l.height l.from (ranked_numbers l.fn.ranked) l.ranked;
+  passed : HasPassed l.records l.width l.height l.start l.from l.bad (ranked_numbers l.fn.ranked);
   answer :
       first_offer (good_offer l.records l.width l.height) (drop l.from (ranked_numbers l.fn.ranked))
       ≡ first_offer (good_offer l.records l.width l.height) (drop l.start (ranked_numbers l.fn.ranked));

@@ -1,8 +1,9 @@
-use Rattle.std.proofs.Common.{◌≡◌, ℕ, suc, ◌+◌, ◌-◌, ◌<◌, List, length, ap, arith, sym, subst, take, get_or, ◌∙◌}
-use Rattle.std.specs.Prelude.{◌/◌}
+use Rattle.std.proofs.Common.{◌≡◌, ℕ, suc, ◌+◌, ◌-◌, ◌<◌, ◌≤◌, true, false, List, length, ap, arith, sym, subst, take, get_or}
+use Rattle.std.proofs.lemmas.Bool.Decides.{nat_tests}
+use Rattle.std.specs.Prelude.{nat_lt, ◌/◌}
 use Rattle.etagere_base.specs.Lists.{Each}
 use Rattle.etagere_links.specs.declared.records.ShelfRecord.{ShelfRecord}
-use Rattle.etagere.specs.Private.ByHeight.{order_of}
+use Rattle.etagere.specs.Private.ByHeight.{order_at, order_of}
 use Rattle.etagere.specs.declared.linked.heights.RankedShelf.{RankedShelf}
 use Rattle.etagere.proofs.ByHeight.Positions.{HasDigits, after-probed, before-probed, digits-halved, read-number}
 use Rattle.etagere.proofs.linked.heights.first_from.Goals as goal
@@ -20,20 +21,29 @@ overflow_add-start c =
     let has : HasDigits (c.loop-start.end - c.loop-start.start.index) c.loop-start.start.probes 64 = c.loop-start.invariant.digits 64 c.loop-start.invariant.few in
     omega (arith, has.sum)
 
-pub order_of-requires : goal.order_of-requires
-order_of-requires c =
+pub comes_before-requires : goal.comes_before-requires
+comes_before-requires c =
     let middle : ℕ = c.loop-start.start.index + (c.loop-start.end - c.loop-start.start.index) / 2 in
     subst (λ (n : ℕ). n < length c.args.shelves.now) (sym c.from.ensures)
     (read-number (λ n. n < length c.args.shelves.now) middle c.args.ranked.now none
     (omega (arith, below c.loop-start.start.index c.loop-start.end c.loop-start-test.true, c.loop-start.invariant.within)) c.requires.within)
 
--- the order that was read in the middle
-read : (shelves : List ShelfRecord) (ranked : List RankedShelf) (middle number order : ℕ) → order ≡ order_of shelves number → number ≡ (get_or ranked middle none).shelf
-    → order_of shelves (get_or ranked middle none).shelf ≡ order
-read shelves ranked middle number order is at = sym (is ∙ ap (order_of shelves) at)
+-- the shelf that was read in the middle comes before the order
+before : (shelves : List ShelfRecord) (ranked : List RankedShelf) (middle number order : ℕ) → true ≡ nat_lt (order_of shelves number) order → number ≡ (get_or ranked middle none).shelf
+    → order_of shelves (get_or ranked middle none).shelf < order
+before shelves ranked middle number order is at =
+    let less : order_of shelves number < order = grind (arith, nat_tests) in
+    omega (arith, less, ap (order_of shelves) at)
 
-pub loop-start-preserved-then-order_of-order : goal.loop-start-preserved-then-order_of-order
-loop-start-preserved-then-order_of-order c =
+-- it doesn't
+after : (shelves : List ShelfRecord) (ranked : List RankedShelf) (middle number order : ℕ) → false ≡ nat_lt (order_of shelves number) order → number ≡ (get_or ranked middle none).shelf
+    → order ≤ order_of shelves (get_or ranked middle none).shelf
+after shelves ranked middle number order is at =
+    let more : order ≤ order_of shelves number = grind (arith, nat_tests) in
+    omega (arith, more, ap (order_of shelves) at)
+
+pub loop-start-preserved-then-comes_before : goal.loop-start-preserved-then-comes_before
+loop-start-preserved-then-comes_before c =
     let index : ℕ = c.loop-start.start.index in
     let end : ℕ = c.loop-start.end in
     let middle : ℕ = index + (end - index) / 2 in
@@ -43,9 +53,9 @@ loop-start-preserved-then-order_of-order c =
       bounds = omega (arith, below index end c.loop-start-test.true);
       few = c.loop-start.invariant.few;
       within = c.loop-start.invariant.within;
-      before = subst (λ (n : ℕ). Each (λ (one : RankedShelf). order_of c.args.shelves.now one.shelf < c.args.order) (take n c.args.ranked.now)) next
-          (before-probed c.args.shelves.now 0 c.args.order middle c.args.ranked.now none within c.requires.rising
-          (omega (arith, read c.args.shelves.now c.args.ranked.now middle c.from.result c.order_of.result c.order_of.ensures c.from.ensures, c.if-order_of-order.true)));
+      before = subst (λ (n : ℕ). Each (λ (one : RankedShelf). order_of c.args.shelves.now one.shelf < (order_at c.args.height c.args.place)) (take n c.args.ranked.now)) next
+          (before-probed c.args.shelves.now 0 (order_at c.args.height c.args.place) middle c.args.ranked.now none within c.requires.rising
+          (before c.args.shelves.now c.args.ranked.now middle c.from.result (order_at c.args.height c.args.place) c.if-comes_before.ensures c.from.ensures));
       after = c.loop-start.invariant.after;
       digits = λ digits enough.
           digits-halved (end - index) (end - (middle + 1)) c.loop-start.start.probes digits (omega arith) (omega (arith, c.loop-start-test.true))
@@ -63,8 +73,8 @@ loop-start-preserved c =
       few = c.loop-start.invariant.few;
       within = omega (arith, within);
       before = c.loop-start.invariant.before;
-      after = after-probed c.args.shelves.now 0 c.args.order middle c.args.ranked.now none within c.requires.rising
-          (omega (arith, read c.args.shelves.now c.args.ranked.now middle c.from.result c.order_of.result c.order_of.ensures c.from.ensures, c.if-order_of-order.false));
+      after = after-probed c.args.shelves.now 0 (order_at c.args.height c.args.place) middle c.args.ranked.now none within c.requires.rising
+          (after c.args.shelves.now c.args.ranked.now middle c.from.result (order_at c.args.height c.args.place) c.if-comes_before.ensures c.from.ensures);
       digits = λ digits enough.
           digits-halved (end - index) (middle - index) c.loop-start.start.probes digits (omega arith) (omega (arith, c.loop-start-test.true))
           (c.loop-start.invariant.digits digits enough);

@@ -1,7 +1,7 @@
 use Rattle.std.proofs.Common.{ℕ, ◌-◌, ◌<◌, ◌≤◌, length, take, drop}
 use Rattle.std.specs.Prelude.{◌^◌}
 use Rattle.etagere_base.specs.Lists.{Each}
-use Rattle.etagere.specs.Private.ByHeight.{order_of}
+use Rattle.etagere.specs.Private.ByHeight.{order_at, order_of}
 use Rattle.etagere.specs.declared.linked.heights.RankedShelf.{RankedShelf}
 use Rattle.etagere.proofs.ByHeight.Positions.{HasDigits}
 use Rattle.etagere.proofs.linked.heights.first_from.Given as goal
@@ -12,8 +12,8 @@ invariant-loop-start l = record {
   bounds : l.start.index ≤ l.end;
   few : length l.ranked < 2 ^ 64;
   within : l.end ≤ length l.ranked;
-  before : Each (λ (one : RankedShelf). order_of l.shelves one.shelf < l.order) (take l.start.index l.ranked);
-  after : Each (λ (one : RankedShelf). l.order ≤ order_of l.shelves one.shelf) (drop l.end l.ranked);
+  before : Each (λ (one : RankedShelf). order_of l.shelves one.shelf < order_at l.height l.place) (take l.start.index l.ranked);
+  after : Each (λ (one : RankedShelf). order_at l.height l.place ≤ order_of l.shelves one.shelf) (drop l.end l.ranked);
   digits : (digits : ℕ) → length l.ranked < 2 ^ digits → HasDigits (l.end - l.start.index) l.start.probes digits;
 }
 
