@@ -6,6 +6,7 @@ use Rattle.std.specs.List.{find, list_any}
 use Rattle.std.proofs.lemmas.Bool.{or_parts}
 use Rattle.std.proofs.lemmas.Bool.Decides.{nat_tests}
 use Rattle.std.proofs.lemmas.List.{length-map, map-append}
+use Rattle.etagere_base.specs.declared.geometry.Size.{Size}
 use Rattle.etagere_base.specs.declared.ids.Allocation.{Allocation}
 use Rattle.etagere_base.specs.Lists.{Each, times}
 use Rattle.etagere_base.specs.Rectangles.{AreApart, SharesNone}
@@ -17,6 +18,8 @@ pub use Rattle.etagere.proofs.Taken.Allocated.{Allocated}
 pub use Rattle.etagere.proofs.Taken.FreeNumber.{CanAllocate, placed-can_allocate}
 pub use Rattle.etagere.proofs.Places.FreshLemmas.{fresh-allocated}
 pub use Rattle.etagere.proofs.Returned.ReturnedAllocated.{returned-allocated}
+use Rattle.etagere.proofs.Grown.GrownFrames.{frame-grows, growth-fits}
+use Rattle.etagere.proofs.Grown.GrownValid.{grown-allocated, grown-valid}
 use Rattle.etagere.proofs.Places.FreshLemmas.{fresh-valid}
 use Rattle.etagere.proofs.Promises.{promises}
 use Rattle.etagere.proofs.Returned.ReturnedValid.{returned-valid}
@@ -24,6 +27,7 @@ use Rattle.etagere.specs.Atlas.{Adds, KeepsPromises, without_id}
 use Rattle.etagere.specs.Callers.{AreTied, IsFound}
 use Rattle.etagere.specs.Places.{allocations, is_allocated, rectangle_of}
 use Rattle.etagere.specs.Fresh.{fresh}
+use Rattle.etagere.specs.Growing.{atlas_grown, grow_fault, grown_frame}
 use Rattle.etagere.specs.Returning.{returned}
 use Rattle.etagere.specs.State.{AtlasState}
 use Rattle.etagere.specs.Valid.{IsValid}
@@ -352,3 +356,21 @@ promises-returned state id valid = promises (returned state id) (returned-valid 
 
 pub promises-cleared : (state : AtlasState) → IsValid state → KeepsPromises (fresh state.frame)
 promises-cleared state valid = promises (fresh state.frame) (fresh-valid state.frame valid.frame valid.columns)
+
+-- a growth without a fault changes nothing that is allocated
+pub allocated-grown : (state : AtlasState) (size : Size) → IsValid state → grow_fault state size ≡ None
+    → allocations (atlas_grown state size) ≡ allocations state
+allocated-grown state size valid fits = grown-allocated state size valid (growth-fits state size fits)
+
+-- it keeps the promises
+pub promises-grown : (state : AtlasState) (size : Size) → IsValid state → grow_fault state size ≡ None
+    → KeepsPromises (atlas_grown state size)
+promises-grown state size valid fits =
+    promises (atlas_grown state size) (grown-valid state size valid (growth-fits state size fits))
+
+-- and loses no column
+pub columns-grown : (state : AtlasState) (size : Size) → IsValid state → grow_fault state size ≡ None
+    → state.frame.columns ≤ (grown_frame state.frame size).columns
+columns-grown state size valid fits =
+    let grows = frame-grows state.frame size valid.frame (growth-fits state size fits).sizes in
+    omega (arith, grows.columns)

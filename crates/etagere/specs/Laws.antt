@@ -1,12 +1,11 @@
 -- Laws of the model, proved of all its states: the choice in the words of its rule, merging as a
--- normal form, and what a return restores.
+-- normal form, what a return restores, what records stand for, and what a growth keeps.
 use Rattle.std.specs.Prelude.{◌≡◌, ℕ, ◌+◌, ◌<◌, ◌≤◌, Bool, true, false, ◌&&◌, ◌||◌, Some, None, Option, List, ◌∷◌, ◌++◌, slice_get, nat_lt, ◌==◌, if◌then◌else◌}
 use Rattle.etagere_base.specs.declared.faults.RestoreFault.{RestoreFault}
 use Rattle.etagere_base.specs.declared.faults.RestoreFault.TheVariants.{Memory}
 use Rattle.etagere_base.specs.declared.frames.Frame.{Frame}
 use Rattle.etagere_base.specs.declared.geometry.Size.{Size}
 use Rattle.etagere_base.specs.declared.sides.Sides.{Sides}
-use Rattle.etagere.specs.Atlas.{KeepsPromises}
 use Rattle.etagere.specs.Choice.{Placement, chosen, is_good_fit, placement_of, shelf_height, width_at}
 use Rattle.etagere.specs.Growing.{atlas_grown, grow_fault, records_needed}
 use Rattle.etagere.specs.Merging.{both_empty, both_free, merged, merged_items, merged_shelves}
@@ -147,13 +146,11 @@ BrokenStandsForNone =
     (atlas : AtlasRecords) (state : AtlasState) (fault : RestoreFault) → IsBroken atlas fault
     → StandsFor atlas state → fault ≡ Memory
 
--- a growth without a fault keeps the promises, and what is allocated keeps its place
-abbrev pub GrowthKeeps : Type 0
-GrowthKeeps =
+-- a growth without a fault keeps the allocated space
+abbrev pub GrowthKeepsSpace : Type 0
+GrowthKeepsSpace =
     (state : AtlasState) (size : Size) → IsValid state → grow_fault state size ≡ None
-    → KeepsPromises (atlas_grown state size)
-    × (allocations (atlas_grown state size) ≡ allocations state)
-    × (allocated_space (atlas_grown state size) ≡ allocated_space state)
+    → allocated_space (atlas_grown state size) ≡ allocated_space state
 
 -- a growth without a fault puts as many further items to use as it needs records
 abbrev pub GrowthUses : Type 0

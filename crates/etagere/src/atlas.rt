@@ -4,7 +4,7 @@
 //! fields keep. The clauses stay as they are: callers prove by them. Fields may change, with `state_in`
 //! and `IsConsistent`.
 
-ghost use Rattle.std.specs.Prelude.{◌≡◌, ◌↔◌, ◌*◌, ◌-◌, ◌+ℤ◌, [], Err, Some, false, pos, IfOk, IfErr, IfSome, IfNone, OnOk, OnErr, IsErr, IsTrue, map, option_map};
+ghost use Rattle.std.specs.Prelude.{◌≡◌, ◌↔◌, ◌*◌, ◌-◌, ◌+ℤ◌, [], Err, None, Some, false, ◌≤◌, pos, IfOk, IfErr, IfSome, IfNone, OnOk, OnErr, IsErr, IsTrue, map, option_map};
 ghost use Rattle.std.specs.Io.KnownBytes.{Appends};
 ghost use Rattle.etagere_base.specs.Frames as frames;
 ghost use Rattle.etagere_base.specs.Frames.{IsAccepted, longest_side, options_fault};
@@ -15,6 +15,8 @@ ghost use Rattle.etagere.specs.Atlas.{Adds, Allocates, KeepsPromises, NeedsSplit
 ghost use Rattle.etagere.specs.Callers.{AreTied};
 ghost use Rattle.etagere.specs.Choice.{IsRefused};
 ghost use Rattle.etagere.specs.Fresh.{fresh};
+ghost use Rattle.etagere.specs.Growing.{atlas_grown, grow_fault, records_needed};
+ghost use Rattle.etagere.specs.declared.faults.AtlasGrowFault.TheVariants as grow_faults;
 ghost use Rattle.etagere.specs.Listing.{RiseFrom, listed};
 ghost use Rattle.etagere.specs.Places as places;
 ghost use Rattle.etagere.specs.Places.{allocations, is_allocated};
@@ -28,8 +30,12 @@ ghost use Rattle.etagere.specs.StandsFor.{StandsFor};
 ghost use Rattle.etagere.specs.State as state;
 ghost use Rattle.etagere.specs.Svg.{svg, svg_into};
 
-use crate::linked::choosing::placement_of;
+use crate::faults::AtlasGrowFault;
+use crate::linked::choosing::{MOST_ITEMS, placement_of};
 use crate::linked::drawing::{send_document, send_part, send_picture};
+use crate::linked::growing::counting::needed_for;
+use crate::linked::growing::framing::{grown_frame, size_fault};
+use crate::linked::growing::grow_shelves;
 use crate::linked::heights::RankedShelf;
 use crate::linked::looking::{index_of, number_of, recorded_area, rectangle_of};
 use crate::linked::returning::return_item;
@@ -140,9 +146,9 @@ impl AtlasAllocator {
     /// it stands.
     ///
     /// Returns a fault whose rule is broken; `Memory` only where there was no memory. The snapshot is used up either
-    /// way, and its records become those of the atlas. Takes some memory for each record while it runs, and for the
-    /// place by height of each shelf in use. The time is linear in the number of records, but for a sort of these
-    /// shelves.
+    /// way, and its records become those of the atlas. Takes some memory for each record while it runs, and for a place
+    /// by height for each shelf record, used or not. The time is linear in the number of records, but for a sort of the
+    /// shelves in use.
     pub fn restore(alloc: Global, snapshot: AtlasSnapshot) -> Result<AtlasAllocator, RestoreFault>
         ensures ok { IfOk result (λ atlas. StandsFor (snapshot_records snapshot) atlas) }
         ensures fault { IfErr result (IsBroken (snapshot_records snapshot)) }
@@ -175,7 +181,7 @@ impl AtlasAllocator {
         }
     }
 
-    /// The size in pixels that the atlas was made with. Takes the same time always.
+    /// The size of the atlas in pixels, as it was made or has grown. Takes the same time always.
     pub fn size(&self) -> Size
         ensures { result
             ≡ record { width = pos self.now.frame.width; height = pos self.now.frame.height } }
@@ -298,7 +304,51 @@ impl AtlasAllocator {
         Iter::new(&self.frame, &self.records)
     }
 
-    /// Takes everything back at once: the atlas is as it was when it was new.
+    /// Makes the atlas larger, to this size in pixels. What is allocated keeps its place, its id and its record.
+    ///
+    /// With one column, each shelf becomes wider at its end, as far as the alignment allows; with more, there are as
+    /// many columns as fit. Each column becomes taller at its end. What is added is free, and merges with what is free
+    /// before it.
+    ///
+    /// Returns the first fault; `Memory` only where there is no other, the growth needs records and there was no
+    /// memory. Nothing changes after a fault. Takes memory for the records that it needs as far as too few were put
+    /// aside, and for the places by height of new shelves. Where no column becomes wider or taller and none is added,
+    /// it takes the same time always. Else it goes through all shelves, for wider columns through all items too, and
+    /// then sorts the shelves.
+    pub fn grow(&mut self, size: Size) -> Result<(), AtlasGrowFault>
+        ensures ok { OnOk result (self.new ≡ atlas_grown self.old size) }
+        ensures fault { IfSome (grow_fault self.old size) (λ fault. result ≡ Err fault) }
+        ensures memory { IfErr result
+            (λ fault. grow_fault self.old size ≡ None
+            → (fault ≡ grow_faults.Memory) × (1 ≤ records_needed self.old size)) }
+        ensures err { OnErr result (self.new ≡ self.old) }
+        ensures allocated { OnOk result (allocations self.new ≡ allocations self.old) }
+        ensures promises { KeepsPromises self.new }
+    {
+        if let Some(fault) = size_fault(&self.frame, size) {
+            return Err(fault);
+        }
+        let grown = grown_frame(&self.frame, size);
+        let needed = needed_for(&self.frame, &grown, &self.records);
+        if needed.items > MOST_ITEMS - self.items_in_use {
+            return Err(AtlasGrowFault::Records);
+        }
+        let done = grow_shelves(
+            &mut self.records,
+            &mut self.ranked,
+            &self.frame,
+            &grown,
+            needed,
+        );
+        if done.is_err() {
+            return Err(AtlasGrowFault::Memory);
+        }
+        self.frame = grown;
+        self.items_in_use += needed.items;
+        Ok(())
+    }
+
+    /// Takes everything back at once: the atlas is as new, with its present size and columns.
     ///
     /// Takes no memory. Goes through the columns.
     pub fn clear(&mut self)

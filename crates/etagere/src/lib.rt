@@ -1,7 +1,8 @@
 //! A texture atlas allocator: rectangles are placed on shelves and given back in any order.
 //!
-//! The calls stand in `atlas`, everything else is private: `linked` has what they do to the records,
-//! `placements` what was found out of a place.
+//! The calls stand in `atlas`, those that count the steps of a restoring in `laws`, and why a growth is refused in
+//! `faults`. All else is private: `linked` has what calls do to the records, `placements` what was found out of a
+//! place.
 #![tactic(auto)]
 
 mod atlas;

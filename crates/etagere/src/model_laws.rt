@@ -3,7 +3,7 @@
 //! Definitions: `Laws`. A law stands here where no clause of a call states it. The functions have
 //! no callers: they make the check prove the laws.
 
-ghost use Rattle.etagere.specs.Laws.{BrokenStandsForNone, ChoosesAny, ChoosesByRule, FindsAny, FindsFirstLeast, GrowthKeeps, GrowthUses, MergesAll, MergesOnce, MergingKeepsAllocated, ReturnRestores, StandsForOne};
+ghost use Rattle.etagere.specs.Laws.{BrokenStandsForNone, ChoosesAny, ChoosesByRule, FindsAny, FindsFirstLeast, GrowthKeepsSpace, GrowthUses, MergesAll, MergesOnce, MergingKeepsAllocated, ReturnRestores, StandsForOne};
 
 /// The shelf that is chosen is the first of least rank, and there is one wherever any fits.
 pub(crate) fn the_first_least_is_chosen()
@@ -42,9 +42,8 @@ pub(crate) fn what_breaks_a_rule_stands_for_nothing()
     ensures { BrokenStandsForNone }
 {}
 
-/// A growth leaves what is allocated where it was, and keeps the promises of a state. It puts just the items to
-/// use for which it needs records.
-pub(crate) fn a_growth_keeps_what_is_allocated()
-    ensures keeps { GrowthKeeps }
+/// A growth keeps the allocated space, and puts just the items to use for which it needs records.
+pub(crate) fn a_growth_keeps_the_allocated_space()
+    ensures space { GrowthKeepsSpace }
     ensures uses { GrowthUses }
 {}

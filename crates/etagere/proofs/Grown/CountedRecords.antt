@@ -15,7 +15,7 @@ use Rattle.etagere_links.proofs.ListEnds.{times-here}
 use Rattle.etagere.specs.AtlasRecords.{along_of, is_allocated_at, is_empty_at, item_at, spelled_shelf}
 use Rattle.etagere.specs.Growing.{ends_column, ends_free, filled_ends, grown_frame, records_needed}
 use Rattle.etagere.specs.Private.Kept.{AreKept, HasFlag, IsPlaced, atlas_of, bare, state_of}
-use Rattle.etagere.specs.Private.RecordsGrown.{counted_from, ends_column_at, ends_free_at, is_filled_end, last_from, needed_of}
+use Rattle.etagere.specs.Private.RecordsGrown.{allocated_ends, counted_from, ends_column_at, ends_free_at, filled_ends_of, is_filled_end, last_from, needed_of}
 use Rattle.etagere.specs.State.{Shelf, is_empty}
 use Rattle.etagere.proofs.Grown.GrowthSteps.{counted-next, counted-none, last-next, last-none}
 use Rattle.etagere.proofs.Searched.Following.{IsLeft}
@@ -23,12 +23,12 @@ use Rattle.etagere.proofs.Searched.LinkedParts.{items-left, shelves-left}
 use Rattle.etagere.proofs.Spelled.SpelledPlaces.{free-spelled}
 
 -- the last of these behind one, or that one
-abbrev last_of : ℕ → List ℕ → ℕ
+abbrev pub last_of : ℕ → List ℕ → ℕ
 last_of x [] = x
 last_of x (y ∷ ys) = last_of y ys
 
 -- links lead to the last of the list that they spell
-last-leads : {T : Type 0} (next : T → Option ℕ) (records : List T) (n x : ℕ) (xs : List ℕ) → Leads (link_at next records) (link_at next records x) xs None
+pub last-leads : {T : Type 0} (next : T → Option ℕ) (records : List T) (n x : ℕ) (xs : List ℕ) → Leads (link_at next records) (link_at next records x) xs None
     → length xs ≤ n → last_from next records n x ≡ last_of x xs
 last-leads next records n x [] leads few = last-none next records n x leads
 last-leads next records zero x (y ∷ ys) leads few = absurd (omega (arith, few))
@@ -56,7 +56,7 @@ each-standing P [] holds = tt
 each-standing P (x ∷ xs) holds = (holds x (omega (arith, times-here x xs)), each-standing P xs (λ k stands. holds k (omega (arith, stands))))
 
 -- places of columns are the same where the columns are
-same-columns : (a b width : ℕ) → a % width ≡ 0 → b % width ≡ 0 → (a == b) ≡ (a / width == b / width)
+pub same-columns : (a b width : ℕ) → a % width ≡ 0 → b % width ≡ 0 → (a == b) ≡ (a / width == b / width)
 same-columns a b width h k = of (a / width) (b / width) refl refl
   where
     of : (m n : ℕ) → a / width ≡ m → b / width ≡ n → (a == b) ≡ (m == n)
@@ -133,31 +133,41 @@ module _ (frame : Frame) (records : Records) where
       )
 
 -- a count where something is added
-where-more : (a b n : ℕ) → cond (nat_lt a b) n 0 ≡ cond (b - a == 0) 0 n
+pub where-more : (a b n : ℕ) → cond (nat_lt a b) n 0 ≡ cond (b - a == 0) 0 n
 where-more a b n = grind arith
 
--- what is counted on kept records is what a growth needs
-pub needed-counted : (frame : Frame) (size : Size) (records : Records) → AreKept frame records
-    → (needed_of frame (grown_frame frame size) records).items ≡ records_needed (state_of frame records) size
-needed-counted frame size records kept =
+-- what is counted along the shelves of kept records
+pub record CountsEnds (frame : Frame) (records : Records) : Type 0 where
+  pub ends : allocated_ends records ≡ total (λ (shelf : Shelf). cond (ends_free shelf.items) 0 1) (state_of frame records).shelves
+  pub filled : filled_ends_of records ≡ filled_ends (state_of frame records).shelves
+
+pub ends-counted : (frame : Frame) (records : Records) → AreKept frame records → CountsEnds frame records
+ends-counted frame records kept =
     let numbers = (shelf_walk records).met in
     let left = shelves-left records kept.linked in
     let few : length numbers ≤ length records.shelves = omega (arith, left.enough) in
     let ends = each-standing (λ k. ends_free_at records k ≡ ends_free (shelf_at frame records k).items) numbers
     (λ k stands. ends-spelled records k (item_walk records k).met (items-left records k kept.linked stands)) in
-    let said : Each (IsSaid frame records) numbers = each-said numbers kept.placed kept.flags in
-    omega (
-      arith,
-      ap {B = ℕ} (λ (n : ℕ). cond (nat_lt frame.column_width (grown_frame frame size).column_width) n 0)
-          (counted-ends frame records (length records.shelves) records.first_shelf numbers left.leads few ends),
-      where-more frame.column_width (grown_frame frame size).column_width
-          (total (λ (shelf : Shelf). cond (ends_free shelf.items) 0 1) (shelves_at frame records numbers)),
-      ap {B = ℕ} (λ (n : ℕ). cond (nat_lt (across_side frame) (across_side (grown_frame frame size))) n 0)
-          (counted-filled frame records (length records.shelves) records.first_shelf numbers left.leads few said),
-      where-more (across_side frame) (across_side (grown_frame frame size)) (filled_ends (shelves_at frame records numbers)),
-    )
+    record {
+      ends = counted-ends frame records (length records.shelves) records.first_shelf numbers left.leads few ends;
+      filled = counted-filled frame records (length records.shelves) records.first_shelf numbers left.leads few (each-said numbers kept.placed kept.flags);
+    }
   where
     each-said : (numbers : List ℕ) → Each (IsPlaced (atlas_of frame records)) (map (walked_entry records) numbers)
         → Each (HasFlag (atlas_of frame records)) (map (walked_entry records) numbers) → Each (IsSaid frame records) numbers
     each-said [] placed flags = tt
     each-said (x ∷ xs) placed flags = (record { along = placed.0.along; flag = flags.0 }, each-said xs placed.1 flags.1)
+
+-- what is counted on kept records is what a growth needs
+pub needed-counted : (frame : Frame) (size : Size) (records : Records) → AreKept frame records
+    → (needed_of frame (grown_frame frame size) records).items ≡ records_needed (state_of frame records) size
+needed-counted frame size records kept =
+    let counts : CountsEnds frame records = ends-counted frame records kept in
+    omega (
+      arith,
+      ap {B = ℕ} (λ (n : ℕ). cond (nat_lt frame.column_width (grown_frame frame size).column_width) n 0) counts.ends,
+      where-more frame.column_width (grown_frame frame size).column_width
+          (total (λ (shelf : Shelf). cond (ends_free shelf.items) 0 1) (state_of frame records).shelves),
+      ap {B = ℕ} (λ (n : ℕ). cond (nat_lt (across_side frame) (across_side (grown_frame frame size))) n 0) counts.filled,
+      where-more (across_side frame) (across_side (grown_frame frame size)) (filled_ends (state_of frame records).shelves),
+    )

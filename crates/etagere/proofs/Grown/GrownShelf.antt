@@ -51,7 +51,7 @@ merged-end width (item ∷ next ∷ items) apart =
     ap (merged_onto both_free combined_items item) (merged-end width (next ∷ items) apart.1) ∙ wider_end-onto width item next items apart.0
 
 -- they are as wide as before and that width
-pub total_width-wider_end : (width : ℕ) (items : List Item) → total_width (wider_end width items) ≡ total_width items + width
+total_width-wider_end : (width : ℕ) (items : List Item) → total_width (wider_end width items) ≡ total_width items + width
 total_width-wider_end width [] = omega arith
 total_width-wider_end width (item ∷ []) = by_test (is_free item) refl
   where
@@ -86,7 +86,7 @@ is_one_free-wider_end width (item ∷ next ∷ []) some = by_test (is_free next)
 is_one_free-wider_end width (item ∷ next ∷ other ∷ items) some = refl
 
 -- the place of a free item at the end is a new one, unless the last was free
-pub starts-wider_end : (place here width : ℕ) (items : List Item)
+starts-wider_end : (place here width : ℕ) (items : List Item)
     → starts place here (wider_end width items) ≡ starts place here items + once (not (ends_free items)) (here + total_width items) place
 starts-wider_end place here width [] =
     let split = starts-cons place here (free_item width) [] in

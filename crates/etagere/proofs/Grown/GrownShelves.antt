@@ -14,8 +14,7 @@ use Rattle.etagere.specs.Merging.{both_empty, combined_shelves, merged_shelf, me
 use Rattle.etagere.specs.Places.{column_height}
 use Rattle.etagere.specs.State.{Shelf, empty_shelf, is_empty, items_in_use}
 use Rattle.etagere.specs.Valid.{is_out_of_order}
-use Rattle.etagere.proofs.Places.Heights.{column_height-none, column_of, height_of}
-use Rattle.etagere_base.proofs.ColumnTotals.{part}
+use Rattle.etagere.proofs.Places.Heights.{column_height-none}
 
 module _ (frame : Frame) (height : ℕ) where
   -- the shelf of this column that is added
@@ -194,10 +193,6 @@ columns-after shelf (next ∷ shelves) ends ordered =
     above a b h k = grind arith
 
 module _ (frame : Frame) (height column : ℕ) where
-  -- a shelf that is added counts for its column
-  part-end : (shelf : Shelf) → part column_of height_of column (end_shelf frame height shelf) ≡ cond (shelf.column == column) height 0
-  part-end shelf = refl
-
   -- shelves of later columns add nothing
   ends-later : (shelves : List Shelf) → Each (λ (s : Shelf). suc column ≤ s.column) shelves
       → (column_height column (with_ends frame height shelves) ≡ 0) × (column_height column shelves ≡ 0)

@@ -39,6 +39,10 @@ use Rattle.etagere.proofs.Spaces.SpaceLemmas.{space_in-merged, space_of}
 abbrev pub wider : Frame → ℕ → List Shelf → List Shelf
 wider frame width shelves = cond (width == 0) shelves (map (wider_shelf frame width) shelves)
 
+-- the shelves with a height added at the ends of the columns, merged
+abbrev pub taller : Frame → ℕ → List Shelf → List Shelf
+taller frame height shelves = cond (height == 0) shelves (taller_ends frame height shelves)
+
 -- a list of shelves with others at the ends
 abbrev pub with_all : Frame → Frame → ℕ → ℕ → ℕ → List Shelf → List Shelf
 with_all frame grown width height columns shelves = heightened grown height (wider frame width shelves) ++ empty_columns grown frame.columns columns
@@ -134,7 +138,7 @@ module _ (state : AtlasState) (size : Size) (valid : IsValid state) (fits : Fits
   all = with_all frame grown width height columns state.shelves
 
   -- where a width is added there is one column
-  one_column : (width == 0) ≡ false → frame.columns ≡ 1
+  pub one_column : (width == 0) ≡ false → frame.columns ≡ 1
   one_column h =
       ⊎_elim (λ (many : 1 < frame.columns). absurd (omega (arith, not_zero width h, grows.column_width, grows.width.many many)))
       (λ (few : frame.columns ≤ 1). omega (arith, few, valid.frame.columns.0)) (cases_lt 1 frame.columns)
@@ -148,7 +152,7 @@ module _ (state : AtlasState) (size : Size) (valid : IsValid state) (fits : Fits
   some = Each-weaken (IsShelf frame) (λ (s : Shelf). 1 ≤ length s.items) state.shelves (λ (s : Shelf) (h : IsShelf frame s). some-items frame s valid.frame h) valid.shelves
 
   -- each stands in a column
-  below : Each (λ (s : Shelf). s.column < frame.columns) state.shelves
+  pub below : Each (λ (s : Shelf). s.column < frame.columns) state.shelves
   below = Each-weaken (IsShelf frame) (λ (s : Shelf). s.column < frame.columns) state.shelves (λ (s : Shelf) (h : IsShelf frame s). h.column) valid.shelves
 
   -- columns begin where they did
@@ -225,14 +229,14 @@ module _ (state : AtlasState) (size : Size) (valid : IsValid state) (fits : Fits
           )
 
   -- they stand where they did
-  wide-below : Each (λ (s : Shelf). s.column < frame.columns) wide
+  pub wide-below : Each (λ (s : Shelf). s.column < frame.columns) wide
   wide-below = by_test (width == 0)
     where
       by_test : (b : Bool) → Each (λ (s : Shelf). s.column < frame.columns) (cond b state.shelves (map (wider_shelf frame width) state.shelves))
       by_test true = below
       by_test false = each-wider frame width (λ (s : Shelf). s.column < frame.columns) (λ s h. h) state.shelves below
 
-  wide-ordered : NoNeighbours is_out_of_order wide
+  pub wide-ordered : NoNeighbours is_out_of_order wide
   wide-ordered = by_test (width == 0)
     where
       by_test : (b : Bool) → NoNeighbours is_out_of_order (cond b state.shelves (map (wider_shelf frame width) state.shelves))
@@ -253,7 +257,7 @@ module _ (state : AtlasState) (size : Size) (valid : IsValid state) (fits : Fits
       by_test true = valid.apart
       by_test false = apart-wider frame width state.shelves some valid.apart
 
-  wide-heights : (column : ℕ) → column_height column wide ≡ column_height column state.shelves
+  pub wide-heights : (column : ℕ) → column_height column wide ≡ column_height column state.shelves
   wide-heights column = by_test (width == 0)
     where
       by_test : (b : Bool) → column_height column (cond b state.shelves (map (wider_shelf frame width) state.shelves)) ≡ column_height column state.shelves
@@ -349,61 +353,56 @@ module _ (state : AtlasState) (size : Size) (valid : IsValid state) (fits : Fits
           (Each-weaken (λ (s : Shelf). s.column < frame.columns) (λ (s : Shelf). s.column ≢ column) wide
           (λ (s : Shelf) (k : s.column < frame.columns) (e : s.column ≡ column). omega (arith, added, k, e)) wide-below)
 
+  -- the shelves of the grown state: the wider ones, each column with its height, and then the new columns
+  pub grown-shelves : (atlas_grown state size).shelves ≡ taller grown height wide ++ new
+  grown-shelves = ap merged_shelves merged-in_shelves ∙ by_height (height == 0)
+    where
+      none-touch : merged_shelves new ≡ new
+      none-touch = merged-apart both_empty combined_shelves new (apart-empty_columns grown frame.columns columns)
+
+      new-apart : Each (λ (s : Shelf). Heads (λ next. both_empty s next ≡ false) new) wide
+      new-apart =
+          Each-weaken (λ (s : Shelf). s.column < frame.columns) (λ (s : Shelf). Heads (λ next. both_empty s next ≡ false) new) wide
+          (λ (s : Shelf) (h : s.column < frame.columns). of s columns h) wide-below
+        where
+          of : (s : Shelf) (n : ℕ) → s.column < frame.columns → Heads (λ next. both_empty s next ≡ false) (empty_columns grown frame.columns n)
+          of s zero h = tt
+          of s (suc n) h = other s.column frame.columns (is_empty s) h
+            where
+              other : (a b : ℕ) (c : Bool) → a < b → (a == b && (c && true)) ≡ false
+              other a b c h = grind arith
+
+      by_height : (b : Bool) → merged_shelves (cond b wide (with_ends grown height wide) ++ new) ≡ cond b wide (taller_ends grown height wide) ++ new
+      by_height true =
+          merged-apart both_empty combined_shelves (wide ++ new)
+          (NoNeighbours-joined both_empty wide new wide-apart (apart-empty_columns grown frame.columns columns) new-apart)
+      by_height false = merged-ends grown height new wide wide-apart none-touch new-other
+
+  -- wider or not, so many columns end with a shelf that isn't empty
+  pub wide-filled : filled_ends wide ≡ filled_ends state.shelves
+  wide-filled = by_test (width == 0)
+    where
+      by_test : (b : Bool) → filled_ends (cond b state.shelves (map (wider_shelf frame width) state.shelves)) ≡ filled_ends state.shelves
+      by_test true = refl
+      by_test false = filled-wider frame width state.shelves some
+
   -- the grown atlas has as many items more as records are needed
   pub items-grown : items_in_use (atlas_grown state size).shelves ≡ items_in_use state.shelves + records_needed state size
-  items-grown =
-      ap (λ (l : List Shelf). items_in_use (merged_shelves l)) merged-in_shelves
-      ∙ by_height (height == 0) refl
+  items-grown = ap items_in_use grown-shelves ∙ by_height (height == 0)
     where
       in_wide : (b : Bool) → items_in_use (cond b state.shelves (map (wider_shelf frame width) state.shelves))
           ≡ items_in_use state.shelves + cond b 0 (total (λ shelf. cond (ends_free shelf.items) 0 1) state.shelves)
       in_wide true = omega arith
       in_wide false = items-wider frame width state.shelves
 
-      in_ends : (b : Bool) → filled_ends (cond b state.shelves (map (wider_shelf frame width) state.shelves)) ≡ filled_ends state.shelves
-      in_ends true = refl
-      in_ends false = filled-wider frame width state.shelves some
-
-      none-touch : merged_shelves new ≡ new
-      none-touch = merged-apart both_empty combined_shelves new (apart-empty_columns grown frame.columns columns)
-
       items : (shelves : List Shelf) → items_in_use (shelves ++ new) ≡ items_in_use shelves + columns
       items shelves = omega (arith, total-append (λ (s : Shelf). length s.items) shelves new, items_in_use-empty_columns grown frame.columns columns)
 
-      by_height : (b : Bool) → (height == 0) ≡ b
-          → items_in_use (merged_shelves (cond b wide (with_ends grown height wide) ++ new))
+      by_height : (b : Bool) → items_in_use (cond b wide (taller_ends grown height wide) ++ new)
           ≡ items_in_use state.shelves + (needed_for_width width state.shelves + cond b 0 (filled_ends state.shelves) + columns)
-      by_height true e =
-          omega (
-            arith,
-            ap items_in_use (merged-apart both_empty combined_shelves (wide ++ new)
-                (NoNeighbours-joined both_empty wide new wide-apart (apart-empty_columns grown frame.columns columns)
-                (first-new-apart wide wide-below))),
-            items wide,
-            in_wide (width == 0),
-          )
-        where
-          first-new-apart : (shelves : List Shelf) → Each (λ (s : Shelf). s.column < frame.columns) shelves
-              → Each (λ (s : Shelf). Heads (λ next. both_empty s next ≡ false) new) shelves
-          first-new-apart shelves columns_below =
-              Each-weaken (λ (s : Shelf). s.column < frame.columns) (λ (s : Shelf). Heads (λ next. both_empty s next ≡ false) new) shelves
-              (λ (s : Shelf) (h : s.column < frame.columns). of s columns h) columns_below
-            where
-              of : (s : Shelf) (n : ℕ) → s.column < frame.columns → Heads (λ next. both_empty s next ≡ false) (empty_columns grown frame.columns n)
-              of s zero h = tt
-              of s (suc n) h = other s.column frame.columns (is_empty s) h
-                where
-                  other : (a b : ℕ) (c : Bool) → a < b → (a == b && (c && true)) ≡ false
-                  other a b c h = grind arith
-      by_height false e =
-          omega (
-            arith,
-            ap items_in_use (merged-ends grown height new wide wide-apart none-touch new-other),
-            items (taller_ends grown height wide),
-            items_in_use-ends grown height wide,
-            in_wide (width == 0),
-            in_ends (width == 0),
-          )
+      by_height true = omega (arith, items wide, in_wide (width == 0))
+      by_height false =
+          omega (arith, items (taller_ends grown height wide), items_in_use-ends grown height wide, in_wide (width == 0), wide-filled)
 
   -- what is allocated keeps its place
   pub grown-allocated : allocations (atlas_grown state size) ≡ allocations state

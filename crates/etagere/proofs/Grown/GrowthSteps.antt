@@ -11,7 +11,7 @@ use Rattle.etagere_links.specs.Records.{shelf_chain}
 use Rattle.etagere.specs.AtlasRecords.{is_allocated_at}
 use Rattle.etagere.specs.Private.ItemReturned.{width_of}
 use Rattle.etagere.specs.declared.linked.growing.Made.{Made}
-use Rattle.etagere.specs.Private.RecordsGrown.{CanAppend, CanHeighten, CanHeightenAll, CanInsert, CanWiden, CanWidenAll, Growing, after_item, columns_appended, columns_heightened, counted_from, end_heightened, ends_column_at, last_from, last_item, next_shelf, shelf_inserted, shelf_widened, shelves_widened}
+use Rattle.etagere.specs.Private.RecordsGrown.{CanAppend, CanHeighten, CanHeightenAll, CanWiden, CanWidenAll, Growing, after_item, columns_appended, columns_heightened, counted_from, end_heightened, ends_column_at, last_from, last_item, next_shelf, shelf_inserted, shelf_widened, shelves_widened}
 
 -- one step towards the last one
 pub last-next : {T : Type 0} (next : T → Option ℕ) (records : List T) (n m number other : ℕ) → n ≡ suc m → link_at next records number ≡ Some other
@@ -107,11 +107,7 @@ module _ (frame : Frame) where
       → columns_appended frame m shelf (column + 1) inserted ≡ columns_appended frame n previous column growing
   appended-next n m previous column growing inserted shelf h made is = rw (h, made, is) refl
 
-  -- the column at hand can be appended
-  pub can-append : (n m previous column : ℕ) (growing : Growing) → n ≡ suc m → CanAppend frame n previous column growing → CanInsert previous growing
-  can-append n m previous column growing h can = (rw h at can).0
-
-  -- and so can those after it
+  -- where the column at hand can be appended, so can those after it
   pub can-append-next : (n m previous column : ℕ) (growing inserted : Growing) (shelf : ℕ) → n ≡ suc m
       → inserted ≡ shelf_inserted frame.column_width previous (column * frame.column_width) 0 (across_side frame) growing
       → shelf ≡ next_shelf (after_item growing) → CanAppend frame n previous column growing → CanAppend frame m shelf (column + 1) inserted

@@ -15,7 +15,7 @@ abbrev pub numbers_from : ℕ → ℕ → List ℕ
 numbers_from from count = numbered (λ number. number) from count
 
 -- the order of records in no list doesn't matter
-pub loose-counted : (records : Records) (entries : List Entry) (unused_items unused_shelves loose other loose_shelves other_shelves : List ℕ)
+loose-counted : (records : Records) (entries : List Entry) (unused_items unused_shelves loose other loose_shelves other_shelves : List ℕ)
     → ((k : ℕ) → times k other ≡ times k loose) → ((k : ℕ) → times k other_shelves ≡ times k loose_shelves)
     → IsLinkedBut records (lists_of entries unused_items unused_shelves) loose loose_shelves
     → IsLinkedBut records (lists_of entries unused_items unused_shelves) other other_shelves

@@ -7,19 +7,11 @@ use Rattle.etagere_links.specs.RecordLists.{Entry, free_walk, shelf_numbers, she
 use Rattle.etagere_links.specs.Links.{no_link}
 use Rattle.etagere.specs.AtlasRecords.{AtlasRecords, spelled_state, walked_entries}
 use Rattle.etagere.specs.Private.Judging.{FreeBack, HasShelvesIn, judged}
-use Rattle.etagere.specs.StandsFor.{AreStacked, HasCounts, HasFreeList, HasItems, HasNeighbours, HasShelves}
+use Rattle.etagere.specs.StandsFor.{AreStacked, HasFreeList, HasItems, HasNeighbours, HasShelves}
 
 -- the records of an atlas as passes see them
 abbrev pub judged_of : AtlasRecords → AtlasRecords
 judged_of atlas = judged atlas.frame atlas.lists.shelves atlas.lists.items
-
--- counts
-pub counts-of : (atlas : AtlasRecords) → HasCounts (judged_of atlas) → HasCounts atlas
-counts-of atlas has = record { shelves = has.shelves; items = has.items }
-
--- and back
-pub of-counts : (atlas : AtlasRecords) → HasCounts atlas → HasCounts (judged_of atlas)
-of-counts atlas has = record { shelves = has.shelves; items = has.items }
 
 -- the items of a shelf
 items-of : (atlas : AtlasRecords) (entry : Entry) → HasItems (judged_of atlas) entry → HasItems atlas entry

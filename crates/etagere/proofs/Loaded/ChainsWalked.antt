@@ -102,13 +102,6 @@ once-walked atlas entries unused has k =
       times-append k (item_numbers (walked_entries atlas)) (unused_item_walk atlas.lists).met,
     )
 
--- the same lists, by what they are
-pub walked-again : (atlas : AtlasRecords) (entries : List Entry) (unused : List ℕ) → HasItemLists atlas entries unused
-    → HasItemLists atlas (map (chain_entry atlas.lists) (shelf_walk atlas.lists).met) (unused_item_walk atlas.lists).met
-walked-again atlas entries unused has =
-    subst (λ (us : List ℕ). HasItemLists atlas (map (chain_entry atlas.lists) (shelf_walk atlas.lists).met) us) has.unused_met
-    (subst (λ (es : List Entry). HasItemLists atlas es unused) has.met has)
-
 -- as many items, of which only the items matter
 items-length : (records : Records) (numbers : List ℕ)
     → length (item_numbers (map (chain_entry records) numbers)) ≡ length (item_numbers (map (walked_entry records) numbers))

@@ -40,7 +40,7 @@ same-entries atlas lists (entry ∷ entries) shelf items are =
     }
 
 -- a field of records of which one was made that has there what none has
-field_at-made : {T X : Type 0} (field : T → X) (other : X) (xs : List T) (x : T) (k : ℕ) → field x ≡ other → field_at field other (xs ++ x ∷ []) k ≡ field_at field other xs k
+pub field_at-made : {T X : Type 0} (field : T → X) (other : X) (xs : List T) (x : T) (k : ℕ) → field x ≡ other → field_at field other (xs ++ x ∷ []) k ≡ field_at field other xs k
 field_at-made field other [] x zero e = e
 field_at-made field other [] x (suc k) e = refl
 field_at-made field other (y ∷ ys) x zero e = refl
@@ -67,7 +67,7 @@ SameShelf-then shelves middle new k one two =
     record { along = two.along ∙ one.along; across = two.across ∙ one.across; height = two.height ∙ one.height; is_empty = two.is_empty ∙ one.is_empty }
 
 -- a fact of each is one of each but the first
-Each-but_first : (P : ℕ → Type 0) (xs : List ℕ) → Each P xs → Each P (but_first xs)
+pub Each-but_first : (P : ℕ → Type 0) (xs : List ℕ) → Each P xs → Each P (but_first xs)
 Each-but_first P [] each = tt
 Each-but_first P (x ∷ xs) each = each.1
 

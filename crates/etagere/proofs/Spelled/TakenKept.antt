@@ -41,7 +41,7 @@ replaced-between f pieces [] back x = refl
 replaced-between f pieces (y ∷ front) back x = ap (λ ys. f y ∷ ys) (replaced-between f pieces front back x)
 
 -- the count of records: the greater of those before and of the items in use
-records-count : (old new in_use unused : ℕ) → in_use + unused ≡ new → old ≤ new → (1 ≤ unused → new ≡ old) → max old in_use ≡ new
+pub records-count : (old new in_use unused : ℕ) → in_use + unused ≡ new → old ≤ new → (1 ≤ unused → new ≡ old) → max old in_use ≡ new
 records-count old new in_use zero total more made = omega (arith, total, more)
 records-count old new in_use (suc unused) total more made = omega (arith, total, made (omega arith))
 

@@ -36,7 +36,7 @@ each-length count xs once =
     at_test k false e below = absurd (grind arith)
 
 -- shelves are no more than their items
-shelves-few : (atlas : AtlasRecords) (entries : List Entry) → 1 ≤ atlas.frame.column_width → Each (IsShelf atlas.frame) (map (spelled_shelf atlas) entries) → length (shelf_numbers entries) ≤ items_in_use (map (spelled_shelf atlas) entries)
+pub shelves-few : (atlas : AtlasRecords) (entries : List Entry) → 1 ≤ atlas.frame.column_width → Each (IsShelf atlas.frame) (map (spelled_shelf atlas) entries) → length (shelf_numbers entries) ≤ items_in_use (map (spelled_shelf atlas) entries)
 shelves-few atlas [] wide each = omega arith
 shelves-few atlas (entry ∷ entries) wide each =
     omega (arith, some (spelled_shelf atlas entry).items each.0.width, shelves-few atlas entries wide each.1)

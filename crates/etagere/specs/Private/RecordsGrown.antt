@@ -274,7 +274,8 @@ records_grown frame grown needed records =
 -- what widening a shelf needs
 pub record CanWiden (shelf width : ℕ) (growing : Growing) : Type 0 where
   pub small : shelf < no_link
-  pub item : next_item growing < no_link
+  pub item : (last : ℕ) → last_item growing.records shelf ≡ Some last
+      → is_allocated_at growing.records.items last ≡ true → next_item growing < no_link
   pub fits : (last : ℕ) → last_item growing.records shelf ≡ Some last
       → is_allocated_at growing.records.items last ≡ false
       → width_of growing.records.items last + width < 65536

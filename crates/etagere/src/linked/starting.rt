@@ -4,7 +4,7 @@
 //! Definitions: `FreshRecords`, and `ByHeight` for the shelves. A clear uses the memory of the records that are
 //! there, of which there is a shelf and an item for each column at least, and that of the ranked shelves.
 
-ghost use Rattle.std.specs.Prelude.{◌≡◌, ◌+◌, ◌<◌, ◌≤◌, IfOk, length, map};
+ghost use Rattle.std.specs.Prelude.{◌≡◌, ◌+◌, ◌<◌, ◌≤◌, IfOk, length, map, vec_capacity};
 ghost use Rattle.etagere_base.specs.Frames.{HasAllColumns, IsFrame, longest_side};
 ghost use Rattle.etagere_links.specs.Links.{no_link};
 ghost use Rattle.etagere_links.specs.RecordLists.{shelf_walk};
@@ -72,10 +72,21 @@ pub(crate) fn ranked_shelves(
     requires { AreKept frame.now records.now }
     ensures { IfOk result (λ ranked. AreRanked frame.now records.now ranked.items) }
 {
-    let mut ranked = shelves_in_use(alloc, frame, records)?;
+    let mut ranked = Vec::new(alloc);
+    ranked.reserve(records.shelves().len())?;
+    rank_shelves(frame, records, &mut ranked);
+    Ok(ranked)
+}
+
+/// Ranks the shelves in use of records, in the memory that the list has.
+pub(crate) fn rank_shelves(frame: &Frame, records: &Records, ranked: &mut Vec<RankedShelf>)
+    requires kept { AreKept frame.now records.now }
+    requires room { length (shelf_walk records.now).met ≤ vec_capacity ranked.old }
+    ensures { AreRanked frame.now records.now ranked.new.items }
+{
+    collect_shelves(frame, records, ranked);
     let shelves = records.shelves();
     ranked.sort_unstable_by_key(|one| order_or_zero(shelves, usize::from(one.shelf)));
-    Ok(ranked)
 }
 
 /// Where a shelf stands in the order; 0 where there is no such shelf.
@@ -89,26 +100,22 @@ fn order_or_zero(shelves: &[ShelfRecord], shelf: usize) -> u64
     }
 }
 
-/// The shelves in use by their chain, newly ranked.
-fn shelves_in_use(
-    alloc: Global,
-    frame: &Frame,
-    records: &Records,
-) -> Result<Vec<RankedShelf>, AllocError>
-    requires { AreKept frame.now records.now }
-    ensures { IfOk result (λ ranked. ranked.items
-        ≡ map (heights.newly_ranked frame.now) (shelf_walk records.now).met) }
+/// Makes the list that of the shelves in use by their chain, newly ranked, in the memory that it has.
+fn collect_shelves(frame: &Frame, records: &Records, ranked: &mut Vec<RankedShelf>)
+    requires kept { AreKept frame.now records.now }
+    requires room { length (shelf_walk records.now).met ≤ vec_capacity ranked.old }
+    ensures { ranked.new.items
+        ≡ map (heights.newly_ranked frame.now) (shelf_walk records.now).met }
 {
-    let mut ranked = Vec::new(alloc);
+    ranked.clear();
     let mut at = records.first_shelf().number();
     for _step in 0..records.shelves().len() {
         let Some(shelf) = at else {
             break;
         };
-        ranked.push(newly_ranked(frame, shelf))?;
+        let _pushed = ranked.push(newly_ranked(frame, shelf));
         at = next_of::<Chain, ShelfRecord>(records.shelves(), shelf).number();
     }
-    Ok(ranked)
 }
 
 /// A shelf of this number, with the width of its column for a bound.

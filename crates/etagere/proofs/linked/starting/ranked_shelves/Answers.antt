@@ -1,16 +1,7 @@
-use Rattle.std.proofs.Common.{List, rules, subst}
-use Rattle.std.proofs.lemmas.List.Sorted.{IsNonDecreasingBy-from_sort_by_key}
-use Rattle.std.specs.List.Sorted.{IsNonDecreasingBy, IsPermutation}
-use Rattle.etagere_links.specs.declared.records.ShelfRecord.{ShelfRecord}
-use Rattle.etagere.specs.Private.ByHeight.{order_of}
-use Rattle.etagere.specs.declared.linked.heights.RankedShelf.{RankedShelf}
-use Rattle.etagere.proofs.ByHeight.NewlyRanked.{sorted-ranked}
+use Rattle.std.proofs.Common.{ap, arith, length}
+use Rattle.etagere.proofs.Searched.LinkedParts.{shelves-left}
 use Rattle.etagere.proofs.linked.starting.ranked_shelves.Goals as goal
 
-pub returns : goal.returns
-returns c =
-    let sorted = c.sort_unstable_by_key.new.self.items in
-    sorted-ranked c.args.frame.now c.args.records.now sorted c.requires
-    (subst (λ (ranked : List RankedShelf). IsPermutation ranked sorted) c.in_ok-ranked.ensures c.sort_unstable_by_key.ensures.permutation)
-    (subst (λ (shelves : List ShelfRecord). IsNonDecreasingBy (λ (one : RankedShelf). order_of shelves one.shelf) sorted) c.shelves-shelves.ensures
-    (IsNonDecreasingBy-from_sort_by_key (λ (one : RankedShelf). order_of c.shelves-shelves.result.now one.shelf) _ c.sort_unstable_by_key.ensures.sorted (λ a r q k. search rules)))
+pub rank_shelves-requires-clause-room : goal.rank_shelves-requires-clause-room
+rank_shelves-requires-clause-room c =
+    omega (arith, (shelves-left c.args.records.now c.requires.linked).enough, c.in_ok-reserve.ensures.ok, ap length c.shelves.ensures)
