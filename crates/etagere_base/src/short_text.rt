@@ -41,6 +41,15 @@ impl ShortText {
         ShortText { buffer }
     }
 
+    /// Begins anew with a word.
+    pub fn begin(&mut self, word: &str)
+        requires { length word.now ≤ 66 }
+        ensures { self.new ≡ word.now }
+    {
+        self.buffer.clear();
+        self.buffer.push_str(word);
+    }
+
     /// The text so far.
     pub fn as_str(&self) -> &str
         ensures { result.now ≡ self.now }
@@ -57,6 +66,7 @@ impl ShortText {
     }
 
     /// Adds the decimal digits of a number.
+    #[inline(always)]
     pub fn push_number(&mut self, number: u32)
         requires { length self.old + 10 ≤ 66 }
         ensures text { self.new ≡ self.old ++ decimal number }

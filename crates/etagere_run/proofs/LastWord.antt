@@ -1,18 +1,17 @@
 -- The last word of a line: bytes with a space spell no number, position or direction.
 use Rattle.std.proofs.Common.{◌≡◌, ◌≢◌, ℕ, List, [], ◌∷◌, cond, Bool, true, false, ℤ, Option, Some, None, ◌⊎◌, inl, inr, arith, refl, ap, ◌∙◌, sym, subst}
-use Rattle.std.proofs.lemmas.Bool.{cases_eq, false≢true, and_parts}
+use Rattle.std.proofs.lemmas.Bool.{cases_eq, false≢true}
 use Rattle.std.proofs.lemmas.Option.{cond_some}
 use Rattle.std.proofs.lemmas.Slice.Eq.{bytes_eq-Decides}
 use Rattle.std.specs.Prelude.{◌==◌, ◌^◌, ◌-◌, pos, neg_ℤ, option_map, bytes_eq, codes}
-use Rattle.std.specs.Str.{all_ascii_digits}
-use Rattle.std.specs.Char.{is_ascii_digit}
-use Rattle.std.proofs.lemmas.List.Elements.{All-nil, All-cons, All-head, All-tail}
+use Rattle.std.proofs.lemmas.List.Elements.{All-nil, All-head, All-tail}
 use Rattle.etagere_run.specs.declared.words.AtlasKind.{AtlasKind}
 use Rattle.etagere_run.specs.Lines.{before_pieces, words_of, Lacks}
-use Rattle.etagere_run.specs.Numbers.{number_of, position_of, natural_of, are_digits}
+use Rattle.etagere_run.specs.Numbers.{number_of, position_of, natural_of}
 use Rattle.etagere_run.specs.Words.{Header, atlas_in, atlas_of, size_in, size_of, position_in, direction_of, command_of, ◌>>=◌}
 use Rattle.etagere_base.specs.declared.geometry.Size.{Size}
-use Rattle.etagere_run.proofs.Pieces.{before_pieces-other, before_pieces-separator}
+use Rattle.etagere_run.proofs.DigitsLack.{natural-lacks}
+use Rattle.etagere_run.proofs.Pieces.{Lacks-cons, before_pieces-other, before_pieces-separator}
 
 -- the bytes are one word, or several with a space between
 pub data Shape (bytes : List ℕ) : Type 0 where
@@ -21,7 +20,7 @@ pub data Shape (bytes : List ℕ) : Type 0 where
 
 -- bytes without a space, and one more before them
 lacks-more : (x : ℕ) (xs : List ℕ) → x ≢ 32 → Lacks 32 xs → Lacks 32 (x ∷ xs)
-lacks-more = All-cons (λ byte. byte ≢ 32)
+lacks-more = Lacks-cons 32
 
 -- bytes without a space, but for the first
 lacks-tail : (x : ℕ) (xs : List ℕ) → Lacks 32 (x ∷ xs) → Lacks 32 xs
@@ -45,24 +44,6 @@ shape : (bytes : List ℕ) → Shape bytes
 shape [] = One refl
 shape (x ∷ bytes) = elim (cases_eq x 32) [ inl same ↦ subst (λ y. Shape (y ∷ bytes)) (sym same) (spaced bytes (shape bytes)) | inr other ↦ longer x bytes other (shape bytes) ]
 
--- a digit is no space
-digit-other : (x : ℕ) → is_ascii_digit x ≡ true → x ≢ 32
-digit-other x h = λ same. absurd (false≢true (subst (λ y. is_ascii_digit y ≡ true) same h))
-
--- digits have no space among them
-digits-lack : (bytes : List ℕ) → all_ascii_digits bytes ≡ true → Lacks 32 bytes
-digits-lack [] h = All-nil (λ byte. byte ≢ 32)
-digits-lack (x ∷ xs) h = let both = and_parts (is_ascii_digit x) (all_ascii_digits xs) h in lacks-more x xs (digit-other x both.0) (digits-lack xs both.1)
-
--- one or more digits have no space among them
-are_digits-lack : (bytes : List ℕ) → are_digits bytes ≡ true → Lacks 32 bytes
-are_digits-lack [] h = absurd (false≢true h)
-are_digits-lack (x ∷ xs) h = digits-lack (x ∷ xs) h
-
--- what stands for a natural number has no space
-natural-lacks : (greatest n : ℕ) (bytes : List ℕ) → natural_of greatest bytes ≡ Some n → Lacks 32 bytes
-natural-lacks greatest n bytes h = are_digits-lack bytes (and_parts (are_digits bytes) _ (cond_some _ _ n h).0).0
-
 -- a choice that gives something gives it by one of its sides
 chosen : {A : Type 0} (test : Bool) (x y : Option A) (z : A) → cond test x y ≡ Some z → ((test ≡ true) × (x ≡ Some z)) ⊎ ((test ≡ false) × (y ≡ Some z))
 chosen true x y z h = inl (refl, h)
@@ -82,8 +63,8 @@ number-lacks : (bytes : List ℕ) (z : ℤ) → number_of bytes ≡ Some z → L
 number-lacks [] z h = cc
 number-lacks (x ∷ xs) z h =
     elim (chosen (x == 45) (option_map (λ n. neg_ℤ (pos n)) (natural_of (2 ^ 31) xs)) (option_map pos (natural_of (2 ^ 31 - 1) (x ∷ xs))) z h) [
-      | inl minus ↦ lacks-more x xs (minus-other x minus.0) (let some = mapped _ _ z minus.1 in natural-lacks _ some.0 xs some.1)
-      | inr plain ↦ let some = mapped _ _ z plain.1 in natural-lacks _ some.0 (x ∷ xs) some.1
+      | inl minus ↦ lacks-more x xs (minus-other x minus.0) (let some = mapped _ _ z minus.1 in natural-lacks 32 refl _ some.0 xs some.1)
+      | inr plain ↦ let some = mapped _ _ z plain.1 in natural-lacks 32 refl _ some.0 (x ∷ xs) some.1
     ]
 
 -- one letter that is no space has none
@@ -124,7 +105,7 @@ last-word f bytes none lacks (More first second rest more space) =
 
 -- a position is the last bytes, if they stand for one
 pub position_in-words : (bytes : List ℕ) → position_in (words_of bytes) ≡ position_of bytes
-position_in-words bytes = last-word position_in bytes (λ first second rest. refl) (λ n h. natural-lacks _ n bytes h) (shape bytes)
+position_in-words bytes = last-word position_in bytes (λ first second rest. refl) (λ n h. natural-lacks 32 refl _ n bytes h) (shape bytes)
 
 -- the height of a size is the last bytes
 pub size_in-words : (width height : List ℕ) → size_in (width ∷ words_of height) ≡ size_of width height

@@ -156,10 +156,6 @@ more-places floor places given within =
     ∙ more-from floor (drop floor places) given
     ∙ ap (λ (n : ℕ). with_entry n given (entries_above floor places)) (omega (arith, length-drop floor places, within))
 
--- none of the places counts below a floor at their end
-pub none-above : (floor : ℕ) (places : List (Option Allocation)) → floor ≡ length places → entries_above floor places ≡ []
-none-above floor places is = ap (entries_from floor) (drop_all floor places (omega (arith, is)))
-
 -- what holds holds where something was taken
 pub some-taken : {T P : Type 0} (taken : Option T) → P → IfSome taken (λ _. P)
 some-taken None p = tt

@@ -3,6 +3,7 @@
 pub mod Drawn
 pub mod Given
 pub mod Judged
+pub mod PlainLines
 pub mod Rooms
 pub mod ScriptReading
 pub mod ScriptStreaming

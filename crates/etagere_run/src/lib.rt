@@ -12,6 +12,7 @@ mod faults;
 mod ledger;
 mod lines;
 mod numbers;
+mod plain_lines;
 mod reading;
 mod replaying;
 mod reply_text;

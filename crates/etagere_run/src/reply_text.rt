@@ -30,21 +30,28 @@ impl Model for Line {
 }
 
 impl Line {
-    /// A line that begins with a word.
-    fn new(word: &str) -> Line
-        requires { length word.now ≤ LINE_CAPACITY }
-        ensures { result ≡ word.now }
+    /// A line without text.
+    pub fn new() -> Line
+        ensures { result ≡ [] }
     {
         Line {
-            text: ShortText::new(word),
+            text: ShortText::new(""),
         }
     }
 
     /// The line as text.
-    pub fn as_str(&self) -> &str
+    fn as_str(&self) -> &str
         ensures { result.now ≡ self.now }
     {
         self.text.as_str()
+    }
+
+    /// Begins anew with a word.
+    fn begin(&mut self, word: &str)
+        requires { length word.now ≤ LINE_CAPACITY }
+        ensures { self.new ≡ word.now }
+    {
+        self.text.begin(word);
     }
 
     /// Adds a word.
@@ -65,6 +72,7 @@ impl Line {
     }
 
     /// Adds a place, with a minus sign where it is negative.
+    #[inline(always)]
     fn push_place(&mut self, place: i32)
         requires { length self.old + 11 ≤ LINE_CAPACITY }
         ensures text { self.new ≡ self.old ++ signed_decimal place }
@@ -80,6 +88,7 @@ impl Line {
     }
 
     /// Adds a space and a place.
+    #[inline(always)]
     fn push_next_place(&mut self, place: i32)
         requires { length self.old + 12 ≤ LINE_CAPACITY }
         ensures text { self.new ≡ self.old ++ space ∷ signed_decimal place }
@@ -91,6 +100,7 @@ impl Line {
     }
 
     /// Adds the corners of a rectangle.
+    #[inline(always)]
     fn push_corners(&mut self, rectangle: &Rectangle)
         requires { length self.old + 47 ≤ LINE_CAPACITY }
         ensures text { self.new ≡ self.old ++ corners_text rectangle.now }
@@ -104,54 +114,60 @@ impl Line {
     }
 }
 
-/// The line of a reply.
-pub fn line_of(reply: &Reply) -> Line
-    ensures text { result ≡ spec.line_of reply.now }
-    ensures short { TellsPlaces reply.now → length result ≤ longest_line }
+/// The line of a reply. It is made in `line`, where it isn't always the same.
+pub fn line_of<'a>(reply: &Reply, line: &'a mut Line) -> &'a str
+    ensures text { result.now ≡ spec.line_of reply.now }
+    ensures short { TellsPlaces reply.now → length result.now ≤ longest_line }
 {
     match reply {
-        Reply::Placed(allocation) => placed_line(allocation),
-        Reply::Refused => Line::new("refused\n"),
-        Reply::Returned => Line::new("returned\n"),
-        Reply::At(rectangle, index) => at_line(rectangle, *index),
-        Reply::NotLive => Line::new("not live\n"),
-        Reply::Cleared => Line::new("cleared\n"),
-        Reply::Grown => Line::new("grown\n"),
-        Reply::GrowRefused(number) => grow_refused_line(*number),
-        Reply::NoMemory => Line::new("no memory\n"),
+        Reply::Placed(allocation) => {
+            write_placed(line, allocation);
+            line.as_str()
+        }
+        Reply::Refused => "refused\n",
+        Reply::Returned => "returned\n",
+        Reply::At(rectangle, index) => {
+            write_at(line, rectangle, *index);
+            line.as_str()
+        }
+        Reply::NotLive => "not live\n",
+        Reply::Cleared => "cleared\n",
+        Reply::Grown => "grown\n",
+        Reply::GrowRefused(number) => {
+            write_grow_refused(line, *number);
+            line.as_str()
+        }
+        Reply::NoMemory => "no memory\n",
     }
 }
 
-fn placed_line(allocation: &Allocation) -> Line
-    ensures text { result ≡ spec.line_of (Reply.Placed allocation.now) }
-    ensures short { HasPlaces allocation.now.rectangle → length result ≤ longest_line }
+fn write_placed(line: &mut Line, allocation: &Allocation)
+    ensures text { line.new ≡ spec.line_of (Reply.Placed allocation.now) }
+    ensures short { HasPlaces allocation.now.rectangle → length line.new ≤ longest_line }
 {
-    let mut line = Line::new("placed ");
+    line.begin("placed ");
     line.push_number(allocation.id.serialize());
     line.push(" ");
     line.push_corners(&allocation.rectangle);
     line.push("\n");
-    line
 }
 
-fn at_line(rectangle: &Rectangle, index: u32) -> Line
-    ensures text { result ≡ spec.line_of (Reply.At rectangle.now index) }
-    ensures short { HasPlaces rectangle.now → length result ≤ longest_line }
+fn write_at(line: &mut Line, rectangle: &Rectangle, index: u32)
+    ensures text { line.new ≡ spec.line_of (Reply.At rectangle.now index) }
+    ensures short { HasPlaces rectangle.now → length line.new ≤ longest_line }
 {
-    let mut line = Line::new("at ");
+    line.begin("at ");
     line.push_corners(rectangle);
     line.push(" ");
     line.push_number(index);
     line.push("\n");
-    line
 }
 
-fn grow_refused_line(number: u32) -> Line
-    ensures text { result ≡ spec.line_of (Reply.GrowRefused number) }
-    ensures short { length result ≤ longest_line }
+fn write_grow_refused(line: &mut Line, number: u32)
+    ensures text { line.new ≡ spec.line_of (Reply.GrowRefused number) }
+    ensures short { length line.new ≤ longest_line }
 {
-    let mut line = Line::new("grow refused ");
+    line.begin("grow refused ");
     line.push_number(number);
     line.push("\n");
-    line
 }

@@ -12,6 +12,7 @@ ghost use Rattle.etagere_run.specs.declared.script.ScriptFault.TheVariants.{Memo
 
 use crate::commands::{AtlasCommand, BucketedCommand};
 use crate::lines::{blank_lines, first_line};
+use crate::plain_lines::plain_command;
 use crate::words::{AtlasKind, Spelled, command_of, header_of};
 use etagere::{AllocatorOptions, Size};
 use std::alloc::{AllocFailed, Global};
@@ -109,8 +110,13 @@ fn commands_of<C: Spelled>(alloc: Global, before: u64, bytes: &[u8]) -> Result<V
     let mut number = before;
     let mut rest = bytes;
     while !rest.is_empty() {
-        let (line, after) = first_line(rest);
         number += 1;
+        if let Some((command, after)) = plain_command(rest) {
+            commands.push(command)?;
+            rest = after;
+            continue;
+        }
+        let (line, after) = first_line(rest);
         if !line.is_empty() {
             let Some(command) = command_of(line) else {
                 return Err(ScriptFault::BadLine(number));

@@ -15,7 +15,7 @@ ghost use Rattle.etagere_run.specs.Private.Tied.{IsNew, SuitsRuns};
 use crate::commands::{AtlasCommand, BucketedCommand};
 use crate::faults::StreamFault;
 use crate::ledger::Ledger;
-use crate::reply_text::line_of;
+use crate::reply_text::{Line, line_of};
 use crate::running::{Answering, answer_next};
 use etagere::{AllocatorOptions, AtlasAllocator, Size};
 use etagere_base::GatheredText;
@@ -90,9 +90,10 @@ pub fn stream_all<A: Answering, W: Write>(
 {
     let mut ledger = ledger;
     let mut text = GatheredText::new();
+    let mut line = Line::new();
     for position in 0..commands.len() {
         let reply = answer_next(atlas, &mut ledger, commands[position]);
-        text.push(line_of(&reply).as_str(), writer)?;
+        text.push(line_of(&reply, &mut line), writer)?;
     }
     text.finish(writer)
 }

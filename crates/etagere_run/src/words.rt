@@ -1,7 +1,7 @@
 //! What the words of a line stand for: a header, or a command for an atlas of one kind.
 //! Definitions: `Words`, over `Lines` and `Numbers`. A new command goes into the table of its atlas here and there.
 
-ghost use Rattle.std.specs.Prelude.{◌≡◌, ℕ, List, Option};
+ghost use Rattle.std.specs.Prelude.{◌≡◌, ℕ, List, [], ◌∷◌, Option, Some, IfSome};
 ghost use Rattle.etagere_run.specs.Lines.{words_of};
 ghost use Rattle.etagere_run.specs.Words as spec;
 
@@ -91,6 +91,16 @@ pub trait Spelled: Copy {
     /// The command of a name and the words after it.
     fn named(name: &[u8], words: &[u8]) -> Option<Self>
         ensures { result ≡ meaning name.now (words_of words.now) };
+
+    /// The command of a letter and a size. What it doesn't know is left to `named`.
+    fn with_size(letter: u8, size: Size) -> Option<Self>
+        ensures { IfSome result (λ command. (words : List (List ℕ)) → spec.size_in words ≡ Some size
+            → meaning (letter ∷ []) words ≡ Some command) };
+
+    /// The command of a letter and a position. What it doesn't know is left to `named`.
+    fn with_position(letter: u8, position: usize) -> Option<Self>
+        ensures { IfSome result (λ command. (words : List (List ℕ))
+            → spec.position_in words ≡ Some position → meaning (letter ∷ []) words ≡ Some command) };
 }
 
 /// The command that a line spells.
@@ -122,6 +132,23 @@ impl Spelled for AtlasCommand {
             b"a" => Some(AtlasCommand::Allocate(size_in(words)?)),
             b"r" => Some(AtlasCommand::Return(position_in(words)?)),
             b"l" => Some(AtlasCommand::Look(position_in(words)?)),
+            b"g" => Some(AtlasCommand::Grow(size_in(words)?)),
+            _ => None,
+        }
+    }
+
+    fn with_size(letter: u8, size: Size) -> Option<AtlasCommand> {
+        match letter {
+            b'a' => Some(AtlasCommand::Allocate(size)),
+            b'g' => Some(AtlasCommand::Grow(size)),
+            _ => None,
+        }
+    }
+
+    fn with_position(letter: u8, position: usize) -> Option<AtlasCommand> {
+        match letter {
+            b'r' => Some(AtlasCommand::Return(position)),
+            b'l' => Some(AtlasCommand::Look(position)),
             _ => None,
         }
     }
@@ -144,6 +171,21 @@ impl Spelled for BucketedCommand {
             b"a" => Some(BucketedCommand::Allocate(size_in(words)?)),
             b"r" => Some(BucketedCommand::Return(position_in(words)?)),
             b"g" => Some(BucketedCommand::Grow(size_in(words)?)),
+            _ => None,
+        }
+    }
+
+    fn with_size(letter: u8, size: Size) -> Option<BucketedCommand> {
+        match letter {
+            b'a' => Some(BucketedCommand::Allocate(size)),
+            b'g' => Some(BucketedCommand::Grow(size)),
+            _ => None,
+        }
+    }
+
+    fn with_position(letter: u8, position: usize) -> Option<BucketedCommand> {
+        match letter {
+            b'r' => Some(BucketedCommand::Return(position)),
             _ => None,
         }
     }

@@ -1,4 +1,4 @@
-use Rattle.std.proofs.Common.{ℕ, ◌<◌, ◌≤◌, ◌∙◌, List, length, refl, arith, rules, subst}
+use Rattle.std.proofs.Common.{ℕ, ◌<◌, ◌≤◌, List, length, refl, arith, rules, subst}
 use Rattle.std.proofs.lemmas.Result.{on_err_weaker, on_ok_weaker}
 use Rattle.etagere_base.proofs.GatheringLemmas.{on-err}
 use Rattle.etagere_base.specs.Gathering.{GathersMore, SendsBeginning}
@@ -29,7 +29,7 @@ loop-position-preserved g c =
     let answer = subst (λ (n : ℕ). IsAnswerOf kind g.A.Answering.Tied n c.index-commands-position.result c.answer_next-reply.result entries later c.loop-position.atlas c.answer_next-reply.new.atlas)
     c.loop-position.invariant.places c.answer_next-reply.ensures.answer in
     let gathers = subst (λ (l : List ℕ). GathersMore (contents c.loop-position.writer) c.loop-position.text (contents c.push.new.writer) c.push.new.self l)
-    (c.as_str.ensures ∙ c.line_of.ensures.text) c.in_ok-push.ensures.ok in
+    c.line_of.ensures.text c.in_ok-push.ensures.ok in
     record {
       so_far = stream-goes_on kind g.A.Answering.Tied c.requires.suits (kind.frame c.args.atlas.now) c.args.commands.now
           c.loop-position.position c.index-commands-position.result c.answer_next-reply.result entries later
@@ -50,7 +50,7 @@ returns-in_err-push-clause-beginning g c =
     let answer = subst (λ (n : ℕ). IsAnswerOf kind g.A.Answering.Tied n c.index-commands-position.result c.answer_next-reply.result entries later c.loop-position.atlas c.answer_next-reply.new.atlas)
     c.loop-position.invariant.places c.answer_next-reply.ensures.answer in
     let sends = subst (λ (l : List ℕ). SendsBeginning (contents c.loop-position.writer) c.loop-position.text (contents c.push.new.writer) l)
-    (c.as_str.ensures ∙ c.line_of.ensures.text) c.in_err-push.ensures.err in
+    c.line_of.ensures.text c.in_err-push.ensures.err in
     on-err c.from_residual.result
     (stream-stops kind g.A.Answering.Tied c.requires.suits (kind.frame c.args.atlas.now) c.args.commands.now
     c.loop-position.position c.index-commands-position.result c.answer_next-reply.result entries later
