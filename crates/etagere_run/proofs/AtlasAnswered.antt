@@ -4,20 +4,23 @@ use Rattle.etagere_base.specs.declared.geometry.Size.{Size}
 use Rattle.etagere_base.specs.declared.ids.Allocation.{Allocation}
 use Rattle.etagere_base.specs.Ids.{index_modulus}
 use Rattle.etagere.specs.Choice.{Placement, placement_of}
+use Rattle.etagere.specs.declared.faults.AtlasGrowFault.{AtlasGrowFault}
+use Rattle.etagere.specs.Faults.{grow_fault_number}
 use Rattle.etagere.specs.Fresh.{fresh}
+use Rattle.etagere.specs.Growing.{atlas_grown, grow_fault}
 use Rattle.etagere.specs.Returning.{returned}
 use Rattle.etagere.specs.State.{AtlasState}
-use Rattle.etagere.proofs.Callers.{fresh-allocated, placed-can_allocate, promises-cleared, promises-returned, returned-allocated}
+use Rattle.etagere.proofs.Callers.{allocated-grown, fresh-allocated, placed-can_allocate, promises-cleared, promises-grown, promises-returned, returned-allocated}
 use Rattle.etagere_run.specs.declared.commands.AtlasCommand.{AtlasCommand}
-use Rattle.etagere_run.specs.declared.commands.AtlasCommand.TheVariants.{Allocate, Return, Look, Clear}
+use Rattle.etagere_run.specs.declared.commands.AtlasCommand.TheVariants.{Allocate, Return, Look, Grow, Clear}
 use Rattle.etagere_run.specs.declared.commands.Reply.{Reply}
-use Rattle.etagere_run.specs.declared.commands.Reply.TheVariants.{Placed, Refused, Returned, At, NotLive, Cleared}
+use Rattle.etagere_run.specs.declared.commands.Reply.TheVariants.{Placed, Refused, Returned, At, NotLive, Cleared, Grown, GrowRefused}
 use Rattle.etagere_run.specs.AtlasRuns.{AtlasStep, atlas_effect, shelf_atlas}
 use Rattle.etagere_run.specs.Live as effects
 use Rattle.etagere_run.specs.Live.{Effect, Entry, allocation_at, without}
 use Rattle.etagere_run.specs.Private.Tied.{HasAnswer, IsTied, SuitsRuns}
 use Rattle.etagere_run.proofs.BoundedRecords.{bounded-fresh, bounded-more}
-use Rattle.etagere_run.proofs.AtlasAnswers.{AtlasStep-adds, cleared, gone_back, live-promises, looked, placed}
+use Rattle.etagere_run.proofs.AtlasAnswers.{AtlasStep-adds, cleared, gone_back, grown, live-promises, looked, placed}
 
 -- an answer of a shelf atlas
 abbrev Answers : ℕ → AtlasCommand → List Entry → AtlasState → Type 0
@@ -84,6 +87,21 @@ answers-look position other entries state tied (Some allocation) found =
       answer = looked position other allocation allocation.rectangle index entries state tied found refl refl;
     }
 
+-- a growth has an answer
+answers-grow : (position : ℕ) (size : Size) (entries : List Entry) (state : AtlasState) → IsTied entries state
+    → (fault : Option AtlasGrowFault) → grow_fault state size ≡ fault → Answers position (Grow size) entries state
+answers-grow position size entries state tied (Some fault) is =
+    unchanged position (Grow size) (GrowRefused (grow_fault_number fault)) entries state tied
+    (record { fault = fault; fault_is = is; number_is = refl }, refl) refl
+answers-grow position size entries state tied None fits =
+    record {
+      reply = Grown;
+      later = entries;
+      new = atlas_grown state size;
+      answer = grown position size entries state (atlas_grown state size) tied fits refl
+          (allocated-grown state size tied.promises.valid fits) (promises-grown state size tied.promises.valid fits);
+    }
+
 -- every command has an answer
 pub atlas-answers : (position : ℕ) (command : AtlasCommand) (entries : List Entry) (state : AtlasState)
     → IsTied entries state → Answers position command entries state
@@ -93,6 +111,8 @@ atlas-answers position (Return other) entries state tied =
     answers-return position other entries state tied (allocation_at other entries) refl
 atlas-answers position (Look other) entries state tied =
     answers-look position other entries state tied (allocation_at other entries) refl
+atlas-answers position (Grow size) entries state tied =
+    answers-grow position size entries state tied (grow_fault state size) refl
 atlas-answers position Clear entries state tied =
     record {
       reply = Cleared;

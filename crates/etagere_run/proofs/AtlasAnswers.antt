@@ -1,5 +1,5 @@
 -- On a shelf atlas each reply that is given is an answer to its command, and each answer keeps the promises of a run.
-use Rattle.std.proofs.Common.{◌≡◌, ℕ, ◌%◌, true, Some, List, [], ◌∷◌, ◌++◌, refl, ap, subst}
+use Rattle.std.proofs.Common.{◌≡◌, ℕ, ◌%◌, ◌≤◌, true, None, Some, List, [], ◌∷◌, ◌++◌, refl, ap, sym, subst}
 use Rattle.etagere_base.specs.declared.geometry.Rectangle.{Rectangle}
 use Rattle.etagere_base.specs.declared.geometry.Size.{Size}
 use Rattle.etagere_base.specs.declared.frames.Frame.{Frame}
@@ -11,14 +11,15 @@ use Rattle.etagere_base.proofs.EachLemmas.{Each-middle, Each-weaken}
 use Rattle.etagere.specs.Atlas.{Adds, Allocates, KeepsPromises, without_id}
 use Rattle.etagere.specs.Callers.{AreTied, IsFound}
 use Rattle.etagere.specs.Fresh.{fresh}
+use Rattle.etagere.specs.Growing.{atlas_grown, grow_fault}
 use Rattle.etagere.specs.Places.{allocations, is_allocated, rectangle_of}
 use Rattle.etagere.specs.Returning.{returned}
 use Rattle.etagere.specs.State.{AtlasState}
-use Rattle.etagere.proofs.Callers.{found-allocated, found-new, found-rectangle, not_allocated-any, tied-added, tied-apart, tied-each, tied-empty, tied-ids, tied-none, tied-returned}
+use Rattle.etagere.proofs.Callers.{columns-grown, found-allocated, found-new, found-rectangle, not_allocated-any, tied-added, tied-apart, tied-each, tied-empty, tied-ids, tied-none, tied-returned}
 use Rattle.etagere_run.specs.declared.commands.AtlasCommand.{AtlasCommand}
-use Rattle.etagere_run.specs.declared.commands.AtlasCommand.TheVariants.{Allocate, Return, Look, Clear}
+use Rattle.etagere_run.specs.declared.commands.AtlasCommand.TheVariants.{Allocate, Return, Look, Grow, Clear}
 use Rattle.etagere_run.specs.declared.commands.Reply.{Reply}
-use Rattle.etagere_run.specs.declared.commands.Reply.TheVariants.{Placed, Returned, At, Cleared}
+use Rattle.etagere_run.specs.declared.commands.Reply.TheVariants.{Placed, Returned, At, Cleared, Grown}
 use Rattle.etagere_run.specs.AtlasRuns.{AtlasStep, LiveKeepsPromises, atlas_effect, shelf_atlas}
 use Rattle.etagere_run.specs.Live as effects
 use Rattle.etagere_run.specs.Live.{Entry, allocation_at, live_allocations, without}
@@ -123,6 +124,29 @@ looked position other allocation rectangle index entries state tied is rectangle
       tied = tied;
     }
 
+-- the atlas grew
+pub grown : (position : ℕ) (size : Size) (entries : List Entry) (old new : AtlasState)
+    → IsTied entries old → grow_fault old size ≡ None → new ≡ atlas_grown old size
+    → allocations new ≡ allocations old → KeepsPromises new
+    → IsAnswer position (Grow size) Grown entries entries old new
+grown position size entries old new tied fits after same promises =
+    record {
+      step = record {
+        fits = fits;
+        after = after;
+        valid = promises.valid;
+        columns = subst (λ (s : AtlasState). old.frame.columns ≤ s.frame.columns) (sym after)
+            (columns-grown old size tied.promises.valid fits);
+      };
+      live_is = refl;
+      alignments = subst (λ (s : AtlasState). SameAlignments old.frame s.frame) (sym after)
+          (record { width = refl; height = refl; direction = refl });
+      tied = record {
+        promises = promises;
+        allocated = subst (AreTied (live_allocations entries)) (sym same) tied.allocated;
+      };
+    }
+
 -- the atlas was cleared
 pub cleared : (position : ℕ) (entries later : List Entry) (old new : AtlasState)
     → new ≡ fresh old.frame → allocations new ≡ [] → KeepsPromises new → later ≡ []
@@ -146,6 +170,7 @@ AtlasStep-adds entries old new (Allocate size) (Placed given) step allocation ad
     (record { size = size; command_is = refl; reply_is = refl; large = step.large })
 AtlasStep-adds entries old new (Return other) (Placed given) step allocation adds = absurd step
 AtlasStep-adds entries old new (Look other) (Placed given) step allocation adds = absurd step
+AtlasStep-adds entries old new (Grow size) (Placed given) step allocation adds = absurd step
 AtlasStep-adds entries old new Clear (Placed given) step allocation adds = absurd step
 AtlasStep-adds entries old new command reply step allocation adds = absurd (cc)
 

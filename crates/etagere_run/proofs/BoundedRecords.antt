@@ -3,20 +3,22 @@ use Rattle.std.proofs.Common.{◌≡◌, ℕ, ◌<◌, ◌≤◌, max, Option, N
 use Rattle.std.proofs.lemmas.List.{length-map}
 use Rattle.etagere_base.specs.declared.frames.Frame.{Frame}
 use Rattle.etagere_base.specs.declared.geometry.Rectangle.{Rectangle}
+use Rattle.etagere_base.specs.declared.geometry.Size.{Size}
 use Rattle.etagere_base.specs.declared.ids.Allocation.{Allocation}
 use Rattle.etagere_base.specs.Lists.{Each}
 use Rattle.etagere_base.proofs.EachLemmas.{Each-middle, Each-weaken}
 use Rattle.etagere.specs.Bounds.{record_bound}
 use Rattle.etagere.specs.Choice.{Placement}
 use Rattle.etagere.specs.Fresh.{fresh}
+use Rattle.etagere.specs.Growing.{atlas_grown}
 use Rattle.etagere.specs.Places.{allocations, record_number}
 use Rattle.etagere.specs.State.{AtlasState, items_in_use}
 use Rattle.etagere.specs.Taking.{taken}
 use Rattle.etagere.proofs.Callers.{tied-each, tied-length}
 use Rattle.etagere_run.specs.declared.commands.AtlasCommand.{AtlasCommand}
-use Rattle.etagere_run.specs.declared.commands.AtlasCommand.TheVariants.{Allocate, Return, Look, Clear}
+use Rattle.etagere_run.specs.declared.commands.AtlasCommand.TheVariants.{Allocate, Return, Look, Grow, Clear}
 use Rattle.etagere_run.specs.declared.commands.Reply.{Reply}
-use Rattle.etagere_run.specs.declared.commands.Reply.TheVariants.{Placed, Refused, Returned, At, NotLive, Cleared, NoMemory}
+use Rattle.etagere_run.specs.declared.commands.Reply.TheVariants.{Placed, Refused, Returned, At, NotLive, Cleared, Grown, GrowRefused, NoMemory}
 use Rattle.etagere_run.specs.AtlasRuns.{AtlasStep, StaysWithin, atlas_effect}
 use Rattle.etagere_run.specs.Live.{Entry, allocation_at, live_after, live_allocations, peak_after}
 use Rattle.etagere_run.specs.Private.Tied.{IsAnswer, IsTied}
@@ -57,6 +59,17 @@ same-records : (old new : AtlasState) (most live : ℕ) → new ≡ old → old.
 same-records old new most live same =
     kept-records old new most live (ap (λ (s : AtlasState). s.records) same) (ap (λ (s : AtlasState). s.frame) same)
 
+-- a growth leaves few records
+grown-records : (old new : AtlasState) (size : Size) (most live : ℕ) → new ≡ atlas_grown old size
+    → old.frame.columns ≤ new.frame.columns
+    → items_in_use new.shelves ≤ record_bound live new.frame.columns
+    → old.records ≤ record_bound most old.frame.columns
+    → new.records ≤ record_bound (max most live) new.frame.columns
+grown-records old new size most live is columns few before =
+    let records : new.records ≡ max old.records (items_in_use (atlas_grown old size).shelves) = ap (λ (s : AtlasState). s.records) is in
+    let items : items_in_use new.shelves ≡ items_in_use (atlas_grown old size).shelves = ap (λ (s : AtlasState). items_in_use s.shelves) is in
+    omega (arith, records, items, columns, few, before)
+
 -- each step leaves few records for the most that was live
 step-records : (entries later : List Entry) (old new : AtlasState) (command : AtlasCommand) (reply : Reply) (most : ℕ)
     → AtlasStep entries old command reply new → IsTied later new → old.records ≤ record_bound most old.frame.columns
@@ -71,6 +84,10 @@ step-records entries later old new (Return position) Returned most step tied bef
 step-records entries later old new (Return position) NotLive most step tied before = same-records old new most (length later) step.1 before
 step-records entries later old new (Look position) (At rectangle index) most step tied before = same-records old new most (length later) step.1 before
 step-records entries later old new (Look position) NotLive most step tied before = same-records old new most (length later) step.1 before
+step-records entries later old new (Grow size) Grown most step tied before =
+    grown-records old new size most (length later) step.after step.columns (few-live later new tied) before
+step-records entries later old new (Grow size) (GrowRefused number) most step tied before = same-records old new most (length later) step.1 before
+step-records entries later old new (Grow size) NoMemory most step tied before = same-records old new most (length later) step.1 before
 step-records entries later old new Clear Cleared most step tied before =
     omega (arith, ap (λ (s : AtlasState). s.records) step, ap (λ (s : AtlasState). s.frame.columns) step)
 step-records entries later old new command reply most step tied before = absurd step
@@ -101,6 +118,7 @@ step-answered position entries later old new (Look other) (At shown number) step
     omega (arith, same, shows.index_is, below)
 step-answered position entries later old new (Allocate size) (At shown number) step later_is tied rectangle index is = absurd step
 step-answered position entries later old new (Return other) (At shown number) step later_is tied rectangle index is = absurd step
+step-answered position entries later old new (Grow size) (At shown number) step later_is tied rectangle index is = absurd step
 step-answered position entries later old new Clear (At shown number) step later_is tied rectangle index is = absurd step
 step-answered position entries later old new command reply step later_is tied rectangle index is = absurd (cc)
 

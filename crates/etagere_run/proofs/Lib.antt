@@ -5,6 +5,7 @@ pub mod BucketedAnswered
 pub mod BucketedAnswers
 pub mod CommandLines
 pub mod Digits
+pub mod DigitsLack
 pub mod HeaderLine
 pub mod LastWord
 pub mod LineLengths
@@ -12,6 +13,7 @@ pub mod LiveEntries
 pub mod LiveRows
 pub mod Pictures
 pub mod Pieces
+pub mod PlainLines
 pub mod ReplayAnswers
 pub mod RightAnswers
 pub mod RunsOn

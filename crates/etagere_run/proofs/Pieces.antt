@@ -3,7 +3,7 @@ use Rattle.std.proofs.Common.{◌≡◌, ◌≢◌, ℕ, ◌<◌, List, [], ◌�
 use Rattle.std.specs.Prelude.{◌==◌}
 use Rattle.std.specs.List.{onto_first}
 use Rattle.std.proofs.lemmas.Bool.Decides.{nat_tests}
-use Rattle.std.proofs.lemmas.List.Elements.{All-head, All-tail}
+use Rattle.std.proofs.lemmas.List.Elements.{All-cons, All-head, All-tail}
 use Rattle.etagere_run.specs.Lines.{before_pieces, parted, Lacks}
 
 -- the first byte is no separator
@@ -13,6 +13,10 @@ Lacks-head separator = All-head (λ byte. byte ≢ separator)
 -- no later byte is one
 Lacks-tail : (separator x : ℕ) (xs : List ℕ) → Lacks separator (x ∷ xs) → Lacks separator xs
 Lacks-tail separator = All-tail (λ byte. byte ≢ separator)
+
+-- one more byte that is no separator
+pub Lacks-cons : (separator x : ℕ) (xs : List ℕ) → x ≢ separator → Lacks separator xs → Lacks separator (x ∷ xs)
+Lacks-cons separator = All-cons (λ byte. byte ≢ separator)
 
 -- a byte is its own
 same_byte : (n : ℕ) → (n == n) ≡ true

@@ -4,7 +4,7 @@ use Rattle.std.specs.Prelude.{codes, Bool}
 use Rattle.std.specs.List.{flat_map}
 use Rattle.etagere_base.specs.declared.geometry.Size.{Size}
 use Rattle.etagere_run.specs.declared.commands.AtlasCommand.{AtlasCommand}
-use Rattle.etagere_run.specs.declared.commands.AtlasCommand.TheVariants.{Allocate, Return, Look, Clear}
+use Rattle.etagere_run.specs.declared.commands.AtlasCommand.TheVariants.{Allocate, Return, Look, Grow, Clear}
 use Rattle.etagere_run.specs.declared.commands.BucketedCommand.TheVariants as bucketed
 use Rattle.etagere_run.specs.Script.{Commands, OfBuckets, OfShelves, Request, script_of}
 
@@ -58,8 +58,11 @@ bucketed_commands : script_of (text (codes "bucketed 16 8 1 1 2 v" ∷ codes "a 
     ≡ Ok (request_to 16 8 2 true (OfBuckets (bucketed.Allocate (size 8 8) ∷ bucketed.Return 0 ∷ bucketed.Grow (size 16 16) ∷ bucketed.Clear ∷ [])))
 bucketed_commands = refl
 
-a_growth_of_an_atlas_of_shelves : script_of (text (codes "atlas 8 8 1 1 1 h" ∷ codes "g 16 16" ∷ [])) ≡ Err 2
+a_growth_of_an_atlas_of_shelves : script_of (text (codes "atlas 8 8 1 1 1 h" ∷ codes "g 16 16" ∷ [])) ≡ Ok (request 8 8 1 false (Grow (size 16 16) ∷ []))
 a_growth_of_an_atlas_of_shelves = refl
+
+a_growth_to_one_side : script_of (text (codes "atlas 8 8 1 1 1 h" ∷ codes "g 16" ∷ [])) ≡ Err 2
+a_growth_to_one_side = refl
 
 header_alone : script_of (text (codes "atlas 8 8 1 1 1 h" ∷ [])) ≡ Ok (request 8 8 1 false [])
 header_alone = refl

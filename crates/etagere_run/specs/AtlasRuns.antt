@@ -9,15 +9,18 @@ use Rattle.etagere_base.specs.Rectangles.{IsAligned, IsLarge}
 use Rattle.etagere.specs.Atlas.{Allocates, NeedsSplit}
 use Rattle.etagere.specs.Bounds.{record_bound}
 use Rattle.etagere.specs.Choice.{IsRefused}
+use Rattle.etagere.specs.declared.faults.AtlasGrowFault.{AtlasGrowFault}
+use Rattle.etagere.specs.Faults.{grow_fault_number}
 use Rattle.etagere.specs.Fresh.{fresh, without_records}
+use Rattle.etagere.specs.Growing.{atlas_grown, grow_fault, records_needed}
 use Rattle.etagere.specs.Places.{record_number, rectangle_of}
 use Rattle.etagere.specs.Returning.{returned}
 use Rattle.etagere.specs.State.{AtlasState}
 use Rattle.etagere.specs.Valid.{IsValid}
 use Rattle.etagere_run.specs.declared.commands.AtlasCommand.{AtlasCommand}
-use Rattle.etagere_run.specs.declared.commands.AtlasCommand.TheVariants.{Allocate, Return, Look, Clear}
+use Rattle.etagere_run.specs.declared.commands.AtlasCommand.TheVariants.{Allocate, Return, Look, Grow, Clear}
 use Rattle.etagere_run.specs.declared.commands.Reply.{Reply}
-use Rattle.etagere_run.specs.declared.commands.Reply.TheVariants.{Placed, Refused, Returned, At, NotLive, Cleared, NoMemory}
+use Rattle.etagere_run.specs.declared.commands.Reply.TheVariants.{Placed, Refused, Returned, At, NotLive, Cleared, Grown, GrowRefused, NoMemory}
 use Rattle.etagere_run.specs.Live.{Effect, Adds, TakesOut, Empties, Keeps, Entry, allocation_at}
 use Rattle.etagere_run.specs.Runs.{AreLaidOut, GivesBack, Kind}
 
@@ -44,6 +47,24 @@ pub record Shows (entries : List Entry) (position : ℕ) (rectangle : Rectangle)
   pub rectangle_is : rectangle ≡ allocation.rectangle
   pub index_is : index ≡ allocation.id % index_modulus
 
+-- a growth to a size leads from one state to the next: it has no fault, and no column is lost
+pub record Grows (old : AtlasState) (size : Size) (new : AtlasState) : Type 0 where
+  pub fits : grow_fault old size ≡ None
+  pub after : new ≡ atlas_grown old size
+  pub valid : IsValid new
+  pub columns : old.frame.columns ≤ new.frame.columns
+
+-- a growth to a size has a fault of this number
+pub record RefusesGrowth (state : AtlasState) (size : Size) (number : ℕ) : Type 0 where
+  pub fault : AtlasGrowFault
+  pub fault_is : grow_fault state size ≡ Some fault
+  pub number_is : number ≡ grow_fault_number fault
+
+-- a growth to a size has no fault, but needs records
+pub record NeedsRecords (state : AtlasState) (size : Size) : Type 0 where
+  pub fits : grow_fault state size ≡ None
+  pub some : 1 ≤ records_needed state size
+
 -- where these entries are live, an atlas may give this reply to a command and go from its old state
 -- to the new one
 abbrev pub AtlasStep : List Entry → AtlasState → AtlasCommand → Reply → AtlasState → Type 0
@@ -57,13 +78,17 @@ AtlasStep entries old (Look position) (At rectangle index) new =
     Shows entries position rectangle index × (new ≡ old)
 AtlasStep entries old (Look position) NotLive new =
     (allocation_at position entries ≡ None) × (new ≡ old)
+AtlasStep entries old (Grow size) Grown new = Grows old size new
+AtlasStep entries old (Grow size) (GrowRefused number) new =
+    RefusesGrowth old size number × (new ≡ old)
+AtlasStep entries old (Grow size) NoMemory new = NeedsRecords old size × (new ≡ old)
 AtlasStep entries old Clear Cleared new = new ≡ fresh old.frame
 -- no other reply is given
 AtlasStep entries old command reply new = ⊥
 
--- what holds of the rectangles that are live, as they were first given: they lie inside the atlas,
--- aligned, and share no unit square, their ids differ, and the atlas still has them there; where
--- none is live, it is as new but for its records
+-- what holds of the rectangles that are live, as they were first given: they lie inside the present
+-- atlas, aligned, and share no unit square, their ids differ, and the atlas still has them there;
+-- where none is live, it is a new one of its present frame but for its records
 pub record LiveKeepsPromises (state : AtlasState) (live : List Allocation) : Type 0 where
   pub laid_out : AreLaidOut state.frame live
   pub aligned : Each (λ (allocation : Allocation). IsAligned state.frame allocation.rectangle) live
@@ -82,7 +107,7 @@ pub record StaysWithin (bound : ℕ) (state : AtlasState) (live : List Allocatio
       → index < bound
 
 -- runs on a shelf atlas, whose records stay within four times the most that was live, and the
--- columns
+-- columns that it has now
 abbrev pub shelf_atlas : Kind AtlasState AtlasCommand
 shelf_atlas = record {
   fresh = fresh;

@@ -84,13 +84,14 @@ command_of clear named [] = None
 command_of clear named (name ∷ []) = if bytes_eq name (codes "c") then Some clear else None
 command_of clear named (name ∷ word ∷ words) = named name (word ∷ words)
 
--- commands of an atlas of shelves: `a` and a size, or `r` or `l` and a position
+-- commands of an atlas of shelves: `a` or `g` and a size, or `r` or `l` and a position
 abbrev pub atlas_command_named : List ℕ → List (List ℕ) → Option AtlasCommand
 atlas_command_named name words =
     if bytes_eq name (codes "a") then option_map atlas.Allocate (size_in words)
     else (if bytes_eq name (codes "r") then option_map atlas.Return (position_in words)
     else (if bytes_eq name (codes "l") then option_map atlas.Look (position_in words)
-    else None))
+    else (if bytes_eq name (codes "g") then option_map atlas.Grow (size_in words)
+    else None)))
 
 abbrev pub atlas_command_of : List (List ℕ) → Option AtlasCommand
 atlas_command_of = command_of atlas.Clear atlas_command_named

@@ -14,7 +14,7 @@ use crate::commands::{AtlasCommand, Reply};
 use crate::faults::RunFault;
 use crate::ledger::Ledger;
 use crate::running::{Answering, Room, answer_all};
-use etagere::{AllocatorOptions, AtlasAllocator, Size};
+use etagere::{AllocatorOptions, AtlasAllocator, AtlasGrowFault, Size};
 use etagere_base::INDEX_MODULUS;
 use std::alloc::Global;
 
@@ -56,6 +56,7 @@ impl Answering for AtlasAllocator {
             AtlasCommand::Allocate(size) => place(self, size),
             AtlasCommand::Return(other) => give_back(self, ledger, other),
             AtlasCommand::Look(other) => look(self, ledger, other),
+            AtlasCommand::Grow(size) => grow(self, size),
             AtlasCommand::Clear => clear(self, ledger),
         }
     }
@@ -103,6 +104,18 @@ fn look(atlas: &AtlasAllocator, ledger: &Ledger, other: usize) -> Reply
     match atlas.get(allocation.id) {
         Some(rectangle) => Reply::At(rectangle, allocation.id.serialize() % INDEX_MODULUS),
         None => unreachable!(),
+    }
+}
+
+fn grow(atlas: &mut AtlasAllocator, size: Size) -> Reply
+    ensures { (position : ℕ) (entries : List Entry) → IsTied entries atlas.old
+        → IsAnswer position (AtlasCommand.Grow size) result
+        entries (with_given position result entries) atlas.old atlas.new }
+{
+    match atlas.grow(size) {
+        Ok(()) => Reply::Grown,
+        Err(AtlasGrowFault::Memory) => Reply::NoMemory,
+        Err(fault) => Reply::GrowRefused(fault.number()),
     }
 }
 

@@ -12,6 +12,8 @@ pub enum AtlasCommand {
     Return(usize),
     /// Looks up what the command at this position was given.
     Look(usize),
+    /// Grows the atlas to this size, in pixels.
+    Grow(Size),
     /// Gives everything back at once.
     Clear,
 }
@@ -48,7 +50,8 @@ pub enum Reply {
     /// The atlas has the size that was asked for.
     Grown,
     /// The atlas can't grow to the size, for the fault of this number: 1 where a side of the size is out of range, 2
-    /// where one is below the present one, 3 where the area is too large.
+    /// where one is below the present one, 3 where the area is too large, and 4 where a shelf atlas would have more
+    /// than 65535 records in use.
     GrowRefused(u32),
     /// There was no memory for the command, which changed nothing.
     NoMemory,
