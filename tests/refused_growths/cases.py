@@ -14,6 +14,7 @@ RUNS = {
     "run_in_columns bucketed": "run_in_columns",
     "stream atlas": "run_atlas",
     "stream bucketed": "run_wider",
+    "grow atlas": "grow_atlas",
     "grow bucketed": "grow_bucketed",
 }
 KINDS = ("atlas", "bucketed")

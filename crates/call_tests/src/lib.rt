@@ -17,6 +17,8 @@ mod dumps;
 #[cfg(test)]
 mod glyphs;
 #[cfg(test)]
+mod growing;
+#[cfg(test)]
 mod ids;
 #[cfg(test)]
 mod json;

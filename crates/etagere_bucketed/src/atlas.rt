@@ -299,9 +299,9 @@ impl BucketedAtlasAllocator {
         Ok(())
     }
 
-    /// Takes everything back at once: the atlas is a new one of its present size.
+    /// Takes everything back at once: the atlas is as new, with its present size and columns.
     ///
-    /// Takes no memory, and frees none but that of no record.
+    /// Takes no memory, and gives none back.
     pub fn clear(&mut self)
         ensures cleared { self.new ≡ fresh self.old.frame }
         ensures promises { KeepsPromises self.new }

@@ -76,6 +76,7 @@ fn script_of(alloc: Global, grid: Grid, table: &[(AtlasCommand, Shape)]) -> Resu
             AtlasCommand::Allocate(size) => write!(script, "a {} {}\n", size.width, size.height)?,
             AtlasCommand::Return(position) => write!(script, "r {position}\n")?,
             AtlasCommand::Look(position) => write!(script, "l {position}\n")?,
+            AtlasCommand::Grow(size) => write!(script, "g {} {}\n", size.width, size.height)?,
             AtlasCommand::Clear => script.push_str("c\n")?,
         }
     }

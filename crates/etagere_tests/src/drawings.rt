@@ -55,7 +55,7 @@ fn a_bucketed_atlas_is_drawn(rt: HostRuntime) -> Result<(), Fail> {
 fn what_is_no_picture_is_told_and_not_written(rt: HostRuntime) -> Result<(), Fail> {
     let table = [
         (
-            b"atlas 8 8 1 1 1 h\na 1 1\ng 9 9\n".as_slice(),
+            b"atlas 8 8 1 1 1 h\na 1 1\ng 9\n".as_slice(),
             Drawing::OfScript(Outcome::BadLine(3)),
             "line 3: bad",
             2,

@@ -41,6 +41,10 @@ fn allocate(width: i32, height: i32) -> AtlasCommand {
     AtlasCommand::Allocate(size2(width, height))
 }
 
+fn grow(width: i32, height: i32) -> AtlasCommand {
+    AtlasCommand::Grow(size2(width, height))
+}
+
 /// Runs the commands, and holds each reply to the shape beside it.
 pub fn replies(
     rt: &(impl AllocGlobal + Abort),
@@ -143,6 +147,56 @@ fn a_size_is_refused_where_the_last_record_is_in_use(rt: HostRuntime) -> Result<
         (allocate(1, 8), Shape::Placed([0, 0, 1, 8])),
     ];
     replies(&rt, size2(65529, 100), &options, &table)
+}
+
+/// What is added at the end of the shelf merges with the first item, once both are given back.
+#[test]
+fn an_atlas_grows_between_allocations(rt: HostRuntime) -> Result<(), Fail> {
+    let table = [
+        (allocate(40, 16), Shape::Placed([0, 0, 40, 16])),
+        (grow(64, 16), Shape::Grown),
+        (allocate(24, 16), Shape::Placed([40, 0, 64, 16])),
+        (AtlasCommand::Return(0), Shape::Returned),
+        (AtlasCommand::Return(2), Shape::Returned),
+        (allocate(64, 16), Shape::Placed([0, 0, 64, 16])),
+    ];
+    replies(&rt, size2(40, 16), &DEFAULT_OPTIONS, &table)
+}
+
+#[test]
+fn growths_are_refused_by_the_number_of_their_first_fault(rt: HostRuntime) -> Result<(), Fail> {
+    let table = [
+        (grow(70000, 40), Shape::GrowRefused(1)),
+        (grow(31, 40), Shape::GrowRefused(2)),
+        (grow(65535, 65535), Shape::GrowRefused(3)),
+        (grow(32, 32), Shape::Grown),
+    ];
+    replies(&rt, size2(32, 32), &DEFAULT_OPTIONS, &table)?;
+    let table = [
+        (allocate(1, 92), Shape::Placed([0, 0, 1, 100])),
+        (grow(65535, 101), Shape::GrowRefused(4)),
+        (AtlasCommand::Return(0), Shape::Returned),
+        (grow(65535, 101), Shape::Grown),
+        (allocate(1, 100), Shape::Placed([0, 0, 1, 101])),
+    ];
+    let options = AllocatorOptions {
+        num_columns: 65535,
+        ..DEFAULT_OPTIONS
+    };
+    replies(&rt, size2(65535, 100), &options, &table)
+}
+
+#[test]
+fn a_cleared_atlas_keeps_its_grown_size(rt: HostRuntime) -> Result<(), Fail> {
+    let table = [
+        (allocate(8, 8), Shape::Placed([0, 0, 8, 8])),
+        (grow(16, 16), Shape::Grown),
+        (AtlasCommand::Look(0), Shape::At([0, 0, 8, 8])),
+        (AtlasCommand::Clear, Shape::Cleared),
+        (AtlasCommand::Return(0), Shape::NotLive),
+        (allocate(16, 16), Shape::Placed([0, 0, 16, 16])),
+    ];
+    replies(&rt, size2(8, 8), &DEFAULT_OPTIONS, &table)
 }
 
 #[test]

@@ -111,12 +111,21 @@ fn options_are_answered_by_their_fault(rt: HostRuntime) -> Result<(), Fail> {
 #[test]
 fn a_bucketed_script_grows_and_looks_at_nothing(rt: HostRuntime) -> Result<(), Fail> {
     is_bad(&rt, b"bucketed 8 8 1 1 1 h\na 8 8\nl 0\n", 3)?;
-    is_bad(&rt, b"atlas 8 8 1 1 1 h\na 8 8\ng 9 9\n", 3)?;
     writes(
         &rt,
         b"bucketed 8 8 1 1 1 h\ng 7 9\ng 16 8\na 16 8\nr 2\nr 2\nc",
         Outcome::Done,
         "grow refused 2\ngrown\nplaced 4096 0 0 16 8\nreturned\nnot live\ncleared\n",
+    )
+}
+
+#[test]
+fn an_atlas_script_grows(rt: HostRuntime) -> Result<(), Fail> {
+    writes(
+        &rt,
+        b"atlas 8 8 1 1 1 h\ng 7 9\ng 16 8\na 16 8\nc\na 16 8",
+        Outcome::Done,
+        "grow refused 2\ngrown\nplaced 65536 0 0 16 8\ncleared\nplaced 65536 0 0 16 8\n",
     )
 }
 
@@ -250,7 +259,7 @@ fn words_are_parted_by_one_space(rt: HostRuntime) -> Result<(), Fail> {
         b"\0",
         b" ",
         b"C",
-        b"g 9 9",
+        b"g 9",
         b"x",
         b"\xff\xfe",
     ] {

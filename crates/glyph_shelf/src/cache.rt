@@ -91,8 +91,8 @@ impl GlyphCache {
     /// `TooLarge` comes exactly where the key is new and an empty atlas has no place for the size; then nothing
     /// changes. `Memory` comes only for a new key, with the keys that were evicted before memory ran out: these are
     /// gone, and the others stand. Takes memory for the entry, for what the allocation splits, here and in the empty
-    /// atlas on which the size is tried, and, where keys are evicted, for as many keys as there are. Goes through the
-    /// shelves once, and once more for each key that is evicted.
+    /// atlas on which the size is tried, and, where keys are evicted, for as many keys as there are. Asks that atlas
+    /// once, and its own once and once more for each key that is evicted.
     pub fn place(&mut self, key: u64, size: Size) -> Result<Placed, GlyphFault>
         ensures found { IfSome (rectangle_at self.old key)
             (λ rectangle. IsOkAnd result

@@ -86,6 +86,7 @@ fn shelf_trial(rt: &(impl Print + AllocGlobal), call: &str) -> Result<bool, Repl
         "run" => runs::run_shelves(rt)?,
         "stream" => runs::stream_shelves(rt)?,
         "check" => checks::check_shelves(rt)?,
+        "grow" => growths::grow_shelves(rt)?,
         "quiet" => quiet::quiet_shelves(rt)?,
         _ => return Ok(false),
     }

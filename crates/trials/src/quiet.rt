@@ -25,7 +25,8 @@ pub fn quiet_shelves(rt: &(impl Print + AllocGlobal)) -> Result<(), ReplayFault>
     try_shelves(rt, restored, kept)
 }
 
-/// The rest of a shelf is filled without a split, and after the clear the whole atlas.
+/// The rest of a shelf is filled without a split, and after the clear the whole atlas. Where nothing is allocated, a
+/// growth needs no record, nor does one to the present size.
 fn try_shelves(
     rt: &impl Print,
     mut atlas: AtlasAllocator,
@@ -34,7 +35,13 @@ fn try_shelves(
     look_at(rt, &atlas, kept)?;
     list(rt, &atlas)?;
     try_all(rt, &mut atlas, kept, &[size2(696, 200)])?;
-    say_reply(rt, &atlas.place(size2(1000, 1000)))
+    let larger = size2(1200, 1100);
+    say_reply(rt, &atlas.grow_to(larger))?;
+    say_reply(rt, &atlas.place(larger))?;
+    for size in [larger, size2(1199, 1100)] {
+        say_reply(rt, &atlas.grow_to(size))?;
+    }
+    Ok(())
 }
 
 pub fn quiet_buckets(rt: &(impl Print + AllocGlobal)) -> Result<(), ReplayFault> {
