@@ -1,5 +1,5 @@
 -- Where the search along a free list has come to, step by step, and what the best candidate is of.
-use Rattle.std.proofs.Common.{◌≡◌, ℕ, ◌+◌, ◌<◌, ◌≤◌, Bool, true, false, cond, Option, None, Some, option_map, List, [], ◌∷◌, length, get_or, map, refl, ap, arith, sym, ◌∙◌, subst}
+use Rattle.std.proofs.Common.{◌≡◌, ℕ, zero, suc, ◌+◌, ◌<◌, ◌≤◌, Bool, true, false, cond, Option, None, Some, option_map, List, [], ◌∷◌, length, get_or, map, refl, ap, arith, sym, ◌∙◌, subst}
 use Rattle.std.proofs.lemmas.Bool.Decides.{nat_tests}
 use Rattle.std.specs.Option.{option_map_or}
 use Rattle.std.specs.Prelude.{find, max, nat_le, nat_lt}
@@ -81,8 +81,14 @@ free-found records width shelf widest at number steps item search is read wide =
     sym (ap (find (is_wide records width)) step.whole ∙ ap (λ b. cond b (Some number) (find (is_wide records width) step.others)) passes) ∙ search.found in
     ap (λ o. option_map_or Found o (Widest (widest_of records.items (free_walk records shelf).met))) first
 
+-- where the record at hand leads
+next-read : (items : List ItemRecord) (number : ℕ) (item : ItemRecord) → number < length items → item ≡ get_or items number item → link_at free_list.next items number ≡ item.next_unallocated
+next-read [] number item within read = absurd (omega arith)
+next-read (x ∷ xs) zero item within read = ap (λ (i : ItemRecord). i.next_unallocated) (sym read)
+next-read (x ∷ xs) (suc number) item within read = next-read xs number item (omega arith) read
+
 -- one that is not is passed
-pub free-passed : (records : Records) (width shelf widest wider : ℕ) (at next : Option ℕ) (number steps : ℕ) (item : ItemRecord) → SearchesFree records width shelf widest at steps → at ≡ Some number → item ≡ get_or records.items number item → item.width < width → wider ≡ max widest item.width → next ≡ link_at free_list.next records.items number → SearchesFree records width shelf wider next (steps + 1)
+pub free-passed : (records : Records) (width shelf widest wider : ℕ) (at next : Option ℕ) (number steps : ℕ) (item : ItemRecord) → SearchesFree records width shelf widest at steps → at ≡ Some number → item ≡ get_or records.items number item → item.width < width → wider ≡ max widest item.width → next ≡ item.next_unallocated → SearchesFree records width shelf wider next (steps + 1)
 free-passed records width shelf widest wider at next number steps item search is read narrow grown follows =
     let step : IsStep free_list.next records.items number steps search.rest = step-left free_list.next records.items at number steps search.rest search.left is in
     let own : (item_at records.items number).width ≡ item.width = width-read records number item step.here read in
@@ -91,7 +97,7 @@ free-passed records width shelf widest wider at next number steps item search is
     ap (λ (l : List ℕ). max widest (widest_of records.items l)) (sym step.whole) ∙ search.all in
     record {
       rest = step.others;
-      left = rw follows step.left;
+      left = rw (follows, ← next-read records.items number item step.here read) step.left;
       found =
           sym (ap (find (is_wide records width)) step.whole ∙ ap (λ b. cond b (Some number) (find (is_wide records width) step.others)) fails)
           ∙ search.found;

@@ -24,7 +24,7 @@ ghost use Rattle.etagere.specs.State as state;
 use crate::linked::heights::{RankedShelf, first_as_wide, first_from, place_number};
 use crate::placements::Placement;
 use etagere_base::{Frame, Sides, Size, asked, step};
-use etagere_links::{FreeList, ItemRecord, Records, ShelfRecord, next_of};
+use etagere_links::{Records, ShelfRecord};
 
 /// An atlas has no more items than this.
 pub(crate) const MOST_ITEMS: u32 = 65535;
@@ -325,7 +325,7 @@ fn search_free_list(records: &Records, width: u32, shelf: usize) -> Searched
             return Searched::Found(number);
         }
         widest = widest.max(item.width);
-        at = next_of::<FreeList, ItemRecord>(items, number).number();
+        at = item.next_unallocated.number();
     }
     Searched::Widest(widest)
 }

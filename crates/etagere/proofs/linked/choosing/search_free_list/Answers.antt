@@ -1,6 +1,4 @@
 use Rattle.std.proofs.Common.{◌≡◌, None, length, get_or, ap, sym, ◌∙◌, arith}
-use Rattle.etagere_links.specs.Edits.{link_at}
-use Rattle.etagere_links.specs.Records.{free_list}
 use Rattle.etagere_links.specs.RecordLists.{first_free_of}
 use Rattle.etagere_links.specs.declared.records.ShelfRecord.{ShelfRecord}
 use Rattle.etagere.proofs.Recorded.RecordsOfIds.{field_at-read}
@@ -46,7 +44,7 @@ pub loop-step-preserved : goal.loop-step-preserved
 loop-step-preserved c =
     free-passed c.args.records.now c.args.width c.args.shelf c.loop-step.widest c.max-widest.result c.loop-step.at c.number-at-in-loop-step.result c.in-Some.number c.loop-step._step c.index-items-number.result c.loop-step.invariant c.in-Some.is
     (rw c.items-items.ensures at c.index-items-number.is) (omega arith) c.max-widest.ensures
-    (c.number-at-in-loop-step.ensures.value ∙ c.next_of.ensures ∙ ap (λ items. link_at free_list.next items c.in-Some.number) c.items-items.ensures)
+    c.number-at-in-loop-step.ensures.value
 
 pub returns-after-loop-step : goal.returns-after-loop-step
 returns-after-loop-step c =
