@@ -52,6 +52,10 @@ free-part records shelf linked stands =
     (λ k. omega (arith, three-count (item_numbers (walked_lists records).entries) (walked_lists records).unused_items [] k)) linked.entries)
     stands
 
+-- no free item of a shelf in use stands twice
+pub free-once : (records : Records) (shelf : ℕ) → IsLinked records (walked_lists records) → 1 ≤ times shelf (shelf_walk records).met → (k : ℕ) → times k (free_walk records shelf).met ≤ 1
+free-once records shelf linked stands = (free-part records shelf linked stands).0.once
+
 -- a free item of a shelf in use is a record
 pub free-within : (records : Records) (shelf item : ℕ) → IsLinked records (walked_lists records) → 1 ≤ times shelf (shelf_walk records).met → 1 ≤ times item (free_walk records shelf).met → item < length records.items
 free-within records shelf item linked stands among = (free-part records shelf linked stands).0.within item among

@@ -1,5 +1,5 @@
 -- Where the search along a free list has come to, step by step, and what the best candidate is of.
-use Rattle.std.proofs.Common.{◌≡◌, ℕ, zero, suc, ◌+◌, ◌<◌, ◌≤◌, Bool, true, false, cond, Option, None, Some, option_map, List, [], ◌∷◌, length, get_or, map, refl, ap, arith, sym, ◌∙◌, subst}
+use Rattle.std.proofs.Common.{◌≡◌, ℕ, zero, suc, ◌+◌, ◌<◌, ◌≤◌, Bool, true, false, cond, Option, None, Some, option_map, List, [], ◌∷◌, ◌++◌, append_assoc, length, get_or, map, refl, ap, arith, sym, ◌∙◌, subst}
 use Rattle.std.proofs.lemmas.Bool.Decides.{nat_tests}
 use Rattle.std.specs.Option.{option_map_or}
 use Rattle.std.specs.Prelude.{find, max, nat_le, nat_lt}
@@ -17,8 +17,8 @@ use Rattle.etagere.specs.State.{Item}
 use Rattle.etagere.specs.declared.linked.choosing.Candidate.{Candidate}
 use Rattle.etagere.specs.declared.linked.choosing.Searched.TheVariants.{Found, Widest}
 use Rattle.etagere.proofs.Recorded.RecordsOfIds.{field_at-read}
-use Rattle.etagere.proofs.Searched.Following.{IsLeft, IsStep, all-left, none-left, step-left}
-use Rattle.etagere.proofs.Searched.LinkedParts.{free-left, free-within, shelf-within}
+use Rattle.etagere.proofs.Searched.Following.{IsLeft, IsStep, count_from, none-left, step-left, step-nearer}
+use Rattle.etagere.proofs.Searched.LinkedParts.{free-left, free-once, free-within, shelf-within}
 
 -- an item is wide enough
 abbrev pub is_wide : Records → ℕ → ℕ → Bool
@@ -26,18 +26,24 @@ is_wide records width item = nat_le width (item_at records.items item).width
 
 -- where the search along a free list has come to: the first wide one of what is left is that of all, and the
 -- widest of what was passed and of what is left is that of all
-pub record SearchesFree (records : Records) (width shelf widest : ℕ) (at : Option ℕ) (steps : ℕ) : Type 0 where
+pub record SearchesFree (records : Records) (width shelf widest : ℕ) (at : Option ℕ) : Type 0 where
+  pub steps : ℕ
+  pub passed : List ℕ
   pub rest : List ℕ
   pub left : IsLeft free_list.next records.items at steps rest
+  pub whole : passed ++ rest ≡ (free_walk records shelf).met
   pub found : find (is_wide records width) rest ≡ first_wide records width shelf
   pub all : max widest (widest_of records.items rest) ≡ widest_of records.items (free_walk records shelf).met
 
 -- the search begins with the whole list
-pub free-begins : (records : Records) (width shelf : ℕ) (at : Option ℕ) → IsLinked records (walked_lists records) → 1 ≤ times shelf (shelf_walk records).met → at ≡ first_free_of records.shelves shelf → SearchesFree records width shelf 0 at 0
+pub free-begins : (records : Records) (width shelf : ℕ) (at : Option ℕ) → IsLinked records (walked_lists records) → 1 ≤ times shelf (shelf_walk records).met → at ≡ first_free_of records.shelves shelf → SearchesFree records width shelf 0 at
 free-begins records width shelf at linked stands begins =
     record {
+      steps = 0;
+      passed = [];
       rest = (free_walk records shelf).met;
       left = rw begins (free-left records shelf linked stands);
+      whole = refl;
       found = refl;
       all = omega arith;
     }
@@ -48,24 +54,15 @@ nothing-found records width shelf widest none same =
     ap Widest same ∙ ap (λ o. option_map_or Found o (Widest (widest_of records.items (free_walk records shelf).met))) none
 
 -- at the end nothing is found
-free-left-none : (records : Records) (width shelf widest : ℕ) (rest : List ℕ) → rest ≡ [] → find (is_wide records width) rest ≡ first_wide records width shelf → max widest (widest_of records.items rest) ≡ widest_of records.items (free_walk records shelf).met
-    → Widest widest ≡ searched records width shelf
-free-left-none records width shelf widest rest none found same =
-    let last : max widest 0 ≡ widest_of records.items (free_walk records shelf).met = ap (λ (l : List ℕ). max widest (widest_of records.items l)) (sym none) ∙ same in
-    nothing-found records width shelf widest (ap (find (is_wide records width)) (sym none) ∙ found) (omega (arith, last))
-
-pub free-ends : (records : Records) (width shelf widest : ℕ) (at : Option ℕ) (steps : ℕ) → SearchesFree records width shelf widest at steps → at ≡ None → Widest widest ≡ searched records width shelf
-free-ends records width shelf widest at steps search ends =
-    free-left-none records width shelf widest search.rest (none-left free_list.next records.items at steps search.rest search.left ends) search.found search.all
-
--- after as many steps as there are records nothing is found
-pub free-out : (records : Records) (width shelf widest : ℕ) (at : Option ℕ) (steps : ℕ) → SearchesFree records width shelf widest at steps → length records.items ≤ steps → Widest widest ≡ searched records width shelf
-free-out records width shelf widest at steps search out =
-    free-left-none records width shelf widest search.rest (all-left free_list.next records.items at steps search.rest search.left out) search.found search.all
+pub free-ends : (records : Records) (width shelf widest : ℕ) (at : Option ℕ) → SearchesFree records width shelf widest at → at ≡ None → Widest widest ≡ searched records width shelf
+free-ends records width shelf widest at search ends =
+    let none : search.rest ≡ [] = none-left free_list.next records.items at search.steps search.rest search.left ends in
+    let last : max widest 0 ≡ widest_of records.items (free_walk records shelf).met = ap (λ (l : List ℕ). max widest (widest_of records.items l)) (sym none) ∙ search.all in
+    nothing-found records width shelf widest (ap (find (is_wide records width)) (sym none) ∙ search.found) (omega (arith, last))
 
 -- the record at hand is one
-pub free-here : (records : Records) (width shelf widest : ℕ) (at : Option ℕ) (number steps : ℕ) → SearchesFree records width shelf widest at steps → at ≡ Some number → number < length records.items
-free-here records width shelf widest at number steps search is = (step-left free_list.next records.items at number steps search.rest search.left is).here
+pub free-here : (records : Records) (width shelf widest : ℕ) (at : Option ℕ) (number : ℕ) → SearchesFree records width shelf widest at → at ≡ Some number → number < length records.items
+free-here records width shelf widest at number search is = (step-left free_list.next records.items at number search.steps search.rest search.left is).here
 
 -- how wide the record at hand is
 width-read : (records : Records) (number : ℕ) (item : ItemRecord) → number < length records.items → item ≡ get_or records.items number item → (item_at records.items number).width ≡ item.width
@@ -73,9 +70,9 @@ width-read records number item within read =
     ap (λ (i : Item). i.width) (field_at-read (spelled_item number) (record { width = 0; id = None }) records.items number item within read)
 
 -- a wide one is found
-pub free-found : (records : Records) (width shelf widest : ℕ) (at : Option ℕ) (number steps : ℕ) (item : ItemRecord) → SearchesFree records width shelf widest at steps → at ≡ Some number → item ≡ get_or records.items number item → width ≤ item.width → Found number ≡ searched records width shelf
-free-found records width shelf widest at number steps item search is read wide =
-    let step : IsStep free_list.next records.items number steps search.rest = step-left free_list.next records.items at number steps search.rest search.left is in
+pub free-found : (records : Records) (width shelf widest : ℕ) (at : Option ℕ) (number : ℕ) (item : ItemRecord) → SearchesFree records width shelf widest at → at ≡ Some number → item ≡ get_or records.items number item → width ≤ item.width → Found number ≡ searched records width shelf
+free-found records width shelf widest at number item search is read wide =
+    let step : IsStep free_list.next records.items number search.steps search.rest = step-left free_list.next records.items at number search.steps search.rest search.left is in
     let passes : is_wide records width number ≡ true = ap (nat_le width) (width-read records number item step.here read) ∙ grind (arith, nat_tests) in
     let first : Some number ≡ first_wide records width shelf =
     sym (ap (find (is_wide records width)) step.whole ∙ ap (λ b. cond b (Some number) (find (is_wide records width) step.others)) passes) ∙ search.found in
@@ -88,21 +85,32 @@ next-read (x ∷ xs) zero item within read = ap (λ (i : ItemRecord). i.next_una
 next-read (x ∷ xs) (suc number) item within read = next-read xs number item (omega arith) read
 
 -- one that is not is passed
-pub free-passed : (records : Records) (width shelf widest wider : ℕ) (at next : Option ℕ) (number steps : ℕ) (item : ItemRecord) → SearchesFree records width shelf widest at steps → at ≡ Some number → item ≡ get_or records.items number item → item.width < width → wider ≡ max widest item.width → next ≡ item.next_unallocated → SearchesFree records width shelf wider next (steps + 1)
-free-passed records width shelf widest wider at next number steps item search is read narrow grown follows =
-    let step : IsStep free_list.next records.items number steps search.rest = step-left free_list.next records.items at number steps search.rest search.left is in
+pub free-passed : (records : Records) (width shelf widest wider : ℕ) (at next : Option ℕ) (number : ℕ) (item : ItemRecord) → SearchesFree records width shelf widest at → at ≡ Some number → item ≡ get_or records.items number item → item.width < width → wider ≡ max widest item.width → next ≡ item.next_unallocated → SearchesFree records width shelf wider next
+free-passed records width shelf widest wider at next number item search is read narrow grown follows =
+    let step : IsStep free_list.next records.items number search.steps search.rest = step-left free_list.next records.items at number search.steps search.rest search.left is in
     let own : (item_at records.items number).width ≡ item.width = width-read records number item step.here read in
     let fails : is_wide records width number ≡ false = ap (nat_le width) own ∙ grind (arith, nat_tests) in
     let all : max widest (max (item_at records.items number).width (widest_of records.items step.others)) ≡ widest_of records.items (free_walk records shelf).met =
     ap (λ (l : List ℕ). max widest (widest_of records.items l)) (sym step.whole) ∙ search.all in
     record {
+      steps = search.steps + 1;
+      passed = search.passed ++ number ∷ [];
       rest = step.others;
       left = rw (follows, ← next-read records.items number item step.here read) step.left;
+      whole = append_assoc search.passed (number ∷ []) step.others ∙ ap (λ l. search.passed ++ l) (sym step.whole) ∙ search.whole;
       found =
           sym (ap (find (is_wide records width)) step.whole ∙ ap (λ b. cond b (Some number) (find (is_wide records width) step.others)) fails)
           ∙ search.found;
       all = omega (arith, all, own, grown);
     }
+
+-- a step leaves less of the free list
+pub free-nearer : (records : Records) (width shelf widest : ℕ) (at next : Option ℕ) (number : ℕ) (item : ItemRecord) → IsLinked records (walked_lists records) → 1 ≤ times shelf (shelf_walk records).met → SearchesFree records width shelf widest at → at ≡ Some number → item ≡ get_or records.items number item → next ≡ item.next_unallocated
+    → count_from next (free_walk records shelf).met < count_from at (free_walk records shelf).met
+free-nearer records width shelf widest at next number item linked stands search is read follows =
+    let step : IsStep free_list.next records.items number search.steps search.rest = step-left free_list.next records.items at number search.steps search.rest search.left is in
+    rw (follows, ← next-read records.items number item step.here read, ← search.whole)
+    (step-nearer free_list.next records.items at number search.steps search.passed search.rest (λ k. rw search.whole (free-once records shelf linked stands k)) search.left is)
 
 -- a candidate that is the lowest of what numbers offer
 record IsOffered (offers : ℕ → Option Candidate) (numbers : List ℕ) (candidate : Candidate) : Type 0 where

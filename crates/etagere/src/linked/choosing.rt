@@ -314,18 +314,15 @@ fn search_free_list(records: &Records, width: u32, shelf: usize) -> Searched
     ensures { result ≡ opening.searched records.now width shelf }
 {
     let items = records.items();
-    let mut at = records.shelves()[shelf].first_unallocated.number();
+    let mut at = records.shelves()[shelf].first_unallocated;
     let mut widest = 0_u16;
-    for _step in 0..items.len() {
-        let Some(number) = at else {
-            break;
-        };
+    while let Some(number) = at.number() {
         let item = &items[number];
         if u32::from(item.width) >= width {
             return Searched::Found(number);
         }
         widest = widest.max(item.width);
-        at = item.next_unallocated.number();
+        at = item.next_unallocated;
     }
     Searched::Widest(widest)
 }

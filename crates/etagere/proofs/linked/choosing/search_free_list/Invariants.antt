@@ -1,6 +1,11 @@
+use Rattle.etagere_links.specs.RecordLists.{free_walk}
+use Rattle.etagere.proofs.Searched.Following.{count_from}
 use Rattle.etagere.proofs.Searched.SearchSteps.{SearchesFree}
 use Rattle.etagere.proofs.linked.choosing.search_free_list.Given as goal
 
 -- the first wide one of what is left of the free list is that of all, and so is the widest
-abbrev pub invariant-loop-step : goal.invariant-loop-step
-invariant-loop-step l = SearchesFree l.records l.width l.shelf l.widest l.at l._step
+abbrev pub invariant-loop-number : goal.invariant-loop-number
+invariant-loop-number l = SearchesFree l.records l.width l.shelf l.widest l.at
+
+abbrev pub decreases-loop-number : goal.decreases-loop-number
+decreases-loop-number l = count_from l.at (free_walk l.records l.shelf).met
