@@ -2,11 +2,13 @@
 //! nothing: what is changed in one of the two leaves the other as it was. Each is shown on horizontal
 //! and on vertical shelves; lengths are given along the shelves first, then across.
 
+use crate::judging::{equal, equal_at, holds, holds_at};
 use etagere::{
     AllocId, Allocation, AllocatorOptions, AtlasAllocator, DEFAULT_OPTIONS, Rectangle, Size, size2,
 };
 use std::process::Abort;
 use std::test::Fail;
+use test_support::calls::{Atlas, return_one};
 use test_support::corners::{corners, oriented, swapped};
 
 /// What is asked of a new atlas with two columns of 80, 100 across.
@@ -50,11 +52,11 @@ fn used_atlas(
     let mut atlas = AtlasAllocator::with_options(rt.alloc(), size, &options)?;
     let mut ids = Vec::new(rt.alloc());
     for first in FIRST_SIZES {
-        let given = atlas.allocate(oriented(vertical, first))?;
+        let given = atlas.ask(oriented(vertical, first))?;
         ids.push(given.ok_or("refused")?.id)?;
     }
     for number in RETURNED {
-        atlas.deallocate(*ids.get(number).ok_or("not asked")?)?;
+        return_one(&mut atlas, ids.as_slice(), number)?;
     }
     Ok((atlas, ids))
 }
@@ -76,7 +78,7 @@ fn looks_of(rt: &impl AllocGlobal, atlas: &AtlasAllocator, ids: &[AllocId]) -> R
     Ok(Looks {
         size: atlas.size(),
         is_empty: atlas.is_empty(),
-        spaces: (atlas.allocated_space(), atlas.free_space()),
+        spaces: atlas.spaces(),
         rectangles,
     })
 }
@@ -89,7 +91,7 @@ fn later_answers(
 ) -> Result<Vec<Option<Allocation>>, Fail> {
     let mut answers = Vec::new(rt.alloc());
     for (size, _) in &LATER_SIZES {
-        answers.push(atlas.allocate(oriented(vertical, *size))?)?;
+        answers.push(atlas.ask(oriented(vertical, *size))?)?;
     }
     are_placed(rt, vertical, answers.as_slice());
     Ok(answers)
@@ -99,7 +101,7 @@ fn are_placed(rt: &impl Abort, vertical: bool, answers: &[Option<Allocation>]) {
     for (given, (size, place)) in answers.iter().zip(&LATER_SIZES) {
         let corners = given.map(|allocation| corners(allocation.rectangle));
         let wanted = place.map(|place| swapped(vertical, place));
-        assert_eq!(rt; corners, wanted, "at {size:?}");
+        equal_at(rt, &corners, &wanted, &size);
     }
 }
 
@@ -109,9 +111,9 @@ fn a_clone_looks_the_same(rt: HostRuntime) -> Result<(), Fail> {
         let (atlas, ids) = used_atlas(&rt, vertical)?;
         let clone = atlas.clone()?;
         let told = looks_of(&rt, &clone, ids.as_slice())?;
-        assert_eq!(rt; told, looks_of(&rt, &atlas, ids.as_slice())?);
-        assert_eq!(rt; told.size, oriented(vertical, (160, 100)));
-        assert_eq!(rt; told.spaces, (992, 15008));
+        equal(&rt, &told, &looks_of(&rt, &atlas, ids.as_slice())?);
+        equal(&rt, &told.size, &oriented(vertical, (160, 100)));
+        equal(&rt, &told.spaces, &(992, 15008));
     }
     Ok(())
 }
@@ -121,19 +123,38 @@ fn a_clone_answers_later_calls_as_the_first_does(rt: HostRuntime) -> Result<(), 
     for vertical in [false, true] {
         let (mut atlas, ids) = used_atlas(&rt, vertical)?;
         let mut clone = atlas.clone()?;
-        let answers = later_answers(&rt, vertical, &mut atlas)?;
-        assert_eq!(rt; later_answers(&rt, vertical, &mut clone)?, answers);
-        for id in ids {
-            assert_eq!(rt; clone.deallocate(id), atlas.deallocate(id), "of {id:?}");
-        }
-        for allocation in answers.iter().flatten() {
-            let id = allocation.id;
-            assert_eq!(rt; clone.deallocate(id), atlas.deallocate(id), "of {id:?}");
-        }
-        assert!(rt; clone.is_empty());
-        assert!(rt; atlas.is_empty());
+        answer_alike(&rt, vertical, &mut atlas, &mut clone, ids.as_slice())?;
     }
     Ok(())
+}
+
+fn answer_alike(
+    rt: &(impl AllocGlobal + Abort),
+    vertical: bool,
+    atlas: &mut AtlasAllocator,
+    clone: &mut AtlasAllocator,
+    ids: &[AllocId],
+) -> Result<(), Fail> {
+    let answers = later_answers(rt, vertical, atlas)?;
+    equal(rt, &later_answers(rt, vertical, clone)?, &answers);
+    for id in ids {
+        return_alike(rt, atlas, clone, *id);
+    }
+    for allocation in answers.iter().flatten() {
+        return_alike(rt, atlas, clone, allocation.id);
+    }
+    holds(rt, clone.is_empty());
+    holds(rt, atlas.is_empty());
+    Ok(())
+}
+
+fn return_alike(
+    rt: &impl Abort,
+    atlas: &mut AtlasAllocator,
+    clone: &mut AtlasAllocator,
+    id: AllocId,
+) {
+    holds_at(rt, clone.give_back(id) == atlas.give_back(id), &id);
 }
 
 #[test]
@@ -158,16 +179,29 @@ fn is_left(
     ids: &[AllocId],
 ) -> Result<(), Fail> {
     let before = looks_of(rt, &other, ids)?;
-    let _ = later_answers(rt, vertical, &mut changed)?;
-    assert_eq!(rt; looks_of(rt, &other, ids)?, before);
+    looks_left(rt, vertical, &mut changed, &other, ids, &before)?;
+    later_answers(rt, vertical, &mut other)?;
+    holds(rt, changed.is_empty());
+    Ok(())
+}
+
+/// Changes one of two atlases, of which the other looks as before after each call.
+fn looks_left(
+    rt: &(impl AllocGlobal + Abort),
+    vertical: bool,
+    changed: &mut AtlasAllocator,
+    other: &AtlasAllocator,
+    ids: &[AllocId],
+    before: &Looks,
+) -> Result<(), Fail> {
+    later_answers(rt, vertical, changed)?;
+    equal(rt, &looks_of(rt, other, ids)?, before);
     for id in ids {
-        let _ = changed.deallocate(*id);
+        let _ = changed.give_back(*id);
     }
-    assert_eq!(rt; looks_of(rt, &other, ids)?, before);
+    equal(rt, &looks_of(rt, other, ids)?, before);
     changed.clear();
-    assert!(rt; changed.is_empty());
-    assert_eq!(rt; looks_of(rt, &other, ids)?, before);
-    let _ = later_answers(rt, vertical, &mut other)?;
-    assert!(rt; changed.is_empty());
+    holds(rt, changed.is_empty());
+    equal(rt, &looks_of(rt, other, ids)?, before);
     Ok(())
 }

@@ -1,6 +1,7 @@
 //! Tests of the glyph cache: worked calls, the calls beside placing, and a long text through a small cache, compared
 //! with a plain one.
 
+use crate::judging::{equal, holds};
 use etagere::{
     Allocation, AllocatorOptions, AtlasAllocator, DEFAULT_OPTIONS, OptionsFault, Size, size2,
 };
@@ -9,6 +10,7 @@ use std::alloc::Global;
 use std::num::NonZeroUsize;
 use std::process::Abort;
 use std::test::Fail;
+use test_support::calls::{Atlas, new_atlas, return_all};
 use test_support::corners::corners;
 
 /// A key, its size, and what its placement answers: the corners of its rectangle, or that it is too large; and the keys
@@ -38,15 +40,15 @@ fn try_rows(
     for (key, (width, height), wanted, evicted) in rows {
         let place = match cache.place(*key, size2(*width, *height)) {
             Ok(placed) => {
-                assert_eq!(rt; placed.evicted.as_slice(), *evicted);
+                equal(rt, &placed.evicted.as_slice(), evicted);
                 Some(corners(placed.rectangle))
             }
             Err(fault) => {
-                assert_eq!(rt; fault.number(), 1);
+                equal(rt, &fault.number(), &1);
                 None
             }
         };
-        assert_eq!(rt; place, *wanted);
+        equal(rt, &place, wanted);
     }
     Ok(())
 }
@@ -101,15 +103,21 @@ fn a_size_that_lacks_records_for_its_splits_is_too_large(rt: HostRuntime) -> Res
 fn faults_have_numbers_and_names(rt: HostRuntime) -> Result<(), Fail> {
     let alloc = rt.alloc();
     let refused = GlyphCache::new(alloc, size2(0, 5), &DEFAULT_OPTIONS, NonZeroUsize::MIN);
-    assert_eq!(&rt;
-        refused.err().map(|fault| fault.number()),
-        Some(OptionsFault::Size.number())
+    equal(
+        &rt,
+        &refused.err().map(|fault| fault.number()),
+        &Some(OptionsFault::Size.number()),
     );
     let memory = GlyphFault::Memory(Vec::new(alloc));
-    assert_eq!(&rt; (GlyphFault::TooLarge.number(), memory.number()), (1, 2));
-    assert_eq!(&rt;
-        format!(in alloc; "{} {memory}", GlyphFault::TooLarge)?.as_str(),
-        "TooLarge Memory"
+    equal(
+        &rt,
+        &(GlyphFault::TooLarge.number(), memory.number()),
+        &(1, 2),
+    );
+    equal(
+        &rt,
+        &format!(in alloc; "{} {memory}", GlyphFault::TooLarge)?.as_str(),
+        &"TooLarge Memory",
     );
     Ok(())
 }
@@ -117,27 +125,29 @@ fn faults_have_numbers_and_names(rt: HostRuntime) -> Result<(), Fail> {
 #[test]
 fn keys_are_looked_up_and_taken_out(rt: HostRuntime) -> Result<(), Fail> {
     let mut cache = cache_of(rt.alloc(), (32, 32), 1, 3)?;
-    assert_eq!(&rt;
-        (cache.len(), cache.is_empty(), cache.capacity().get()),
-        (0, true, 3)
+    equal(
+        &rt,
+        &(cache.len(), cache.is_empty(), cache.capacity().get()),
+        &(0, true, 3),
     );
     for key in [1, 2, 3] {
         cache.place(key, size2(32, 8))?;
     }
-    assert_eq!(&rt; cache.get(1).map(corners), Some([0, 0, 32, 8]));
-    assert_eq!(&rt; cache.get(4), None);
-    assert_eq!(&rt; cache.atlas().allocated_space(), 32 * 32);
-    assert_eq!(&rt; cache.remove(3).map(corners), Some([0, 16, 32, 32]));
-    assert_eq!(&rt; (cache.remove(3), cache.len()), (None, 2));
+    equal(&rt, &cache.get(1).map(corners), &Some([0, 0, 32, 8]));
+    equal(&rt, &cache.get(4), &None);
+    equal(&rt, &cache.atlas().allocated_space(), &(32 * 32));
+    equal(&rt, &cache.remove(3).map(corners), &Some([0, 16, 32, 32]));
+    equal(&rt, &(cache.remove(3), cache.len()), &(None, 2));
     let rows: [Row<'_>; 2] = [
         (4, (32, 9), Some([0, 16, 32, 32]), &[]),
         (5, (32, 8), Some([0, 8, 32, 16]), &[2]),
     ];
     try_rows(&rt, &mut cache, &rows)?;
     cache.clear();
-    assert_eq!(&rt;
-        (cache.len(), cache.get(5), cache.atlas().is_empty()),
-        (0, None, true)
+    equal(
+        &rt,
+        &(cache.len(), cache.get(5), cache.atlas().is_empty()),
+        &(0, None, true),
     );
     try_rows(&rt, &mut cache, &[(5, (32, 32), Some([0, 0, 32, 32]), &[])])
 }
@@ -189,7 +199,7 @@ impl PlainCache {
                 return Ok((place, false));
             }
             let (last, allocation) = self.entries.pop().ok_or("too large")?;
-            self.atlas.deallocate(allocation.id)?;
+            return_all(&mut self.atlas, &[allocation.id])?;
             evicted.push(last)?;
         }
         Err("no place in an empty atlas".into())
@@ -199,8 +209,25 @@ impl PlainCache {
         if self.entries.len() == self.capacity {
             return Ok(None);
         }
-        Ok(self.atlas.allocate(size)?)
+        self.atlas.ask(size)
     }
+}
+
+/// Both caches answer the same to a letter in a size of type: whether it was there. What is evicted goes to the list.
+fn place_in_both(
+    rt: &impl Abort,
+    cache: &mut GlyphCache,
+    plain: &mut PlainCache,
+    (letter, type_size): (u8, u8),
+    evicted: &mut Vec<u64>,
+) -> Result<bool, Fail> {
+    let size = letter_size(letter, type_size);
+    let key = u64::from(letter) * 4 + u64::from(type_size);
+    let placed = cache.place(key, size)?;
+    let (place, is_hit) = plain.place(key, size, evicted)?;
+    equal(rt, &corners(placed.rectangle), &place);
+    equal(rt, &placed.evicted.as_slice(), &evicted.as_slice());
+    Ok(is_hit)
 }
 
 #[test]
@@ -208,7 +235,7 @@ fn a_long_text_is_placed_as_a_plain_cache_places_it(rt: HostRuntime) -> Result<(
     let mut cache = cache_of(rt.alloc(), (96, 96), 1, 60)?;
     let mut plain = PlainCache {
         entries: Vec::new(rt.alloc()),
-        atlas: AtlasAllocator::new(rt.alloc(), size2(96, 96))?,
+        atlas: new_atlas(rt.alloc(), (96, 96))?,
         capacity: 60,
     };
     let mut evicted = Vec::new(rt.alloc());
@@ -218,18 +245,14 @@ fn a_long_text_is_placed_as_a_plain_cache_places_it(rt: HostRuntime) -> Result<(
         random = random.wrapping_mul(1_664_525).wrapping_add(1_013_904_223);
         let letter = TEXT[(random / 256) as usize % TEXT.len()];
         let type_size = (random / 65536 % 4) as u8;
-        let size = letter_size(letter, type_size);
-        let key = u64::from(letter) * 4 + u64::from(type_size);
-        let placed = cache.place(key, size)?;
-        let (place, is_hit) = plain.place(key, size, &mut evicted)?;
-        assert_eq!(&rt; corners(placed.rectangle), place);
-        assert_eq!(&rt; placed.evicted.as_slice(), evicted.as_slice());
-        evictions = evictions.saturating_add(evicted.len());
         evicted.clear();
+        let glyph = (letter, type_size);
+        let is_hit = place_in_both(&rt, &mut cache, &mut plain, glyph, &mut evicted)?;
+        evictions = evictions.saturating_add(evicted.len());
         hits = hits.saturating_add(usize::from(is_hit));
     }
-    assert_eq!(&rt; cache.len(), plain.entries.len());
+    equal(&rt, &cache.len(), &plain.entries.len());
     // So many letters that no rectangle is ever found, or none ever evicted, would show nothing.
-    assert!(&rt; hits > PLACEMENTS / 4 && evictions > PLACEMENTS / 10);
+    holds(&rt, hits > PLACEMENTS / 4 && evictions > PLACEMENTS / 10);
     Ok(())
 }

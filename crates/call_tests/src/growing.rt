@@ -1,12 +1,14 @@
 //! Growths of a shelf atlas: where what is added lies, under which ids it is given, and which growths are refused, which
 //! leaves everything. After each sequence of calls a snapshot is restored, which answers further calls in the same way.
 
+use crate::judging::{answer_alike, are_saved_alike, equal, equal_at, holds, is_at, is_refused};
 use etagere::{
     AllocId, AllocatorOptions, AtlasAllocator, AtlasGrowFault, DEFAULT_OPTIONS, Size, size2,
 };
+use std::alloc::Global;
 use std::process::Abort;
 use std::test::Fail;
-use test_support::corners::corners;
+use test_support::calls::{Atlas, atlas_with, return_all};
 
 /// A call, and what it is answered.
 #[derive(Clone, Copy)]
@@ -35,11 +37,11 @@ fn in_columns(num_columns: i32) -> AllocatorOptions {
 /// A new atlas, after these calls were answered so.
 fn after(
     rt: &(impl AllocGlobal + Abort),
-    (width, height): (i32, i32),
+    size: (i32, i32),
     options: AllocatorOptions,
     calls: &[Call],
 ) -> Result<AtlasAllocator, Fail> {
-    let mut atlas = AtlasAllocator::with_options(rt.alloc(), size2(width, height), &options)?;
+    let mut atlas = atlas_with(rt.alloc(), size, &options)?;
     for call in calls {
         is_answered(rt, &mut atlas, *call)?;
     }
@@ -48,24 +50,16 @@ fn after(
 
 fn is_answered(rt: &impl Abort, atlas: &mut AtlasAllocator, call: Call) -> Result<(), Fail> {
     match call {
-        Placed((width, height), id, place) => {
-            let given = atlas.allocate(size2(width, height))?.ok_or("refused")?;
-            let told = (given.id.serialize(), corners(given.rectangle));
-            assert_eq!(rt; told, (id, place), "of {width} by {height}");
+        Placed(size, id, place) => {
+            let given = is_at(rt, atlas, size, place)?;
+            equal_at(rt, &given.id.serialize(), &id, &size);
             Ok(())
         }
-        Refused((width, height)) => {
-            assert_eq!(rt;
-                atlas.allocate(size2(width, height))?,
-                None,
-                "of {width} by {height}"
-            );
-            Ok(())
-        }
-        Returned(id) => Ok(atlas.deallocate(AllocId::deserialize(id))?),
+        Refused(size) => is_refused(rt, atlas, size),
+        Returned(id) => return_all(atlas, &[AllocId::deserialize(id)]),
         Grown((width, height)) => {
-            atlas.grow(size2(width, height))?;
-            assert_eq!(rt; atlas.size(), size2(width, height));
+            atlas.enlarge(size2(width, height))?;
+            equal(rt, &atlas.size(), &size2(width, height));
             Ok(())
         }
         Faulty((width, height), fault) => is_left(rt, atlas, size2(width, height), fault),
@@ -80,39 +74,55 @@ fn is_left(
     fault: AtlasGrowFault,
 ) -> Result<(), Fail> {
     let before = atlas.snapshot()?;
-    assert_eq!(rt; atlas.grow(size), Err(fault), "to {size:?}");
-    assert!(rt; atlas.snapshot()? == before);
+    equal_at(rt, &atlas.grow(size), &Err(fault), &size);
+    holds(rt, atlas.snapshot()? == before);
     Ok(())
 }
 
 /// What a snapshot restores answers further calls as the atlas does, returns and a growth among them.
 fn is_restored(rt: &(impl AllocGlobal + Abort), mut atlas: AtlasAllocator) -> Result<(), Fail> {
-    let mut restored = AtlasAllocator::restore(rt.alloc(), atlas.snapshot()?)?;
-    assert_eq!(rt; restored.size(), atlas.size());
-    if let Some(kept) = atlas.iter().next() {
-        assert_eq!(rt; restored.get(kept.id), Some(kept.rectangle));
-        assert_eq!(rt; restored.deallocate(kept.id), atlas.deallocate(kept.id));
-    }
-    answer_alike(rt, &mut atlas, &mut restored)?;
-    let Size { width, height } = atlas.size();
-    let larger = size2(width.wrapping_add(9), height.wrapping_add(17));
-    assert_eq!(rt; restored.grow(larger), atlas.grow(larger));
-    answer_alike(rt, &mut atlas, &mut restored)?;
-    assert!(rt; restored.snapshot()? == atlas.snapshot()?);
-    Ok(())
+    let mut restored = restored(rt.alloc(), &atlas)?;
+    equal(rt, &restored.size(), &atlas.size());
+    behave_alike(rt, &mut atlas, &mut restored)
 }
 
-fn answer_alike(
+fn restored(alloc: Global, atlas: &AtlasAllocator) -> Result<AtlasAllocator, Fail> {
+    Ok(AtlasAllocator::restore(alloc, atlas.snapshot()?)?)
+}
+
+fn behave_alike(
     rt: &impl Abort,
     first: &mut AtlasAllocator,
     second: &mut AtlasAllocator,
 ) -> Result<(), Fail> {
-    for (width, height) in [(1, 8), (4, 16), (24, 16), (9, 17), (150, 10)] {
-        let size = size2(width, height);
-        assert!(rt;
-            second.allocate(size)? == first.allocate(size)?,
-            "of {width} by {height}"
-        );
+    return_alike(rt, first, second);
+    all_answer_alike(rt, first, second)?;
+    grow_alike(rt, first, second);
+    all_answer_alike(rt, first, second)?;
+    are_saved_alike(rt, first, second)
+}
+
+/// The first allocation of one is also that of the other, and is returned.
+fn return_alike(rt: &impl Abort, first: &mut AtlasAllocator, second: &mut AtlasAllocator) {
+    if let Some(kept) = first.iter().next() {
+        equal(rt, &second.get(kept.id), &Some(kept.rectangle));
+        holds(rt, first.give_back(kept.id) && second.give_back(kept.id));
+    }
+}
+
+fn grow_alike(rt: &impl Abort, first: &mut AtlasAllocator, second: &mut AtlasAllocator) {
+    let Size { width, height } = first.size();
+    let larger = size2(width.wrapping_add(9), height.wrapping_add(17));
+    equal(rt, &second.grow(larger), &first.grow(larger));
+}
+
+fn all_answer_alike(
+    rt: &impl Abort,
+    first: &mut AtlasAllocator,
+    second: &mut AtlasAllocator,
+) -> Result<(), Fail> {
+    for size in [(1, 8), (4, 16), (24, 16), (9, 17), (150, 10)] {
+        answer_alike(rt, second, first, size)?;
     }
     Ok(())
 }
@@ -273,10 +283,9 @@ fn is_cleared(
 ) -> Result<(), Fail> {
     atlas.clear();
     let mut fresh = after(rt, size, options, &[])?;
-    assert_eq!(rt; atlas.size(), fresh.size());
-    assert!(rt; atlas.snapshot()? == fresh.snapshot()?);
-    assert!(rt; atlas.allocate(size2(4, 8))? == fresh.allocate(size2(4, 8))?);
-    Ok(())
+    equal(rt, &atlas.size(), &fresh.size());
+    are_saved_alike(rt, &atlas, &fresh)?;
+    answer_alike(rt, &mut atlas, &mut fresh, (4, 8))
 }
 
 #[test]

@@ -1,11 +1,14 @@
 //! Large atlases with ample memory: no call answers that it is out of memory, and each answer is the one
 //! of the rules.
 
-use etagere::{Allocation, AllocatorOptions, AtlasAllocator, DEFAULT_OPTIONS, size2};
+use crate::judging::{ends_clean, equal, holds, is_at, is_refused};
+use etagere::{Allocation, AllocatorOptions, AtlasAllocator, DEFAULT_OPTIONS, Size};
 use std::process::Abort;
 use std::test::Fail;
-use test_support::corners::corners;
+use test_support::calls::{atlas_with, placed, return_all};
 use test_support::squares::{Grid, MANY_SHELVES, SQUARE, VERTICAL_COLUMNS, comes_again};
+
+const SIDES: (i32, i32) = (SQUARE.width, SQUARE.height);
 
 /// An atlas of the grid that was filled, square by square, and what it gave.
 fn filled(
@@ -15,12 +18,10 @@ fn filled(
     let mut atlas = AtlasAllocator::with_options(rt.alloc(), grid.size(), &grid.options())?;
     let mut given = Vec::new(rt.alloc());
     for place in grid.places(rt.alloc())? {
-        let allocation = atlas.allocate(SQUARE)?.ok_or("refused")?;
-        assert_eq!(rt; corners(allocation.rectangle), place);
-        given.push(allocation)?;
+        given.push(is_at(rt, &mut atlas, SIDES, place)?)?;
     }
-    assert_eq!(rt; atlas.allocate(SQUARE)?, None);
-    assert_eq!(rt; atlas.free_space(), 0);
+    is_refused(rt, &mut atlas, SIDES)?;
+    equal(rt, &atlas.free_space(), &0);
     Ok((atlas, given))
 }
 
@@ -34,15 +35,15 @@ fn come_again(
     let mut free_space = 0;
     for number in (0..given.len()).rev() {
         if comes_again(number) {
-            atlas.deallocate(given[number].id)?;
+            return_all(atlas, &[given[number].id])?;
             free_space = i32::wrapping_add(free_space, 256);
         }
     }
-    assert_eq!(rt; atlas.free_space(), free_space);
+    equal(rt, &atlas.free_space(), &free_space);
     for number in 0..given.len() {
         if comes_again(number) {
-            let again = atlas.allocate(SQUARE)?.ok_or("refused")?;
-            assert_eq!(rt; again.rectangle, given[number].rectangle);
+            let again = placed(atlas, SIDES)?;
+            equal(rt, &again.rectangle, &given[number].rectangle);
             given[number] = again;
         }
     }
@@ -51,10 +52,10 @@ fn come_again(
 
 /// Nothing is allocated, and each column is filled whole.
 fn is_as_new(rt: &impl Abort, grid: Grid, atlas: &mut AtlasAllocator) -> Result<(), Fail> {
-    assert!(rt; atlas.is_empty());
+    holds(rt, atlas.is_empty());
     for column in 0..grid.columns {
-        let whole = atlas.allocate(grid.column_size())?.ok_or("refused")?;
-        assert_eq!(rt; corners(whole.rectangle), grid.column(column));
+        let Size { width, height } = grid.column_size();
+        is_at(rt, atlas, (width, height), grid.column(column))?;
     }
     Ok(())
 }
@@ -67,29 +68,47 @@ fn thousands_of_shelves_come_and_go(rt: HostRuntime) -> Result<(), Fail> {
         let mut clone = atlas.clone()?;
         atlas.clear();
         is_as_new(&rt, grid, &mut atlas)?;
-        assert_eq!(rt; clone.free_space(), 0);
-        for allocation in &given {
-            clone.deallocate(allocation.id)?;
-        }
-        is_as_new(&rt, grid, &mut clone)?;
+        is_emptied(&rt, grid, &mut clone, given.as_slice())?;
     }
+    Ok(())
+}
+
+/// All squares of a full atlas are returned.
+fn is_emptied(
+    rt: &impl Abort,
+    grid: Grid,
+    atlas: &mut AtlasAllocator,
+    given: &[Allocation],
+) -> Result<(), Fail> {
+    equal(rt, &atlas.free_space(), &0);
+    for allocation in given {
+        return_all(atlas, &[allocation.id])?;
+    }
+    is_as_new(rt, grid, atlas)
+}
+
+/// A clone of an atlas with a column for each pixel.
+fn columns_are_made(
+    rt: &(impl AllocGlobal + Abort),
+    size: (i32, i32),
+    vertical_shelves: bool,
+) -> Result<(), Fail> {
+    let options = AllocatorOptions {
+        vertical_shelves,
+        num_columns: 65535,
+        ..DEFAULT_OPTIONS
+    };
+    let mut atlas = atlas_with(rt.alloc(), size, &options)?.clone()?;
+    is_refused(rt, &mut atlas, (2, 2))?;
+    let given = placed(&mut atlas, (1, 1))?;
+    equal(rt, &atlas.allocated_space(), &9);
+    return_all(&mut atlas, &[given.id])?;
+    ends_clean(rt, &atlas);
     Ok(())
 }
 
 #[test]
 fn sixty_thousand_columns_are_made(rt: HostRuntime) -> Result<(), Fail> {
-    for (size, vertical_shelves) in [(size2(65535, 9), false), (size2(9, 65535), true)] {
-        let options = AllocatorOptions {
-            vertical_shelves,
-            num_columns: 65535,
-            ..DEFAULT_OPTIONS
-        };
-        let mut atlas = AtlasAllocator::with_options(rt.alloc(), size, &options)?.clone()?;
-        assert_eq!(rt; atlas.allocate(size2(2, 2))?, None);
-        let given = atlas.allocate(size2(1, 1))?.ok_or("refused")?;
-        assert_eq!(rt; atlas.allocated_space(), 9);
-        atlas.deallocate(given.id)?;
-        assert!(rt; atlas.is_empty());
-    }
-    Ok(())
+    columns_are_made(&rt, (65535, 9), false)?;
+    columns_are_made(&rt, (9, 65535), true)
 }

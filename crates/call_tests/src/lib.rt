@@ -3,13 +3,7 @@
 #![tactic(auto)]
 
 #[cfg(test)]
-mod atlas_sweep;
-#[cfg(test)]
 mod bucketed_sequences;
-#[cfg(test)]
-mod bucketed_snapshots;
-#[cfg(test)]
-mod bucketed_sweep;
 #[cfg(test)]
 mod clones;
 #[cfg(test)]
@@ -21,7 +15,7 @@ mod growing;
 #[cfg(test)]
 mod ids;
 #[cfg(test)]
-mod json;
+mod judging;
 #[cfg(test)]
 mod large_atlases;
 #[cfg(test)]
@@ -29,12 +23,6 @@ mod places;
 #[cfg(test)]
 mod plain_types;
 #[cfg(test)]
-mod plain_walks;
-#[cfg(test)]
 mod range_ends;
-#[cfg(test)]
-mod restoring;
-#[cfg(test)]
-mod round_trips;
 #[cfg(test)]
 mod sequences;

@@ -1,21 +1,22 @@
 //! The plain types: numbers of ids, sides and areas, when two allocations are equal, and the default
 //! options, all by the names under which `etagere` gives them to its users.
 
+use crate::judging::{equal, holds, holds_at};
 use etagere::{AllocId, Allocation, AllocatorOptions, DEFAULT_OPTIONS, Rectangle, point2, size2};
 
 #[test]
 fn an_id_is_its_number(rt: HostRuntime) {
     for number in [0, 1, 65536, 4294967295] {
-        assert_eq!(rt; AllocId::deserialize(number).serialize(), number);
+        equal(&rt, &AllocId::deserialize(number).serialize(), &number);
     }
 }
 
 #[test]
 fn default_options_are_the_constant(rt: HostRuntime) {
-    assert_eq!(rt; AllocatorOptions::default(), DEFAULT_OPTIONS);
-    assert_eq!(rt; DEFAULT_OPTIONS.alignment, size2(1, 1));
-    assert!(rt; !DEFAULT_OPTIONS.vertical_shelves);
-    assert_eq!(rt; DEFAULT_OPTIONS.num_columns, 1);
+    equal(&rt, &AllocatorOptions::default(), &DEFAULT_OPTIONS);
+    equal(&rt, &DEFAULT_OPTIONS.alignment, &size2(1, 1));
+    holds(&rt, !DEFAULT_OPTIONS.vertical_shelves);
+    equal(&rt, &DEFAULT_OPTIONS.num_columns, &1);
 }
 
 #[test]
@@ -24,15 +25,15 @@ fn geometry_counts_sides_and_areas(rt: HostRuntime) {
         min: point2(2, 3),
         max: point2(12, 7),
     };
-    assert_eq!(rt; rectangle.size(), size2(10, 4));
-    assert_eq!(rt; rectangle.area(), 40);
-    assert_eq!(rt; size2(46341, 46340).area(), 2147441940);
+    equal(&rt, &rectangle.size(), &size2(10, 4));
+    equal(&rt, &rectangle.area(), &40);
+    equal(&rt, &size2(46341, 46340).area(), &2147441940);
     for (size, is_empty) in [
         (size2(1, 1), false),
         (size2(0, 1), true),
         (size2(5, -1), true),
     ] {
-        assert_eq!(rt; size.is_empty(), is_empty);
+        equal(&rt, &size.is_empty(), &is_empty);
     }
 }
 
@@ -50,7 +51,7 @@ fn allocation(id: u32, corners: [i32; 4]) -> Allocation {
 #[test]
 fn allocations_are_equal_by_id_and_rectangle(rt: HostRuntime) {
     let one = allocation(7, [1, 2, 3, 4]);
-    assert!(rt; one == allocation(7, [1, 2, 3, 4]));
+    holds(&rt, one == allocation(7, [1, 2, 3, 4]));
     for other in [
         allocation(6, [1, 2, 3, 4]),
         allocation(65543, [1, 2, 3, 4]),
@@ -59,7 +60,7 @@ fn allocations_are_equal_by_id_and_rectangle(rt: HostRuntime) {
         allocation(7, [1, 2, 5, 4]),
         allocation(7, [1, 2, 3, 5]),
     ] {
-        assert!(rt; one != other, "{one:?} and {other:?}");
-        assert!(rt; !(one == other), "{one:?} and {other:?}");
+        holds_at(&rt, one != other, &(one, other));
+        holds_at(&rt, !(one == other), &(one, other));
     }
 }

@@ -1,20 +1,13 @@
 //! Longer sequences of calls of one atlas. Each ends clean: after all returns nothing is allocated, and
 //! no space is counted as allocated.
 
+use crate::judging::{ends_clean, equal, holds, holds_at, is_at, is_refused};
 use etagere::{
     Allocation, AllocatorOptions, AtlasAllocator, DEFAULT_OPTIONS, Rectangle, Size, size2,
 };
 use std::process::Abort;
 use std::test::Fail;
-
-fn placed(atlas: &mut AtlasAllocator, width: i32, height: i32) -> Result<Allocation, Fail> {
-    Ok(atlas.allocate(size2(width, height))?.ok_or("refused")?)
-}
-
-fn ends_clean(rt: &impl Abort, atlas: &AtlasAllocator) {
-    assert!(rt; atlas.is_empty());
-    assert_eq!(rt; atlas.allocated_space(), 0);
-}
+use test_support::calls::{atlas_with, new_atlas, placed, return_all};
 
 /// The area, counted wide.
 pub fn area(place: Rectangle) -> i64 {
@@ -49,35 +42,33 @@ fn three_sizes_come_and_go(rt: HostRuntime) -> Result<(), Fail> {
         vertical_shelves: true,
         ..DEFAULT_OPTIONS
     };
-    come_and_go(&rt, size2(2048, 2048), &horizontal)?;
-    come_and_go(&rt, size2(2000, 1000), &vertical)
+    come_and_go(&rt, (2048, 2048), &horizontal)?;
+    come_and_go(&rt, (2000, 1000), &vertical)
 }
 
 fn come_and_go(
     rt: &(impl AllocGlobal + Abort),
-    size: Size,
+    size: (i32, i32),
     options: &AllocatorOptions,
 ) -> Result<(), Fail> {
-    let mut atlas = AtlasAllocator::with_options(rt.alloc(), size, options)?;
+    let mut atlas = atlas_with(rt.alloc(), size, options)?;
     ends_clean(rt, &atlas);
-    let first = placed(&mut atlas, 20, 30)?;
-    let second = placed(&mut atlas, 30, 40)?;
-    let third = placed(&mut atlas, 20, 30)?;
-    assert!(rt; first.id != second.id && first.id != third.id);
-    assert!(rt; !atlas.is_empty());
+    let first = placed(&mut atlas, (20, 30))?;
+    let second = placed(&mut atlas, (30, 40))?;
+    let third = placed(&mut atlas, (20, 30))?;
+    holds(rt, first.id != second.id && first.id != third.id);
+    holds(rt, !atlas.is_empty());
     for allocation in &atlas {
-        assert!(rt; [first, second, third].contains(&allocation));
+        holds(rt, [first, second, third].contains(&allocation));
     }
     for (given, width, height) in [(first, 20, 30), (second, 30, 40), (third, 20, 30)] {
         let min = given.rectangle.min;
-        assert!(rt; is_as_large(given.rectangle, width, height));
-        assert_eq!(rt; min.x.checked_rem(options.alignment.width), Some(0));
-        assert_eq!(rt; min.y.checked_rem(options.alignment.height), Some(0));
-        assert_eq!(rt; atlas.get(given.id), Some(given.rectangle));
+        holds(rt, is_as_large(given.rectangle, width, height));
+        equal(rt, &min.x.checked_rem(options.alignment.width), &Some(0));
+        equal(rt, &min.y.checked_rem(options.alignment.height), &Some(0));
+        equal(rt, &atlas.get(given.id), &Some(given.rectangle));
     }
-    for id in [first.id, second.id, third.id] {
-        atlas.deallocate(id)?;
-    }
+    return_all(&mut atlas, &[first.id, second.id, third.id])?;
     ends_clean(rt, &atlas);
     Ok(())
 }
@@ -89,18 +80,16 @@ fn vertical_columns_are_reused(rt: HostRuntime) -> Result<(), Fail> {
         num_columns: 2,
         ..DEFAULT_OPTIONS
     };
-    let mut atlas = AtlasAllocator::with_options(rt.alloc(), size2(128, 256), &options)?;
-    assert_eq!(rt; atlas.size(), size2(128, 256));
-    let first = placed(&mut atlas, 32, 16)?;
-    let second = placed(&mut atlas, 16, 32)?;
-    assert!(rt; is_as_large(first.rectangle, 32, 16));
-    assert!(rt; is_as_large(second.rectangle, 16, 32));
-    let third = placed(&mut atlas, 128, 128)?;
-    assert_eq!(rt; count(&atlas), 3);
-    for id in [first.id, second.id, third.id] {
-        atlas.deallocate(id)?;
-    }
-    assert_eq!(rt; count(&atlas), 0);
+    let mut atlas = atlas_with(rt.alloc(), (128, 256), &options)?;
+    equal(&rt, &atlas.size(), &size2(128, 256));
+    let first = placed(&mut atlas, (32, 16))?;
+    let second = placed(&mut atlas, (16, 32))?;
+    holds(&rt, is_as_large(first.rectangle, 32, 16));
+    holds(&rt, is_as_large(second.rectangle, 16, 32));
+    let third = placed(&mut atlas, (128, 128))?;
+    equal(&rt, &count(&atlas), &3);
+    return_all(&mut atlas, &[first.id, second.id, third.id])?;
+    equal(&rt, &count(&atlas), &0);
     ends_clean(&rt, &atlas);
     Ok(())
 }
@@ -158,18 +147,18 @@ pub const MIXED_SIZES: [(i32, i32, u32); 47] = [
 
 #[test]
 fn clear_gives_everything_back(rt: HostRuntime) -> Result<(), Fail> {
-    let mut atlas = AtlasAllocator::new(rt.alloc(), size2(2048, 2048))?;
+    let mut atlas = new_atlas(rt.alloc(), (2048, 2048))?;
     for _ in 0..500 {
         atlas.clear();
         ends_clean(&rt, &atlas);
         let mut number = 0;
         for (width, height, times) in MIXED_SIZES {
             for _ in 0..times {
-                let _ = placed(&mut atlas, width, height)?;
+                let _ = placed(&mut atlas, (width, height))?;
                 number = usize::wrapping_add(number, 1);
             }
         }
-        assert_eq!(rt; count(&atlas), number);
+        equal(&rt, &count(&atlas), &number);
     }
     Ok(())
 }
@@ -177,77 +166,78 @@ fn clear_gives_everything_back(rt: HostRuntime) -> Result<(), Fail> {
 #[test]
 fn long_thin_atlases_are_filled_whole(rt: HostRuntime) -> Result<(), Fail> {
     for (long, short) in [(65472, 64), (65535, 64)] {
-        fills_whole(&rt, size2(long, short), size2(long, short))?;
-        fills_whole(&rt, size2(short, long), size2(short, long))?;
+        fills_whole(&rt, (long, short), (long, short))?;
+        fills_whole(&rt, (short, long), (short, long))?;
     }
-    fills_whole(&rt, size2(65472, 64), size2(65471, 64))?;
-    fills_whole(&rt, size2(64, 65472), size2(64, 65471))
+    fills_whole(&rt, (65472, 64), (65471, 64))?;
+    fills_whole(&rt, (64, 65472), (64, 65471))
 }
 
-fn fills_whole(rt: &(impl AllocGlobal + Abort), size: Size, asked: Size) -> Result<(), Fail> {
-    let mut atlas = AtlasAllocator::new(rt.alloc(), size)?;
-    let given = atlas.allocate(asked)?.ok_or("refused")?.rectangle;
-    let corners = [given.min.x, given.min.y, given.max.x, given.max.y];
-    assert_eq!(rt; corners, [0, 0, size.width, size.height]);
+fn fills_whole(
+    rt: &(impl AllocGlobal + Abort),
+    (width, height): (i32, i32),
+    asked: (i32, i32),
+) -> Result<(), Fail> {
+    let mut atlas = new_atlas(rt.alloc(), (width, height))?;
+    is_at(rt, &mut atlas, asked, [0, 0, width, height])?;
     Ok(())
 }
 
 #[test]
 fn the_space_is_the_sum_of_the_live_areas(rt: HostRuntime) -> Result<(), Fail> {
-    let mut atlas = AtlasAllocator::new(rt.alloc(), size2(1000, 1000))?;
-    let first = placed(&mut atlas, 999, 128)?;
+    let mut atlas = new_atlas(rt.alloc(), (1000, 1000))?;
+    let first = placed(&mut atlas, (999, 128))?;
     let first_area = area(first.rectangle);
-    assert_eq!(rt; i64::from(atlas.allocated_space()), first_area);
-    assert_eq!(rt; atlas.allocate(size2(168492810, 10))?, None);
-    assert_eq!(rt; i64::from(atlas.allocated_space()), first_area);
-    let second = placed(&mut atlas, 45, 96)?;
+    equal(&rt, &i64::from(atlas.allocated_space()), &first_area);
+    is_refused(&rt, &mut atlas, (168492810, 10))?;
+    equal(&rt, &i64::from(atlas.allocated_space()), &first_area);
+    let second = placed(&mut atlas, (45, 96))?;
     let second_area = area(second.rectangle);
-    assert_eq!(rt;
-        i64::from(atlas.allocated_space()),
-        first_area.wrapping_add(second_area)
+    equal(
+        &rt,
+        &i64::from(atlas.allocated_space()),
+        &first_area.wrapping_add(second_area),
     );
-    assert_eq!(rt; atlas.allocate(size2(-16711926, 0))?, None);
-    atlas.deallocate(first.id)?;
-    assert_eq!(rt; i64::from(atlas.allocated_space()), second_area);
-    atlas.deallocate(second.id)?;
+    is_refused(&rt, &mut atlas, (-16711926, 0))?;
+    return_all(&mut atlas, &[first.id])?;
+    equal(&rt, &i64::from(atlas.allocated_space()), &second_area);
+    return_all(&mut atlas, &[second.id])?;
     ends_clean(&rt, &atlas);
     Ok(())
 }
 
 #[test]
 fn returns_keep_the_others_in_place(rt: HostRuntime) -> Result<(), Fail> {
-    let mut atlas = AtlasAllocator::new(rt.alloc(), size2(1024, 1024))?;
-    let first = placed(&mut atlas, 100, 300)?;
-    let second = placed(&mut atlas, 500, 200)?;
-    atlas.deallocate(first.id)?;
-    let third = placed(&mut atlas, 300, 200)?;
-    assert_eq!(rt; atlas.get(second.id), Some(second.rectangle));
-    assert_eq!(rt; atlas.get(third.id), Some(third.rectangle));
-    atlas.deallocate(second.id)?;
-    atlas.deallocate(third.id)?;
+    let mut atlas = new_atlas(rt.alloc(), (1024, 1024))?;
+    let first = placed(&mut atlas, (100, 300))?;
+    let second = placed(&mut atlas, (500, 200))?;
+    return_all(&mut atlas, &[first.id])?;
+    let third = placed(&mut atlas, (300, 200))?;
+    equal(&rt, &atlas.get(second.id), &Some(second.rectangle));
+    equal(&rt, &atlas.get(third.id), &Some(third.rectangle));
+    return_all(&mut atlas, &[second.id, third.id])?;
     ends_clean(&rt, &atlas);
     Ok(())
 }
 
 #[test]
 fn what_is_too_large_leaves_the_whole_atlas(rt: HostRuntime) -> Result<(), Fail> {
-    let mut atlas = AtlasAllocator::new(rt.alloc(), size2(1000, 1000))?;
-    assert_eq!(rt; atlas.allocate(size2(100, 1001))?, None);
-    assert_eq!(rt; atlas.allocate(size2(1001, 1000))?, None);
-    let whole = placed(&mut atlas, 1000, 1000)?;
-    assert_eq!(rt; atlas.get(whole.id), Some(whole.rectangle));
-    atlas.deallocate(whole.id)?;
+    let mut atlas = new_atlas(rt.alloc(), (1000, 1000))?;
+    is_refused(&rt, &mut atlas, (100, 1001))?;
+    is_refused(&rt, &mut atlas, (1001, 1000))?;
+    let whole = placed(&mut atlas, (1000, 1000))?;
+    equal(&rt, &atlas.get(whole.id), &Some(whole.rectangle));
+    return_all(&mut atlas, &[whole.id])?;
     ends_clean(&rt, &atlas);
     Ok(())
 }
 
 #[test]
 fn a_bad_fit_alone_is_used_and_returned(rt: HostRuntime) -> Result<(), Fail> {
-    let mut atlas = AtlasAllocator::new(rt.alloc(), size2(1000, 1000))?;
-    let narrow = placed(&mut atlas, 100, 1000)?;
-    let wide = placed(&mut atlas, 900, 200)?;
-    atlas.deallocate(narrow.id)?;
-    atlas.deallocate(wide.id)?;
+    let mut atlas = new_atlas(rt.alloc(), (1000, 1000))?;
+    let narrow = placed(&mut atlas, (100, 1000))?;
+    let wide = placed(&mut atlas, (900, 200))?;
+    return_all(&mut atlas, &[narrow.id, wide.id])?;
     ends_clean(&rt, &atlas);
     Ok(())
 }
@@ -263,18 +253,16 @@ fn a_bad_fit_goes_to_a_shelf_of_its_own(rt: HostRuntime) -> Result<(), Fail> {
         [30, 100, 300],
     ];
     for [first, second, third] in orders {
-        let mut atlas = AtlasAllocator::new(rt.alloc(), size2(1000, 1000))?;
-        let a = placed(&mut atlas, 100, first)?;
-        let b = placed(&mut atlas, 100, second)?;
-        let c = placed(&mut atlas, 100, third)?;
+        let mut atlas = new_atlas(rt.alloc(), (1000, 1000))?;
+        let a = placed(&mut atlas, (100, first))?;
+        let b = placed(&mut atlas, (100, second))?;
+        let c = placed(&mut atlas, (100, third))?;
         let starts = [a.rectangle.min.y, b.rectangle.min.y, c.rectangle.min.y];
         let ends = [a.rectangle.max.y, b.rectangle.max.y, c.rectangle.max.y];
         for [x, y, z] in [starts, ends] {
-            assert!(rt; x != y && y != z && x != z, "at {first}, {second}, {third}");
+            holds_at(&rt, x != y && y != z && x != z, &(first, second, third));
         }
-        for id in [a.id, b.id, c.id] {
-            atlas.deallocate(id)?;
-        }
+        return_all(&mut atlas, &[a.id, b.id, c.id])?;
         ends_clean(&rt, &atlas);
     }
     Ok(())

@@ -1,6 +1,7 @@
 //! Large runs and scripts with ample memory: no call answers that it is out of memory, and each answer is
 //! the one of the rules.
 
+use crate::judging::{equal, holds};
 use crate::runs::{Shape, replies};
 use crate::scripts::replayed;
 use etagere_run::{AtlasCommand, Outcome, replay};
@@ -131,10 +132,10 @@ fn a_text_of_more_than_a_megabyte_is_written(rt: HostRuntime) -> Result<(), Fail
     add_looks(&mut table, &[])?;
     let script = script_of(rt.alloc(), grid, table.as_slice())?;
     let (outcome, text) = replayed(&rt, script.as_bytes())?;
-    assert_eq!(rt; outcome, Outcome::Done);
-    assert!(rt; text.len() > 1_000_000);
+    equal(&rt, &outcome, &Outcome::Done);
+    holds(&rt, text.len() > 1_000_000);
     let lines = lines_of(rt.alloc(), table.as_slice())?;
-    assert!(rt; without_ids(rt.alloc(), text.as_str())? == lines);
+    holds(&rt, without_ids(rt.alloc(), text.as_str())? == lines);
     Ok(())
 }
 
@@ -143,8 +144,8 @@ fn a_long_input_is_read_whole(rt: HostRuntime) -> Result<(), Fail> {
     let mut reader = b"x\n".as_slice().chain(ManyBytes { left: 1 << 26 });
     let mut text = Vec::new(rt.alloc());
     let outcome = replay(rt.alloc(), &mut reader, &mut text)?;
-    assert_eq!(rt; outcome, Outcome::BadLine(1));
-    assert_eq!(rt; text.as_slice(), b"line 1: bad\n".as_slice());
+    equal(&rt, &outcome, &Outcome::BadLine(1));
+    equal(&rt, &text.as_slice(), &b"line 1: bad\n".as_slice());
     Ok(())
 }
 

@@ -1,5 +1,6 @@
 //! Runs on a bucketed atlas: what each command is answered, where it is placed, and under which id.
 
+use crate::judging::{equal, equal_at};
 use crate::runs::{Shape, shape_of};
 use etagere::{AllocatorOptions, DEFAULT_OPTIONS, OptionsFault, Size, size2};
 use etagere_run::{BucketedCommand, Reply, RunFault, run_bucketed};
@@ -54,9 +55,9 @@ impl Table {
         let size = size2(size[0], size[1]);
         let given = run_bucketed(rt.alloc(), size, options, self.commands.as_slice())?;
         let mut ids = Vec::new(rt.alloc());
-        assert_eq!(rt; given.len(), self.shapes.len());
+        equal(rt, &given.len(), &self.shapes.len());
         for (position, (reply, shape)) in given.iter().zip(self.shapes.iter()).enumerate() {
-            assert_eq!(rt; shape_of(*reply), *shape, "at {position}");
+            equal_at(rt, &shape_of(*reply), shape, &position);
             if let Reply::Placed(allocation) = reply {
                 ids.push(allocation.id.serialize())?;
             }
@@ -108,7 +109,7 @@ fn neighbouring_empty_shelves_become_one(rt: HostRuntime) -> Result<(), Fail> {
     let mut table = gaps(rt.alloc())?;
     table.places([64, 64], [128, 64, 192, 128])?;
     let ids = table.run(&rt, [256, 256], &DEFAULT_OPTIONS)?;
-    assert_eq!(&rt; *ids.get(0).ok_or("no id")?, 4097);
+    equal(&rt, ids.get(0).ok_or("no id")?, &4097);
     Ok(())
 }
 
@@ -185,10 +186,10 @@ fn an_emptied_bucket_starts_anew(rt: HostRuntime) -> Result<(), Fail> {
         table.returns(3 + 2 * round)?;
     }
     let ids = table.run(&rt, [16, 16], &DEFAULT_OPTIONS)?;
-    assert_eq!(&rt; *ids.get(0).ok_or("no id")?, 4096);
-    assert_eq!(&rt; *ids.get(1).ok_or("no id")?, 4097);
-    assert_eq!(&rt; *ids.get(2).ok_or("no id")?, 16781312);
-    assert_eq!(&rt; *ids.get(5001).ok_or("no id")?, 2281705472);
+    equal(&rt, ids.get(0).ok_or("no id")?, &4096);
+    equal(&rt, ids.get(1).ok_or("no id")?, &4097);
+    equal(&rt, ids.get(2).ok_or("no id")?, &16781312);
+    equal(&rt, ids.get(5001).ok_or("no id")?, &2281705472);
     Ok(())
 }
 
@@ -225,7 +226,7 @@ fn a_longer_side_stops_a_run(rt: HostRuntime) -> Result<(), Fail> {
     match run_bucketed(rt.alloc(), size2(65535, 1), &DEFAULT_OPTIONS, &[]) {
         Ok(_) => Err(Fail::new("it was run")),
         Err(fault) => {
-            assert_eq!(&rt; fault, RunFault::Options(OptionsFault::Size));
+            equal(&rt, &fault, &RunFault::Options(OptionsFault::Size));
             Ok(())
         }
     }
@@ -295,7 +296,7 @@ fn a_second_return_reaches_no_other_item(rt: HostRuntime) -> Result<(), Fail> {
     table.add(BucketedCommand::Return(0), Shape::NotLive)?;
     table.places([8, 8], [16, 0, 24, 8])?;
     let ids = table.run(&rt, [32, 8], &DEFAULT_OPTIONS)?;
-    assert_eq!(&rt; ids.as_slice(), [4096, 8192, 12288].as_slice());
+    equal(&rt, &ids.as_slice(), &[4096, 8192, 12288].as_slice());
     Ok(())
 }
 
@@ -320,7 +321,11 @@ fn shelves_at_the_end_are_dropped(rt: HostRuntime) -> Result<(), Fail> {
     table.returns(3)?;
     table.places([64, 32], [0, 0, 64, 32])?;
     let ids = table.run(&rt, [64, 32], &DEFAULT_OPTIONS)?;
-    assert_eq!(&rt; ids.as_slice(), [4096, 4097, 4098, 33558528].as_slice());
+    equal(
+        &rt,
+        &ids.as_slice(),
+        &[4096, 4097, 4098, 33558528].as_slice(),
+    );
     Ok(())
 }
 
@@ -338,8 +343,8 @@ fn three_empty_shelves_become_one(rt: HostRuntime) -> Result<(), Fail> {
     table.returns(7)?;
     table.places([64, 24], [0, 0, 64, 24])?;
     let ids = table.run(&rt, [64, 32], &DEFAULT_OPTIONS)?;
-    assert_eq!(&rt; *ids.get(4).ok_or("no id")?, 16781312);
-    assert_eq!(&rt; *ids.get(5).ok_or("no id")?, 33558528);
+    equal(&rt, ids.get(4).ok_or("no id")?, &16781312);
+    equal(&rt, ids.get(5).ok_or("no id")?, &33558528);
     Ok(())
 }
 
@@ -359,8 +364,8 @@ fn a_bucket_gives_4095_items_before_it_is_empty_again(rt: HostRuntime) -> Result
     }
     table.places([1, 4032], [0, 0, 1, 4032])?;
     let ids = table.run(&rt, [20000, 5000], &DEFAULT_OPTIONS)?;
-    assert_eq!(&rt; *ids.get(0).ok_or("no id")?, 4096);
-    assert_eq!(&rt; *ids.get(4095).ok_or("no id")?, 33558528);
+    equal(&rt, ids.get(0).ok_or("no id")?, &4096);
+    equal(&rt, ids.get(4095).ok_or("no id")?, &33558528);
     Ok(())
 }
 

@@ -1,6 +1,7 @@
 //! Checks of snapshots in JSON: what is written for each, which input is no snapshot at all, and
 //! checks over readers and writers that fail.
 
+use crate::judging::{equal, equal_at, holds, holds_at};
 use etagere_run::{Checked, ReplayFault, check};
 use std::process::Abort;
 use std::test::Fail;
@@ -34,9 +35,9 @@ fn writes(
     let mut reader = input;
     let mut writer = Vec::new(rt.alloc());
     let ended = check(rt.alloc(), &mut reader, &mut writer)?;
-    assert_eq!(rt; ended, checked, "of {input:?}");
+    equal_at(rt, &ended, &checked, &input);
     let written = String::from_utf8(writer)?;
-    assert_eq!(rt; written.as_str(), line, "of {input:?}");
+    equal_at(rt, &written.as_str(), &line, &input);
     Ok(())
 }
 
@@ -225,8 +226,8 @@ fn few_bytes_at_once_give_the_same_line(rt: HostRuntime) -> Result<(), Fail> {
         let mut reader = FakeReader::new(NEW_ATLAS.as_bytes(), at_once, End::Nothing);
         let mut writer = FakeWriter::new(rt.alloc(), 1000, at_once, End::Failure);
         let checked = check(rt.alloc(), &mut reader, &mut writer)?;
-        assert_eq!(rt; checked, Checked::Fine);
-        assert_eq!(rt; writer.written(), b"ok\n".as_slice());
+        equal(&rt, &checked, &Checked::Fine);
+        equal(&rt, &writer.written(), &b"ok\n".as_slice());
     }
     Ok(())
 }
@@ -239,9 +240,9 @@ fn nothing_is_written_where_the_reader_fails(rt: HostRuntime) {
             let mut reader = FakeReader::new(first, 64, end).then_gives(b"x");
             let mut writer = FakeWriter::new(rt.alloc(), 1000, 7, End::Failure);
             let fault = check(rt.alloc(), &mut reader, &mut writer);
-            assert_eq!(rt; fault, Err(ReplayFault::Read));
-            assert_eq!(rt; reader.later_calls(), 0);
-            assert!(rt; writer.written().is_empty());
+            equal(&rt, &fault, &Err(ReplayFault::Read));
+            equal(&rt, &reader.later_calls(), &0);
+            holds(&rt, writer.written().is_empty());
         }
     }
 }
@@ -254,10 +255,10 @@ fn a_beginning_of_the_line_is_written_where_the_writer_fails(rt: HostRuntime) ->
             let mut reader = FakeReader::new(b"{}", 1, End::Nothing);
             let mut writer = FakeWriter::new(rt.alloc(), room, 3, end).then_works(true);
             let fault = check(rt.alloc(), &mut reader, &mut writer);
-            assert_eq!(rt; fault, Err(ReplayFault::Write), "at {room} bytes");
-            assert_eq!(rt; writer.written(), &line[..room]);
-            assert_eq!(rt; writer.later_calls(), 0, "at {room} bytes");
-            assert!(rt; reader.is_at_end(), "at {room} bytes");
+            equal_at(&rt, &fault, &Err(ReplayFault::Write), &room);
+            equal(&rt, &writer.written(), &&line[..room]);
+            equal_at(&rt, &writer.later_calls(), &0, &room);
+            holds_at(&rt, reader.is_at_end(), &room);
         }
     }
     Ok(())

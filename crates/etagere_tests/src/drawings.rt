@@ -1,5 +1,6 @@
 //! Drawings of scripts and snapshots: the picture of what is there, and what is said in place of one.
 
+use crate::judging::{equal, equal_at, holds, holds_at};
 use etagere_run::{Checked, Drawing, Outcome, ReplayFault, draw};
 use std::process::Abort;
 use std::test::Fail;
@@ -32,7 +33,7 @@ fn the_end_of_a_run_is_drawn(rt: HostRuntime) -> Result<(), Fail> {
     let text = format!(in rt.alloc();
         "{begin}{whole}{BACKGROUND}{given}{ALLOCATED}{beside}{FREE}{below}{FREE}</svg>\n"
     )?;
-    assert_eq!(rt; drawn.as_slice(), text.as_bytes());
+    equal(&rt, &drawn.as_slice(), &text.as_bytes());
     Ok(())
 }
 
@@ -47,7 +48,7 @@ fn a_bucketed_atlas_is_drawn(rt: HostRuntime) -> Result<(), Fail> {
     let text = format!(in rt.alloc();
         "{begin}{whole}{BACKGROUND}{used}{ALLOCATED}{rest}{FREE}</svg>\n"
     )?;
-    assert_eq!(rt; drawn.as_slice(), text.as_bytes());
+    equal(&rt, &drawn.as_slice(), &text.as_bytes());
     Ok(())
 }
 
@@ -82,10 +83,10 @@ fn what_is_no_picture_is_told_and_not_written(rt: HostRuntime) -> Result<(), Fai
     for (mut script, expected, words, status) in table {
         let mut writer = FakeWriter::new(rt.alloc(), 0, 1, End::Failure);
         let drawing = draw(rt.alloc(), &mut script, &mut writer)?;
-        assert_eq!(rt; drawing, expected);
-        assert_eq!(rt; format!(in rt.alloc(); "{drawing}")?.as_str(), words);
-        assert_eq!(rt; drawing.status(), status);
-        assert!(rt; writer.written().is_empty());
+        equal(&rt, &drawing, &expected);
+        equal(&rt, &format!(in rt.alloc(); "{drawing}")?.as_str(), &words);
+        equal(&rt, &drawing.status(), &status);
+        holds(&rt, writer.written().is_empty());
     }
     Ok(())
 }
@@ -106,9 +107,9 @@ fn a_snapshot_is_drawn_as_its_atlas(rt: HostRuntime) -> Result<(), Fail> {
     for (snapshot, script) in table {
         let mut text = Vec::new(rt.alloc());
         let drawing = draw(rt.alloc(), &mut snapshot.as_bytes(), &mut text)?;
-        assert_eq!(rt; drawing, Drawing::OfSnapshot(Checked::Fine));
-        assert_eq!(rt; drawing.status(), 0);
-        assert_eq!(rt; text.as_slice(), picture_of(&rt, script)?.as_slice());
+        equal(&rt, &drawing, &Drawing::OfSnapshot(Checked::Fine));
+        equal(&rt, &drawing.status(), &0);
+        equal(&rt, &text.as_slice(), &picture_of(&rt, script)?.as_slice());
     }
     Ok(())
 }
@@ -122,13 +123,14 @@ fn is_not_drawn(
 ) -> Result<(), Fail> {
     let mut writer = FakeWriter::new(rt.alloc(), 0, 1, End::Failure);
     let drawing = draw(rt.alloc(), &mut snapshot, &mut writer)?;
-    assert_eq!(rt;
-        format!(in rt.alloc(); "{drawing}")?.as_str(),
-        words,
-        "of {snapshot:?}"
+    equal_at(
+        rt,
+        &format!(in rt.alloc(); "{drawing}")?.as_str(),
+        &words,
+        &snapshot,
     );
-    assert_eq!(rt; drawing.status(), status, "of {snapshot:?}");
-    assert!(rt; writer.written().is_empty(), "of {snapshot:?}");
+    equal_at(rt, &drawing.status(), &status, &snapshot);
+    holds_at(rt, writer.written().is_empty(), &snapshot);
     Ok(())
 }
 
@@ -160,9 +162,9 @@ fn a_beginning_of_a_snapshot_s_picture_is_drawn_before_a_failed_write(
         let mut reader = FakeReader::new(ATLAS.as_bytes(), 64, End::Nothing);
         let mut writer = FakeWriter::new(rt.alloc(), room, 70, End::Failure).then_works(true);
         let fault = draw(rt.alloc(), &mut reader, &mut writer);
-        assert_eq!(rt; fault, Err(ReplayFault::Write), "at {room} bytes");
-        assert_eq!(rt; writer.written(), &text[..room]);
-        assert!(rt; reader.is_at_end(), "at {room} bytes");
+        equal_at(&rt, &fault, &Err(ReplayFault::Write), &room);
+        equal(&rt, &writer.written(), &&text[..room]);
+        holds_at(&rt, reader.is_at_end(), &room);
     }
     Ok(())
 }
@@ -175,9 +177,9 @@ fn nothing_is_drawn_after_a_failed_read(rt: HostRuntime) -> Result<(), Fail> {
             let mut reader = FakeReader::new(first, 7, end).then_gives(later);
             let mut writer = FakeWriter::new(rt.alloc(), 4000, 7, End::Failure);
             let fault = draw(rt.alloc(), &mut reader, &mut writer);
-            assert_eq!(rt; fault, Err(ReplayFault::Read));
-            assert_eq!(rt; reader.later_calls(), 0);
-            assert!(rt; writer.written().is_empty());
+            equal(&rt, &fault, &Err(ReplayFault::Read));
+            equal(&rt, &reader.later_calls(), &0);
+            holds(&rt, writer.written().is_empty());
         }
     }
     Ok(())
@@ -191,10 +193,10 @@ fn a_beginning_is_drawn_before_a_failed_write(rt: HostRuntime) -> Result<(), Fai
             let mut reader = FakeReader::new(SCRIPT, 7, End::Nothing);
             let mut writer = FakeWriter::new(rt.alloc(), room, 70, end).then_works(true);
             let fault = draw(rt.alloc(), &mut reader, &mut writer);
-            assert_eq!(rt; fault, Err(ReplayFault::Write), "at {room} bytes");
-            assert_eq!(rt; writer.written(), &text[..room]);
-            assert_eq!(rt; writer.later_calls(), 0, "at {room} bytes");
-            assert!(rt; reader.is_at_end(), "at {room} bytes");
+            equal_at(&rt, &fault, &Err(ReplayFault::Write), &room);
+            equal(&rt, &writer.written(), &&text[..room]);
+            equal_at(&rt, &writer.later_calls(), &0, &room);
+            holds_at(&rt, reader.is_at_end(), &room);
         }
     }
     Ok(())

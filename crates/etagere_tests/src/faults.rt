@@ -1,6 +1,7 @@
 //! Messages and numbers of the faults. A fault's message is the name of its variant; the numbers stand in
 //! the order in which faults are tested.
 
+use crate::judging::equal;
 use etagere::{OptionsFault, UnknownId};
 use etagere_run::{Checked, Outcome, ReplayFault, RunFault, StreamFault};
 use std::fmt::Display;
@@ -13,7 +14,7 @@ fn says(
     text: &str,
 ) -> Result<(), Fail> {
     let said = fault.to_string(rt.alloc())?;
-    assert_eq!(rt; said.as_str(), text);
+    equal(rt, &said.as_str(), &text);
     Ok(())
 }
 
@@ -28,10 +29,10 @@ fn options_faults_are_numbered_in_the_order_of_their_tests(rt: HostRuntime) -> R
         (OptionsFault::Memory, 6, "Memory"),
     ];
     for (fault, number, text) in table {
-        assert_eq!(rt; fault.number(), number);
+        equal(&rt, &fault.number(), &number);
         says(&rt, fault, text)?;
     }
-    assert_eq!(rt; UnknownId.number(), 1);
+    equal(&rt, &UnknownId.number(), &1);
     says(&rt, UnknownId, "UnknownId")
 }
 
@@ -39,7 +40,7 @@ fn options_faults_are_numbered_in_the_order_of_their_tests(rt: HostRuntime) -> R
 fn faults_of_runs_streams_and_replays_are_numbered(rt: HostRuntime) -> Result<(), Fail> {
     let options = RunFault::Options(OptionsFault::Area);
     for (fault, number, text) in [(options, 1, "Options"), (RunFault::Memory, 2, "Memory")] {
-        assert_eq!(rt; fault.number(), number);
+        equal(&rt, &fault.number(), &number);
         says(&rt, fault, text)?;
     }
     let table = [
@@ -48,7 +49,7 @@ fn faults_of_runs_streams_and_replays_are_numbered(rt: HostRuntime) -> Result<()
         (StreamFault::Write, 3, "Write"),
     ];
     for (fault, number, text) in table {
-        assert_eq!(rt; fault.number(), number);
+        equal(&rt, &fault.number(), &number);
         says(&rt, fault, text)?;
     }
     let table = [
@@ -57,7 +58,7 @@ fn faults_of_runs_streams_and_replays_are_numbered(rt: HostRuntime) -> Result<()
         (ReplayFault::Memory, 3, "Memory"),
     ];
     for (fault, number, text) in table {
-        assert_eq!(rt; fault.number(), number);
+        equal(&rt, &fault.number(), &number);
         says(&rt, fault, text)?;
     }
     Ok(())
@@ -65,20 +66,20 @@ fn faults_of_runs_streams_and_replays_are_numbered(rt: HostRuntime) -> Result<()
 
 #[test]
 fn the_program_ends_with_a_status_for_each_answer(rt: HostRuntime) -> Result<(), Fail> {
-    assert_eq!(rt; Outcome::Done.status(), 0);
-    assert_eq!(rt; Outcome::Options(5).status(), 1);
-    assert_eq!(rt; Outcome::BadLine(7).status(), 2);
-    assert_eq!(rt; Checked::Fine.status(), 0);
-    assert_eq!(rt; Checked::Broken(7).status(), 1);
-    assert_eq!(rt; Checked::Unreadable.status(), 2);
+    equal(&rt, &Outcome::Done.status(), &0);
+    equal(&rt, &Outcome::Options(5).status(), &1);
+    equal(&rt, &Outcome::BadLine(7).status(), &2);
+    equal(&rt, &Checked::Fine.status(), &0);
+    equal(&rt, &Checked::Broken(7).status(), &1);
+    equal(&rt, &Checked::Unreadable.status(), &2);
     let table = [
         (ReplayFault::Read, "read fault"),
         (ReplayFault::Write, "write fault"),
         (ReplayFault::Memory, "no memory"),
     ];
     for (fault, words) in table {
-        assert_eq!(rt; fault.status(), 3);
-        assert_eq!(rt; fault.words(), words);
+        equal(&rt, &fault.status(), &3);
+        equal(&rt, &fault.words(), &words);
     }
     Ok(())
 }

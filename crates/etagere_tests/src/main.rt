@@ -17,6 +17,8 @@ mod examples;
 #[cfg(test)]
 mod faults;
 #[cfg(test)]
+mod judging;
+#[cfg(test)]
 mod options;
 #[cfg(test)]
 mod runs;

@@ -1,6 +1,7 @@
 //! Which sizes and options are refused, and by which fault: the first of those that they have. An
 //! atlas, a run and a replay of the same options answer the same fault, each in its own words.
 
+use crate::judging::{equal, equal_at, holds};
 use etagere::{AllocatorOptions, AtlasAllocator, DEFAULT_OPTIONS, OptionsFault, Size, size2};
 use etagere_run::{AtlasCommand, Outcome, RunFault, StreamFault, replay, run_atlas, stream_atlas};
 use std::process::Abort;
@@ -88,10 +89,10 @@ fn an_atlas_of_refused_options_is_not_made(rt: HostRuntime) {
     for (asked, fault) in REFUSED {
         let (size, options) = size_and_options(asked);
         let made = AtlasAllocator::with_options(rt.alloc(), size, &options);
-        assert_eq!(rt; made.err(), Some(fault), "of {asked:?}");
+        equal_at(&rt, &made.err(), &Some(fault), &asked);
         if options == DEFAULT_OPTIONS {
             let made = AtlasAllocator::new(rt.alloc(), size);
-            assert_eq!(rt; made.err(), Some(fault), "of {asked:?}");
+            equal_at(&rt, &made.err(), &Some(fault), &asked);
         }
     }
 }
@@ -101,7 +102,7 @@ fn a_run_of_refused_options_is_not_begun(rt: HostRuntime) {
     for (asked, fault) in REFUSED {
         let (size, options) = size_and_options(asked);
         let run = run_atlas(rt.alloc(), size, &options, &[AtlasCommand::Clear]);
-        assert_eq!(rt; run.err(), Some(RunFault::Options(fault)), "of {asked:?}");
+        equal_at(&rt, &run.err(), &Some(RunFault::Options(fault)), &asked);
     }
 }
 
@@ -117,8 +118,8 @@ fn a_stream_of_refused_options_writes_nothing(rt: HostRuntime) {
             &[AtlasCommand::Clear],
             &mut text,
         );
-        assert_eq!(rt; streamed, Err(StreamFault::Options(fault)), "of {asked:?}");
-        assert!(rt; text.is_empty());
+        equal_at(&rt, &streamed, &Err(StreamFault::Options(fault)), &asked);
+        holds(&rt, text.is_empty());
     }
 }
 
@@ -129,9 +130,9 @@ fn a_replay_of_refused_options_writes_the_number_of_their_fault(
     for (asked, fault) in REFUSED {
         let number = fault.number();
         let (outcome, text) = replayed(&rt, asked)?;
-        assert_eq!(rt; outcome, Outcome::Options(number), "of {asked:?}");
+        equal_at(&rt, &outcome, &Outcome::Options(number), &asked);
         let line = format!(in rt.alloc(); "options {number}\n")?;
-        assert_eq!(rt; text.as_str(), line.as_str(), "of {asked:?}");
+        equal_at(&rt, &text.as_str(), &line.as_str(), &asked);
     }
     Ok(())
 }
@@ -148,20 +149,21 @@ fn accepted_options_are_refused_by_no_call(rt: HostRuntime) -> Result<(), Fail> 
         if options == DEFAULT_OPTIONS {
             is_new(&rt, &AtlasAllocator::new(rt.alloc(), size)?, size);
         }
-        assert!(rt; run_atlas(rt.alloc(), size, &options, &[])?.is_empty());
+        holds(&rt, run_atlas(rt.alloc(), size, &options, &[])?.is_empty());
         let (outcome, text) = replayed(&rt, asked)?;
-        assert_eq!(rt; outcome, Outcome::Done, "of {asked:?}");
-        assert!(rt; text.is_empty());
+        equal_at(&rt, &outcome, &Outcome::Done, &asked);
+        holds(&rt, text.is_empty());
     }
     Ok(())
 }
 
 fn is_new(rt: &impl Abort, atlas: &AtlasAllocator, size: Size) {
-    assert_eq!(rt; atlas.size(), size);
-    assert!(rt; atlas.is_empty());
-    assert_eq!(rt; atlas.allocated_space(), 0);
-    assert_eq!(rt;
-        i64::from(atlas.free_space()),
-        i64::from(size.width).wrapping_mul(i64::from(size.height))
+    equal(rt, &atlas.size(), &size);
+    holds(rt, atlas.is_empty());
+    equal(rt, &atlas.allocated_space(), &0);
+    equal(
+        rt,
+        &i64::from(atlas.free_space()),
+        &i64::from(size.width).wrapping_mul(i64::from(size.height)),
     );
 }

@@ -1,6 +1,7 @@
 //! Runs of commands: what each command is answered, and where it is placed. Replies
 //! are compared without ids, of which `ids` speaks.
 
+use crate::judging::equal;
 use etagere::{AllocatorOptions, DEFAULT_OPTIONS, OptionsFault, Size, point2, size2};
 use etagere_run::{AtlasCommand, Reply, RunFault, run_atlas};
 use std::process::Abort;
@@ -57,9 +58,9 @@ pub fn replies(
         commands.push(*command)?;
     }
     let given = run_atlas(rt.alloc(), size, options, commands.as_slice())?;
-    assert_eq!(rt; given.len(), table.len());
+    equal(rt, &given.len(), &table.len());
     for (reply, (_, shape)) in given.iter().zip(table) {
-        assert_eq!(rt; shape_of(*reply), *shape);
+        equal(rt, &shape_of(*reply), shape);
     }
     Ok(())
 }
@@ -208,7 +209,11 @@ fn bad_options_stop_a_run(rt: HostRuntime) -> Result<(), Fail> {
     match run_atlas(rt.alloc(), size2(4, 4), &options, &[AtlasCommand::Clear]) {
         Ok(_) => Err(Fail::new("it was run")),
         Err(fault) => {
-            assert_eq!(rt; fault, RunFault::Options(OptionsFault::ColumnTooNarrow));
+            equal(
+                &rt,
+                &fault,
+                &RunFault::Options(OptionsFault::ColumnTooNarrow),
+            );
             Ok(())
         }
     }
@@ -220,8 +225,8 @@ fn a_look_answers_the_rectangle_of_its_position(rt: HostRuntime) -> Result<(), F
     let given = run_atlas(rt.alloc(), size2(64, 64), &DEFAULT_OPTIONS, &commands)?;
     match given.as_slice() {
         [_, Reply::Placed(second), Reply::At(place, _)] => {
-            assert_eq!(rt; *place, second.rectangle);
-            assert_eq!(rt; place.min, point2(20, 0));
+            equal(&rt, place, &second.rectangle);
+            equal(&rt, &place.min, &point2(20, 0));
             Ok(())
         }
         _ => Err(Fail::new("other replies")),

@@ -1,6 +1,7 @@
 //! Scripts, line by line, and the text of their replays: what is a good header, a good command, a good
 //! number, which line is the first bad one, and what each reply is written as.
 
+use crate::judging::{equal, equal_at};
 use etagere_run::{Outcome, replay};
 use std::alloc::{AllocError, Global};
 use std::process::Abort;
@@ -21,8 +22,8 @@ fn writes(
     text: &str,
 ) -> Result<(), Fail> {
     let (ended, written) = replayed(rt, script)?;
-    assert_eq!(rt; ended, outcome, "of {script:?}");
-    assert_eq!(rt; written.as_str(), text, "of {script:?}");
+    equal_at(rt, &ended, &outcome, &script);
+    equal_at(rt, &written.as_str(), &text, &script);
     Ok(())
 }
 
@@ -37,8 +38,8 @@ fn the_readme_example_is_replayed(rt: HostRuntime) -> Result<(), Fail> {
     let (outcome, text) = replayed(&rt, script)?;
     let lines =
         "placed 65536 0 0 100 112\nplaced 65537 0 112 900 336\nreturned\nplaced 65539 0 336 300 560\nat 0 336 300 560 3\nnot live\n";
-    assert_eq!(rt; outcome, Outcome::Done);
-    assert_eq!(rt; text.as_str(), lines);
+    equal(&rt, &outcome, &Outcome::Done);
+    equal(&rt, &text.as_str(), &lines);
     Ok(())
 }
 
@@ -49,8 +50,8 @@ fn columns_of_vertical_shelves_are_replayed(rt: HostRuntime) -> Result<(), Fail>
     let (outcome, text) = replayed(&rt, script)?;
     let lines =
         "placed 65536 0 0 16 24\nplaced 65538 16 0 32 24\nplaced 65539 32 0 64 8\nplaced 65537 0 24 8 48\nreturned\nplaced 65536 0 0 16 24\nrefused\nat 0 24 8 48 1\nnot live\ncleared\nplaced 65536 0 0 64 8\nnot live\n";
-    assert_eq!(rt; outcome, Outcome::Done);
-    assert_eq!(rt; text.as_str(), lines);
+    equal(&rt, &outcome, &Outcome::Done);
+    equal(&rt, &text.as_str(), &lines);
     Ok(())
 }
 
@@ -278,11 +279,11 @@ fn a_line_may_be_long(rt: HostRuntime) -> Result<(), Fail> {
     line.extend_from_slice(b"9 1\n")?;
     let script = after_header(rt.alloc(), line.as_slice())?;
     let (outcome, text) = replayed(&rt, script.as_slice())?;
-    assert_eq!(rt; outcome, Outcome::Done);
-    assert_eq!(rt; text.as_str(), "refused\n");
+    equal(&rt, &outcome, &Outcome::Done);
+    equal(&rt, &text.as_str(), &"refused\n");
     line.push(b'x')?;
     let script = after_header(rt.alloc(), line.as_slice())?;
     let (outcome, _) = replayed(&rt, script.as_slice())?;
-    assert_eq!(rt; outcome, Outcome::BadLine(3));
+    equal(&rt, &outcome, &Outcome::BadLine(3));
     Ok(())
 }

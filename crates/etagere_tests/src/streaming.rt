@@ -1,6 +1,7 @@
 //! Streams of runs: the bytes that go out, to writers that take few bytes at once, and to writers that fail.
 //! The lines are those of the README's example.
 
+use crate::judging::{equal, equal_at, holds};
 use etagere::{DEFAULT_OPTIONS, OptionsFault, size2};
 use etagere_run::{AtlasCommand, BucketedCommand, StreamFault, stream_atlas, stream_bucketed};
 use std::test::Fail;
@@ -31,7 +32,7 @@ fn each_reply_has_its_line(rt: HostRuntime) -> Result<(), Fail> {
     for at_once in [1, 2, 30, 1000] {
         let mut writer = FakeWriter::new(rt.alloc(), 1000, at_once, End::Failure);
         stream_example(&rt, &mut writer)?;
-        assert_eq!(rt; writer.written(), TEXT);
+        equal(&rt, &writer.written(), &TEXT);
     }
     Ok(())
 }
@@ -40,10 +41,11 @@ fn each_reply_has_its_line(rt: HostRuntime) -> Result<(), Fail> {
 fn the_first_line_and_a_beginning_of_the_second_go_out(rt: HostRuntime) {
     let mut writer = FakeWriter::new(rt.alloc(), 30, 1000, End::Failure);
     let fault = stream_example(&rt, &mut writer);
-    assert_eq!(rt; fault, Err(StreamFault::Write));
-    assert_eq!(rt;
-        writer.written(),
-        b"placed 65536 0 0 100 112\nplace".as_slice()
+    equal(&rt, &fault, &Err(StreamFault::Write));
+    equal(
+        &rt,
+        &writer.written(),
+        &b"placed 65536 0 0 100 112\nplace".as_slice(),
     );
 }
 
@@ -53,9 +55,9 @@ fn a_beginning_goes_out_before_a_failed_write(rt: HostRuntime) {
         for room in 0..TEXT.len() {
             let mut writer = FakeWriter::new(rt.alloc(), room, 3, end).then_works(true);
             let fault = stream_example(&rt, &mut writer);
-            assert_eq!(rt; fault, Err(StreamFault::Write), "at {room} bytes");
-            assert_eq!(rt; writer.written(), &TEXT[..room]);
-            assert_eq!(rt; writer.later_calls(), 0, "at {room} bytes");
+            equal_at(&rt, &fault, &Err(StreamFault::Write), &room);
+            equal(&rt, &writer.written(), &&TEXT[..room]);
+            equal_at(&rt, &writer.later_calls(), &0, &room);
         }
     }
 }
@@ -78,7 +80,7 @@ fn a_hundred_thousand_commands_are_streamed(rt: HostRuntime) -> Result<(), Fail>
         commands.as_slice(),
         &mut text,
     )?;
-    assert!(rt; text.as_slice() == lines.as_slice());
+    holds(&rt, text.as_slice() == lines.as_slice());
     Ok(())
 }
 
@@ -100,14 +102,14 @@ fn stream_buckets(rt: &impl AllocGlobal, writer: &mut FakeWriter) -> Result<(), 
 fn a_bucketed_run_is_streamed(rt: HostRuntime) -> Result<(), Fail> {
     let mut writer = FakeWriter::new(rt.alloc(), 1000, 1000, End::Failure);
     stream_buckets(&rt, &mut writer)?;
-    assert_eq!(rt; writer.written(), BUCKETED_TEXT);
+    equal(&rt, &writer.written(), &BUCKETED_TEXT);
     for end in [End::Nothing, End::Failure, End::Interruption] {
         for room in 0..BUCKETED_TEXT.len() {
             let mut writer = FakeWriter::new(rt.alloc(), room, 3, end).then_works(true);
             let fault = stream_buckets(&rt, &mut writer);
-            assert_eq!(rt; fault, Err(StreamFault::Write), "at {room} bytes");
-            assert_eq!(rt; writer.written(), &BUCKETED_TEXT[..room]);
-            assert_eq!(rt; writer.later_calls(), 0, "at {room} bytes");
+            equal_at(&rt, &fault, &Err(StreamFault::Write), &room);
+            equal(&rt, &writer.written(), &&BUCKETED_TEXT[..room]);
+            equal_at(&rt, &writer.later_calls(), &0, &room);
         }
     }
     Ok(())
@@ -122,7 +124,7 @@ fn a_bucketed_run_of_refused_options_writes_nothing(rt: HostRuntime) {
     for (size, fault) in table {
         let mut text = Vec::<u8>::new(rt.alloc());
         let streamed = stream_bucketed(rt.alloc(), size, &DEFAULT_OPTIONS, &[], &mut text);
-        assert_eq!(rt; streamed, Err(StreamFault::Options(fault)));
-        assert!(rt; text.is_empty());
+        equal(&rt, &streamed, &Err(StreamFault::Options(fault)));
+        holds(&rt, text.is_empty());
     }
 }

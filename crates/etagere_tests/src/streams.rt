@@ -2,6 +2,7 @@
 //! that failed isn't retried, also where it would work the second time: what a stream answers is
 //! what a replay answers.
 
+use crate::judging::{equal, equal_at, holds, holds_at};
 use etagere_base::send;
 use etagere_run::{Outcome, ReplayFault, replay};
 use std::io::ErrorKind;
@@ -28,8 +29,8 @@ fn a_replay_takes_few_bytes_at_once(rt: HostRuntime) -> Result<(), Fail> {
         let mut reader = FakeReader::new(SCRIPT, at_once, End::Nothing);
         let mut writer = FakeWriter::new(rt.alloc(), 1000, at_once, End::Failure);
         let outcome = replay(rt.alloc(), &mut reader, &mut writer)?;
-        assert_eq!(rt; outcome, Outcome::Done);
-        assert_eq!(rt; writer.written(), text.as_slice());
+        equal(&rt, &outcome, &Outcome::Done);
+        equal(&rt, &writer.written(), &text.as_slice());
     }
     Ok(())
 }
@@ -51,9 +52,9 @@ fn nothing_is_written_after_a_failed_read(rt: HostRuntime) -> Result<(), Fail> {
 fn fails_to_read(rt: &(impl AllocGlobal + Abort), mut reader: FakeReader<'_>) {
     let mut writer = FakeWriter::new(rt.alloc(), 1000, 7, End::Failure);
     let fault = replay(rt.alloc(), &mut reader, &mut writer);
-    assert_eq!(rt; fault, Err(ReplayFault::Read));
-    assert_eq!(rt; reader.later_calls(), 0);
-    assert!(rt; writer.written().is_empty());
+    equal(rt, &fault, &Err(ReplayFault::Read));
+    equal(rt, &reader.later_calls(), &0);
+    holds(rt, writer.written().is_empty());
 }
 
 #[test]
@@ -66,10 +67,10 @@ fn a_beginning_is_written_before_a_failed_write(rt: HostRuntime) -> Result<(), F
                 let writer = FakeWriter::new(rt.alloc(), room, 3, end);
                 let mut writer = writer.then_works(works_later);
                 let fault = replay(rt.alloc(), &mut reader, &mut writer);
-                assert_eq!(rt; fault, Err(ReplayFault::Write), "at {room} bytes");
-                assert_eq!(rt; writer.written(), &text[..room]);
-                assert_eq!(rt; writer.later_calls(), 0, "at {room} bytes");
-                assert!(rt; reader.is_at_end(), "at {room} bytes");
+                equal_at(&rt, &fault, &Err(ReplayFault::Write), &room);
+                equal(&rt, &writer.written(), &&text[..room]);
+                equal_at(&rt, &writer.later_calls(), &0, &room);
+                holds_at(&rt, reader.is_at_end(), &room);
             }
         }
     }
@@ -84,7 +85,7 @@ fn no_text_needs_no_writer(rt: HostRuntime) -> Result<(), Fail> {
         &mut b"atlas 8 8 1 1 1 h".as_slice(),
         &mut writer,
     )?;
-    assert_eq!(rt; outcome, Outcome::Done);
+    equal(&rt, &outcome, &Outcome::Done);
     Ok(())
 }
 
@@ -98,12 +99,12 @@ fn a_text_is_sent_until_the_writer_ends(rt: HostRuntime) -> Result<(), Fail> {
     for (end, kind) in table {
         let mut writer = FakeWriter::new(rt.alloc(), 5, 2, end).then_works(true);
         let sent = send(b"placed", &mut writer);
-        assert_eq!(rt; sent.map_err(|fault| fault.kind()), Err(kind));
-        assert_eq!(rt; writer.written(), b"place".as_slice());
-        assert_eq!(rt; writer.later_calls(), 0);
+        equal(&rt, &sent.map_err(|fault| fault.kind()), &Err(kind));
+        equal(&rt, &writer.written(), &b"place".as_slice());
+        equal(&rt, &writer.later_calls(), &0);
     }
     let mut writer = FakeWriter::new(rt.alloc(), 6, 2, End::Failure);
     send(b"placed", &mut writer)?;
-    assert_eq!(rt; writer.written(), b"placed".as_slice());
+    equal(&rt, &writer.written(), &b"placed".as_slice());
     Ok(())
 }

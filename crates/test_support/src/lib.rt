@@ -1,6 +1,7 @@
-//! What tests of several crates share: streams that fail, atlases that are filled whole, corners.
+//! What tests of several crates share: calls of atlases, streams that fail, atlases that are filled whole, corners.
 #![tactic(auto)]
 
+pub mod calls;
 pub mod corners;
 pub mod fake_streams;
 pub mod squares;

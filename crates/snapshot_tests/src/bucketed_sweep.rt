@@ -2,6 +2,7 @@
 //! exactly where no rule is broken, and else a rule is named that is. The rules are told here from
 //! the records alone, slowly, by nothing of the library.
 
+use crate::judging::{holds, holds_at};
 use crate::plain_walks::{
     PlainWalk, altered_values, is_each_once, is_multiple, link_of, number_of, plain_walk, wide_link,
 };
@@ -12,6 +13,7 @@ use etagere::{
 use std::alloc::Global;
 use std::process::Abort;
 use std::test::Fail;
+use test_support::calls::{Atlas, return_one};
 
 /// The side along the shelves, the side across and the alignment along.
 fn sides(snapshot: &BucketedSnapshot) -> (i64, i64, i64) {
@@ -267,15 +269,15 @@ fn worn(
     let mut atlas = BucketedAtlasAllocator::with_options(rt.alloc(), size, options)?;
     let mut ids = Vec::new(rt.alloc());
     for (along, across) in sizes {
-        let given = atlas.allocate(sized(options, along, across))?;
+        let given = atlas.ask(sized(options, along, across))?;
         ids.push(given.ok_or("refused")?.id)?;
     }
     for number in [6, 0, 1] {
-        atlas.deallocate(*ids.get(number).ok_or("none")?)?;
+        return_one(&mut atlas, ids.as_slice(), number)?;
     }
     let snapshot = atlas.snapshot()?;
-    assert!(rt; snapshot.first_unallocated_bucket.number().is_some());
-    assert!(rt; snapshot.shelves.len() > 2);
+    holds(rt, snapshot.first_unallocated_bucket.number().is_some());
+    holds(rt, snapshot.shelves.len() > 2);
     Ok(atlas)
 }
 
@@ -423,9 +425,9 @@ fn sweep(
     sweep_shelves(rt, &atlas, &base, &mut tally)?;
     sweep_buckets(rt, &atlas, &base, &mut tally)?;
     for rule in [1, 3, 4, 5, 6, 8, 9, 10] {
-        assert!(rt; tally.broken.contains(&rule), "rule {rule} is never broken");
+        holds_at(rt, tally.broken.contains(&rule), &rule);
     }
-    assert!(rt; tally.accepted > base.buckets.len());
+    holds(rt, tally.accepted > base.buckets.len());
     Ok(())
 }
 

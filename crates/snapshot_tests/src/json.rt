@@ -1,6 +1,7 @@
 //! The JSON text of each plain record, which is read again as the record. Its fields stand under
 //! their names, in the order of the record; an id is its number, a link the number of a record or 65535.
 
+use crate::judging::{equal, holds};
 use etagere::{
     AllocId, Allocation, AllocatorOptions, AtlasAllocator, DEFAULT_OPTIONS, Point, Rectangle, Size,
     point2, size2,
@@ -9,6 +10,7 @@ use serde::{Deserialize, Serialize};
 use std::fmt::Debug;
 use std::process::Abort;
 use std::test::Fail;
+use test_support::calls::new_atlas;
 
 fn is_written<'a, T: Serialize + Deserialize<'a> + PartialEq + Debug + Drop>(
     rt: &(impl AllocGlobal + Abort),
@@ -16,9 +18,9 @@ fn is_written<'a, T: Serialize + Deserialize<'a> + PartialEq + Debug + Drop>(
     text: &'a str,
 ) -> Result<(), Fail> {
     let written = serde_json::to_string(rt.alloc(), value)?;
-    assert_eq!(rt; written.as_str(), text);
+    equal(rt, &written.as_str(), &text);
     let read: T = serde_json::from_str(rt.alloc(), text)?;
-    assert!(rt; read == *value);
+    holds(rt, read == *value);
     Ok(())
 }
 
@@ -53,7 +55,7 @@ fn records_have_their_fields_by_name(rt: HostRuntime) -> Result<(), Fail> {
 
 #[test]
 fn a_saved_atlas_has_its_fields_by_name(rt: HostRuntime) -> Result<(), Fail> {
-    let atlas = AtlasAllocator::new(rt.alloc(), size2(10, 10))?;
+    let atlas = new_atlas(rt.alloc(), (10, 10))?;
     is_written(
         &rt,
         &atlas.snapshot()?,

@@ -1,13 +1,15 @@
 //! Atlases after sequences of calls are saved as JSON text, which is read back and restored: both
 //! look the same, and answer further calls in the same way.
 
+use crate::judging::{answer_alike, equal, holds};
 use etagere::{
-    AllocId, Allocation, AllocatorOptions, AtlasAllocator, AtlasSnapshot, BucketedAtlasAllocator,
-    BucketedSnapshot, DEFAULT_OPTIONS, Size, size2,
+    AllocId, AllocatorOptions, AtlasAllocator, AtlasSnapshot, BucketedAtlasAllocator,
+    BucketedSnapshot, DEFAULT_OPTIONS, size2,
 };
 use std::alloc::Global;
 use std::process::Abort;
 use std::test::Fail;
+use test_support::calls::{Atlas, atlas_with, buckets_with, new_buckets, placed, return_all};
 
 /// What a sequence asks for: a size, or the return of what an earlier call gave.
 #[derive(Clone, Copy)]
@@ -18,17 +20,10 @@ enum Call {
 
 use Call::{Return, Size as Of};
 
-/// An allocator that can be saved.
-trait Saved {
+/// An atlas that can be saved.
+pub trait Saved: Atlas {
+    /// What its text is restored to.
     fn through_text(&self, alloc: Global) -> Result<Self, Fail>;
-
-    fn place(&mut self, size: Size) -> Result<Option<Allocation>, Fail>;
-
-    fn give_back(&mut self, id: AllocId) -> bool;
-
-    fn spaces(&self) -> (i32, i32);
-
-    fn picture(&self, alloc: Global) -> Result<Vec<u8>, Fail>;
 }
 
 impl Saved for AtlasAllocator {
@@ -36,24 +31,6 @@ impl Saved for AtlasAllocator {
         let text = serde_json::to_string(alloc, &self.snapshot()?)?;
         let read: AtlasSnapshot = serde_json::from_str(alloc, text.as_str())?;
         Ok(AtlasAllocator::restore(alloc, read)?)
-    }
-
-    fn place(&mut self, size: Size) -> Result<Option<Allocation>, Fail> {
-        Ok(self.allocate(size)?)
-    }
-
-    fn give_back(&mut self, id: AllocId) -> bool {
-        self.deallocate(id).is_ok()
-    }
-
-    fn spaces(&self) -> (i32, i32) {
-        (self.allocated_space(), self.free_space())
-    }
-
-    fn picture(&self, alloc: Global) -> Result<Vec<u8>, Fail> {
-        let mut text = Vec::new(alloc);
-        self.dump_svg(&mut text)?;
-        Ok(text)
     }
 }
 
@@ -63,28 +40,10 @@ impl Saved for BucketedAtlasAllocator {
         let read: BucketedSnapshot = serde_json::from_str(alloc, text.as_str())?;
         Ok(BucketedAtlasAllocator::restore(alloc, read)?)
     }
-
-    fn place(&mut self, size: Size) -> Result<Option<Allocation>, Fail> {
-        Ok(self.allocate(size)?)
-    }
-
-    fn give_back(&mut self, id: AllocId) -> bool {
-        self.deallocate(id).is_ok()
-    }
-
-    fn spaces(&self) -> (i32, i32) {
-        (self.allocated_space(), self.free_space())
-    }
-
-    fn picture(&self, alloc: Global) -> Result<Vec<u8>, Fail> {
-        let mut text = Vec::new(alloc);
-        self.dump_svg(&mut text)?;
-        Ok(text)
-    }
 }
 
 /// Runs a sequence; gives the ids of what was placed and not returned.
-fn live_after<T: Saved>(
+fn live_after<T: Atlas>(
     alloc: Global,
     atlas: &mut T,
     calls: &[Call],
@@ -93,7 +52,7 @@ fn live_after<T: Saved>(
     for call in calls {
         match *call {
             Of(width, height) => {
-                let allocation = atlas.place(size2(width, height))?;
+                let allocation = atlas.ask(size2(width, height))?;
                 given.push(allocation.map(|allocation| allocation.id))?;
             }
             Return(number) => {
@@ -114,15 +73,16 @@ fn live_after<T: Saved>(
     Ok(live)
 }
 
-fn look_alike<T: Saved>(
+/// Two atlases have the same spaces and the same picture.
+pub fn look_alike<T: Atlas>(
     rt: &(impl AllocGlobal + Abort),
     first: &T,
     second: &T,
 ) -> Result<(), Fail> {
-    assert!(rt; first.spaces() == second.spaces());
+    equal(rt, &first.spaces(), &second.spaces());
     let picture = first.picture(rt.alloc())?;
     let other = second.picture(rt.alloc())?;
-    assert!(rt; picture.as_slice() == other.as_slice());
+    holds(rt, picture.as_slice() == other.as_slice());
     Ok(())
 }
 
@@ -134,24 +94,16 @@ fn is_restored<T: Saved + Drop>(
 ) -> Result<(), Fail> {
     let mut restored = atlas.through_text(rt.alloc())?;
     look_alike(rt, &restored, &atlas)?;
-    for (width, height) in [(1, 8), (24, 16), (300, 200), (10, 9), (70, 70)] {
-        let size = size2(width, height);
-        assert!(rt;
-            restored.place(size)? == atlas.place(size)?,
-            "{width} x {height}"
-        );
+    for size in [(1, 8), (24, 16), (300, 200), (10, 9), (70, 70)] {
+        answer_alike(rt, &mut restored, &mut atlas, size)?;
     }
     for id in live.iter().take(2) {
-        assert!(rt; restored.give_back(*id) && atlas.give_back(*id));
+        holds(rt, restored.give_back(*id) && atlas.give_back(*id));
         look_alike(rt, &restored, &atlas)?;
-        assert!(rt; restored.give_back(*id) == atlas.give_back(*id));
+        holds(rt, restored.give_back(*id) == atlas.give_back(*id));
     }
-    for (width, height) in [(1, 1), (32, 32), (900, 100)] {
-        let size = size2(width, height);
-        assert!(rt;
-            restored.place(size)? == atlas.place(size)?,
-            "{width} x {height}"
-        );
+    for size in [(1, 1), (32, 32), (900, 100)] {
+        answer_alike(rt, &mut restored, &mut atlas, size)?;
     }
     look_alike(rt, &restored, &atlas)
 }
@@ -173,24 +125,22 @@ fn aligned(width: i32, height: i32, options: AllocatorOptions) -> AllocatorOptio
 
 fn atlas_is_restored(
     rt: &(impl AllocGlobal + Abort),
-    (width, height): (i32, i32),
+    size: (i32, i32),
     options: AllocatorOptions,
     calls: &[Call],
 ) -> Result<(), Fail> {
-    let size = size2(width, height);
-    let mut atlas = AtlasAllocator::with_options(rt.alloc(), size, &options)?;
+    let mut atlas = atlas_with(rt.alloc(), size, &options)?;
     let live = live_after(rt.alloc(), &mut atlas, calls)?;
     is_restored(rt, atlas, live.as_slice())
 }
 
 fn buckets_are_restored(
     rt: &(impl AllocGlobal + Abort),
-    (width, height): (i32, i32),
+    size: (i32, i32),
     options: AllocatorOptions,
     calls: &[Call],
 ) -> Result<(), Fail> {
-    let size = size2(width, height);
-    let mut atlas = BucketedAtlasAllocator::with_options(rt.alloc(), size, &options)?;
+    let mut atlas = buckets_with(rt.alloc(), size, &options)?;
     let live = live_after(rt.alloc(), &mut atlas, calls)?;
     is_restored(rt, atlas, live.as_slice())
 }
@@ -289,9 +239,9 @@ fn merged_shelves_of_buckets_are_restored(rt: HostRuntime) -> Result<(), Fail> {
 
 #[test]
 fn a_grown_bucketed_atlas_is_restored(rt: HostRuntime) -> Result<(), Fail> {
-    let mut atlas = BucketedAtlasAllocator::new(rt.alloc(), size2(32, 32))?;
-    atlas.allocate(size2(32, 32))?.ok_or("refused")?;
-    atlas.grow(size2(256, 288))?;
+    let mut atlas = new_buckets(rt.alloc(), (32, 32))?;
+    placed(&mut atlas, (32, 32))?;
+    atlas.enlarge(size2(256, 288))?;
     let calls = [Of(32, 32), Of(256, 256)];
     let live = live_after(rt.alloc(), &mut atlas, &calls)?;
     is_restored(&rt, atlas, live.as_slice())
@@ -332,33 +282,33 @@ fn as_many_buckets_as_can_be_are_restored(rt: HostRuntime) -> Result<(), Fail> {
 
 #[test]
 fn buckets_that_were_emptied_often_are_restored(rt: HostRuntime) -> Result<(), Fail> {
-    let mut atlas = BucketedAtlasAllocator::new(rt.alloc(), size2(16, 16))?;
-    let first = atlas.allocate(size2(16, 8))?.ok_or("refused")?;
-    let second = atlas.allocate(size2(16, 8))?.ok_or("refused")?;
-    atlas.deallocate(first.id)?;
+    let mut atlas = new_buckets(rt.alloc(), (16, 16))?;
+    let first = placed(&mut atlas, (16, 8))?;
+    let second = placed(&mut atlas, (16, 8))?;
+    return_all(&mut atlas, &[first.id])?;
     for _ in 0..5000 {
-        let given = atlas.allocate(size2(16, 8))?.ok_or("refused")?;
-        atlas.deallocate(given.id)?;
+        let given = placed(&mut atlas, (16, 8))?;
+        return_all(&mut atlas, &[given.id])?;
     }
     is_restored(&rt, atlas, &[second.id])
 }
 
 #[test]
 fn atlases_that_grew_either_way_are_restored(rt: HostRuntime) -> Result<(), Fail> {
-    let mut taller = BucketedAtlasAllocator::new(rt.alloc(), size2(256, 256))?;
+    let mut taller = new_buckets(rt.alloc(), (256, 256))?;
     live_after(rt.alloc(), &mut taller, &[Of(32, 32); 56])?;
-    taller.grow(size2(256, 294))?;
+    taller.enlarge(size2(256, 294))?;
     let live = live_after(rt.alloc(), &mut taller, &[Of(70, 70)])?;
     is_restored(&rt, taller, live.as_slice())?;
-    let mut wider = BucketedAtlasAllocator::new(rt.alloc(), size2(256, 256))?;
+    let mut wider = new_buckets(rt.alloc(), (256, 256))?;
     live_after(rt.alloc(), &mut wider, &[Of(32, 32); 56])?;
-    wider.grow(size2(512, 256))?;
+    wider.enlarge(size2(512, 256))?;
     let live = live_after(rt.alloc(), &mut wider, &[Of(512, 32)])?;
     is_restored(&rt, wider, live.as_slice())?;
     let columns = in_columns(4, false);
-    let mut more = BucketedAtlasAllocator::with_options(rt.alloc(), size2(7, 8), &columns)?;
+    let mut more = buckets_with(rt.alloc(), (7, 8), &columns)?;
     live_after(rt.alloc(), &mut more, &[Of(1, 8); 5])?;
-    more.grow(size2(7, 8))?;
+    more.enlarge(size2(7, 8))?;
     let live = live_after(rt.alloc(), &mut more, &[Of(1, 8); 4])?;
     is_restored(&rt, more, live.as_slice())
 }

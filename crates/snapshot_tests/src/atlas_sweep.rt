@@ -2,6 +2,7 @@
 //! no rule is broken, and else a rule is named that is. The rules are told here from the records
 //! alone, slowly, by nothing of the library.
 
+use crate::judging::{holds, holds_at};
 use crate::plain_walks::{
     PlainWalk, altered_values, is_each_once, is_multiple, link_of, number_of, plain_walk, times,
     wide_link,
@@ -12,6 +13,7 @@ use etagere::{
 use std::alloc::Global;
 use std::process::Abort;
 use std::test::Fail;
+use test_support::calls::{Atlas, return_one};
 
 /// A shelf of the chain of shelves, and the walks over its items and its free list.
 #[derive(Drop)]
@@ -28,6 +30,24 @@ struct Walks {
     unused_shelves: PlainWalk,
     unused_items: PlainWalk,
     rows: Vec<Row>,
+}
+
+/// The walks of a shelf, by the links of items and of free lists.
+fn row_of(
+    alloc: Global,
+    snapshot: &AtlasSnapshot,
+    number: usize,
+    after: &[usize],
+    after_free: &[usize],
+) -> Result<Row, Fail> {
+    let shelf = shelf_of(snapshot, number)?;
+    let items = plain_walk(alloc, after, number_of(shelf.first_item))?;
+    let free = plain_walk(alloc, after_free, number_of(shelf.first_unallocated))?;
+    Ok(Row {
+        number,
+        items,
+        free,
+    })
 }
 
 fn all_walks(alloc: Global, snapshot: &AtlasSnapshot) -> Result<Walks, Fail> {
@@ -47,14 +67,13 @@ fn all_walks(alloc: Global, snapshot: &AtlasSnapshot) -> Result<Walks, Fail> {
     let unused_items = plain_walk(alloc, after.as_slice(), number_of(snapshot.free_items))?;
     let mut rows = Vec::new(alloc);
     for number in &shelves.met {
-        let shelf = snapshot.shelves.get(*number).ok_or("none")?;
-        let first = number_of(shelf.first_item);
-        let first_free = number_of(shelf.first_unallocated);
-        rows.push(Row {
-            number: *number,
-            items: plain_walk(alloc, after.as_slice(), first)?,
-            free: plain_walk(alloc, after_free.as_slice(), first_free)?,
-        })?;
+        rows.push(row_of(
+            alloc,
+            snapshot,
+            *number,
+            after.as_slice(),
+            after_free.as_slice(),
+        )?)?;
     }
     Ok(Walks {
         shelves,
@@ -298,22 +317,31 @@ fn space_holds(snapshot: &AtlasSnapshot, walks: &Walks) -> Result<bool, Fail> {
     Ok(i64::from(snapshot.allocated_space) == sum)
 }
 
+/// Each rule by its number, and whether it holds.
+fn rules(
+    alloc: Global,
+    snapshot: &AtlasSnapshot,
+    walks: &Walks,
+) -> Result<[(u32, bool); 10], Fail> {
+    Ok([
+        (1, frame_holds(snapshot)),
+        (2, counts_hold(snapshot)),
+        (3, links_hold(snapshot, walks)?),
+        (4, shelves_hold(snapshot, walks)?),
+        (5, runs_hold(snapshot, walks)?),
+        (6, neighbours_hold(snapshot, walks)?),
+        (7, free_lists_hold(snapshot, walks)?),
+        (8, sharing_holds(alloc, snapshot, walks)?),
+        (9, unused_hold(snapshot, walks)?),
+        (10, space_holds(snapshot, walks)?),
+    ])
+}
+
 /// The numbers of all rules that are broken.
 fn broken_rules(alloc: Global, snapshot: &AtlasSnapshot) -> Result<Vec<u32>, Fail> {
     let walks = all_walks(alloc, snapshot)?;
     let mut broken = Vec::new(alloc);
-    for (rule, holds) in [
-        (1, frame_holds(snapshot)),
-        (2, counts_hold(snapshot)),
-        (3, links_hold(snapshot, &walks)?),
-        (4, shelves_hold(snapshot, &walks)?),
-        (5, runs_hold(snapshot, &walks)?),
-        (6, neighbours_hold(snapshot, &walks)?),
-        (7, free_lists_hold(snapshot, &walks)?),
-        (8, sharing_holds(alloc, snapshot, &walks)?),
-        (9, unused_hold(snapshot, &walks)?),
-        (10, space_holds(snapshot, &walks)?),
-    ] {
+    for (rule, holds) in rules(alloc, snapshot, &walks)? {
         if !holds {
             broken.push(rule)?;
         }
@@ -357,15 +385,15 @@ fn worn(
         (30, 30),
         (30, 24),
     ] {
-        let given = atlas.allocate(sized(options, along, across))?;
+        let given = atlas.ask(sized(options, along, across))?;
         ids.push(given.ok_or("refused")?.id)?;
     }
     for number in [0, 3, 4, 2] {
-        atlas.deallocate(*ids.get(number).ok_or("none")?)?;
+        return_one(&mut atlas, ids.as_slice(), number)?;
     }
     let snapshot = atlas.snapshot()?;
-    assert!(rt; snapshot.free_items.number().is_some());
-    assert!(rt; snapshot.free_shelves.number().is_some());
+    holds(rt, snapshot.free_items.number().is_some());
+    holds(rt, snapshot.free_shelves.number().is_some());
     Ok(atlas)
 }
 
@@ -517,9 +545,9 @@ fn sweep(rt: &(impl AllocGlobal + Abort), options: &AllocatorOptions) -> Result<
     sweep_shelves(rt, &atlas, &base, &mut tally)?;
     sweep_items(rt, &atlas, &base, &mut tally)?;
     for rule in [1, 3, 4, 5, 6, 7, 8, 9, 10] {
-        assert!(rt; tally.broken.contains(&rule), "rule {rule} is never broken");
+        holds_at(rt, tally.broken.contains(&rule), &rule);
     }
-    assert!(rt; tally.accepted > base.items.len());
+    holds(rt, tally.accepted > base.items.len());
     Ok(())
 }
 
@@ -564,6 +592,20 @@ fn sweep_shelves(
     Ok(())
 }
 
+fn try_item(
+    rt: &(impl AllocGlobal + Abort),
+    atlas: &AtlasAllocator,
+    (number, field, value): (usize, usize, i64),
+    tally: &mut Tally,
+) -> Result<(), Fail> {
+    let mut altered = atlas.snapshot()?;
+    let item = altered.items.get_mut(number).ok_or("none")?;
+    if alter_item(item, field, value).is_some() {
+        judge(rt, altered, ("item", number, field, value), tally)?;
+    }
+    Ok(())
+}
+
 fn sweep_items(
     rt: &(impl AllocGlobal + Abort),
     atlas: &AtlasAllocator,
@@ -576,11 +618,7 @@ fn sweep_items(
         let neighbour = next.map_or(own, item_numbers);
         for field in 0..9 {
             for value in altered_values(own[field], neighbour[field]) {
-                let mut altered = atlas.snapshot()?;
-                let item = altered.items.get_mut(number).ok_or("none")?;
-                if alter_item(item, field, value).is_some() {
-                    judge(rt, altered, ("item", number, field, value), tally)?;
-                }
+                try_item(rt, atlas, (number, field, value), tally)?;
             }
         }
     }

@@ -2,6 +2,8 @@
 //! that of an atlas of 20 by 8 that has given (8, 8), with a field or two altered: its item 0 is allocated and
 //! 8 long, its item 1 is free and 12 long.
 
+use crate::judging::{answer_alike, are_saved_alike, equal, has_spaces, holds, holds_at};
+use crate::round_trips::{Saved, look_alike};
 use etagere::laws::restore_atlas;
 use etagere::{
     AllocId, AllocatorOptions, AtlasAllocator, AtlasSnapshot, DEFAULT_OPTIONS, ItemRecord, Link,
@@ -9,11 +11,12 @@ use etagere::{
 };
 use std::process::Abort;
 use std::test::Fail;
+use test_support::calls::{atlas_with, new_atlas, place_all, placed, return_one};
 
 /// What an atlas of 20 by 8 saves that has given (8, 8).
 fn saved(rt: &impl AllocGlobal) -> Result<AtlasSnapshot, Fail> {
-    let mut atlas = AtlasAllocator::new(rt.alloc(), size2(20, 8))?;
-    atlas.allocate(size2(8, 8))?.ok_or("refused")?;
+    let mut atlas = new_atlas(rt.alloc(), (20, 8))?;
+    placed(&mut atlas, (8, 8))?;
     Ok(atlas.snapshot()?)
 }
 
@@ -22,12 +25,22 @@ fn fault_of(rt: &impl AllocGlobal, snapshot: AtlasSnapshot) -> Option<RestoreFau
     AtlasAllocator::restore(rt.alloc(), snapshot).err()
 }
 
-/// Whether a snapshot is refused by one of these rules.
-fn is_refused(rt: &impl AllocGlobal, snapshot: AtlasSnapshot, faults: &[RestoreFault]) -> bool {
-    match fault_of(rt, snapshot) {
-        Some(fault) => faults.contains(&fault),
-        None => false,
-    }
+/// A snapshot is refused by one of these rules.
+fn is_refused(rt: &(impl AllocGlobal + Abort), snapshot: AtlasSnapshot, faults: &[RestoreFault]) {
+    let fault = fault_of(rt, snapshot);
+    holds_at(
+        rt,
+        fault.is_some_and(|fault| faults.contains(&fault)),
+        &fault,
+    );
+}
+
+fn item(snapshot: &mut AtlasSnapshot, number: usize) -> Result<&mut ItemRecord, Fail> {
+    Ok(snapshot.items.get_mut(number).ok_or("no item")?)
+}
+
+fn first_shelf(snapshot: &mut AtlasSnapshot) -> Result<&mut ShelfRecord, Fail> {
+    Ok(snapshot.shelves.get_mut(0).ok_or("no shelf")?)
 }
 
 fn rectangle(left: i32, top: i32, right: i32, bottom: i32) -> Rectangle {
@@ -41,29 +54,28 @@ fn rectangle(left: i32, top: i32, right: i32, bottom: i32) -> Rectangle {
 fn what_was_saved_is_restored_with_its_ids(rt: HostRuntime) -> Result<(), Fail> {
     let atlas = AtlasAllocator::restore(rt.alloc(), saved(&rt)?)?;
     let id = AllocId::deserialize(65536);
-    assert_eq!(&rt; atlas.get(id), Some(rectangle(0, 0, 8, 8)));
-    assert_eq!(&rt; atlas.allocated_space(), 64);
-    assert_eq!(&rt; atlas.free_space(), 96);
-    assert_eq!(&rt; atlas.size(), size2(20, 8));
+    equal(&rt, &atlas.get(id), &Some(rectangle(0, 0, 8, 8)));
+    has_spaces(&rt, &atlas, 64, 96);
+    equal(&rt, &atlas.size(), &size2(20, 8));
     Ok(())
 }
 
 #[test]
 fn items_are_in_one_list_each(rt: HostRuntime) -> Result<(), Fail> {
     let mut circle = saved(&rt)?;
-    circle.items.get_mut(1).ok_or("no item")?.next = Link::to(0);
-    assert!(&rt; is_refused(&rt, circle, &[RestoreFault::Sharing]));
+    item(&mut circle, 1)?.next = Link::to(0);
+    is_refused(&rt, circle, &[RestoreFault::Sharing]);
     let mut lost = saved(&rt)?;
-    lost.items.get_mut(0).ok_or("no item")?.next = Link::none();
+    item(&mut lost, 0)?.next = Link::none();
     let faults = [
         RestoreFault::Runs,
         RestoreFault::FreeList,
         RestoreFault::Sharing,
     ];
-    assert!(&rt; is_refused(&rt, lost, &faults));
+    is_refused(&rt, lost, &faults);
     let mut shared = saved(&rt)?;
     shared.free_items = Link::to(1);
-    assert!(&rt; is_refused(&rt, shared, &[RestoreFault::Sharing]));
+    is_refused(&rt, shared, &[RestoreFault::Sharing]);
     Ok(())
 }
 
@@ -71,64 +83,64 @@ fn items_are_in_one_list_each(rt: HostRuntime) -> Result<(), Fail> {
 fn links_name_records_and_lead_back(rt: HostRuntime) -> Result<(), Fail> {
     let mut outside = saved(&rt)?;
     outside.free_items = Link::to(2);
-    assert!(&rt; is_refused(&rt, outside, &[RestoreFault::Link, RestoreFault::Sharing]));
+    is_refused(&rt, outside, &[RestoreFault::Link, RestoreFault::Sharing]);
     let mut back = saved(&rt)?;
-    back.items.get_mut(1).ok_or("no item")?.prev = Link::none();
-    assert!(&rt; is_refused(&rt, back, &[RestoreFault::Link]));
+    item(&mut back, 1)?.prev = Link::none();
+    is_refused(&rt, back, &[RestoreFault::Link]);
     let mut shelf_back = saved(&rt)?;
-    shelf_back.shelves.get_mut(0).ok_or("no shelf")?.prev = Link::to(0);
-    assert!(&rt; is_refused(&rt, shelf_back, &[RestoreFault::Link]));
+    first_shelf(&mut shelf_back)?.prev = Link::to(0);
+    is_refused(&rt, shelf_back, &[RestoreFault::Link]);
     let mut owner = saved(&rt)?;
-    owner.items.get_mut(1).ok_or("no item")?.shelf = 1;
-    assert!(&rt; is_refused(&rt, owner, &[RestoreFault::Link]));
+    item(&mut owner, 1)?.shelf = 1;
+    is_refused(&rt, owner, &[RestoreFault::Link]);
     Ok(())
 }
 
 #[test]
 fn a_free_list_has_each_free_item_once(rt: HostRuntime) -> Result<(), Fail> {
     let mut circle = saved(&rt)?;
-    circle.items.get_mut(1).ok_or("no item")?.next_unallocated = Link::to(1);
-    assert!(&rt; is_refused(&rt, circle, &[RestoreFault::FreeList]));
+    item(&mut circle, 1)?.next_unallocated = Link::to(1);
+    is_refused(&rt, circle, &[RestoreFault::FreeList]);
     let mut freed = saved(&rt)?;
-    freed.items.get_mut(0).ok_or("no item")?.allocated = false;
+    item(&mut freed, 0)?.allocated = false;
     let faults = [
         RestoreFault::Neighbours,
         RestoreFault::FreeList,
         RestoreFault::Space,
     ];
-    assert!(&rt; is_refused(&rt, freed, &faults));
+    is_refused(&rt, freed, &faults);
     Ok(())
 }
 
 #[test]
 fn items_fill_their_shelf(rt: HostRuntime) -> Result<(), Fail> {
     let mut narrow = saved(&rt)?;
-    narrow.items.get_mut(1).ok_or("no item")?.width = 11;
-    assert!(&rt; is_refused(&rt, narrow, &[RestoreFault::Runs]));
+    item(&mut narrow, 1)?.width = 11;
+    is_refused(&rt, narrow, &[RestoreFault::Runs]);
     let mut flagged = saved(&rt)?;
-    flagged.shelves.get_mut(0).ok_or("no shelf")?.is_empty = true;
-    assert!(&rt; is_refused(&rt, flagged, &[RestoreFault::Runs]));
+    first_shelf(&mut flagged)?.is_empty = true;
+    is_refused(&rt, flagged, &[RestoreFault::Runs]);
     let mut moved = saved(&rt)?;
-    moved.items.get_mut(1).ok_or("no item")?.x = 9;
-    assert!(&rt; is_refused(&rt, moved, &[RestoreFault::Runs]));
+    item(&mut moved, 1)?.x = 9;
+    is_refused(&rt, moved, &[RestoreFault::Runs]);
     Ok(())
 }
 
 #[test]
 fn shelves_fill_their_column(rt: HostRuntime) -> Result<(), Fail> {
     let mut low = saved(&rt)?;
-    low.shelves.get_mut(0).ok_or("no shelf")?.height = 7;
-    assert!(&rt; is_refused(&rt, low, &[RestoreFault::Shelves, RestoreFault::Space]));
+    first_shelf(&mut low)?.height = 7;
+    is_refused(&rt, low, &[RestoreFault::Shelves, RestoreFault::Space]);
     let mut lifted = saved(&rt)?;
-    lifted.shelves.get_mut(0).ok_or("no shelf")?.y = 1;
-    assert!(&rt; is_refused(&rt, lifted, &[RestoreFault::Shelves]));
+    first_shelf(&mut lifted)?.y = 1;
+    is_refused(&rt, lifted, &[RestoreFault::Shelves]);
     Ok(())
 }
 
 #[test]
 fn two_shelves_share_no_items(rt: HostRuntime) -> Result<(), Fail> {
     let mut shared = saved(&rt)?;
-    let shelf = shared.shelves.get_mut(0).ok_or("no shelf")?;
+    let shelf = first_shelf(&mut shared)?;
     shelf.height = 4;
     shelf.next = Link::to(1);
     shared.shelves.push(ShelfRecord {
@@ -141,7 +153,7 @@ fn two_shelves_share_no_items(rt: HostRuntime) -> Result<(), Fail> {
         first_unallocated: Link::to(1),
         is_empty: false,
     })?;
-    assert!(&rt; is_refused(&rt, shared, &[RestoreFault::Link, RestoreFault::Sharing]));
+    is_refused(&rt, shared, &[RestoreFault::Link, RestoreFault::Sharing]);
     Ok(())
 }
 
@@ -170,19 +182,19 @@ fn with_unused(
 #[test]
 fn no_unused_record_is_allocated(rt: HostRuntime) -> Result<(), Fail> {
     let snapshot = with_unused(&rt, true, 0)?;
-    assert!(&rt; is_refused(&rt, snapshot, &[RestoreFault::Unused]));
+    is_refused(&rt, snapshot, &[RestoreFault::Unused]);
     Ok(())
 }
 
 #[test]
 fn an_unused_record_is_used_in_its_next_generation(rt: HostRuntime) -> Result<(), Fail> {
     let mut atlas = AtlasAllocator::restore(rt.alloc(), with_unused(&rt, false, 65535)?)?;
-    let first = atlas.allocate(size2(3, 8))?.ok_or("refused")?;
-    assert_eq!(&rt; first.rectangle, rectangle(8, 0, 11, 8));
-    assert_eq!(&rt; first.id.serialize(), 65537);
-    let second = atlas.allocate(size2(9, 8))?.ok_or("refused")?;
-    assert_eq!(&rt; second.rectangle, rectangle(11, 0, 20, 8));
-    assert_eq!(&rt; second.id.serialize(), 2);
+    let first = placed(&mut atlas, (3, 8))?;
+    equal(&rt, &first.rectangle, &rectangle(8, 0, 11, 8));
+    equal(&rt, &first.id.serialize(), &65537);
+    let second = placed(&mut atlas, (9, 8))?;
+    equal(&rt, &second.rectangle, &rectangle(11, 0, 20, 8));
+    equal(&rt, &second.id.serialize(), &2);
     Ok(())
 }
 
@@ -191,7 +203,7 @@ fn the_space_is_that_of_what_is_allocated(rt: HostRuntime) -> Result<(), Fail> {
     for space in [63, 65, 0, -1, -64, i32::MAX, i32::MIN] {
         let mut snapshot = saved(&rt)?;
         snapshot.allocated_space = space;
-        assert!(&rt; is_refused(&rt, snapshot, &[RestoreFault::Space]));
+        is_refused(&rt, snapshot, &[RestoreFault::Space]);
     }
     Ok(())
 }
@@ -209,17 +221,17 @@ fn a_frame_keeps_its_ranges(rt: HostRuntime) -> Result<(), Fail> {
         let mut snapshot = saved(&rt)?;
         snapshot.width = width;
         snapshot.height = height;
-        assert!(&rt; is_refused(&rt, snapshot, &[RestoreFault::Frame]));
+        is_refused(&rt, snapshot, &[RestoreFault::Frame]);
     }
     for alignment in [0, -1, 3, i32::MAX] {
         let mut snapshot = saved(&rt)?;
         snapshot.alignment_width = alignment;
-        assert!(&rt; is_refused(&rt, snapshot, &[RestoreFault::Frame, RestoreFault::Runs]));
+        is_refused(&rt, snapshot, &[RestoreFault::Frame, RestoreFault::Runs]);
     }
     for shelf_width in [0, 21, 65535] {
         let mut snapshot = saved(&rt)?;
         snapshot.shelf_width = shelf_width;
-        assert!(&rt; is_refused(&rt, snapshot, &[RestoreFault::Frame]));
+        is_refused(&rt, snapshot, &[RestoreFault::Frame]);
     }
     Ok(())
 }
@@ -228,10 +240,10 @@ fn a_frame_keeps_its_ranges(rt: HostRuntime) -> Result<(), Fail> {
 fn there_are_records_of_each_kind(rt: HostRuntime) -> Result<(), Fail> {
     let mut no_shelf = saved(&rt)?;
     no_shelf.shelves.clear();
-    assert!(&rt; is_refused(&rt, no_shelf, &[RestoreFault::Counts, RestoreFault::Link]));
+    is_refused(&rt, no_shelf, &[RestoreFault::Counts, RestoreFault::Link]);
     let mut no_item = saved(&rt)?;
     no_item.items.clear();
-    assert!(&rt; is_refused(&rt, no_item, &[RestoreFault::Counts, RestoreFault::Link]));
+    is_refused(&rt, no_item, &[RestoreFault::Counts, RestoreFault::Link]);
     Ok(())
 }
 
@@ -241,7 +253,7 @@ fn a_chain_that_many_shelves_share_is_followed_once(rt: HostRuntime) -> Result<(
         num_columns: 1000,
         ..DEFAULT_OPTIONS
     };
-    let atlas = AtlasAllocator::with_options(rt.alloc(), size2(1000, 8), &options)?;
+    let atlas = atlas_with(rt.alloc(), (1000, 8), &options)?;
     let mut snapshot = atlas.snapshot()?;
     for shelf in &mut snapshot.shelves {
         shelf.first_item = Link::to(0);
@@ -266,8 +278,8 @@ fn a_chain_that_many_shelves_share_is_followed_once(rt: HostRuntime) -> Result<(
         RestoreFault::FreeList,
         RestoreFault::Sharing,
     ];
-    assert!(&rt; faults.contains(&fault));
-    assert!(&rt; steps <= 8000);
+    holds(&rt, faults.contains(&fault));
+    holds(&rt, steps <= 8000);
     Ok(())
 }
 
@@ -278,9 +290,8 @@ fn used_atlas(rt: &impl AllocGlobal) -> Result<AtlasAllocator, Fail> {
         vertical_shelves: true,
         num_columns: 2,
     };
-    let mut atlas = AtlasAllocator::with_options(rt.alloc(), size2(100, 80), &options)?;
-    let mut ids = Vec::new(rt.alloc());
-    for (width, height) in [
+    let mut atlas = atlas_with(rt.alloc(), (100, 80), &options)?;
+    let sizes = [
         (10, 8),
         (10, 12),
         (20, 40),
@@ -288,11 +299,10 @@ fn used_atlas(rt: &impl AllocGlobal) -> Result<AtlasAllocator, Fail> {
         (30, 36),
         (9, 9),
         (40, 40),
-    ] {
-        ids.push(atlas.allocate(size2(width, height))?.ok_or("refused")?.id)?;
-    }
+    ];
+    let ids = place_all(rt.alloc(), &mut atlas, &sizes)?;
     for number in [1, 4, 6] {
-        atlas.deallocate(*ids.get(number).ok_or("not given")?)?;
+        return_one(&mut atlas, ids.as_slice(), number)?;
     }
     Ok(atlas)
 }
@@ -300,23 +310,12 @@ fn used_atlas(rt: &impl AllocGlobal) -> Result<AtlasAllocator, Fail> {
 #[test]
 fn an_atlas_goes_through_text_and_answers_as_before(rt: HostRuntime) -> Result<(), Fail> {
     let mut atlas = used_atlas(&rt)?;
-    let text = serde_json::to_string(rt.alloc(), &atlas.snapshot()?)?;
-    let read: AtlasSnapshot = serde_json::from_str(rt.alloc(), text.as_str())?;
-    let mut restored = AtlasAllocator::restore(rt.alloc(), read)?;
-    assert_eq!(&rt; restored.allocated_space(), atlas.allocated_space());
-    assert_eq!(&rt; restored.free_space(), atlas.free_space());
-    let mut before = Vec::new(rt.alloc());
-    atlas.dump_svg(&mut before)?;
-    let mut after = Vec::new(rt.alloc());
-    restored.dump_svg(&mut after)?;
-    assert_eq!(&rt; after.as_slice(), before.as_slice());
-    for (width, height) in [(8, 8), (3, 30), (101, 1), (60, 20), (2, 4), (30, 36)] {
-        let size = size2(width, height);
-        assert!(&rt; restored.allocate(size)? == atlas.allocate(size)?);
+    let mut restored = atlas.through_text(rt.alloc())?;
+    look_alike(&rt, &restored, &atlas)?;
+    for size in [(8, 8), (3, 30), (101, 1), (60, 20), (2, 4), (30, 36)] {
+        answer_alike(&rt, &mut restored, &mut atlas, size)?;
     }
-    let saved_again = restored.snapshot()?;
-    assert!(&rt; saved_again == atlas.snapshot()?);
-    Ok(())
+    are_saved_alike(&rt, &restored, &atlas)
 }
 
 #[test]
@@ -325,7 +324,7 @@ fn steps_count_each_record_in_use(rt: HostRuntime) -> Result<(), Fail> {
     let records = usize::wrapping_add(snapshot.shelves.len(), snapshot.items.len()) as u64;
     let mut steps = 7;
     restore_atlas(rt.alloc(), snapshot, &mut steps)?;
-    assert!(&rt; 0 < steps);
-    assert!(&rt; steps <= u64::wrapping_mul(4, records));
+    holds(&rt, 0 < steps);
+    holds(&rt, steps <= u64::wrapping_mul(4, records));
     Ok(())
 }

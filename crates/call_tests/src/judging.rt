@@ -1,0 +1,84 @@
+//! What a test judges, as calls that promise nothing. A test is proved safe before it runs, in a fraction of the time
+//! where it calls these than where it asserts by itself. A failure names the line of the test.
+
+use etagere::{Allocation, AtlasAllocator, size2};
+use std::fmt::Debug;
+use std::process::Abort;
+use std::test::Fail;
+use test_support::calls::{Atlas, placed};
+use test_support::corners::corners;
+
+pub fn holds(rt: &impl Abort, fact: bool) {
+    assert!(rt; fact);
+}
+
+/// The last tells of which case it is.
+pub fn holds_at(rt: &impl Abort, fact: bool, case: &impl Debug) {
+    assert!(rt; fact, "at {case:?}");
+}
+
+pub fn equal<T: PartialEq + Debug>(rt: &impl Abort, found: &T, wanted: &T) {
+    assert_eq!(rt; found, wanted);
+}
+
+/// The last tells of which case it is.
+pub fn equal_at<T: PartialEq + Debug>(rt: &impl Abort, found: &T, wanted: &T, case: &impl Debug) {
+    assert_eq!(rt; found, wanted, "at {case:?}");
+}
+
+/// A size has a place, with these corners.
+pub fn is_at(
+    rt: &impl Abort,
+    atlas: &mut impl Atlas,
+    size: (i32, i32),
+    place: [i32; 4],
+) -> Result<Allocation, Fail> {
+    let given = placed(atlas, size)?;
+    equal_at(rt, &corners(given.rectangle), &place, &size);
+    Ok(given)
+}
+
+pub fn is_refused(
+    rt: &impl Abort,
+    atlas: &mut impl Atlas,
+    (width, height): (i32, i32),
+) -> Result<(), Fail> {
+    equal_at(
+        rt,
+        &atlas.ask(size2(width, height))?,
+        &None,
+        &(width, height),
+    );
+    Ok(())
+}
+
+/// Two atlases give the same to a size.
+pub fn answer_alike<T: Atlas>(
+    rt: &impl Abort,
+    first: &mut T,
+    second: &mut T,
+    (width, height): (i32, i32),
+) -> Result<(), Fail> {
+    let size = size2(width, height);
+    equal_at(rt, &first.ask(size)?, &second.ask(size)?, &size);
+    Ok(())
+}
+
+/// Two atlases have the same records.
+pub fn are_saved_alike(
+    rt: &impl Abort,
+    first: &AtlasAllocator,
+    second: &AtlasAllocator,
+) -> Result<(), Fail> {
+    holds(rt, first.snapshot()? == second.snapshot()?);
+    Ok(())
+}
+
+/// Nothing is allocated, and no space is counted as allocated.
+pub fn ends_clean(rt: &impl Abort, atlas: &impl Atlas) {
+    holds(rt, atlas.is_clean());
+}
+
+pub fn has_spaces(rt: &impl Abort, atlas: &impl Atlas, allocated: i32, free: i32) {
+    equal(rt, &atlas.spaces(), &(allocated, free));
+}
