@@ -10,6 +10,7 @@ pub mod LeastOffers
 pub mod MergedRanks
 pub mod NewlyRanked
 pub mod NumberedBounds
+pub mod PairedShelves
 pub mod PassedBounds
 pub mod PassedShelves
 pub mod PlacesRise
@@ -18,7 +19,9 @@ pub mod RisingNumbers
 pub mod SearchableShelves
 pub mod SearchedOnes
 pub mod Searches
+pub mod ShiftedLists
 pub mod SplitOrders
 pub mod SplitRanked
 pub mod TakenBounds
 pub mod TakenRanked
+pub mod WideBounds

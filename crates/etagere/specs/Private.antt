@@ -10,6 +10,7 @@ pub mod Kept
 pub mod Listed
 pub mod Opening
 pub mod PlacementTaken
+pub mod Ranked
 pub mod RankedReturned
 pub mod Reading
 pub mod RecordsGrown

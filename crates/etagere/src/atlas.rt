@@ -36,8 +36,8 @@ use crate::linked::drawing::{send_document, send_part, send_picture};
 use crate::linked::growing::counting::needed_for;
 use crate::linked::growing::framing::{grown_frame, size_fault};
 use crate::linked::growing::grow_shelves;
-use crate::linked::heights::RankedShelf;
 use crate::linked::looking::{index_of, number_of, recorded_area, rectangle_of};
+use crate::linked::ranked::RankedShelves;
 use crate::linked::returning::return_item;
 use crate::linked::starting::{fresh_heights, fresh_records, reset_heights, reset_records};
 use crate::linked::taking::take_placement;
@@ -69,7 +69,7 @@ use std::marker::Model;
 pub struct AtlasAllocator {
     frame: Frame,
     records: Records,
-    ranked: Vec<RankedShelf>,
+    ranked: RankedShelves,
     items_in_use: u32,
     allocated_space: u32,
 }
@@ -161,7 +161,7 @@ impl AtlasAllocator {
     /// The atlas of a snapshot that keeps all rules, with these shelves and so many items in use.
     pub(crate) fn of_judged(
         atlas: LoadedAtlas,
-        ranked: Vec<RankedShelf>,
+        ranked: RankedShelves,
         items_in_use: u32,
     ) -> AtlasAllocator
         requires kept { AreKept atlas.frame atlas.lists }
@@ -243,8 +243,9 @@ impl AtlasAllocator {
 
     /// Takes back the rectangle that is allocated under an id, and merges what is free with its neighbours.
     ///
-    /// `Err` comes exactly where nothing is allocated under the id; then nothing changes. Takes no memory, and the
-    /// same time always: it looks at the record of the id, and at those beside it and its shelf.
+    /// `Err` comes exactly where nothing is allocated under the id; then nothing changes. Takes no memory. It looks at
+    /// the record of the id, and at those beside it and its shelf, whose place by height it finds at once or by halves.
+    /// Where shelves merge, those that are taller move in their list.
     pub fn deallocate(&mut self, id: AllocId) -> Result<(), UnknownId>
         ensures ok { OnOk result (self.new ≡ returned self.old id) }
         ensures unknown { IsErr result ↔ (is_allocated self.old id ≡ false) }

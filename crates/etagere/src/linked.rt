@@ -9,6 +9,7 @@ pub(crate) mod fields;
 pub(crate) mod growing;
 pub(crate) mod heights;
 pub(crate) mod looking;
+pub(crate) mod ranked;
 pub(crate) mod returning;
 pub(crate) mod starting;
 pub(crate) mod taking;

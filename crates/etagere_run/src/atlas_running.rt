@@ -39,7 +39,9 @@ pub fn run_atlas(
     ensures accepted { OnOk result (IsAccepted longest_side size options.now) }
     ensures err { IfErr result (RefusesRun longest_side size options.now) }
 {
-    let room = Room::with_capacity(alloc, commands.len()).map_err(|_| RunFault::Memory)?;
+    let Ok(room) = Room::with_capacity(alloc, commands.len()) else {
+        return Err(RunFault::Memory);
+    };
     let mut atlas = AtlasAllocator::with_options(alloc, size, options).map_err(RunFault::Options)?;
     Ok(answer_all(&mut atlas, room, commands))
 }

@@ -13,7 +13,7 @@ use Rattle.etagere.specs.Private.ByHeight.{AreRanked, order_of, place_number, ra
 use Rattle.etagere.specs.Private.Kept.{AreKept}
 use Rattle.etagere.specs.Private.Searching.{best_candidate, earlier, earliest, first_by_height, first_offer, good_offer, offered, rank_of}
 use Rattle.etagere.specs.declared.linked.choosing.Candidate.{Candidate}
-use Rattle.etagere.specs.declared.linked.heights.RankedShelf.{RankedShelf}
+use Rattle.etagere.specs.declared.linked.ranked.RankedShelf.{RankedShelf}
 use Rattle.etagere.proofs.ByHeight.LeastOffers.{IsLeast, IsOffer, IsOutcome, least-first, least-later, lowest-outcome, none-less, offer-is, outcome-same, weight}
 use Rattle.etagere.proofs.ByHeight.PlacesRise.{LiesWithin, kept-within, places-rise}
 use Rattle.etagere.proofs.ByHeight.RisingNumbers.{of-each, rise-low}

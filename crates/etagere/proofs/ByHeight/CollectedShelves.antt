@@ -7,7 +7,7 @@ use Rattle.etagere_links.specs.RecordLists.{Records, shelf_walk}
 use Rattle.etagere_links.specs.Records.{shelf_chain}
 use Rattle.etagere.specs.Private.ByHeight.{newly_ranked}
 use Rattle.etagere.specs.Private.Kept.{AreKept}
-use Rattle.etagere.specs.declared.linked.heights.RankedShelf.{RankedShelf}
+use Rattle.etagere.specs.declared.linked.ranked.RankedShelf.{RankedShelf}
 use Rattle.etagere.proofs.Searched.Following.{IsLeft, IsStep, none-left, step-left}
 use Rattle.etagere.proofs.Searched.LinkedParts.{shelves-left}
 

@@ -13,7 +13,7 @@ use Rattle.etagere_links.specs.declared.records.ShelfRecord.{ShelfRecord}
 use Rattle.etagere_links.specs.RecordLists.{Records, shelf_numbers, walked_lists}
 use Rattle.etagere.specs.Private.ByHeight.{AreInOrder, AreRanked, bound_of, order_of, put_in, raised, ranked_numbers, taken_out}
 use Rattle.etagere.specs.Private.Kept.{AreKept}
-use Rattle.etagere.specs.declared.linked.heights.RankedShelf.{RankedShelf}
+use Rattle.etagere.specs.declared.linked.ranked.RankedShelf.{RankedShelf}
 
 -- the shelf of a number, with this bound
 abbrev pub ranked_as : ℕ → ℕ → RankedShelf

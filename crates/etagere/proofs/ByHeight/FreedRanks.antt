@@ -15,7 +15,7 @@ use Rattle.etagere.specs.Private.ItemReturned.{emptiness_said, item_merged, name
 use Rattle.etagere.specs.Private.RankedReturned.{freed_width}
 use Rattle.etagere.specs.State.{Shelf}
 use Rattle.etagere.specs.Valid.{IsShelf}
-use Rattle.etagere.specs.declared.linked.heights.RankedShelf.{RankedShelf}
+use Rattle.etagere.specs.declared.linked.ranked.RankedShelf.{RankedShelf}
 use Rattle.etagere.proofs.ByHeight.Edited.{in_order-kept}
 use Rattle.etagere.proofs.ByHeight.FreedBounds.{IsWithin, freed-within}
 use Rattle.etagere.proofs.ByHeight.MergedRanks.{Ranks, raised-ranks}

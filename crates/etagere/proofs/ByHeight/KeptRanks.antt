@@ -5,7 +5,7 @@ use Rattle.etagere_links.specs.RecordLists.{Lists, Records, shelf_numbers, shelf
 use Rattle.etagere_links.proofs.AllLists.LinkedWalks.{walked-numbers}
 use Rattle.etagere.specs.Private.ByHeight.{AreRanked, IsRanked, place_number}
 use Rattle.etagere.specs.Private.Kept.{AreKept, atlas_of, bare}
-use Rattle.etagere.specs.declared.linked.heights.RankedShelf.{RankedShelf}
+use Rattle.etagere.specs.declared.linked.ranked.RankedShelf.{RankedShelf}
 use Rattle.etagere.proofs.ByHeight.Edited.{ranked-in_order}
 use Rattle.etagere.proofs.ByHeight.MergedRanks.{HaveOwnPlaces, Ranks}
 use Rattle.etagere.proofs.ByHeight.PlacesRise.{LiesWithin, kept-within, places-rise}

@@ -17,7 +17,7 @@ use Rattle.etagere.specs.Private.ByHeight.{IsBound, bound_of, raised, ranked_num
 use Rattle.etagere.specs.Private.ItemReturned.{width_of}
 use Rattle.etagere.specs.Private.Kept.{IsPlaced}
 use Rattle.etagere.specs.Private.RankedReturned.{first_free_width, named_width}
-use Rattle.etagere.specs.declared.linked.heights.RankedShelf.{RankedShelf}
+use Rattle.etagere.specs.declared.linked.ranked.RankedShelf.{RankedShelf}
 use Rattle.etagere.proofs.ByHeight.Edited.{bound_of-each}
 use Rattle.etagere.proofs.ByHeight.FreedBounds.{IsWithin}
 use Rattle.etagere.proofs.ByHeight.MergedRanks.{IsBoundOf, Ranks}

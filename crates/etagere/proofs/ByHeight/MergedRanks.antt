@@ -14,7 +14,7 @@ use Rattle.etagere.specs.Private.ByHeight.{AreBounds, AreInOrder, IsBound, bound
 use Rattle.etagere.specs.Private.ItemReturned.{empty_next}
 use Rattle.etagere.specs.Private.RankedReturned.{CanMergeRank, rank_absorbed}
 use Rattle.etagere.specs.State.{Item, Shelf}
-use Rattle.etagere.specs.declared.linked.heights.RankedShelf.{RankedShelf}
+use Rattle.etagere.specs.declared.linked.ranked.RankedShelf.{RankedShelf}
 use Rattle.etagere.proofs.ByHeight.Edited.{Each-put_in, Each-raised, Each-taken_out, bound_of-each, in_order-kept, in_order-once, in_order-put_in, in_order-raised, in_order-taken_out, numbers-raised, numbers-taken_out, ranked_as, times-put_in}
 use Rattle.etagere.proofs.ByHeight.FreedBounds.{IsWithin, within-more}
 use Rattle.etagere.proofs.Spelled.ItemsAround.{each-member}

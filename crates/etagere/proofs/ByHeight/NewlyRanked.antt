@@ -1,11 +1,10 @@
 -- Newly ranked shelves: the width of a column is a bound, those of a new atlas are in order, and those in use are
 -- once they were sorted.
 use Rattle.std.proofs.Common.{◌≡◌, ℕ, zero, suc, ◌+◌, ◌*◌, ◌<◌, ◌≤◌, true, List, [], ◌∷◌, get_or, length, map, take, refl, ap, arith, subst, sym, ◌∙◌}
-use Rattle.std.proofs.lemmas.List.Elements.{All-cons, All-head, All-nil, All-tail}
-use Rattle.std.proofs.lemmas.List.Sorted.{All-permutation, all_adjacent_from_non_decreasing, sum_by-IsPermutation}
+use Rattle.std.proofs.lemmas.List.Sorted.{all_adjacent_from_non_decreasing, sum_by-IsPermutation}
 use Rattle.std.proofs.lemmas.List.Sums.{sum_by-cons}
 use Rattle.std.proofs.lemmas.List.{length-map}
-use Rattle.std.specs.List.{All, AllAdjacentBelow, sum_by}
+use Rattle.std.specs.List.{AllAdjacentBelow, sum_by}
 use Rattle.std.specs.List.Sorted.{IsNonDecreasingBy, IsPermutation}
 use Rattle.etagere_base.specs.Frames.{HasAllColumns, IsFrame, across_side}
 use Rattle.etagere_base.specs.Lists.{Each, times}
@@ -23,7 +22,7 @@ use Rattle.etagere.specs.Private.FreshRecords.{fresh_records, fresh_shelf, numbe
 use Rattle.etagere.specs.Private.Kept.{AreKept, bare, state_of}
 use Rattle.etagere.specs.State.{Item, is_free, total_width}
 use Rattle.etagere.specs.Valid.{IsShelf}
-use Rattle.etagere.specs.declared.linked.heights.RankedShelf.{RankedShelf}
+use Rattle.etagere.specs.declared.linked.ranked.RankedShelf.{RankedShelf}
 use Rattle.etagere.proofs.ByHeight.CollectedShelves.{in_use}
 use Rattle.etagere.proofs.ByHeight.LeastOffers.{same-place}
 use Rattle.etagere.proofs.ByHeight.PlacesRise.{LiesWithin, kept-within, places-rise}
@@ -92,43 +91,34 @@ fresh-ranked frame is_frame all =
           (numbered-each (λ (one : RankedShelf). one.widest ≡ frame.column_width) (newly_ranked frame) 0 frame.columns (λ k below. refl));
     }
 
--- a total by the numbers of shelves, as a sum
-times-sum : (k : ℕ) (ranked : List RankedShelf) → times k (ranked_numbers ranked) ≡ sum_by (λ (one : RankedShelf). hit one.shelf k) ranked
+-- how often a number stands in a list, as a sum
+times-sum : (k : ℕ) (ns : List ℕ) → times k ns ≡ sum_by (λ n. hit n k) ns
 times-sum k [] = refl
-times-sum k (one ∷ others) = ap (λ n. hit one.shelf k + n) (times-sum k others) ∙ sym (sum_by-cons (λ (one : RankedShelf). hit one.shelf k) one others)
-
--- a fact of each, as std says it, and back
-All-each : (P : RankedShelf → Type 0) (ranked : List RankedShelf) → Each P ranked → All P ranked
-All-each P [] each = All-nil P
-All-each P (one ∷ others) each = All-cons P one others each.0 (All-each P others each.1)
-
-each-All : (P : RankedShelf → Type 0) (ranked : List RankedShelf) → All P ranked → Each P ranked
-each-All P [] all = tt
-each-All P (one ∷ others) all = (All-head P one others all, each-All P others (All-tail P one others all))
+times-sum k (n ∷ ns) = ap (λ m. hit n k + m) (times-sum k ns) ∙ sym (sum_by-cons (λ n. hit n k) n ns)
 
 -- numbers that don't fall, none of which stands twice, rise where no two measure the same
-sorted-rise : (measure : ℕ → ℕ) (low : ℕ) (ranked : List RankedShelf) → AllAdjacentBelow (λ (x y : RankedShelf). measure x.shelf ≤ measure y.shelf) ranked (length ranked)
-    → ((k : ℕ) → times k (ranked_numbers ranked) ≤ 1)
-    → ((k l : ℕ) → 1 ≤ times k (ranked_numbers ranked) → 1 ≤ times l (ranked_numbers ranked) → measure k ≡ measure l → k ≡ l)
-    → Each (λ (one : RankedShelf). low ≤ measure one.shelf) (take 1 ranked)
-    → RiseFrom low (map measure (ranked_numbers ranked))
+sorted-rise : (measure : ℕ → ℕ) (low : ℕ) (ns : List ℕ) → AllAdjacentBelow (λ x y. measure x ≤ measure y) ns (length ns)
+    → ((k : ℕ) → times k ns ≤ 1)
+    → ((k l : ℕ) → 1 ≤ times k ns → 1 ≤ times l ns → measure k ≡ measure l → k ≡ l)
+    → Each (λ n. low ≤ measure n) (take 1 ns)
+    → RiseFrom low (map measure ns)
 sorted-rise measure low [] sorted once apart first = tt
-sorted-rise measure low (one ∷ []) sorted once apart first = (first.0, tt)
-sorted-rise measure low (one ∷ other ∷ others) sorted once apart first =
-    let no_less : measure one.shelf ≤ measure other.shelf = sorted 0 one (omega arith) in
-    let differ : measure one.shelf ≡ measure other.shelf → ⊥ =
+sorted-rise measure low (n ∷ []) sorted once apart first = (first.0, tt)
+sorted-rise measure low (n ∷ next ∷ ns) sorted once apart first =
+    let no_less : measure n ≤ measure next = sorted 0 n (omega arith) in
+    let differ : measure n ≡ measure next → ⊥ =
     λ same.
-    let alike : one.shelf ≡ other.shelf = apart one.shelf other.shelf (grind arith) (grind arith) same in
-    twice one.shelf other.shelf (ranked_numbers others) alike (once one.shelf) in
-    let later : (k : ℕ) (d : RankedShelf) → k + 1 < length (other ∷ others) → measure (get_or (other ∷ others) k d).shelf ≤ measure (get_or (other ∷ others) (k + 1) d).shelf =
+    let alike : n ≡ next = apart n next (grind arith) (grind arith) same in
+    twice n next ns alike (once n) in
+    let later : (k d : ℕ) → k + 1 < length (next ∷ ns) → measure (get_or (next ∷ ns) k d) ≤ measure (get_or (next ∷ ns) (k + 1) d) =
     λ k d below.
-    let next : suc k + 1 ≡ suc (k + 1) = omega arith in
-    subst (λ (n : ℕ). measure (get_or (other ∷ others) k d).shelf ≤ measure (get_or (one ∷ other ∷ others) n d).shelf) next (sorted (suc k) d (omega (arith, below))) in (
+    let one_more : suc k + 1 ≡ suc (k + 1) = omega arith in
+    subst (λ (m : ℕ). measure (get_or (next ∷ ns) k d) ≤ measure (get_or (n ∷ next ∷ ns) m d)) one_more (sorted (suc k) d (omega (arith, below))) in (
       first.0,
-      sorted-rise measure (measure one.shelf + 1) (other ∷ others) later
+      sorted-rise measure (measure n + 1) (next ∷ ns) later
           (λ k. omega (arith, once k))
           (λ k l stands also. apart k l (omega (arith, stands)) (omega (arith, also)))
-          (above (measure one.shelf) (measure other.shelf) no_less differ, tt),
+          (above (measure n) (measure next) no_less differ, tt),
     )
   where
     above : (m n : ℕ) → m ≤ n → (m ≡ n → ⊥) → m + 1 ≤ n
@@ -143,23 +133,25 @@ numbers-in_use frame [] = refl
 numbers-in_use frame (n ∷ ns) = ap (λ ms. n ∷ ms) (numbers-in_use frame ns)
 
 -- and their bounds
-bounds-in_use : (frame : Frame) (numbers : List ℕ) → Each (λ (one : RankedShelf). one.widest ≡ frame.column_width) (map (newly_ranked frame) numbers)
+bounds-in_use : (frame : Frame) (numbers : List ℕ) → Each (λ width. width ≡ frame.column_width) (map (λ (one : RankedShelf). one.widest) (map (newly_ranked frame) numbers))
 bounds-in_use frame [] = tt
 bounds-in_use frame (n ∷ ns) = (refl, bounds-in_use frame ns)
 
--- the shelves in use that were sorted by their order are ranked
-pub sorted-ranked : (frame : Frame) (records : Records) (ranked : List RankedShelf) → AreKept frame records → IsPermutation (in_use frame records) ranked
-    → IsNonDecreasingBy (λ (one : RankedShelf). order_of records.shelves one.shelf) ranked → AreRanked frame records ranked
-sorted-ranked frame records ranked kept moved sorted =
+-- the shelves in use whose numbers were sorted by their order are ranked
+pub sorted-ranked : (frame : Frame) (records : Records) (ranked : List RankedShelf) → AreKept frame records
+    → IsPermutation (ranked_numbers (in_use frame records)) (ranked_numbers ranked)
+    → IsNonDecreasingBy (order_of records.shelves) (ranked_numbers ranked)
+    → map (λ (one : RankedShelf). one.widest) ranked ≡ map (λ (one : RankedShelf). one.widest) (in_use frame records)
+    → AreRanked frame records ranked
+sorted-ranked frame records ranked kept moved sorted widths =
     record {
       once = λ shelf. same shelf ∙ ap (times shelf) (sym (walked-numbers records chain));
-      rising = sorted-rise (order_of records.shelves) 0 ranked
-          (all_adjacent_from_non_decreasing (λ (one : RankedShelf). order_of records.shelves one.shelf) ranked sorted)
+      rising = sorted-rise (order_of records.shelves) 0 (ranked_numbers ranked)
+          (all_adjacent_from_non_decreasing (order_of records.shelves) (ranked_numbers ranked) sorted)
           (λ k. omega (arith, same k, (shelves-part records kept.linked).once k)) apart low;
       bounds = column-bounds frame records ranked kept
-          (each-All (λ (one : RankedShelf). one.widest ≡ frame.column_width) ranked
-          (All-permutation (λ (one : RankedShelf). one.widest ≡ frame.column_width) (in_use frame records) ranked moved
-          (All-each (λ (one : RankedShelf). one.widest ≡ frame.column_width) (in_use frame records) (bounds-in_use frame chain))));
+          (Each-unmap (λ width. width ≡ frame.column_width) (λ (one : RankedShelf). one.widest) ranked
+          (subst (Each (λ width. width ≡ frame.column_width)) (sym widths) (bounds-in_use frame chain)));
     }
   where
     chain : List ℕ
@@ -167,9 +159,9 @@ sorted-ranked frame records ranked kept moved sorted =
 
     same : (k : ℕ) → times k (ranked_numbers ranked) ≡ times k chain
     same k =
-        times-sum k ranked
-        ∙ sum_by-IsPermutation (λ (one : RankedShelf). hit one.shelf k) (in_use frame records) ranked moved
-        ∙ sym (times-sum k (in_use frame records))
+        times-sum k (ranked_numbers ranked)
+        ∙ sum_by-IsPermutation (λ n. hit n k) (ranked_numbers (in_use frame records)) (ranked_numbers ranked) moved
+        ∙ sym (times-sum k (ranked_numbers (in_use frame records)))
         ∙ ap (times k) (numbers-in_use frame chain)
 
     apart : (k l : ℕ) → 1 ≤ times k (ranked_numbers ranked) → 1 ≤ times l (ranked_numbers ranked) → order_of records.shelves k ≡ order_of records.shelves l → k ≡ l
@@ -182,8 +174,8 @@ sorted-ranked frame records ranked kept moved sorted =
         (same-place (height_of records.shelves k) (height_of records.shelves l) (place_number records.shelves k) (place_number records.shelves l)
         (omega (arith, one.along, one.across)) (omega (arith, other.along, other.across)) alike)
 
-    low : Each (λ (one : RankedShelf). 0 ≤ order_of records.shelves one.shelf) (take 1 ranked)
-    low = Each-all (λ (one : RankedShelf). 0 ≤ order_of records.shelves one.shelf) (λ one. omega arith) (take 1 ranked)
+    low : Each (λ n. 0 ≤ order_of records.shelves n) (take 1 (ranked_numbers ranked))
+    low = Each-all (λ n. 0 ≤ order_of records.shelves n) (λ n. omega arith) (take 1 (ranked_numbers ranked))
 
 -- ranked shelves are no fewer than the columns
 pub columns-ranked : (frame : Frame) (records : Records) (ranked : List RankedShelf) → AreKept frame records → AreRanked frame records ranked → frame.columns ≤ length ranked

@@ -6,7 +6,7 @@ use Rattle.etagere_links.proofs.ListEnds.{times-here}
 use Rattle.etagere.specs.AtlasRecords.{AtlasRecords, spelled_shelf}
 use Rattle.etagere.specs.Private.ByHeight.{IsBound, ranked_numbers}
 use Rattle.etagere.specs.State.{Shelf}
-use Rattle.etagere.specs.declared.linked.heights.RankedShelf.{RankedShelf}
+use Rattle.etagere.specs.declared.linked.ranked.RankedShelf.{RankedShelf}
 
 -- of shelves of these numbers the one of its number has no wider free item
 abbrev pub BoundsIn : RankedShelf → List ℕ → List Shelf → Type 0

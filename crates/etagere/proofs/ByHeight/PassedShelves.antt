@@ -9,13 +9,13 @@ use Rattle.etagere_base.proofs.EachLemmas.{Each-back}
 use Rattle.etagere_links.specs.RecordLists.{Records}
 use Rattle.etagere.specs.AtlasRecords.{height_of}
 use Rattle.etagere.specs.Choice.{bad_fit_rank}
-use Rattle.etagere.specs.Private.ByHeight.{IsFirstAsWide, ranked_numbers}
+use Rattle.etagere.specs.Private.ByHeight.{IsFirstAsWide, ranked_numbers, ranked_at}
 use Rattle.etagere.specs.Private.Opening.{AreTall, IsSearchable}
 use Rattle.etagere.specs.Private.Searching.{IsFirstGood, earliest, first_offer, good_offer, offered, rank_of}
 use Rattle.etagere.specs.declared.linked.choosing.FirstGood.TheVariants.{Rest}
-use Rattle.etagere.specs.declared.linked.heights.RankedShelf.{RankedShelf}
+use Rattle.etagere.specs.declared.linked.ranked.RankedShelf.{RankedShelf}
 use Rattle.etagere.proofs.ByHeight.PassedBounds.{joined}
-use Rattle.etagere.proofs.ByHeight.Searches.{Each-drop, Each-take, SearchesFrom, good-reached, none_left, offered-vain, passed-earliest, reached, read}
+use Rattle.etagere.proofs.ByHeight.Searches.{Each-drop, Each-take, SearchesFrom, behind, good-reached, none_left, offered-vain, passed-earliest, reached}
 
 -- a shelf has no place to offer
 abbrev pub OffersNone : Records → ℕ → ℕ → ℕ → Type 0
@@ -72,7 +72,7 @@ module _ (records : Records) (width height start from index : ℕ) (numbers : Li
   passed-more (Some bad) some passed = record { after = passed.after; within = omega (arith, passed.within, first.0); vain = passed.vain }
 
   -- a shelf that has no place is passed
-  pub passed-vain : (bad : Option ℕ) → HasPassed records width height start from bad numbers → OffersNone records width height (read ranked index).shelf → HasPassed records width height start (index + 1) bad numbers
+  pub passed-vain : (bad : Option ℕ) → HasPassed records width height start from bad numbers → OffersNone records width height (ranked_at ranked index).shelf → HasPassed records width height start (index + 1) bad numbers
   passed-vain (Some bad) passed none = passed-more (Some bad) refl passed
   passed-vain None passed none =
       let here : Each (OffersNone records width height) (drop index (take (index + 1) numbers)) =
@@ -109,21 +109,15 @@ good-where records width height shelf number is_good b at is chosen =
 -- behind a shelf that is passed, a search goes on
 pub past : (records : Records) (width height from index : ℕ) (numbers : List ℕ) (ranked : List RankedShelf) → SearchesFrom records height from numbers ranked → IsFirstAsWide from width ranked (Some index)
     → SearchesFrom records height (index + 1) numbers ranked
-past records width height from index numbers ranked search first =
-    record {
-      same = search.same;
-      searchable = search.searchable;
-      within = omega (arith, first.1);
-      tall = (reached records width height from index numbers ranked search first).others;
-    }
+past records width height from index numbers ranked search first = behind records width height from index numbers ranked ranked search first refl search.searchable
 
 -- and finds the same good fit
 pub good-passed : (records : Records) (width height from index : ℕ) (numbers : List ℕ) (ranked : List RankedShelf) → SearchesFrom records height from numbers ranked → IsFirstAsWide from width ranked (Some index)
-    → good_offer records width height (read ranked index).shelf ≡ None
+    → good_offer records width height (ranked_at ranked index).shelf ≡ None
     → first_offer (good_offer records width height) (drop (index + 1) numbers) ≡ first_offer (good_offer records width height) (drop from numbers)
 good-passed records width height from index numbers ranked search first none =
     sym (
-    good-reached records width height from index numbers (read ranked index) (reached records width height from index numbers ranked search first)
+    good-reached records width height from index numbers (ranked_at ranked index) (reached records width height from index numbers ranked search first)
     ∙ ap (λ o. option_map_or Some o (first_offer (good_offer records width height) (drop (index + 1) numbers))) none
     )
 

@@ -6,8 +6,8 @@ use Rattle.etagere_base.specs.Lists.{Each, times}
 use Rattle.etagere_links.proofs.ListEnds.{times-other}
 use Rattle.etagere_links.specs.declared.records.ShelfRecord.{ShelfRecord}
 use Rattle.etagere.specs.Listing.{RiseFrom}
-use Rattle.etagere.specs.Private.ByHeight.{AreInOrder, IsStart, bound_of, order_of, put_in, raised, ranked_numbers, taken_out}
-use Rattle.etagere.specs.declared.linked.heights.RankedShelf.{RankedShelf}
+use Rattle.etagere.specs.Private.ByHeight.{AreInOrder, IsStart, bound_of, order_of, put_in, raised, ranked_at, ranked_numbers, taken_out}
+use Rattle.etagere.specs.declared.linked.ranked.RankedShelf.{RankedShelf}
 use Rattle.etagere.proofs.Recorded.Members.{Each-member}
 use Rattle.etagere.proofs.ByHeight.Edited.{ranked_as, rise-above}
 
@@ -167,24 +167,39 @@ put_in-at shelves one (suc index) (other ∷ others) within before after =
     rw is (ap (λ (l : List RankedShelf). other ∷ l) rest)
 
 -- a shelf stands where its order was found to begin
-pub stands-found : (shelves : List ShelfRecord) (shelf order index probes : ℕ) (slice ranked : List RankedShelf) → slice ≡ ranked → order ≡ order_of shelves shelf
-    → AreInOrder shelves ranked → 1 ≤ times shelf (ranked_numbers ranked) → IsStart shelves slice order index probes → StandsAt shelf index ranked
-stands-found shelves shelf order index probes slice ranked same is in_order stands found =
-    let start : IsStart shelves ranked order index probes = subst (λ (l : List RankedShelf). IsStart shelves l order index probes) same found in
-    stands-at shelves shelf 0 index ranked
-    (subst (λ (n : ℕ). Each (λ (one : RankedShelf). order_of shelves one.shelf < n) (take index ranked)) is start.before)
-    (subst (λ (n : ℕ). Each (λ (one : RankedShelf). n ≤ order_of shelves one.shelf) (drop index ranked)) is start.after)
-    in_order.rising stands
+pub stands-found : (shelves : List ShelfRecord) (shelf index probes : ℕ) (ranked : List RankedShelf)
+    → AreInOrder shelves ranked → 1 ≤ times shelf (ranked_numbers ranked) → IsStart shelves ranked (order_of shelves shelf) index probes → StandsAt shelf index ranked
+stands-found shelves shelf index probes ranked in_order stands start = stands-at shelves shelf 0 index ranked start.before start.after in_order.rising stands
 
 -- one that stands there has a record
 pub stands-within : (shelves : List ShelfRecord) (shelf : ℕ) (ranked : List RankedShelf) → AreInOrder shelves ranked → 1 ≤ times shelf (ranked_numbers ranked) → shelf < length shelves
 stands-within shelves shelf ranked in_order stands = Each-member (λ k. k < length shelves) (ranked_numbers ranked) shelf in_order.within stands
 
 -- one is put in where its order was found to begin
-pub put_in-found : (shelves : List ShelfRecord) (one : RankedShelf) (order index probes : ℕ) (slice ranked : List RankedShelf) → slice ≡ ranked → order ≡ order_of shelves one.shelf
-    → IsStart shelves slice order index probes → insert ranked index one ≡ put_in shelves one ranked
-put_in-found shelves one order index probes slice ranked same is found =
-    let start : IsStart shelves ranked order index probes = subst (λ (l : List RankedShelf). IsStart shelves l order index probes) same found in
-    put_in-at shelves one index ranked start.within
-    (subst (λ (n : ℕ). Each (λ (other : RankedShelf). order_of shelves other.shelf < n) (take index ranked)) is start.before)
-    (subst (λ (n : ℕ). Each (λ (other : RankedShelf). n ≤ order_of shelves other.shelf) (drop index ranked)) is start.after)
+pub put_in-found : (shelves : List ShelfRecord) (number index probes : ℕ) (one : RankedShelf) (ranked : List RankedShelf) → number ≡ one.shelf
+    → IsStart shelves ranked (order_of shelves number) index probes → insert ranked index one ≡ put_in shelves one ranked
+put_in-found shelves number index probes one ranked is start =
+    let from : IsStart shelves ranked (order_of shelves one.shelf) index probes = subst (λ n. IsStart shelves ranked (order_of shelves n) index probes) is start in
+    put_in-at shelves one index ranked from.within from.before from.after
+
+-- a shelf that is read stands there
+times-read : (shelf index : ℕ) (ranked : List RankedShelf) → index < length ranked → (ranked_at ranked index).shelf ≡ shelf → 1 ≤ times shelf (ranked_numbers ranked)
+times-read shelf index [] within is = absurd (omega (arith, within))
+times-read shelf zero (one ∷ others) within is = grind arith
+times-read shelf (suc index) (one ∷ others) within is =
+    let later : 1 ≤ times shelf (ranked_numbers others) = times-read shelf index others (omega (arith, within)) is in
+    grind (arith, later)
+
+-- a shelf that stands once stands where it is read
+pub stands-there : (shelf index : ℕ) (ranked : List RankedShelf) → times shelf (ranked_numbers ranked) ≤ 1 → index < length ranked → (ranked_at ranked index).shelf ≡ shelf → StandsAt shelf index ranked
+stands-there shelf index [] once within is = absurd (omega (arith, within))
+stands-there shelf zero (one ∷ others) once within is =
+    let none : times shelf (ranked_numbers others) ≡ 0 = grind arith in
+    stands-first shelf one others is none
+stands-there shelf (suc index) (one ∷ others) once within is =
+    let later : 1 ≤ times shelf (ranked_numbers others) = times-read shelf index others (omega (arith, within)) is in
+    stands-behind shelf index one others (other later)
+    (stands-there shelf index others (omega (arith, once, times-other shelf one.shelf (ranked_numbers others) (other later))) (omega (arith, within)) is)
+  where
+    other : 1 ≤ times shelf (ranked_numbers others) → one.shelf ≢ shelf
+    other later same = absurd (grind (arith, later))

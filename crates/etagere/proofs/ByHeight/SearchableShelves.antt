@@ -16,7 +16,7 @@ use Rattle.etagere.specs.Private.Opening.{AreSearchable, IsSearchable}
 use Rattle.etagere.specs.Private.Searching.{best_candidate, chosen_at, first_by_height, placement_at}
 use Rattle.etagere.specs.State.{Item, is_free}
 use Rattle.etagere.specs.declared.linked.choosing.Candidate.{Candidate}
-use Rattle.etagere.specs.declared.linked.heights.RankedShelf.{RankedShelf}
+use Rattle.etagere.specs.declared.linked.ranked.RankedShelf.{RankedShelf}
 use Rattle.etagere.proofs.ByHeight.BestByHeight.{best-by-height}
 use Rattle.etagere.proofs.ByHeight.Edited.{Each-times}
 use Rattle.etagere.proofs.ByHeight.PlacesRise.{LiesWithin, kept-within}

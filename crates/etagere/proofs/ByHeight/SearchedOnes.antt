@@ -12,7 +12,7 @@ use Rattle.etagere.specs.Private.Opening.{IsSearchable, searched, widest_of}
 use Rattle.etagere.specs.Private.Searching.{first_wide, good_offer, offered, rank_of}
 use Rattle.etagere.specs.declared.linked.choosing.Candidate.{Candidate}
 use Rattle.etagere.specs.declared.linked.choosing.Searched.TheVariants.{Found, Widest}
-use Rattle.etagere.specs.declared.linked.heights.RankedShelf.{RankedShelf}
+use Rattle.etagere.specs.declared.linked.ranked.RankedShelf.{RankedShelf}
 use Rattle.etagere.proofs.Searched.SearchSteps.{is_wide}
 
 -- the candidate of an item of a shelf

@@ -1,7 +1,7 @@
 -- Where a search of the ranked shelves has come to, from shelf to shelf.
-use Rattle.std.proofs.Common.{◌≡◌, ℕ, zero, suc, ◌+◌, ◌<◌, ◌≤◌, Bool, true, false, cond, Option, None, Some, List, [], ◌∷◌, ◌++◌, add-one, drop, get_or, length, length-set, map, set, take, refl, ap, arith, sym, ◌∙◌, subst}
+use Rattle.std.proofs.Common.{◌≡◌, ℕ, zero, suc, ◌+◌, ◌<◌, ◌≤◌, Bool, true, false, cond, Option, None, Some, List, [], ◌∷◌, ◌++◌, add-one, drop, get_or, length, map, set, take, refl, ap, arith, sym, ◌∙◌, subst}
 use Rattle.std.proofs.Math.Seq.{map-set_same}
-use Rattle.std.proofs.lemmas.List.{drop-map, map-append, take-append-drop, take-map}
+use Rattle.std.proofs.lemmas.List.{drop-map, length-map, map-append, take-append-drop, take-map}
 use Rattle.std.proofs.lemmas.Bool.Decides.{nat_tests}
 use Rattle.std.specs.Option.{option_map_or}
 use Rattle.std.specs.Prelude.{IfSome, nat_lt}
@@ -10,11 +10,11 @@ use Rattle.etagere_base.proofs.EachLemmas.{Each-back}
 use Rattle.etagere_links.specs.RecordLists.{Records}
 use Rattle.etagere_links.specs.declared.records.ShelfRecord.{ShelfRecord}
 use Rattle.etagere.specs.AtlasRecords.{height_of}
-use Rattle.etagere.specs.Private.ByHeight.{IsFirstAsWide, IsStart, order_at, order_of, place_number, ranked_numbers}
+use Rattle.etagere.specs.Private.ByHeight.{IsFirstAsWide, IsStart, order_at, order_of, place_number, ranked_numbers, ranked_at}
 use Rattle.etagere.specs.Private.Opening.{AreSearchable, AreTall, IsSearchable}
 use Rattle.etagere.specs.Private.Searching.{earlier, earliest, first_by_height, first_offer, good_offer, offered}
 use Rattle.etagere.specs.declared.linked.choosing.Candidate.{Candidate}
-use Rattle.etagere.specs.declared.linked.heights.RankedShelf.{RankedShelf}
+use Rattle.etagere.specs.declared.linked.ranked.RankedShelf.{RankedShelf}
 use Rattle.etagere.proofs.ByHeight.SearchedOnes.{good-none, offered-low, offered-short}
 
 -- a fact of each after some, of some of the first, and with one replaced
@@ -68,10 +68,6 @@ good-vain : (records : Records) (width height : ℕ) (shelves : List ℕ) → Ea
 good-vain records width height [] vain = tt
 good-vain records width height (n ∷ ns) vain = (good-none records width height n vain.0, good-vain records width height ns vain.1)
 
--- the shelf that is read at an index
-abbrev pub read : List RankedShelf → ℕ → RankedShelf
-read ranked index = get_or ranked index (record { widest = 0; shelf = 0 })
-
 -- the earlier of three, either way round
 earlier-three : (shelves : List ShelfRecord) (a b c : Candidate) → earlier shelves (Some a) (earlier shelves (Some b) (Some c)) ≡ earlier shelves (earlier shelves (Some a) (Some b)) (Some c)
 earlier-three shelves a b c = by_tests (nat_lt (place_number shelves a.shelf) (place_number shelves b.shelf)) (nat_lt (place_number shelves b.shelf) (place_number shelves c.shelf)) (nat_lt (place_number shelves a.shelf) (place_number shelves c.shelf)) refl refl refl
@@ -119,6 +115,27 @@ pub record SearchesFrom (records : Records) (height from : ℕ) (numbers : List 
   pub within : from ≤ length ranked
   pub tall : AreTall records.shelves height (drop from numbers)
 
+-- the shelf at a position is the same by any default
+pub read-at : (ranked : List RankedShelf) (index : ℕ) (d : RankedShelf) → index < length ranked → get_or ranked index d ≡ ranked_at ranked index
+read-at [] index d within = absurd (omega arith)
+read-at (x ∷ xs) zero d within = refl
+read-at (x ∷ xs) (suc index) d within = read-at xs index d (omega arith)
+
+-- with another bound for one the numbers stay, and each is searchable where that one is
+pub numbers-set : (ranked : List RankedShelf) (index : ℕ) (one : RankedShelf) → one.shelf ≡ (ranked_at ranked index).shelf → ranked_numbers (set ranked index one) ≡ ranked_numbers ranked
+numbers-set ranked index one same = map-set_same (λ (x : RankedShelf). x.shelf) ranked index one (record { widest = 0; shelf = 0 }) same
+
+pub searchable-set : (records : Records) (ranked : List RankedShelf) (index : ℕ) (one : RankedShelf) → AreSearchable records ranked → IsSearchable records one → AreSearchable records (set ranked index one)
+searchable-set records ranked index one searchable own = Each-set (IsSearchable records) ranked index one searchable own
+
+-- so is each at its position
+pub searchable-at : (records : Records) (ranked : List RankedShelf) (index : ℕ) → index < length ranked → AreSearchable records ranked → IsSearchable records (ranked_at ranked index)
+searchable-at records ranked index within searchable = Each-at (IsSearchable records) ranked index (record { widest = 0; shelf = 0 }) within searchable
+
+-- lists of the same numbers are as long
+pub same-size : (ranked new : List RankedShelf) → ranked_numbers new ≡ ranked_numbers ranked → length new ≡ length ranked
+same-size ranked new same = sym (length-map new (λ (x : RankedShelf). x.shelf)) ∙ ap length same ∙ length-map ranked (λ (x : RankedShelf). x.shelf)
+
 -- the shelf to open next: those before it offer nothing
 pub record IsReached (records : Records) (width height from index : ℕ) (numbers : List ℕ) (one : RankedShelf) : Type 0 where
   pub skipped : List ℕ
@@ -129,11 +146,11 @@ pub record IsReached (records : Records) (width height from index : ℕ) (number
   pub others : AreTall records.shelves height (drop (index + 1) numbers)
 
 pub reached : (records : Records) (width height from index : ℕ) (numbers : List ℕ) (ranked : List RankedShelf) → SearchesFrom records height from numbers ranked → IsFirstAsWide from width ranked (Some index)
-    → IsReached records width height from index numbers (read ranked index)
+    → IsReached records width height from index numbers (ranked_at ranked index)
 reached records width height from index numbers ranked search first =
     let none : RankedShelf = record { widest = 0; shelf = 0 } in
     let front : List RankedShelf = drop from (take index ranked) in
-    let one : RankedShelf = read ranked index in
+    let one : RankedShelf = ranked_at ranked index in
     let parts : drop from ranked ≡ front ++ one ∷ drop (index + 1) ranked =
     between ranked from index none first.0 first.1 ∙ ap (λ n. front ++ one ∷ drop n ranked) (sym (add-one index)) in
     let whole : drop from numbers ≡ ranked_numbers front ++ one.shelf ∷ drop (index + 1) numbers =
@@ -149,19 +166,19 @@ reached records width height from index numbers ranked search first =
       skipped = ranked_numbers front;
       whole = whole;
       vain = offered-vain records width height front (Each-drop (IsSearchable records) from (take index ranked) (Each-take (IsSearchable records) index ranked search.searchable)) first.2;
-      searchable = Each-at (IsSearchable records) ranked index none first.1 search.searchable;
+      searchable = searchable-at records ranked index first.1 search.searchable;
       tall = after.0;
       others = after.1;
     }
 
--- after a shelf that keeps its number, the search goes on behind it
-pub behind : (records : Records) (width height from index : ℕ) (numbers : List ℕ) (ranked : List RankedShelf) (new : RankedShelf) → SearchesFrom records height from numbers ranked → IsFirstAsWide from width ranked (Some index)
-    → new.shelf ≡ (read ranked index).shelf → IsSearchable records new → SearchesFrom records height (index + 1) numbers (set ranked index new)
+-- where the shelves keep their numbers, the search goes on behind it
+pub behind : (records : Records) (width height from index : ℕ) (numbers : List ℕ) (ranked new : List RankedShelf) → SearchesFrom records height from numbers ranked → IsFirstAsWide from width ranked (Some index)
+    → ranked_numbers new ≡ ranked_numbers ranked → AreSearchable records new → SearchesFrom records height (index + 1) numbers new
 behind records width height from index numbers ranked new search first same searchable =
     record {
-      same = map-set_same (λ (x : RankedShelf). x.shelf) ranked index new (record { widest = 0; shelf = 0 }) same ∙ search.same;
-      searchable = Each-set (IsSearchable records) ranked index new search.searchable searchable;
-      within = omega (arith, first.1, length-set ranked index new);
+      same = same ∙ search.same;
+      searchable = searchable;
+      within = omega (arith, first.1, same-size ranked new same);
       tall = (reached records width height from index numbers ranked search first).others;
     }
 

@@ -13,7 +13,7 @@ use Rattle.etagere.specs.Private.ByHeight.{AreInOrder, AreRanked, IsBound, bound
 use Rattle.etagere.specs.Private.Kept.{AreKept, bare}
 use Rattle.etagere.specs.Private.PlacementTaken.{IsShelfRankable, put_back}
 use Rattle.etagere.specs.State.{Shelf}
-use Rattle.etagere.specs.declared.linked.heights.RankedShelf.{RankedShelf}
+use Rattle.etagere.specs.declared.linked.ranked.RankedShelf.{RankedShelf}
 use Rattle.etagere.proofs.ByHeight.Edited.{Each-put_in, Each-taken_out, bound_of-each, in_order-kept, in_order-put_in, in_order-taken_out, numbers-taken_out, ranked-in_order, ranked_as, times-put_in}
 use Rattle.etagere.proofs.ByHeight.NumberedBounds.{BoundsIn, IsBoundOf, bounds-none, bounds-numbered, bounds-split, numbered-bounds, ranked-other}
 use Rattle.etagere.proofs.ByHeight.SplitOrders.{orders-apart}

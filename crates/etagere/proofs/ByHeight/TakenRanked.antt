@@ -13,7 +13,7 @@ use Rattle.etagere.specs.Private.Kept.{AreKept, bare}
 use Rattle.etagere.specs.Private.PlacementTaken.{CanRank, IsRestRankable, free_item, id_of, item_record, placement_taken, ranked_taken, rest_shelf, rests_used_for, shelf_record, with_rest_ranked, with_shelf_rest}
 use Rattle.etagere.specs.State.{Shelf, empty_shelf}
 use Rattle.etagere.specs.Taking.{taken_shelf}
-use Rattle.etagere.specs.declared.linked.heights.RankedShelf.{RankedShelf}
+use Rattle.etagere.specs.declared.linked.ranked.RankedShelf.{RankedShelf}
 use Rattle.etagere.proofs.ByHeight.Edited.{in_order-kept, ranked-in_order}
 use Rattle.etagere.proofs.ByHeight.NumberedBounds.{BoundsIn, IsBoundOf, bounds-changed, bounds-numbered, numbered-bounds}
 use Rattle.etagere.proofs.ByHeight.SplitOrders.{length-split, length-taken, length-used, order-same, order-taken, same-split, same-used}

@@ -10,7 +10,7 @@ use Rattle.etagere_base.proofs.FrameSides.{columns-le}
 use Rattle.etagere_links.specs.RecordLists.{Entry, Records, shelf_numbers, shelf_walk, walked_entry, walked_lists}
 use Rattle.etagere.specs.declared.faults.AtlasGrowFault.TheVariants as faults
 use Rattle.etagere.specs.declared.linked.growing.Needed.{Needed}
-use Rattle.etagere.specs.declared.linked.heights.RankedShelf.{RankedShelf}
+use Rattle.etagere.specs.declared.linked.ranked.RankedShelf.{RankedShelf}
 use Rattle.etagere.specs.AtlasRecords.{spelled_shelf}
 use Rattle.etagere.specs.Fresh.{empty_columns}
 use Rattle.etagere.specs.Growing.{added_columns, added_height, added_width, atlas_grown, ends_column, filled_ends, grow_fault, grown_frame, or_records_fault, records_needed, size_fault}

@@ -10,7 +10,7 @@ use Rattle.etagere_links.specs.Records.{item_chain, shelf_chain}
 use Rattle.etagere.specs.Private.ByHeight.{AreRanked}
 use Rattle.etagere.specs.Private.RecordsGrown.{Growing, needed_of, records_grown, with_columns, with_height, with_missing, with_width}
 use Rattle.etagere.specs.declared.linked.growing.Needed.{Needed}
-use Rattle.etagere.specs.declared.linked.heights.RankedShelf.{RankedShelf}
+use Rattle.etagere.specs.declared.linked.ranked.RankedShelf.{RankedShelf}
 
 -- tests of which none passed
 none-of : (a b c : Bool) → (a || b || c) ≡ false → (a ≡ false) × (b ≡ false) × (c ≡ false)

@@ -16,7 +16,7 @@ use Rattle.etagere.specs.Private.Reading.{record_of, recorded_area}
 use Rattle.etagere.specs.Returning.{has_id, returned}
 use Rattle.etagere.specs.Space.{allocated_space}
 use Rattle.etagere.specs.State.{AtlasState, items_in_use}
-use Rattle.etagere.specs.declared.linked.heights.RankedShelf.{RankedShelf}
+use Rattle.etagere.specs.declared.linked.ranked.RankedShelf.{RankedShelf}
 use Rattle.etagere.proofs.Promises.{promises}
 use Rattle.etagere.proofs.Recorded.RecordedArea.{kept-area}
 use Rattle.etagere.proofs.Recorded.RecordsOfIds.{marked-within, record-marked}

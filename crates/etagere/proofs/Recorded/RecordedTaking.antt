@@ -14,7 +14,7 @@ use Rattle.etagere.specs.Private.Searching.{Finds}
 use Rattle.etagere.specs.Space.{allocated_space}
 use Rattle.etagere.specs.State.{AtlasState, items_in_use}
 use Rattle.etagere.specs.Taking.{taken}
-use Rattle.etagere.specs.declared.linked.heights.RankedShelf.{RankedShelf}
+use Rattle.etagere.specs.declared.linked.ranked.RankedShelf.{RankedShelf}
 use Rattle.etagere.proofs.ByHeight.TakenRanked.{Ranks, taken-ranked}
 use Rattle.etagere.proofs.Spaces.SpaceSmall.{space-taken-small}
 use Rattle.etagere.proofs.Spelled.TakenKept.{KeepsTaken, placement-kept}

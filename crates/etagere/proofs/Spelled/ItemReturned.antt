@@ -26,7 +26,7 @@ use Rattle.etagere.specs.Returning.{freed_shelf, returned}
 use Rattle.etagere.specs.State.{Shelf, AtlasState, items_in_use}
 use Rattle.etagere.specs.StandsFor.{HasCounts}
 use Rattle.etagere.specs.Valid.{IsShelf, IsValid}
-use Rattle.etagere.specs.declared.linked.heights.RankedShelf.{RankedShelf}
+use Rattle.etagere.specs.declared.linked.ranked.RankedShelf.{RankedShelf}
 use Rattle.etagere.proofs.ByHeight.FreedBounds.{freed_width-le}
 use Rattle.etagere.proofs.ByHeight.FreedRanks.{FreesRanks, frees-ranks}
 use Rattle.etagere.proofs.ByHeight.KeptRanks.{kept-ranks, ranks-kept}

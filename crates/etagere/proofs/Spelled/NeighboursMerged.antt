@@ -18,7 +18,7 @@ use Rattle.etagere.specs.Private.ByHeight.{ranked_numbers}
 use Rattle.etagere.specs.Private.ItemReturned.{Step, CanMergeShelves, HeightsFit, are_both_empty, empty_named, empty_next, named_shelf_merged, shelf_merged, shelves_merged}
 use Rattle.etagere.specs.Private.RankedReturned.{CanMergeNamedRank, CanMergeRank, CanMergeRanks, named_rank_merged, rank_merged, ranks_merged}
 use Rattle.etagere.specs.State.{Shelf}
-use Rattle.etagere.specs.declared.linked.heights.RankedShelf.{RankedShelf}
+use Rattle.etagere.specs.declared.linked.ranked.RankedShelf.{RankedShelf}
 use Rattle.etagere.proofs.ByHeight.MergedRanks.{IsPair, Ranks, ranked-pair}
 use Rattle.etagere.proofs.Places.Heights.{column_height-merged_at, heights-le}
 use Rattle.etagere.proofs.Spelled.EmptinessSaid.{IsFlagged}

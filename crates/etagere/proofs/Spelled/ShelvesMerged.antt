@@ -26,7 +26,7 @@ use Rattle.etagere.specs.Private.ItemReturned.{Step, are_both_empty, empty_named
 use Rattle.etagere.specs.Private.Kept.{HasFlag, IsPlaced}
 use Rattle.etagere.specs.Private.RankedReturned.{rank_merged, rank_next_absorbed, rank_of_item_absorbed}
 use Rattle.etagere.specs.State.{Shelf, is_empty, is_free, is_one_free}
-use Rattle.etagere.specs.declared.linked.heights.RankedShelf.{RankedShelf}
+use Rattle.etagere.specs.declared.linked.ranked.RankedShelf.{RankedShelf}
 use Rattle.etagere.proofs.ByHeight.MergedRanks.{Ranks, absorbed-ranks}
 use Rattle.etagere.proofs.Spelled.EmptinessSaid.{IsFlagged, flags-same, shelf-is}
 use Rattle.etagere.proofs.Spelled.ItemsAround.{free-item}

@@ -1,7 +1,7 @@
 -- The shelves in use in the order in which a search looks at them, each with a bound on the widths of
 -- its free items.
-use Rattle.std.specs.Prelude.{◌≡◌, ℕ, ◌+◌, ◌*◌, ◌<◌, ◌≤◌, ◌^◌, true, Option, None, Some, List, [], ◌∷◌, filter, drop, length, map, not, nat_le, nat_lt, take, ◌==◌, if◌then◌else◌}
-use Rattle.etagere_base.specs.Lists.{Each, times, total}
+use Rattle.std.specs.Prelude.{◌≡◌, ℕ, ◌+◌, ◌*◌, ◌<◌, ◌≤◌, ◌^◌, true, Option, None, Some, List, [], ◌∷◌, filter, drop, get_or, length, map, not, nat_lt, take, ◌==◌, if◌then◌else◌}
+use Rattle.etagere_base.specs.Lists.{Each, times}
 use Rattle.etagere_links.specs.declared.records.ShelfRecord.{ShelfRecord}
 use Rattle.etagere_links.specs.RecordLists.{Entry, Records, shelf_numbers, walked_lists}
 use Rattle.etagere_base.specs.declared.frames.Frame.{Frame}
@@ -9,7 +9,7 @@ use Rattle.etagere.specs.AtlasRecords.{AtlasRecords, across_of, along_of, height
 use Rattle.etagere.specs.Listing.{RiseFrom}
 use Rattle.etagere.specs.Private.Kept.{bare}
 use Rattle.etagere.specs.State.{Shelf, is_free}
-use Rattle.etagere.specs.declared.linked.heights.RankedShelf.{RankedShelf}
+use Rattle.etagere.specs.declared.linked.ranked.RankedShelf.{RankedShelf}
 
 -- where a shelf begins, as one number: by column, and then across
 abbrev pub place_number : List ShelfRecord → ℕ → ℕ
@@ -31,6 +31,10 @@ ranked_numbers ranked = map (λ (one : RankedShelf). one.shelf) ranked
 pub record AreInOrder (shelves : List ShelfRecord) (ranked : List RankedShelf) : Type 0 where
   pub within : Each (λ shelf. shelf < length shelves) (ranked_numbers ranked)
   pub rising : RiseFrom 0 (map (order_of shelves) (ranked_numbers ranked))
+
+-- the shelf at a position
+abbrev pub ranked_at : List RankedShelf → ℕ → RankedShelf
+ranked_at ranked index = get_or ranked index (record { widest = 0; shelf = 0 })
 
 -- no free item of a shelf is wider
 abbrev pub IsBound : ℕ → Shelf → Type 0
@@ -94,11 +98,6 @@ IsFirstAsWide from width ranked (Some index) =
     × (index < length ranked)
     × Each (λ (one : RankedShelf). one.widest < width) (drop from (take index ranked))
     × Each (λ (one : RankedShelf). width ≤ one.widest) (take 1 (drop index ranked))
-
--- how many bounds are not below a width
-abbrev pub count_as_wide : ℕ → List RankedShelf → ℕ
-count_as_wide width ranked =
-    total (λ (one : RankedShelf). if nat_le width one.widest then 1 else 0) ranked
 
 -- where the shelves begin that don't come before an order; each probe reads one shelf, and they are
 -- no more than the count of shelves has binary digits

@@ -10,7 +10,7 @@ use Rattle.etagere.specs.Private.ByHeight.{place_number}
 use Rattle.etagere.specs.Private.Searching.{first_wide}
 use Rattle.etagere.specs.declared.linked.choosing.Searched.{Searched}
 use Rattle.etagere.specs.declared.linked.choosing.Searched.TheVariants.{Found, Widest}
-use Rattle.etagere.specs.declared.linked.heights.RankedShelf.{RankedShelf}
+use Rattle.etagere.specs.declared.linked.ranked.RankedShelf.{RankedShelf}
 
 -- the width of the widest of these items; 0 where there are none
 abbrev pub widest_of : List ItemRecord → List ℕ → ℕ

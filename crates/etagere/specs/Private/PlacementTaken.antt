@@ -12,7 +12,7 @@ use Rattle.etagere_links.specs.RecordMerges.{item_given, front_given, shelf_spli
 use Rattle.etagere_links.specs.RecordUses.{new_item, new_shelf, rests_of, rests_used}
 use Rattle.etagere.specs.Choice.{Placement}
 use Rattle.etagere.specs.Private.ByHeight.{AreInOrder, bound_of, put_in, ranked_numbers, taken_out}
-use Rattle.etagere.specs.declared.linked.heights.RankedShelf.{RankedShelf}
+use Rattle.etagere.specs.declared.linked.ranked.RankedShelf.{RankedShelf}
 
 -- the item record of this number
 abbrev pub item_record : List ItemRecord → ℕ → ItemRecord

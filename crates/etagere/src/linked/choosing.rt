@@ -5,7 +5,7 @@
 //! first bad one by place, from the first bad fit on that it met. It opens a shelf only where the bound on its free
 //! items lets it hope, and corrects that where it hoped in vain. Nothing here changes the records.
 
-ghost use Rattle.std.specs.Prelude.{◌≡◌, ◌≤◌, ◌<◌, None, Some, IfSome, drop, length, map, nat_lt};
+ghost use Rattle.std.specs.Prelude.{◌≡◌, ◌≤◌, ◌<◌, ◌^◌, None, Some, IfSome, drop, length, map, nat_lt};
 ghost use Rattle.etagere_base.specs.Frames.{IsFrame, longest_side};
 ghost use Rattle.etagere_base.specs.Lists.{Each, times};
 ghost use Rattle.etagere_links.specs.RecordLists.{IsLinked, shelf_walk, walked_lists};
@@ -13,7 +13,7 @@ ghost use Rattle.etagere.specs.AtlasRecords.{height_of};
 ghost use Rattle.etagere.specs.Choice as choice;
 ghost use Rattle.etagere.specs.Choice.{bad_fit_rank};
 ghost use Rattle.etagere.specs.Private.ByHeight as heights;
-ghost use Rattle.etagere.specs.Private.ByHeight.{AreInOrder, AreRanked, ranked_numbers};
+ghost use Rattle.etagere.specs.Private.ByHeight.{AreInOrder, AreRanked, ranked_at, ranked_numbers};
 ghost use Rattle.etagere.specs.Private.Kept.{AreKept, state_of};
 ghost use Rattle.etagere.specs.Private.Opening as opening;
 ghost use Rattle.etagere.specs.Private.Opening.{AreSearchable, AreTall, IsSearchable};
@@ -21,7 +21,8 @@ ghost use Rattle.etagere.specs.Private.Searching as searching;
 ghost use Rattle.etagere.specs.Private.Searching.{Finds, IsFirstGood};
 ghost use Rattle.etagere.specs.State as state;
 
-use crate::linked::heights::{RankedShelf, first_as_wide, first_from, place_number};
+use crate::linked::heights::{first_from, place_number};
+use crate::linked::ranked::{RankedShelf, RankedShelves};
 use crate::placements::Placement;
 use etagere_base::{Frame, Sides, Size, asked, step};
 use etagere_links::{Records, ShelfRecord};
@@ -64,19 +65,18 @@ enum Searched {
 pub(crate) fn placement_of(
     frame: &Frame,
     records: &Records,
-    ranked: &mut [RankedShelf],
+    ranked: &mut RankedShelves,
     items_in_use: u32,
     size: Size,
 ) -> Option<Placement>
     requires kept { AreKept frame.now records.now }
-    requires ranked { AreRanked frame.now records.now ranked.old }
+    requires ranked { AreRanked frame.now records.now ranked.old.items }
     requires counted { items_in_use
         ≡ state.items_in_use (state_of frame.now records.now).shelves }
     ensures none { result ≡ None
         → choice.placement_of (state_of frame.now records.now) size ≡ None }
     ensures some { IfSome result (Finds frame.now records.now size) }
-    ensures ranked { AreRanked frame.now records.now ranked.new }
-    ensures len { length ranked.new ≡ length ranked.old }
+    ensures ranked { AreRanked frame.now records.now ranked.new.items }
 {
     let sides = asked(frame, size)?;
     let placement = chosen(frame, records, ranked, sides)?;
@@ -91,15 +91,14 @@ pub(crate) fn placement_of(
 fn chosen(
     frame: &Frame,
     records: &Records,
-    ranked: &mut [RankedShelf],
+    ranked: &mut RankedShelves,
     sides: Sides,
 ) -> Option<Placement>
     requires kept { AreKept frame.now records.now }
-    requires ranked { AreRanked frame.now records.now ranked.old }
+    requires ranked { AreRanked frame.now records.now ranked.old.items }
     requires short { (sides.along ≤ longest_side) × (sides.across ≤ longest_side) }
     ensures value { result ≡ searching.chosen_at frame.now records.now sides }
-    ensures ranked { AreRanked frame.now records.now ranked.new }
-    ensures len { length ranked.new ≡ length ranked.old }
+    ensures ranked { AreRanked frame.now records.now ranked.new.items }
 {
     let height = shelf_height(frame, sides.across);
     let candidate = best_candidate(records, ranked, sides.along, height)?;
@@ -124,18 +123,18 @@ fn shelf_height(frame: &Frame, height: u32) -> u32
 /// The first good fit by height; where there is none, the fit in the first place.
 fn best_candidate(
     records: &Records,
-    ranked: &mut [RankedShelf],
+    ranked: &mut RankedShelves,
     width: u32,
     height: u32,
 ) -> Option<Candidate>
     requires linked { IsLinked records.now (walked_lists records.now) }
-    requires order { AreInOrder records.now.shelves ranked.old }
-    requires ranked { AreSearchable records.now ranked.old }
+    requires order { AreInOrder records.now.shelves ranked.old.items }
+    requires ranked { AreSearchable records.now ranked.old.items }
     requires short { height ≤ longest_side }
     ensures value { result
-        ≡ searching.first_by_height records.now width height (ranked_numbers ranked.old) }
-    ensures numbers { ranked_numbers ranked.new ≡ ranked_numbers ranked.old }
-    ensures ranked { AreSearchable records.now ranked.new }
+        ≡ searching.first_by_height records.now width height (ranked_numbers ranked.old.items) }
+    ensures numbers { ranked_numbers ranked.new.items ≡ ranked_numbers ranked.old.items }
+    ensures ranked { AreSearchable records.now ranked.new.items }
 {
     let start = first_from(records.shelves(), ranked, height, 0).index;
     match first_good(records, ranked, start, width, height) {
@@ -148,25 +147,26 @@ fn best_candidate(
 /// the first bad fit whose bound let it hope has a place.
 fn first_good(
     records: &Records,
-    ranked: &mut [RankedShelf],
+    ranked: &mut RankedShelves,
     start: usize,
     width: u32,
     height: u32,
 ) -> FirstGood
     requires linked { IsLinked records.now (walked_lists records.now) }
-    requires start { start ≤ length ranked.old }
-    requires ranked { AreSearchable records.now ranked.old }
-    requires tall { AreTall records.now.shelves height (drop start (ranked_numbers ranked.old)) }
+    requires start { start ≤ length ranked.old.items }
+    requires few { length ranked.old.items < 2 ^ 64 }
+    requires ranked { AreSearchable records.now ranked.old.items }
+    requires tall { AreTall records.now.shelves height (drop start (ranked_numbers ranked.old.items)) }
     requires short { height ≤ longest_side }
-    ensures value { IsFirstGood records.now width height start (ranked_numbers ranked.old) result }
-    ensures numbers { ranked_numbers ranked.new ≡ ranked_numbers ranked.old }
-    ensures ranked { AreSearchable records.now ranked.new }
+    ensures value { IsFirstGood records.now width height start (ranked_numbers ranked.old.items) result }
+    ensures numbers { ranked_numbers ranked.new.items ≡ ranked_numbers ranked.old.items }
+    ensures ranked { AreSearchable records.now ranked.new.items }
 {
     let mut bad = None;
     let mut from = start;
-    while let Some(index) = first_as_wide(ranked, from, width) {
-        if is_good(records, height, usize::from(ranked[index].shelf)) {
-            if let Some(candidate) = fit(records, &mut ranked[index], width, height) {
+    while let Some(index) = ranked.first_as_wide(from, width) {
+        if is_good(records, height, ranked.shelf(index)) {
+            if let Some(candidate) = fit_at(records, ranked, index, width, height) {
                 return FirstGood::Found(candidate);
             }
         } else if bad.is_none() {
@@ -180,26 +180,27 @@ fn first_good(
 /// The fit in the first place from this position on, where all shelves are tall enough.
 fn first_placed(
     records: &Records,
-    ranked: &mut [RankedShelf],
+    ranked: &mut RankedShelves,
     start: usize,
     width: u32,
     height: u32,
 ) -> Option<Candidate>
     requires linked { IsLinked records.now (walked_lists records.now) }
-    requires start { start ≤ length ranked.old }
-    requires ranked { AreSearchable records.now ranked.old }
-    requires tall { AreTall records.now.shelves height (drop start (ranked_numbers ranked.old)) }
+    requires start { start ≤ length ranked.old.items }
+    requires few { length ranked.old.items < 2 ^ 64 }
+    requires ranked { AreSearchable records.now ranked.old.items }
+    requires tall { AreTall records.now.shelves height (drop start (ranked_numbers ranked.old.items)) }
     requires short { height ≤ longest_side }
     ensures value { result
         ≡ searching.earliest records.now.shelves
-        (map (searching.offered records.now width height) (drop start (ranked_numbers ranked.old))) }
-    ensures numbers { ranked_numbers ranked.new ≡ ranked_numbers ranked.old }
-    ensures ranked { AreSearchable records.now ranked.new }
+        (map (searching.offered records.now width height) (drop start (ranked_numbers ranked.old.items))) }
+    ensures numbers { ranked_numbers ranked.new.items ≡ ranked_numbers ranked.old.items }
+    ensures ranked { AreSearchable records.now ranked.new.items }
 {
     let mut first = None;
     let mut from = start;
-    while let Some(index) = first_as_wide(ranked, from, width) {
-        let found = fit(records, &mut ranked[index], width, height);
+    while let Some(index) = ranked.first_as_wide(from, width) {
+        let found = fit_at(records, ranked, index, width, height);
         first = earlier(records.shelves(), first, found);
         from = index + 1;
     }
@@ -252,6 +253,30 @@ fn is_good(records: &Records, height: u32, shelf: usize) -> bool
     ensures { result ≡ nat_lt (searching.rank_of records.now.shelves height shelf) bad_fit_rank }
 {
     rank_of(records, height, shelf) < BAD_FIT_RANK
+}
+
+/// What the shelf at this position offers, which is tall enough.
+fn fit_at(
+    records: &Records,
+    ranked: &mut RankedShelves,
+    index: usize,
+    width: u32,
+    height: u32,
+) -> Option<Candidate>
+    requires linked { IsLinked records.now (walked_lists records.now) }
+    requires index { index < length ranked.old.items }
+    requires ranked { AreSearchable records.now ranked.old.items }
+    requires tall { height ≤ height_of records.now.shelves (ranked_at ranked.old.items index).shelf }
+    requires short { height ≤ longest_side }
+    ensures value { result
+        ≡ searching.offered records.now width height (ranked_at ranked.old.items index).shelf }
+    ensures numbers { ranked_numbers ranked.new.items ≡ ranked_numbers ranked.old.items }
+    ensures ranked { AreSearchable records.now ranked.new.items }
+{
+    let mut one = ranked.get(index);
+    let found = fit(records, &mut one, width, height);
+    ranked.set(index, one);
+    found
 }
 
 /// What a shelf offers that is tall enough.

@@ -21,7 +21,7 @@ pub(crate) mod widening;
 use crate::linked::growing::appending::append_columns;
 use crate::linked::growing::heightening::heighten_columns;
 use crate::linked::growing::widening::widen_shelves;
-use crate::linked::heights::RankedShelf;
+use crate::linked::ranked::RankedShelves;
 use crate::linked::starting::rank_shelves;
 use etagere_base::Frame;
 use etagere_links::Records;
@@ -45,7 +45,7 @@ pub(crate) struct Made {
 /// comes only where some are needed, changes nothing.
 pub(crate) fn grow_shelves(
     records: &mut Records,
-    ranked: &mut Vec<RankedShelf>,
+    ranked: &mut RankedShelves,
     frame: &Frame,
     grown: &Frame,
     needed: Needed,

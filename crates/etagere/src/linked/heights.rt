@@ -1,28 +1,16 @@
 //! The shelves in use by height: where a search of them starts, and how the list follows a change.
 //!
 //! Definitions: `ByHeight`. Each shelf has beside it a width that none of its free items passes, so a search
-//! passes over a shelf by one comparison. A list is changed by moves of whole blocks.
+//! passes over a shelf by one comparison.
 
-ghost use Rattle.std.specs.Prelude.{◌≡◌, ◌+◌, ◌*◌, ◌<◌, ◌≤◌, None, Some, IfSome, drop, length, nat_lt, take, vec_capacity};
-ghost use Rattle.etagere_base.specs.Lists.{Each, times};
+ghost use Rattle.std.specs.Prelude.{◌≡◌, ◌+◌, ◌*◌, ◌<◌, ◌≤◌, ◌^◌, length, nat_lt};
+ghost use Rattle.etagere_base.specs.Lists.{times};
 ghost use Rattle.etagere_links.specs.Links.{no_link};
 ghost use Rattle.etagere.specs.Private.ByHeight as spec;
-ghost use Rattle.etagere.specs.Private.ByHeight.{AreInOrder, IsFirstAsWide, IsStart};
+ghost use Rattle.etagere.specs.Private.ByHeight.{AreInOrder, IsStart};
 
+use crate::linked::ranked::{RankedShelf, RankedShelves};
 use etagere_links::ShelfRecord;
-
-/// A search looks at this many shelves one by one before it compares whole blocks.
-const NEAR: usize = 16;
-
-/// How many shelves are compared at once: the compiler does so where none ends the loop.
-const BLOCK: usize = 64;
-
-/// A shelf in use, by the number of its record, and a width that none of its free items passes.
-#[derive(Clone, Copy)]
-pub(crate) struct RankedShelf {
-    pub(crate) widest: u16,
-    pub(crate) shelf: u16,
-}
 
 /// Where the shelves begin that don't come before an order, and how many shelves were looked at for it.
 #[derive(Clone, Copy)]
@@ -80,15 +68,28 @@ fn comes_before(shelves: &[ShelfRecord], shelf: usize, height: u32, place: u32) 
     }
 }
 
+/// Where a shelf stands in the order; 0 where there is no such shelf.
+pub(crate) fn order_or_zero(shelves: &[ShelfRecord], shelf: usize) -> u64
+    ensures { result ≡ spec.order_of shelves.now shelf }
+{
+    if shelf < shelves.len() {
+        order_of(shelves, shelf)
+    } else {
+        0
+    }
+}
+
 /// Where the shelves begin that don't come before this height and place, by halves.
 pub(crate) fn first_from(
     shelves: &[ShelfRecord],
-    ranked: &[RankedShelf],
+    ranked: &RankedShelves,
     height: u32,
     place: u32,
 ) -> Start
-    requires { AreInOrder shelves.now ranked.now }
-    ensures { IsStart shelves.now ranked.now (spec.order_at height place) result.index result.probes }
+    requires { AreInOrder shelves.now ranked.now.items }
+    ensures start { IsStart shelves.now ranked.now.items (spec.order_at height place) result.index
+        result.probes }
+    ensures few { length ranked.now.items < 2 ^ 64 }
 {
     let mut start = Start {
         index: 0,
@@ -98,7 +99,7 @@ pub(crate) fn first_from(
     while start.index < end {
         let middle = start.index + (end - start.index) / 2;
         start.probes += 1;
-        if comes_before(shelves, usize::from(ranked[middle].shelf), height, place) {
+        if comes_before(shelves, ranked.shelf(middle), height, place) {
             start.index = middle + 1;
         } else {
             end = middle;
@@ -108,113 +109,72 @@ pub(crate) fn first_from(
 }
 
 /// Where the shelves begin that don't come before this one.
-fn start_of(shelves: &[ShelfRecord], ranked: &[RankedShelf], shelf: usize) -> Start
-    requires order { AreInOrder shelves.now ranked.now }
+fn start_of(shelves: &[ShelfRecord], ranked: &RankedShelves, shelf: usize) -> Start
+    requires order { AreInOrder shelves.now ranked.now.items }
     requires within { shelf < length shelves.now }
-    ensures { IsStart shelves.now ranked.now (spec.order_of shelves.now shelf) result.index result.probes }
+    ensures { IsStart shelves.now ranked.now.items (spec.order_of shelves.now shelf) result.index
+        result.probes }
 {
     let record = &shelves[shelf];
     let place = place_number(record.x, record.y);
     first_from(shelves, ranked, u32::from(record.height), place)
 }
 
+/// Where a shelf stands: where it did last time if it still does, else by halves.
+fn position_of(shelves: &[ShelfRecord], ranked: &mut RankedShelves, shelf: usize) -> usize
+    requires order { AreInOrder shelves.now ranked.old.items }
+    requires stands { 1 ≤ times shelf (spec.ranked_numbers ranked.old.items) }
+    ensures within { result < length ranked.old.items }
+    ensures shelf { (spec.ranked_at ranked.old.items result).shelf ≡ shelf }
+    ensures same { ranked.new ≡ ranked.old }
+{
+    if let Some(index) = ranked.kept_position(shelf) {
+        return index;
+    }
+    let index = start_of(shelves, ranked, shelf).index;
+    ranked.keep_position(shelf, index);
+    index
+}
+
 /// Takes a shelf out, and gives its bound.
-pub(crate) fn take_out(shelves: &[ShelfRecord], ranked: &mut Vec<RankedShelf>, shelf: usize) -> u16
+pub(crate) fn take_out(shelves: &[ShelfRecord], ranked: &mut RankedShelves, shelf: usize) -> u16
     requires order { AreInOrder shelves.now ranked.old.items }
     requires stands { 1 ≤ times shelf (spec.ranked_numbers ranked.old.items) }
     ensures ranked { ranked.new.items ≡ spec.taken_out shelf ranked.old.items }
     ensures bound { result ≡ spec.bound_of shelf ranked.old.items }
-    ensures capacity { vec_capacity ranked.new ≡ vec_capacity ranked.old }
-    ensures room { length ranked.new.items + 1 ≡ length ranked.old.items }
+    ensures capacity { ranked.new.capacity ≡ ranked.old.capacity }
+    ensures len { length ranked.new.items + 1 ≡ length ranked.old.items }
+    ensures room { length ranked.new.items < ranked.new.capacity }
 {
-    let index = start_of(shelves, ranked, shelf).index;
+    let index = position_of(shelves, ranked, shelf);
     ranked.remove(index).widest
 }
 
 /// Puts a shelf in where it stands in the order, for which there is room.
-pub(crate) fn put_in(shelves: &[ShelfRecord], ranked: &mut Vec<RankedShelf>, one: RankedShelf)
+pub(crate) fn put_in(shelves: &[ShelfRecord], ranked: &mut RankedShelves, one: RankedShelf)
     requires order { AreInOrder shelves.now ranked.old.items }
     requires within { one.shelf < length shelves.now }
-    requires room { length ranked.old.items < vec_capacity ranked.old }
+    requires room { length ranked.old.items < ranked.old.capacity }
     ensures ranked { ranked.new.items ≡ spec.put_in shelves.now one ranked.old.items }
-    ensures capacity { vec_capacity ranked.new ≡ vec_capacity ranked.old }
+    ensures capacity { ranked.old.capacity ≤ ranked.new.capacity }
     ensures len { length ranked.new.items ≡ length ranked.old.items + 1 }
 {
-    let index = start_of(shelves, ranked, usize::from(one.shelf)).index;
-    let _inserted = ranked.insert(index, one);
+    let shelf = usize::from(one.shelf);
+    let index = start_of(shelves, ranked, shelf).index;
+    ranked.insert(index, one);
+    ranked.keep_position(shelf, index);
 }
 
 /// Raises the bound of a shelf to this width, where it is less.
-pub(crate) fn raise(shelves: &[ShelfRecord], ranked: &mut [RankedShelf], shelf: usize, width: u16)
-    requires order { AreInOrder shelves.now ranked.old }
-    requires stands { 1 ≤ times shelf (spec.ranked_numbers ranked.old) }
-    ensures { ranked.new ≡ spec.raised shelf width ranked.old }
+pub(crate) fn raise(shelves: &[ShelfRecord], ranked: &mut RankedShelves, shelf: usize, width: u16)
+    requires order { AreInOrder shelves.now ranked.old.items }
+    requires stands { 1 ≤ times shelf (spec.ranked_numbers ranked.old.items) }
+    ensures { ranked.new.items ≡ spec.raised shelf width ranked.old.items }
 {
-    let index = start_of(shelves, ranked, shelf).index;
-    let one = &mut ranked[index];
+    let index = position_of(shelves, ranked, shelf);
+    let mut one = ranked.get(index);
     if one.widest < width {
         one.widest = width;
+        ranked.set(index, one);
     }
-}
-
-/// The first shelf from this one on whose bound is not below this width.
-pub(crate) fn first_as_wide(ranked: &[RankedShelf], from: usize, width: u32) -> Option<usize>
-    requires { from ≤ length ranked.now }
-    ensures { IsFirstAsWide from width ranked.now result }
-{
-    let near = from + NEAR.min(ranked.len() - from);
-    match first_between(ranked, from, near, width) {
-        Some(index) => Some(index),
-        None => {
-            let next = skip_blocks(ranked, near, width);
-            first_between(ranked, next, ranked.len(), width)
-        }
-    }
-}
-
-/// The first shelf between two positions whose bound is not below this width.
-fn first_between(ranked: &[RankedShelf], from: usize, end: usize, width: u32) -> Option<usize>
-    requires from { from ≤ end }
-    requires end { end ≤ length ranked.now }
-    ensures none { result ≡ None
-        → Each (λ one. one.widest < width) (drop from (take end ranked.now)) }
-    ensures some { IfSome result (λ index. IsFirstAsWide from width ranked.now (Some index)) }
-{
-    for index in from..end {
-        if u32::from(ranked[index].widest) >= width {
-            return Some(index);
-        }
-    }
-    None
-}
-
-/// Where the first block begins that has a bound that is not below this width, or less than a block is left.
-fn skip_blocks(ranked: &[RankedShelf], from: usize, width: u32) -> usize
-    requires { from ≤ length ranked.now }
-    ensures from { from ≤ result }
-    ensures within { result ≤ length ranked.now }
-    ensures low { Each (λ one. one.widest < width) (drop from (take result ranked.now)) }
-{
-    let mut at = from;
-    while ranked.len() - at >= BLOCK {
-        if count_as_wide(&ranked[at..at + BLOCK], width) > 0 {
-            break;
-        }
-        at += BLOCK;
-    }
-    at
-}
-
-/// How many bounds of a block are not below this width.
-fn count_as_wide(block: &[RankedShelf], width: u32) -> u32
-    requires { length block.now ≤ BLOCK }
-    ensures { result ≡ spec.count_as_wide width block.now }
-{
-    let mut count = 0;
-    for one in block {
-        if u32::from(one.widest) >= width {
-            count += 1;
-        }
-    }
-    count
 }

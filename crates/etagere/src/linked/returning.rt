@@ -18,16 +18,13 @@ ghost use Rattle.etagere_links.specs.RecordLists.{first_item_of};
 ghost use Rattle.etagere_links.specs.Records.{item_chain, shelf_chain};
 
 use crate::linked::fields;
-use crate::linked::heights::{RankedShelf, put_in, raise, ranked_shelf, take_out};
+use crate::linked::heights::{put_in, raise, ranked_shelf, take_out};
+use crate::linked::ranked::RankedShelves;
 use etagere_links::{Chain, ItemRecord, Link, Records, ShelfRecord, next_of, previous_of};
 
 /// Frees the item of this number, which is allocated, merges what is free with its neighbours, and answers how
 /// many item records were put aside.
-pub(crate) fn return_item(
-    records: &mut Records,
-    ranked: &mut Vec<RankedShelf>,
-    number: usize,
-) -> u32
+pub(crate) fn return_item(records: &mut Records, ranked: &mut RankedShelves, number: usize) -> u32
     requires number { number < no_link }
     requires fits { CanReturn number records.old }
     requires ranked { CanReturnRanked (shelf_of records.old.items number) number records.old
@@ -59,15 +56,15 @@ fn first_free_width(records: &Records, shelf: usize) -> u16
 /// is no less, it searches for nothing.
 fn raise_above(
     shelves: &[ShelfRecord],
-    ranked: &mut [RankedShelf],
+    ranked: &mut RankedShelves,
     shelf: usize,
     known: u16,
     width: u16,
 )
-    requires order { AreInOrder shelves.now ranked.old }
-    requires stands { 1 ≤ times shelf (ranked_numbers ranked.old) }
-    requires known { known ≤ bound_of shelf ranked.old }
-    ensures { ranked.new ≡ raised shelf width ranked.old }
+    requires order { AreInOrder shelves.now ranked.old.items }
+    requires stands { 1 ≤ times shelf (ranked_numbers ranked.old.items) }
+    requires known { known ≤ bound_of shelf ranked.old.items }
+    ensures { ranked.new.items ≡ raised shelf width ranked.old.items }
 {
     if known < width {
         raise(shelves, ranked, shelf, width);
@@ -204,7 +201,7 @@ fn say_emptiness(records: &mut Records, shelf: usize)
 }
 
 /// Merges a shelf with its neighbours, where it and they are empty and stand in one column.
-fn merge_shelves(records: &mut Records, ranked: &mut Vec<RankedShelf>, shelf: usize) -> u32
+fn merge_shelves(records: &mut Records, ranked: &mut RankedShelves, shelf: usize) -> u32
     requires fits { CanMergeShelves shelf records.old }
     requires ranked { CanMergeRanks shelf records.old ranked.old.items }
     ensures records { records.new ≡ (returned.shelves_merged shelf records.old).records }
@@ -219,7 +216,7 @@ fn merge_shelves(records: &mut Records, ranked: &mut Vec<RankedShelf>, shelf: us
 }
 
 /// Merges the shelf that a link names with the next one, where both are empty and stand in one column.
-fn merge_named_shelf(records: &mut Records, ranked: &mut Vec<RankedShelf>, link: Link) -> u32
+fn merge_named_shelf(records: &mut Records, ranked: &mut RankedShelves, link: Link) -> u32
     requires fits { (n : ℕ) → link ≡ Some n → HeightsFit n records.old.shelves }
     requires ranked { CanMergeNamedRank link records.old ranked.old.items }
     ensures records { records.new ≡ (returned.named_shelf_merged link records.old).records }
@@ -235,7 +232,7 @@ fn merge_named_shelf(records: &mut Records, ranked: &mut Vec<RankedShelf>, link:
 }
 
 /// Merges a shelf with the next one, where both are empty and stand in one column.
-fn merge_shelf(records: &mut Records, ranked: &mut Vec<RankedShelf>, shelf: usize) -> u32
+fn merge_shelf(records: &mut Records, ranked: &mut RankedShelves, shelf: usize) -> u32
     requires fits { HeightsFit shelf records.old.shelves }
     requires ranked { CanMergeRank shelf records.old ranked.old.items }
     ensures records { records.new ≡ (returned.shelf_merged shelf records.old).records }
@@ -244,9 +241,25 @@ fn merge_shelf(records: &mut Records, ranked: &mut Vec<RankedShelf>, shelf: usiz
     ensures put_aside { result ≡ (returned.shelf_merged shelf records.old).put_aside }
     ensures few { result < 2 }
 {
-    let Some(next) = empty_next(records.shelves(), shelf) else {
-        return 0;
-    };
+    match empty_next(records.shelves(), shelf) {
+        None => 0,
+        Some(next) => absorb_shelf(records, ranked, shelf, next),
+    }
+}
+
+/// An empty shelf takes the place of the next one, which has this number and is empty too.
+#[inline(never)]
+fn absorb_shelf(records: &mut Records, ranked: &mut RankedShelves, shelf: usize, next: usize) -> u32
+    requires next { returned.empty_next records.old.shelves shelf ≡ Some next }
+    requires small { next < no_link }
+    requires fits { HeightsFit shelf records.old.shelves }
+    requires ranked { CanMergeRank shelf records.old ranked.old.items }
+    ensures records { records.new ≡ (returned.shelf_merged shelf records.old).records }
+    ensures ranked { ranked.new.items
+        ≡ ranks.rank_merged shelf records.old ranked.old.items }
+    ensures put_aside { result ≡ (returned.shelf_merged shelf records.old).put_aside }
+    ensures few { result < 2 }
+{
     let Some(item) = fields::first_item(records.shelves(), next) else {
         return 0;
     };

@@ -4,7 +4,7 @@
 //! Definitions: `FreshRecords`, and `ByHeight` for the shelves. A clear uses the memory of the records that are
 //! there, of which there is a shelf and an item for each column at least, and that of the ranked shelves.
 
-ghost use Rattle.std.specs.Prelude.{◌≡◌, ◌+◌, ◌<◌, ◌≤◌, IfOk, length, map, vec_capacity};
+ghost use Rattle.std.specs.Prelude.{◌≡◌, ◌+◌, ◌<◌, ◌≤◌, [], IfOk, length, map, max};
 ghost use Rattle.etagere_base.specs.Frames.{HasAllColumns, IsFrame, longest_side};
 ghost use Rattle.etagere_links.specs.Links.{no_link};
 ghost use Rattle.etagere_links.specs.RecordLists.{shelf_walk};
@@ -13,7 +13,8 @@ ghost use Rattle.etagere.specs.Private.ByHeight.{AreRanked};
 ghost use Rattle.etagere.specs.Private.FreshRecords as spec;
 ghost use Rattle.etagere.specs.Private.Kept.{AreKept};
 
-use crate::linked::heights::{RankedShelf, order_of, ranked_shelf};
+use crate::linked::heights::ranked_shelf;
+use crate::linked::ranked::{RankedShelf, RankedShelves};
 use etagere_base::Frame;
 use etagere_links::{Chain, ItemRecord, Link, Records, ShelfRecord, next_of};
 use std::alloc::{AllocError, Global};
@@ -37,29 +38,37 @@ pub(crate) fn fresh_records(alloc: Global, frame: &Frame) -> Result<Records, All
 }
 
 /// The ranked shelves of a new atlas.
-pub(crate) fn fresh_heights(alloc: Global, frame: &Frame) -> Result<Vec<RankedShelf>, AllocError>
+pub(crate) fn fresh_heights(alloc: Global, frame: &Frame) -> Result<RankedShelves, AllocError>
     requires frame { IsFrame longest_side frame.now }
     requires columns { HasAllColumns frame.now }
     ensures { IfOk result (λ ranked. AreRanked frame.now (spec.fresh_records frame.now) ranked.items) }
 {
-    let mut ranked = Vec::new(alloc);
-    ranked.reserve(frame.columns as usize)?;
-    for column in 0..frame.columns {
-        ranked.push(newly_ranked(frame, column as usize))?;
-    }
+    let mut ranked = RankedShelves::with_room(alloc, frame.columns as usize)?;
+    rank_columns(frame, &mut ranked);
     Ok(ranked)
 }
 
 /// Makes the ranked shelves those of a new atlas, in the memory that they have.
-pub(crate) fn reset_heights(frame: &Frame, ranked: &mut Vec<RankedShelf>)
+pub(crate) fn reset_heights(frame: &Frame, ranked: &mut RankedShelves)
     requires frame { IsFrame longest_side frame.now }
     requires columns { HasAllColumns frame.now }
     requires many { frame.now.columns ≤ length ranked.old.items }
     ensures { AreRanked frame.now (spec.fresh_records frame.now) ranked.new.items }
 {
-    ranked.truncate(frame.columns as usize);
+    ranked.clear();
+    rank_columns(frame, ranked);
+}
+
+/// Ranks the shelf of each column of a new atlas in an empty list, for which there is room.
+fn rank_columns(frame: &Frame, ranked: &mut RankedShelves)
+    requires frame { IsFrame longest_side frame.now }
+    requires columns { HasAllColumns frame.now }
+    requires empty { ranked.old.items ≡ [] }
+    requires room { frame.now.columns ≤ ranked.old.capacity }
+    ensures { AreRanked frame.now (spec.fresh_records frame.now) ranked.new.items }
+{
     for column in 0..frame.columns {
-        ranked[column as usize] = newly_ranked(frame, column as usize);
+        ranked.push(newly_ranked(frame, column as usize));
     }
 }
 
@@ -68,42 +77,31 @@ pub(crate) fn ranked_shelves(
     alloc: Global,
     frame: &Frame,
     records: &Records,
-) -> Result<Vec<RankedShelf>, AllocError>
+) -> Result<RankedShelves, AllocError>
     requires { AreKept frame.now records.now }
     ensures { IfOk result (λ ranked. AreRanked frame.now records.now ranked.items) }
 {
-    let mut ranked = Vec::new(alloc);
-    ranked.reserve(records.shelves().len())?;
+    let mut ranked = RankedShelves::with_room(alloc, records.shelves().len())?;
     rank_shelves(frame, records, &mut ranked);
     Ok(ranked)
 }
 
 /// Ranks the shelves in use of records, in the memory that the list has.
-pub(crate) fn rank_shelves(frame: &Frame, records: &Records, ranked: &mut Vec<RankedShelf>)
+pub(crate) fn rank_shelves(frame: &Frame, records: &Records, ranked: &mut RankedShelves)
     requires kept { AreKept frame.now records.now }
-    requires room { length (shelf_walk records.now).met ≤ vec_capacity ranked.old }
+    requires room { length (shelf_walk records.now).met
+        ≤ max (length ranked.old.items) ranked.old.capacity }
     ensures { AreRanked frame.now records.now ranked.new.items }
 {
     collect_shelves(frame, records, ranked);
-    let shelves = records.shelves();
-    ranked.sort_unstable_by_key(|one| order_or_zero(shelves, usize::from(one.shelf)));
-}
-
-/// Where a shelf stands in the order; 0 where there is no such shelf.
-fn order_or_zero(shelves: &[ShelfRecord], shelf: usize) -> u64
-    ensures { result ≡ heights.order_of shelves.now shelf }
-{
-    if shelf < shelves.len() {
-        order_of(shelves, shelf)
-    } else {
-        0
-    }
+    ranked.sort(records.shelves());
 }
 
 /// Makes the list that of the shelves in use by their chain, newly ranked, in the memory that it has.
-fn collect_shelves(frame: &Frame, records: &Records, ranked: &mut Vec<RankedShelf>)
+fn collect_shelves(frame: &Frame, records: &Records, ranked: &mut RankedShelves)
     requires kept { AreKept frame.now records.now }
-    requires room { length (shelf_walk records.now).met ≤ vec_capacity ranked.old }
+    requires room { length (shelf_walk records.now).met
+        ≤ max (length ranked.old.items) ranked.old.capacity }
     ensures { ranked.new.items
         ≡ map (heights.newly_ranked frame.now) (shelf_walk records.now).met }
 {
@@ -113,7 +111,7 @@ fn collect_shelves(frame: &Frame, records: &Records, ranked: &mut Vec<RankedShel
         let Some(shelf) = at else {
             break;
         };
-        let _pushed = ranked.push(newly_ranked(frame, shelf));
+        ranked.push(newly_ranked(frame, shelf));
         at = next_of::<Chain, ShelfRecord>(records.shelves(), shelf).number();
     }
 }

@@ -3,14 +3,15 @@
 //! Definitions: `PlacementTaken` of `Private`, and `Taking` for what it means. All memory is taken before
 //! the first change, so an `Err` changes nothing; this has to stay so.
 
-ghost use Rattle.std.specs.Prelude.{◌≡◌, ◌+◌, ◌<◌, ◌≤◌, Some, IfOk, OnOk, OnErr, IfSome, length, vec_capacity};
+ghost use Rattle.std.specs.Prelude.{◌≡◌, ◌+◌, ◌<◌, ◌≤◌, Some, IfOk, OnOk, OnErr, IfSome, length};
 ghost use Rattle.etagere_base.specs.Frames.{longest_side};
 ghost use Rattle.etagere_links.specs.Links.{no_link};
 ghost use Rattle.etagere.specs.Choice.{splits};
 ghost use Rattle.etagere.specs.Private.PlacementTaken as spec;
 ghost use Rattle.etagere.specs.Private.PlacementTaken.{CanRank, CanTakeFrom, IsItemSplittable, IsRestRankable, IsShelfRankable, IsShelfSplittable, placement_taken, ranked_taken};
 
-use crate::linked::heights::{RankedShelf, put_in, ranked_shelf, take_out};
+use crate::linked::heights::{put_in, ranked_shelf, take_out};
+use crate::linked::ranked::RankedShelves;
 use crate::placements::Placement;
 use etagere_base::{AllocId, INDEX_MODULUS};
 use etagere_links::{ItemRecord, Link, Records, ShelfRecord};
@@ -20,7 +21,7 @@ use std::alloc::AllocError;
 /// `Err`, which comes only where something is split, changes nothing.
 pub(crate) fn take_placement(
     records: &mut Records,
-    ranked: &mut Vec<RankedShelf>,
+    ranked: &mut RankedShelves,
     found: &Placement,
     column_width: u16,
 ) -> Result<AllocId, AllocError>
@@ -56,7 +57,7 @@ pub(crate) fn take_placement(
 /// Splits the shelf of a placement, where these are the numbers of the records of the rest and of its item.
 fn make_shelf_rest(
     records: &mut Records,
-    ranked: &mut Vec<RankedShelf>,
+    ranked: &mut RankedShelves,
     found: &Placement,
     column_width: u16,
     shelf: Option<usize>,
@@ -66,7 +67,7 @@ fn make_shelf_rest(
     requires shelf { IfSome shelf (λ number. number < no_link) }
     requires item { IfSome item (λ number. number < no_link) }
     requires ranks { IsRestRankable column_width found.now shelf item records.old ranked.old.items }
-    requires room { IfSome shelf (λ number. length ranked.old.items < vec_capacity ranked.old) }
+    requires room { IfSome shelf (λ number. length ranked.old.items < ranked.old.capacity) }
     ensures records { records.new
         ≡ spec.with_shelf_rest column_width found.now shelf item records.old }
     ensures ranked { ranked.new.items
@@ -86,7 +87,7 @@ fn make_shelf_rest(
 /// of ranked shelves has room for one more.
 fn split_shelf(
     records: &mut Records,
-    ranked: &mut Vec<RankedShelf>,
+    ranked: &mut RankedShelves,
     found: &Placement,
     column_width: u16,
     shelf: usize,
@@ -98,7 +99,7 @@ fn split_shelf(
     requires ranks { IsShelfRankable found.now.shelf shelf records.old.shelves
         (spec.with_shelf_rest column_width found.now (Some shelf) (Some item) records.old).shelves
         ranked.old.items }
-    requires room { length ranked.old.items < vec_capacity ranked.old }
+    requires room { length ranked.old.items < ranked.old.capacity }
     ensures records { records.new
         ≡ spec.with_shelf_rest column_width found.now (Some shelf) (Some item) records.old }
     ensures ranked { ranked.new.items

@@ -1,6 +1,5 @@
 use Rattle.std.specs.Prelude.{OnErr, Result, Ok, Err}
-use Rattle.std.proofs.Common.{◌≡◌, ℕ, List, ◌++◌, length, take, drop, vec_len, refl, ap, ◌∙◌, sym, subst, arith}
-use Rattle.std.proofs.lemmas.List.{take-append-le, take_all}
+use Rattle.std.proofs.Common.{List, sym, subst, arith}
 use Rattle.etagere_base.specs.Rectangles.{IsLarge}
 use Rattle.etagere_links.specs.RecordLists.{Records}
 use Rattle.etagere.specs.Atlas.{Adds, Allocates, KeepsPromises, NeedsSplit}
@@ -8,9 +7,9 @@ use Rattle.etagere.specs.Places.{allocations}
 use Rattle.etagere.specs.Private.Consistent.{state_in}
 use Rattle.etagere.specs.Private.ByHeight.{AreRanked}
 use Rattle.etagere.specs.Private.Kept.{state_of}
-use Rattle.etagere.specs.Private.PlacementTaken.{CanRank, ranked_taken}
+use Rattle.etagere.specs.Private.PlacementTaken.{ranked_taken}
 use Rattle.etagere.specs.State.{AtlasState}
-use Rattle.etagere.specs.declared.linked.heights.RankedShelf.{RankedShelf}
+use Rattle.etagere.specs.declared.linked.ranked.RankedShelf.{RankedShelf}
 use Rattle.etagere.proofs.ByHeight.TakenRanked.{Ranks}
 use Rattle.etagere.proofs.Promises.{promises}
 use Rattle.etagere.proofs.Recorded.RecordedTaking.{AfterTaking, after-taking, found-as_placed, found-ranked}
@@ -20,12 +19,6 @@ use Rattle.etagere.proofs.atlas.AtlasAllocator.allocate.Goals as goal
 on_err : {T E P : Type 0} (r : Result T E) → P → OnErr r P
 on_err (Ok x) p = tt
 on_err (Err e) p = p
-
--- a list whose elements were all written is what was written
-written : (count len : ℕ) (new old slice : List RankedShelf) → length new ≡ length slice → length slice ≡ count → count ≡ len → take len (new ++ drop (length new) old) ≡ new
-written count len new old slice same long is =
-    let all : len ≡ length new = omega (arith, same, long, is) in
-    take-append-le len new (drop (length new) old) (omega (arith, all)) ∙ take_all len new (omega (arith, all))
 
 pub returns-in_default-clause-promises : goal.returns-in_default-clause-promises
 returns-in_default-clause-promises c = promises (state_in c.self.inside) c.self.invariant.kept.valid
@@ -45,10 +38,7 @@ take_placement-requires-clause-takes c =
 pub take_placement-requires-clause-ranks : goal.take_placement-requires-clause-ranks
 take_placement-requires-clause-ranks c =
     let inside = c.self.inside in
-    let ranked : List RankedShelf = c.placement_of-found.new.ranked in
-    subst (CanRank inside.frame.column_width c.in-Some.placement inside.records)
-    (sym (written (vec_len inside.ranked) inside.ranked.len ranked inside.ranked.items c.deref_mut.result.now c.placement_of-found.ensures.len c.deref_mut.ensures.len refl))
-    (found-ranked inside.frame inside.records c.args.size c.in-Some.placement ranked c.self.invariant.kept c.in-Some.ensures.some c.placement_of-found.ensures.ranked).can
+    (found-ranked inside.frame inside.records c.args.size c.in-Some.placement c.placement_of-found.new.ranked.items c.self.invariant.kept c.in-Some.ensures.some c.placement_of-found.ensures.ranked).can
 
 pub returns-in_err-id-clause-split : goal.returns-in_err-id-clause-split
 returns-in_err-id-clause-split c =
@@ -79,24 +69,20 @@ overflow_add-self-2 c =
     omega (arith, done.small, c.area.ensures, c.self.invariant.space)
 
 -- what is known at the end
-after : (c : goal.After-self-3-1) → AfterTaking c.self.inside.frame c.self.inside.records c.args.size c.in-Some.placement (record { id = c.in_ok-id.id; rectangle = c.rectangle-rectangle.result }) c.take_placement.new.records
+after : (c : goal.After-self-2-1) → AfterTaking c.self.inside.frame c.self.inside.records c.args.size c.in-Some.placement (record { id = c.in_ok-id.id; rectangle = c.rectangle-rectangle.result }) c.take_placement.new.records
 after c =
     let inside = c.self.inside in
     after-taking inside.frame inside.records c.take_placement.new.records c.args.size c.in-Some.placement c.in_ok-id.id c.rectangle-rectangle.result
     c.self.invariant.kept c.in-Some.ensures.some c.in_ok-id.ensures.ok c.in_ok-id.ensures.id c.rectangle-rectangle.ensures
 
 -- and of the ranked shelves
-ranked-after : (c : goal.After-self-3-1) → AreRanked c.self.inside.frame c.take_placement.new.records c.take_placement.new.ranked.items
+ranked-after : (c : goal.After-self-2-1) → AreRanked c.self.inside.frame c.take_placement.new.records c.take_placement.new.ranked.items
 ranked-after c =
     let inside = c.self.inside in
-    let ranked : List RankedShelf = c.placement_of-found.new.ranked in
+    let ranked : List RankedShelf = c.placement_of-found.new.ranked.items in
     let ranks : Ranks inside.frame inside.records c.in-Some.placement ranked =
     found-ranked inside.frame inside.records c.args.size c.in-Some.placement ranked c.self.invariant.kept c.in-Some.ensures.some c.placement_of-found.ensures.ranked in
-    let now : c.take_placement.new.ranked.items ≡ ranked_taken inside.frame.column_width c.in-Some.placement inside.records ranked =
-    c.in_ok-id.ensures.ranked
-    ∙ ap (ranked_taken inside.frame.column_width c.in-Some.placement inside.records)
-    (written (vec_len inside.ranked) inside.ranked.len ranked inside.ranked.items c.deref_mut.result.now c.placement_of-found.ensures.len c.deref_mut.ensures.len refl) in
-    subst (AreRanked inside.frame c.take_placement.new.records) (sym now)
+    subst (AreRanked inside.frame c.take_placement.new.records) (sym c.in_ok-id.ensures.ranked)
     (subst (λ (r : Records). AreRanked inside.frame r (ranked_taken inside.frame.column_width c.in-Some.placement inside.records ranked)) (sym c.in_ok-id.ensures.ok) ranks.after)
 
 pub invariant_of-self-2 : goal.invariant_of-self-2

@@ -4,33 +4,33 @@ use Rattle.etagere.proofs.ByHeight.SearchableShelves.{chosen-found, found-within
 use Rattle.etagere.proofs.linked.choosing.chosen.Goals as goal
 
 pub best_candidate-requires-clause-order : goal.best_candidate-requires-clause-order
-best_candidate-requires-clause-order c = ranked-in_order c.args.frame.now c.args.records.now c.args.ranked.now c.requires.kept c.requires.ranked
+best_candidate-requires-clause-order c = ranked-in_order c.args.frame.now c.args.records.now c.args.ranked.now.items c.requires.kept c.requires.ranked
 
 pub best_candidate-requires-clause-ranked : goal.best_candidate-requires-clause-ranked
-best_candidate-requires-clause-ranked c = ranked-searchable c.args.frame.now c.args.records.now c.requires.kept c.args.ranked.now c.requires.ranked
+best_candidate-requires-clause-ranked c = ranked-searchable c.args.frame.now c.args.records.now c.requires.kept c.args.ranked.now.items c.requires.ranked
 
 pub placement_at-requires-clause-shelf : goal.placement_at-requires-clause-shelf
 placement_at-requires-clause-shelf c =
-    (found-within c.args.frame.now c.args.records.now c.requires.kept c.args.ranked.now c.args.sides.along c.shelf_height-height.result c.in_ok-candidate.candidate c.requires.ranked c.in_ok-candidate.ensures.value).0
+    (found-within c.args.frame.now c.args.records.now c.requires.kept c.args.ranked.now.items c.args.sides.along c.shelf_height-height.result c.in_ok-candidate.candidate c.requires.ranked c.in_ok-candidate.ensures.value).0
 
 pub placement_at-requires-clause-item : goal.placement_at-requires-clause-item
 placement_at-requires-clause-item c =
-    (found-within c.args.frame.now c.args.records.now c.requires.kept c.args.ranked.now c.args.sides.along c.shelf_height-height.result c.in_ok-candidate.candidate c.requires.ranked c.in_ok-candidate.ensures.value).1
+    (found-within c.args.frame.now c.args.records.now c.requires.kept c.args.ranked.now.items c.args.sides.along c.shelf_height-height.result c.in_ok-candidate.candidate c.requires.ranked c.in_ok-candidate.ensures.value).1
 
 pub returns-in_err-candidate-clause-value : goal.returns-in_err-candidate-clause-value
 returns-in_err-candidate-clause-value c =
     c.from_residual.ensures
-    ∙ chosen-found c.args.frame.now c.args.records.now c.requires.kept c.args.ranked.now c.args.sides c.shelf_height-height.result None c.requires.ranked c.shelf_height-height.ensures.value c.in_err-candidate.ensures.value
+    ∙ chosen-found c.args.frame.now c.args.records.now c.requires.kept c.args.ranked.now.items c.args.sides c.shelf_height-height.result None c.requires.ranked c.shelf_height-height.ensures.value c.in_err-candidate.ensures.value
 
 pub returns-in_err-candidate-clause-ranked : goal.returns-in_err-candidate-clause-ranked
 returns-in_err-candidate-clause-ranked c =
-    searchable-ranked c.args.frame.now c.args.records.now c.requires.kept c.args.ranked.now c.best_candidate.new.ranked c.requires.ranked c.best_candidate.ensures.numbers c.best_candidate.ensures.ranked
+    searchable-ranked c.args.frame.now c.args.records.now c.requires.kept c.args.ranked.now.items c.best_candidate.new.ranked.items c.requires.ranked c.best_candidate.ensures.numbers c.best_candidate.ensures.ranked
 
 pub returns-clause-value : goal.returns-clause-value
 returns-clause-value c =
     ap Some c.placement_at.ensures
-    ∙ chosen-found c.args.frame.now c.args.records.now c.requires.kept c.args.ranked.now c.args.sides c.shelf_height-height.result (Some c.in_ok-candidate.candidate) c.requires.ranked c.shelf_height-height.ensures.value c.in_ok-candidate.ensures.value
+    ∙ chosen-found c.args.frame.now c.args.records.now c.requires.kept c.args.ranked.now.items c.args.sides c.shelf_height-height.result (Some c.in_ok-candidate.candidate) c.requires.ranked c.shelf_height-height.ensures.value c.in_ok-candidate.ensures.value
 
 pub returns-clause-ranked : goal.returns-clause-ranked
 returns-clause-ranked c =
-    searchable-ranked c.args.frame.now c.args.records.now c.requires.kept c.args.ranked.now c.best_candidate.new.ranked c.requires.ranked c.best_candidate.ensures.numbers c.best_candidate.ensures.ranked
+    searchable-ranked c.args.frame.now c.args.records.now c.requires.kept c.args.ranked.now.items c.best_candidate.new.ranked.items c.requires.ranked c.best_candidate.ensures.numbers c.best_candidate.ensures.ranked

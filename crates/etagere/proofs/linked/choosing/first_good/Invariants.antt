@@ -8,12 +8,12 @@ use Rattle.etagere.proofs.linked.choosing.first_good.Given as goal
 -- the first good fit from here on is that from the start on, and no shelf before the rest has a place
 abbrev pub invariant-loop-index : goal.invariant-loop-index
 invariant-loop-index l = record {
-  search : SearchesFrom l.records l.height l.from (ranked_numbers l.fn.ranked) l.ranked;
-  passed : HasPassed l.records l.width l.height l.start l.from l.bad (ranked_numbers l.fn.ranked);
+  search : SearchesFrom l.records l.height l.from (ranked_numbers l.fn.ranked.items) l.ranked.items;
+  passed : HasPassed l.records l.width l.height l.start l.from l.bad (ranked_numbers l.fn.ranked.items);
   answer :
-      first_offer (good_offer l.records l.width l.height) (drop l.from (ranked_numbers l.fn.ranked))
-      ≡ first_offer (good_offer l.records l.width l.height) (drop l.start (ranked_numbers l.fn.ranked));
+      first_offer (good_offer l.records l.width l.height) (drop l.from (ranked_numbers l.fn.ranked.items))
+      ≡ first_offer (good_offer l.records l.width l.height) (drop l.start (ranked_numbers l.fn.ranked.items));
 }
 
 abbrev pub decreases-loop-index : goal.decreases-loop-index
-decreases-loop-index l = length l.ranked - l.from
+decreases-loop-index l = length l.ranked.items - l.from

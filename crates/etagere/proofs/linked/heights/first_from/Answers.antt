@@ -4,7 +4,7 @@ use Rattle.std.specs.Prelude.{nat_lt, ◌/◌}
 use Rattle.etagere_base.specs.Lists.{Each}
 use Rattle.etagere_links.specs.declared.records.ShelfRecord.{ShelfRecord}
 use Rattle.etagere.specs.Private.ByHeight.{order_at, order_of}
-use Rattle.etagere.specs.declared.linked.heights.RankedShelf.{RankedShelf}
+use Rattle.etagere.specs.declared.linked.ranked.RankedShelf.{RankedShelf}
 use Rattle.etagere.proofs.ByHeight.Positions.{HasDigits, after-probed, before-probed, digits-halved, read-number}
 use Rattle.etagere.proofs.linked.heights.first_from.Goals as goal
 
@@ -24,8 +24,8 @@ overflow_add-start c =
 pub comes_before-requires : goal.comes_before-requires
 comes_before-requires c =
     let middle : ℕ = c.loop-start.start.index + (c.loop-start.end - c.loop-start.start.index) / 2 in
-    subst (λ (n : ℕ). n < length c.args.shelves.now) (sym c.from.ensures)
-    (read-number (λ n. n < length c.args.shelves.now) middle c.args.ranked.now none
+    subst (λ (n : ℕ). n < length c.args.shelves.now) (sym c.shelf.ensures)
+    (read-number (λ n. n < length c.args.shelves.now) middle c.args.ranked.now.items none
     (omega (arith, below c.loop-start.start.index c.loop-start.end c.loop-start-test.true, c.loop-start.invariant.within)) c.requires.within)
 
 -- the shelf that was read in the middle comes before the order
@@ -47,15 +47,15 @@ loop-start-preserved-then-comes_before c =
     let index : ℕ = c.loop-start.start.index in
     let end : ℕ = c.loop-start.end in
     let middle : ℕ = index + (end - index) / 2 in
-    let within : middle < length c.args.ranked.now = omega (arith, below index end c.loop-start-test.true, c.loop-start.invariant.within) in
+    let within : middle < length c.args.ranked.now.items = omega (arith, below index end c.loop-start-test.true, c.loop-start.invariant.within) in
     let next : suc middle ≡ middle + 1 = omega arith in
     record {
       bounds = omega (arith, below index end c.loop-start-test.true);
       few = c.loop-start.invariant.few;
       within = c.loop-start.invariant.within;
-      before = subst (λ (n : ℕ). Each (λ (one : RankedShelf). order_of c.args.shelves.now one.shelf < (order_at c.args.height c.args.place)) (take n c.args.ranked.now)) next
-          (before-probed c.args.shelves.now 0 (order_at c.args.height c.args.place) middle c.args.ranked.now none within c.requires.rising
-          (before c.args.shelves.now c.args.ranked.now middle c.from.result (order_at c.args.height c.args.place) c.if-comes_before.ensures c.from.ensures));
+      before = subst (λ (n : ℕ). Each (λ (one : RankedShelf). order_of c.args.shelves.now one.shelf < (order_at c.args.height c.args.place)) (take n c.args.ranked.now.items)) next
+          (before-probed c.args.shelves.now 0 (order_at c.args.height c.args.place) middle c.args.ranked.now.items none within c.requires.rising
+          (before c.args.shelves.now c.args.ranked.now.items middle c.shelf.result (order_at c.args.height c.args.place) c.if-comes_before.ensures c.shelf.ensures));
       after = c.loop-start.invariant.after;
       digits = λ digits enough.
           digits-halved (end - index) (end - (middle + 1)) c.loop-start.start.probes digits (omega arith) (omega (arith, c.loop-start-test.true))
@@ -67,14 +67,14 @@ loop-start-preserved c =
     let index : ℕ = c.loop-start.start.index in
     let end : ℕ = c.loop-start.end in
     let middle : ℕ = index + (end - index) / 2 in
-    let within : middle < length c.args.ranked.now = omega (arith, below index end c.loop-start-test.true, c.loop-start.invariant.within) in
+    let within : middle < length c.args.ranked.now.items = omega (arith, below index end c.loop-start-test.true, c.loop-start.invariant.within) in
     record {
       bounds = omega arith;
       few = c.loop-start.invariant.few;
       within = omega (arith, within);
       before = c.loop-start.invariant.before;
-      after = after-probed c.args.shelves.now 0 (order_at c.args.height c.args.place) middle c.args.ranked.now none within c.requires.rising
-          (after c.args.shelves.now c.args.ranked.now middle c.from.result (order_at c.args.height c.args.place) c.if-comes_before.ensures c.from.ensures);
+      after = after-probed c.args.shelves.now 0 (order_at c.args.height c.args.place) middle c.args.ranked.now.items none within c.requires.rising
+          (after c.args.shelves.now c.args.ranked.now.items middle c.shelf.result (order_at c.args.height c.args.place) c.if-comes_before.ensures c.shelf.ensures);
       digits = λ digits enough.
           digits-halved (end - index) (middle - index) c.loop-start.start.probes digits (omega arith) (omega (arith, c.loop-start-test.true))
           (c.loop-start.invariant.digits digits enough);

@@ -2,7 +2,7 @@ use Rattle.std.proofs.Common.{ℕ, ◌-◌, ◌<◌, ◌≤◌, length, take, dr
 use Rattle.std.specs.Prelude.{◌^◌}
 use Rattle.etagere_base.specs.Lists.{Each}
 use Rattle.etagere.specs.Private.ByHeight.{order_at, order_of}
-use Rattle.etagere.specs.declared.linked.heights.RankedShelf.{RankedShelf}
+use Rattle.etagere.specs.declared.linked.ranked.RankedShelf.{RankedShelf}
 use Rattle.etagere.proofs.ByHeight.Positions.{HasDigits}
 use Rattle.etagere.proofs.linked.heights.first_from.Given as goal
 
@@ -10,11 +10,11 @@ use Rattle.etagere.proofs.linked.heights.first_from.Given as goal
 abbrev pub invariant-loop-start : goal.invariant-loop-start
 invariant-loop-start l = record {
   bounds : l.start.index ≤ l.end;
-  few : length l.ranked < 2 ^ 64;
-  within : l.end ≤ length l.ranked;
-  before : Each (λ (one : RankedShelf). order_of l.shelves one.shelf < order_at l.height l.place) (take l.start.index l.ranked);
-  after : Each (λ (one : RankedShelf). order_at l.height l.place ≤ order_of l.shelves one.shelf) (drop l.end l.ranked);
-  digits : (digits : ℕ) → length l.ranked < 2 ^ digits → HasDigits (l.end - l.start.index) l.start.probes digits;
+  few : length l.ranked.items < 2 ^ 64;
+  within : l.end ≤ length l.ranked.items;
+  before : Each (λ (one : RankedShelf). order_of l.shelves one.shelf < order_at l.height l.place) (take l.start.index l.ranked.items);
+  after : Each (λ (one : RankedShelf). order_at l.height l.place ≤ order_of l.shelves one.shelf) (drop l.end l.ranked.items);
+  digits : (digits : ℕ) → length l.ranked.items < 2 ^ digits → HasDigits (l.end - l.start.index) l.start.probes digits;
 }
 
 abbrev pub decreases-loop-start : goal.decreases-loop-start

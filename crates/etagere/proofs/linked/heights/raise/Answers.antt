@@ -1,14 +1,11 @@
-use Rattle.std.proofs.Common.{◌≡◌, ℕ, true, false, ◌<◌, ◌≤◌, ap, arith, refl, set, sym, ◌∙◌, get_or}
-use Rattle.std.proofs.lemmas.List.{set-get_or}
+use Rattle.std.proofs.Common.{◌≡◌, ◌<◌, ◌≤◌, ℕ, List, false, true, ap, get_or, set, sym, ◌∙◌, arith}
 use Rattle.std.specs.Prelude.{nat_lt}
-use Rattle.etagere.specs.Private.ByHeight.{bound_of, order_of}
-use Rattle.etagere.specs.declared.linked.heights.RankedShelf.{RankedShelf}
-use Rattle.etagere.proofs.ByHeight.Positions.{StandsAt, stands-found, stands-within}
+use Rattle.etagere.specs.Private.ByHeight.{bound_of}
+use Rattle.etagere.specs.Private.Ranked.{RankedList}
+use Rattle.etagere.specs.declared.linked.ranked.RankedShelf.{RankedShelf}
+use Rattle.etagere.proofs.ByHeight.Edited.{in_order-once, ranked_as}
+use Rattle.etagere.proofs.ByHeight.Positions.{StandsAt, stands-there}
 use Rattle.etagere.proofs.linked.heights.raise.Goals as goal
-
--- a shelf of zeros
-abbrev none : RankedShelf
-none = record { widest = 0; shelf = 0 }
 
 -- what is read is below, so the bound is
 lower : (read bound width : ℕ) → read ≡ bound → read < width → nat_lt bound width ≡ true
@@ -18,33 +15,33 @@ lower read bound width is less = grind arith
 no_lower : (read bound width : ℕ) → read ≡ bound → width ≤ read → nat_lt bound width ≡ false
 no_lower read bound width is enough = grind arith
 
-pub start_of-index-requires-clause-within : goal.start_of-index-requires-clause-within
-start_of-index-requires-clause-within c = stands-within c.args.shelves.now c.args.shelf c.args.ranked.now c.requires.order c.requires.stands
-
-pub bounds-ranked-index : goal.bounds-ranked-index
-bounds-ranked-index c =
-    let at : StandsAt c.args.shelf c.start_of-index.result.index c.args.ranked.now =
-    stands-found c.args.shelves.now c.args.shelf (order_of c.args.shelves.now c.args.shelf) c.start_of-index.result.index c.start_of-index.result.probes c.args.ranked.now c.args.ranked.now
-    refl refl c.requires.order c.requires.stands c.start_of-index.ensures in
-    at.within
+-- what was read there is the shelf with its bound
+read : (shelf index : ℕ) (ranked new : List RankedShelf) (one : RankedShelf) → StandsAt shelf index ranked → new ≡ ranked → one ≡ get_or new index one → one ≡ ranked_as shelf (bound_of shelf ranked)
+read shelf index ranked new one at same is = is ∙ ap (λ (l : List RankedShelf). get_or l index one) same ∙ at.read one
 
 pub returns-then-one-width : goal.returns-then-one-width
 returns-then-one-width c =
-    let index : ℕ = c.start_of-index.result.index in
-    let at : StandsAt c.args.shelf index c.args.ranked.now =
-    stands-found c.args.shelves.now c.args.shelf (order_of c.args.shelves.now c.args.shelf) index c.start_of-index.result.probes c.args.ranked.now c.args.ranked.now
-    refl refl c.requires.order c.requires.stands c.start_of-index.ensures in
-    let less : nat_lt (bound_of c.args.shelf c.args.ranked.now) c.args.width ≡ true =
-    lower (get_or c.args.ranked.now index none).widest (bound_of c.args.shelf c.args.ranked.now) c.args.width (ap (λ (one : RankedShelf). one.widest) (at.read none)) c.if-one-width.true in
-    ap (λ (one : RankedShelf). set c.args.ranked.now index (record one { widest = c.args.width })) (at.read none)
+    let ranked = c.args.ranked.now.items in
+    let index = c.position_of-index.result in
+    let same = ap (λ (list : RankedList). list.items) c.position_of-index.ensures.same in
+    let at : StandsAt c.args.shelf index ranked =
+    stands-there c.args.shelf index ranked (in_order-once c.args.shelves.now ranked c.args.shelf c.requires.order) c.position_of-index.ensures.within c.position_of-index.ensures.shelf in
+    let is = read c.args.shelf index ranked c.position_of-index.new.ranked.items c.get-one.result at same c.get-one.ensures in
+    let less : nat_lt (bound_of c.args.shelf ranked) c.args.width ≡ true =
+    lower c.get-one.result.widest (bound_of c.args.shelf ranked) c.args.width (ap (λ (one : RankedShelf). one.widest) is) c.if-one-width.true in
+    c.set.ensures.items
+    ∙ ap (λ (l : List RankedShelf). set l index (record c.get-one.result { widest = c.args.width })) same
+    ∙ ap (λ (one : RankedShelf). set ranked index (record one { widest = c.args.width })) is
     ∙ at.higher c.args.width less
 
 pub returns-else-one-width : goal.returns-else-one-width
 returns-else-one-width c =
-    let index : ℕ = c.start_of-index.result.index in
-    let at : StandsAt c.args.shelf index c.args.ranked.now =
-    stands-found c.args.shelves.now c.args.shelf (order_of c.args.shelves.now c.args.shelf) index c.start_of-index.result.probes c.args.ranked.now c.args.ranked.now
-    refl refl c.requires.order c.requires.stands c.start_of-index.ensures in
-    let enough : nat_lt (bound_of c.args.shelf c.args.ranked.now) c.args.width ≡ false =
-    no_lower (get_or c.args.ranked.now index none).widest (bound_of c.args.shelf c.args.ranked.now) c.args.width (ap (λ (one : RankedShelf). one.widest) (at.read none)) c.if-one-width.false in
-    set-get_or c.args.ranked.now index none ∙ sym (at.same c.args.width enough)
+    let ranked = c.args.ranked.now.items in
+    let index = c.position_of-index.result in
+    let same = ap (λ (list : RankedList). list.items) c.position_of-index.ensures.same in
+    let at : StandsAt c.args.shelf index ranked =
+    stands-there c.args.shelf index ranked (in_order-once c.args.shelves.now ranked c.args.shelf c.requires.order) c.position_of-index.ensures.within c.position_of-index.ensures.shelf in
+    let is = read c.args.shelf index ranked c.position_of-index.new.ranked.items c.get-one.result at same c.get-one.ensures in
+    let enough : nat_lt (bound_of c.args.shelf ranked) c.args.width ≡ false =
+    no_lower c.get-one.result.widest (bound_of c.args.shelf ranked) c.args.width (ap (λ (one : RankedShelf). one.widest) is) c.if-one-width.false in
+    same ∙ sym (at.same c.args.width enough)

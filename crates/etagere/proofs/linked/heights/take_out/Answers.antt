@@ -1,29 +1,26 @@
-use Rattle.std.proofs.Common.{ap, arith, refl, ◌∙◌}
-use Rattle.etagere.specs.Private.ByHeight.{order_of}
-use Rattle.etagere.specs.declared.linked.heights.RankedShelf.{RankedShelf}
-use Rattle.etagere.proofs.ByHeight.Positions.{StandsAt, stands-found, stands-within}
+use Rattle.std.proofs.Common.{ap, get_or, ◌∙◌}
+use Rattle.std.specs.Prelude.{remove}
+use Rattle.etagere.specs.Private.Ranked.{RankedList}
+use Rattle.etagere.specs.declared.linked.ranked.RankedShelf.{RankedShelf}
+use Rattle.etagere.proofs.ByHeight.Edited.{in_order-once}
+use Rattle.etagere.proofs.ByHeight.Positions.{StandsAt, stands-there}
 use Rattle.etagere.proofs.linked.heights.take_out.Goals as goal
 
-pub start_of-index-requires-clause-within : goal.start_of-index-requires-clause-within
-start_of-index-requires-clause-within c = stands-within c.args.shelves.now c.args.shelf c.args.ranked.now.items c.requires.order c.requires.stands
-
-pub remove-requires : goal.remove-requires
-remove-requires c =
-    let at : StandsAt c.args.shelf c.start_of-index.result.index c.args.ranked.now.items =
-    stands-found c.args.shelves.now c.args.shelf (order_of c.args.shelves.now c.args.shelf) c.start_of-index.result.index c.start_of-index.result.probes c.deref.result.now c.args.ranked.now.items
-    c.deref.ensures.value refl c.requires.order c.requires.stands c.start_of-index.ensures in
-    omega (arith, at.within)
+-- the shelf stands where it was found
+found : (c : goal.After-remove) → StandsAt c.args.shelf c.position_of-index.result c.args.ranked.now.items
+found c =
+    stands-there c.args.shelf c.position_of-index.result c.args.ranked.now.items (in_order-once c.args.shelves.now c.args.ranked.now.items c.args.shelf c.requires.order)
+    c.position_of-index.ensures.within c.position_of-index.ensures.shelf
 
 pub returns-clause-ranked : goal.returns-clause-ranked
 returns-clause-ranked c =
-    let at : StandsAt c.args.shelf c.start_of-index.result.index c.args.ranked.now.items =
-    stands-found c.args.shelves.now c.args.shelf (order_of c.args.shelves.now c.args.shelf) c.start_of-index.result.index c.start_of-index.result.probes c.deref.result.now c.args.ranked.now.items
-    c.deref.ensures.value refl c.requires.order c.requires.stands c.start_of-index.ensures in
-    c.remove.ensures.items ∙ at.taken
+    c.remove.ensures.items
+    ∙ ap (λ (list : RankedList). remove list.items c.position_of-index.result) c.position_of-index.ensures.same
+    ∙ (found c).taken
 
 pub returns-clause-bound : goal.returns-clause-bound
 returns-clause-bound c =
-    let at : StandsAt c.args.shelf c.start_of-index.result.index c.args.ranked.now.items =
-    stands-found c.args.shelves.now c.args.shelf (order_of c.args.shelves.now c.args.shelf) c.start_of-index.result.index c.start_of-index.result.probes c.deref.result.now c.args.ranked.now.items
-    c.deref.ensures.value refl c.requires.order c.requires.stands c.start_of-index.ensures in
-    ap (λ (one : RankedShelf). one.widest) (c.remove.ensures.value ∙ at.read c.remove.result)
+    ap (λ (one : RankedShelf). one.widest)
+    (c.remove.ensures.value
+    ∙ ap (λ (list : RankedList). get_or list.items c.position_of-index.result c.remove.result) c.position_of-index.ensures.same
+    ∙ (found c).read c.remove.result)

@@ -1,5 +1,4 @@
-use Rattle.std.proofs.Common.{◌≡◌, ◌<◌, ◌∙◌, ◌∷◌, ◌++◌, [], ap, arith, length, rules}
-use Rattle.std.specs.Prelude.{vec_capacity}
+use Rattle.std.proofs.Common.{◌∙◌, ◌∷◌, ◌++◌, [], ap, arith}
 use Rattle.etagere_links.specs.Edits.{link_at}
 use Rattle.etagere_links.specs.Records.{shelf_chain}
 use Rattle.etagere.proofs.ByHeight.CollectedShelves.{collects-begin, collects-end, collects-fewer, collects-here, collects-more}
@@ -9,7 +8,7 @@ pub loop-step-init : goal.loop-step-init
 loop-step-init c = record {
   collects = collects-begin c.args.frame.now c.args.records.now c.clear.new.self.items c.number-at.result c.requires.kept c.clear.ensures.items
       (c.number-at.ensures.value ∙ c.first_shelf.ensures);
-  room = omega (arith, c.requires.room, c.clear.ensures.capacity);
+  room = omega (arith, c.requires.room, c.clear.ensures.room, c.clear.ensures.capacity);
 }
 
 pub newly_ranked-requires-clause-shelf : goal.newly_ranked-requires-clause-shelf
@@ -20,22 +19,23 @@ newly_ranked-requires-clause-shelf c =
       c.requires.kept.counts.shelves.1,
     )
 
+pub push-requires : goal.push-requires
+push-requires c = record {
+  room = omega (
+    arith,
+    collects-fewer c.args.frame.now c.args.records.now c.loop-step.ranked.items c.loop-step.at c.in-Some.shelf c.loop-step._step c.loop-step.invariant.collects c.in-Some.is,
+    c.loop-step.invariant.room,
+  );
+}
+
 pub loop-step-preserved : goal.loop-step-preserved
-loop-step-preserved c =
-    let room : length c.loop-step.ranked.items < vec_capacity c.loop-step.ranked =
-    omega (
-      arith,
-      collects-fewer c.args.frame.now c.args.records.now c.loop-step.ranked.items c.loop-step.at c.in-Some.shelf c.loop-step._step c.loop-step.invariant.collects c.in-Some.is,
-      c.loop-step.invariant.room,
-    ) in
-    let pushed : c.push-pushed.new.self.items ≡ c.loop-step.ranked.items ++ c.newly_ranked.result ∷ [] = search (rules, room) in
-    record {
-      collects =
-          collects-more c.args.frame.now c.args.records.now c.loop-step.ranked.items c.push-pushed.new.self.items c.loop-step.at c.number-at-in-loop-step.result c.in-Some.shelf c.loop-step._step c.loop-step.invariant.collects c.in-Some.is
-          (pushed ∙ ap (λ one. c.loop-step.ranked.items ++ one ∷ []) c.newly_ranked.ensures)
-          (c.number-at-in-loop-step.ensures.value ∙ c.next_of.ensures ∙ ap (λ shelves. link_at shelf_chain.next shelves c.in-Some.shelf) c.shelves.ensures);
-      room = omega (arith, c.loop-step.invariant.room, c.push-pushed.ensures.capacity);
-    }
+loop-step-preserved c = record {
+  collects =
+      collects-more c.args.frame.now c.args.records.now c.loop-step.ranked.items c.push.new.self.items c.loop-step.at c.number-at-in-loop-step.result c.in-Some.shelf c.loop-step._step c.loop-step.invariant.collects c.in-Some.is
+      (c.push.ensures.items ∙ ap (λ one. c.loop-step.ranked.items ++ one ∷ []) c.newly_ranked.ensures)
+      (c.number-at-in-loop-step.ensures.value ∙ c.next_of.ensures ∙ ap (λ shelves. link_at shelf_chain.next shelves c.in-Some.shelf) c.shelves.ensures);
+  room = omega (arith, c.loop-step.invariant.room, c.push.ensures.capacity);
+}
 
 pub returns-in_default : goal.returns-in_default
 returns-in_default c =

@@ -1,5 +1,4 @@
 use Rattle.std.proofs.Common.{◌≤◌, length}
-use Rattle.std.specs.Prelude.{vec_capacity}
 use Rattle.etagere_links.specs.RecordLists.{shelf_walk}
 use Rattle.etagere.proofs.ByHeight.CollectedShelves.{Collects}
 use Rattle.etagere.proofs.linked.starting.collect_shelves.Given as goal
@@ -8,5 +7,5 @@ use Rattle.etagere.proofs.linked.starting.collect_shelves.Given as goal
 abbrev pub invariant-loop-step : goal.invariant-loop-step
 invariant-loop-step l = record {
   collects : Collects l.frame l.records l.ranked.items l.at l._step;
-  room : length (shelf_walk l.records).met ≤ vec_capacity l.ranked;
+  room : length (shelf_walk l.records).met ≤ l.ranked.capacity;
 }

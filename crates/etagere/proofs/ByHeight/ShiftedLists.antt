@@ -1,0 +1,143 @@
+-- Lists of which a part is written, as one that moves up by one: what is read where.
+use Rattle.std.proofs.Common.{◌≡◌, ◌≢◌, ℕ, ◌+◌, ◌-◌, ◌<◌, ◌≤◌, Bool, true, false, List, [], ◌∷◌, ◌++◌, drop, get_or, length, set, take, ap, arith, refl, sym, ◌∙◌}
+use Rattle.std.proofs.lemmas.Bool.Decides.{nat_tests}
+use Rattle.std.proofs.Math.Seq.{get_or-append_right}
+use Rattle.std.specs.Prelude.{insert, nat_lt}
+use Rattle.std.proofs.lemmas.List.{ext_get_or, get_or-drop, get_or-set_other, get_or-set_same, get_or-take, get_or_append_left, length-append, length-drop, length-set, length-take-le}
+use Rattle.std.proofs.lemmas.List.Edits.{get_or-insert_above, get_or-insert_at, get_or-insert_below, length-insert}
+use borrow.Rule.Slice.PartMut.{mid_of, post_of, put_mid}
+
+-- what is read in a part
+pub mid-at : (a k i : ℕ) (xs : List ℕ) → i < k → get_or (mid_of a k xs) i 0 ≡ get_or xs (a + i) 0
+mid-at a k i xs within = get_or-take k (drop a xs) i 0 within ∙ get_or-drop a xs i 0
+
+-- and there are so many
+pub length-mid : (a k : ℕ) (xs : List ℕ) → a + k ≤ length xs → length (mid_of a k xs) ≡ k
+length-mid a k xs within = length-take-le k (drop a xs) (omega (arith, within, length-drop a xs))
+
+module _ (a k : ℕ) (xs ys : List ℕ) (starts : a ≤ length xs) where
+  -- there are so many before the part
+  front : length (take a xs) ≡ a
+  front = length-take-le a xs starts
+
+  -- before the part all stand as they did
+  pub put-before : (n : ℕ) → n < a → get_or (put_mid a k xs ys) n 0 ≡ get_or xs n 0
+  put-before n before = get_or_append_left (take a xs) (ys ++ post_of a k xs) 0 n (omega (arith, before, front)) ∙ get_or-take a xs n 0 before
+
+  -- in the part stands what was written
+  pub put-within : (n : ℕ) → n < length ys → get_or (put_mid a k xs ys) (a + n) 0 ≡ get_or ys n 0
+  put-within n within =
+      let place : a + n - length (take a xs) ≡ n = omega (arith, front) in
+      get_or-append_right (take a xs) (ys ++ post_of a k xs) (a + n) 0 (omega (arith, front))
+      ∙ ap (λ m. get_or (ys ++ post_of a k xs) m 0) place
+      ∙ get_or_append_left ys (post_of a k xs) 0 n within
+
+  -- behind the part all stand as they did
+  pub put-behind : (n : ℕ) → length ys ≡ k → a + k ≤ n → get_or (put_mid a k xs ys) n 0 ≡ get_or xs n 0
+  put-behind n same behind =
+      let place : a + (k + (n - length (take a xs) - length ys)) ≡ n = omega (arith, front, behind, same) in
+      get_or-append_right (take a xs) (ys ++ post_of a k xs) n 0 (omega (arith, front, behind))
+      ∙ get_or-append_right ys (post_of a k xs) (n - length (take a xs)) 0 (omega (arith, front, behind, same))
+      ∙ get_or-drop k (drop a xs) (n - length (take a xs) - length ys) 0
+      ∙ get_or-drop a xs (k + (n - length (take a xs) - length ys)) 0
+      ∙ ap (λ m. get_or xs m 0) place
+
+  -- there are as many as before
+  pub length-put : length ys ≡ k → a + k ≤ length xs → length (put_mid a k xs ys) ≡ length xs
+  length-put same within =
+      omega (
+        arith,
+        length-append (take a xs) (ys ++ post_of a k xs),
+        length-append ys (post_of a k xs),
+        front,
+        length-drop k (drop a xs),
+        length-drop a xs,
+        same,
+        within,
+      )
+
+-- a stretch of 64 behind which all stand one further moves up by one too
+module _ (end : ℕ) (old xs ys : List ℕ) (long : 64 ≤ end) (within : end < length xs) (same : length xs ≡ length old)
+    (below : (n : ℕ) → n ≤ end → get_or xs n 0 ≡ get_or old n 0)
+    (above : (n : ℕ) → end ≤ n → n + 1 < length old → get_or xs (n + 1) 0 ≡ get_or old n 0)
+    (size : length ys ≡ end + 1 - (end - 64))
+    (first : get_or ys 0 0 ≡ get_or (mid_of (end - 64) (end + 1 - (end - 64)) xs) 0 0)
+    (moved : (n : ℕ) → n < 64 → get_or ys (n + 1) 0 ≡ get_or (mid_of (end - 64) (end + 1 - (end - 64)) xs) n 0) where
+  abbrev pub a : ℕ
+  a = end - 64
+
+  abbrev pub k : ℕ
+  k = end + 1 - a
+
+  abbrev pub new : List ℕ
+  new = put_mid a k xs ys
+
+  pub moved-below : (n : ℕ) → n ≤ a → get_or new n 0 ≡ get_or old n 0
+  moved-below n before = by_cases (nat_lt n a) refl
+    where
+      by_cases : (b : Bool) → nat_lt n a ≡ b → get_or new n 0 ≡ get_or old n 0
+      by_cases true e = put-before a k xs ys (omega arith) n (grind (arith, nat_tests)) ∙ below n (omega (arith, before))
+      by_cases false e =
+          let here : n ≡ a + 0 = grind (arith, nat_tests) in
+          ap (λ m. get_or new m 0) here
+          ∙ put-within a k xs ys (omega arith) 0 (omega (arith, size))
+          ∙ first
+          ∙ mid-at a k 0 xs (omega arith)
+          ∙ ap (λ m. get_or xs m 0) (sym here)
+          ∙ below n (omega (arith, before))
+
+  pub moved-above : (n : ℕ) → a ≤ n → n + 1 < length old → get_or new (n + 1) 0 ≡ get_or old n 0
+  moved-above n after fits = by_cases (nat_lt n end) refl
+    where
+      by_cases : (b : Bool) → nat_lt n end ≡ b → get_or new (n + 1) 0 ≡ get_or old n 0
+      by_cases true e =
+          let less : n < end = grind (arith, nat_tests) in
+          let next : n + 1 ≡ a + (n - a + 1) = omega (arith, after) in
+          let here : a + (n - a) ≡ n = omega (arith, after) in
+          ap (λ m. get_or new m 0) next
+          ∙ put-within a k xs ys (omega arith) (n - a + 1) (omega (arith, size, less, after))
+          ∙ moved (n - a) (omega (arith, less, after))
+          ∙ mid-at a k (n - a) xs (omega (arith, less, after))
+          ∙ ap (λ m. get_or xs m 0) here
+          ∙ below n (omega (arith, less))
+      by_cases false e =
+          let more : end ≤ n = grind (arith, nat_tests) in
+          put-behind a k xs ys (omega arith) (n + 1) size (omega (arith, more)) ∙ above n more fits
+
+-- where all from a position on moved up by one behind a list that was longer by one, a number that is written there was put in
+pub shifted-insert : (old shifted : List ℕ) (index number : ℕ) → index ≤ length old → length shifted ≡ length old + 1
+    → ((n : ℕ) → n ≤ index → get_or shifted n 0 ≡ get_or (old ++ number ∷ []) n 0)
+    → ((n : ℕ) → index ≤ n → n < length old → get_or shifted (n + 1) 0 ≡ get_or (old ++ number ∷ []) n 0)
+    → set shifted index number ≡ insert old index number
+shifted-insert old shifted index number within longer below above =
+    ext_get_or 0 (set shifted index number) (insert old index number)
+    (omega (arith, length-set shifted index number, length-insert old index number within, longer)) by_place
+  where
+    by_place : (n : ℕ) → n < length (set shifted index number) → get_or (set shifted index number) n 0 ≡ get_or (insert old index number) n 0
+    by_place n inside = by_cases (nat_lt n index) (nat_lt index n) refl refl
+      where
+        by_cases : (b d : Bool) → nat_lt n index ≡ b → nat_lt index n ≡ d → get_or (set shifted index number) n 0 ≡ get_or (insert old index number) n 0
+        by_cases true d e f =
+            let less : n < index = grind (arith, nat_tests) in
+            let other : n ≢ index = λ same. omega (arith, less, same) in
+            get_or-set_other shifted index n number 0 other
+            ∙ below n (omega (arith, less))
+            ∙ get_or_append_left old (number ∷ []) 0 n (omega (arith, less, within))
+            ∙ sym (get_or-insert_below old index number 0 n less within)
+        by_cases false false e f =
+            let same : n ≡ index = grind (arith, nat_tests) in
+            ap (λ m. get_or (set shifted index number) m 0) same
+            ∙ get_or-set_same shifted index number 0 (omega (arith, longer, within))
+            ∙ sym (get_or-insert_at old index number 0 within)
+            ∙ ap (λ m. get_or (insert old index number) m 0) (sym same)
+        by_cases false true e f =
+            let more : index < n = grind (arith, nat_tests) in
+            let other : n ≢ index = λ same. omega (arith, more, same) in
+            let next : n ≡ n - 1 + 1 = omega (arith, more) in
+            let size : n - 1 < length old = omega (arith, inside, length-set shifted index number, longer, more) in
+            get_or-set_other shifted index n number 0 other
+            ∙ ap (λ m. get_or shifted m 0) next
+            ∙ above (n - 1) (omega (arith, more)) size
+            ∙ get_or_append_left old (number ∷ []) 0 (n - 1) size
+            ∙ sym (get_or-insert_above old index number 0 (n - 1) (omega (arith, more)) within)
+            ∙ ap (λ m. get_or (insert old index number) m 0) (sym next)
