@@ -22,3 +22,9 @@ set-changed_by change xs link number y d names within e = rw (names, e) (set-cha
 -- a link past the end changes nothing
 pub changed_by-past : {T : Type 0} (change : T → T) (xs : List T) (link : Option ℕ) (number : ℕ) → link ≡ Some number → length xs ≤ number → xs ≡ changed_by link change xs
 changed_by-past change xs link number names past = rw names (sym (changed_at-past change xs number past))
+
+-- two changes of the same element are one
+pub changed-twice : {T : Type 0} (second first : T → T) (xs : List T) (number : ℕ) → changed_at number second (changed_at number first xs) ≡ changed_at number (λ x. second (first x)) xs
+changed-twice second first [] number = refl
+changed-twice second first (y ∷ ys) zero = refl
+changed-twice second first (y ∷ ys) (suc number) = ap (λ zs. y ∷ zs) (changed-twice second first ys number)

@@ -6,11 +6,13 @@ pub mod ChainEdits
 pub mod Chains
 pub mod Families
 pub mod FirstLinks
+mod FirstWrites
 pub mod LinkBits
 pub mod ListEnds
 mod MetPlaces
 pub mod MadeRecords
 pub mod MarkLemmas
+mod NeighbourFrames
 pub mod RecordChanges
 pub mod RecordFrames
 pub mod RecordLists

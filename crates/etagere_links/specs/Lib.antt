@@ -4,6 +4,7 @@ pub mod Families
 pub mod Links
 pub mod Lists
 pub mod Marks
+pub mod Neighbours
 pub mod Private
 pub mod RecordEdits
 pub mod RecordLists

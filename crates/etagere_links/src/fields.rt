@@ -1,26 +1,21 @@
-//! Single fields of records by number. A number past the last record changes nothing.
+//! Single fields of records by number. A number past the last record changes nothing. What ends in `among`
+//! needs the records there that it changes, and tests no range.
 //!
 //! Definitions: `RecordEdits`. A field that a step writes gets its function here, and keeps all others.
 
-ghost use Rattle.std.specs.Prelude.{◌≡◌, true, Some};
-ghost use Rattle.etagere_links.specs.Edits.{changed_by};
+ghost use Rattle.std.specs.Prelude.{◌≡◌, ◌<◌, true, false, Some, length};
+ghost use Rattle.etagere_links.specs.Edits.{changed_by, linked_between, put_aside};
+ghost use Rattle.etagere_links.specs.Links.{no_link};
+ghost use Rattle.etagere_links.specs.Neighbours.{NamesOneOf};
 ghost use Rattle.etagere_links.specs.RecordEdits as edits;
-ghost use Rattle.etagere_links.specs.RecordLists.{first_item_of, first_free_of};
+ghost use Rattle.etagere_links.specs.RecordLists.{first_free_of};
 ghost use Rattle.etagere_links.specs.RecordMaking as making;
+ghost use Rattle.etagere_links.specs.Records.{free_list, item_chain};
 
+use crate::chained::FreeList;
 use crate::links::Link;
+use crate::lists;
 use crate::records::{ItemRecord, ShelfRecord};
-
-/// The link to the first item of the shelf of this number; none where there is no such shelf.
-pub fn first_item(shelves: &[ShelfRecord], shelf: usize) -> Link
-    ensures { result ≡ first_item_of shelves.now shelf }
-{
-    if shelf < shelves.len() {
-        shelves[shelf].first_item
-    } else {
-        Link::none()
-    }
-}
 
 /// The link to the first of the free list of the shelf of this number; none where there is no such shelf.
 pub fn first_free(shelves: &[ShelfRecord], shelf: usize) -> Link
@@ -30,16 +25,6 @@ pub fn first_free(shelves: &[ShelfRecord], shelf: usize) -> Link
         shelves[shelf].first_unallocated
     } else {
         Link::none()
-    }
-}
-
-/// Changes the link to the first item of a shelf.
-pub fn set_first_item(shelves: &mut [ShelfRecord], shelf: usize, first: Link)
-    ensures { shelves.new ≡ edits.with_first_item shelf first shelves.old }
-{
-    if shelf < shelves.len() {
-        let here = &mut shelves[shelf];
-        here.first_item = first;
     }
 }
 
@@ -91,6 +76,50 @@ pub fn set_allocated(items: &mut [ItemRecord], number: usize, allocated: bool)
         let here = &mut items[number];
         here.allocated = allocated;
     }
+}
+
+/// Changes the width of an item that is there.
+pub fn set_width_among(items: &mut [ItemRecord], number: usize, width: u16)
+    requires { number < length items.old }
+    ensures { items.new ≡ edits.with_width number width items.old }
+{
+    let here = &mut items[number];
+    here.width = width;
+}
+
+/// Says that an item that is there is free, and puts its record onto the pile whose top record `top` names.
+pub fn free_aside_among(items: &mut [ItemRecord], top: &mut Link, number: usize)
+    requires here { number < length items.old }
+    requires small { number < no_link }
+    ensures items { items.new
+        ≡ put_aside item_chain top.old number (edits.with_allocated number false items.old) }
+    ensures top { top.new ≡ Some number }
+{
+    let here = &mut items[number];
+    here.allocated = false;
+    here.next = *top;
+    *top = Link::to(number);
+}
+
+/// Says that an item that is there is free, and puts it in front of the free list whose first item `first`
+/// names, which is there too.
+pub fn free_front_among(items: &mut [ItemRecord], first: &mut Link, number: usize)
+    requires here { number < length items.old }
+    requires small { number < no_link }
+    requires first { NamesOneOf items.old first.old }
+    ensures items { items.new
+        ≡ linked_between free_list None first.old number
+        (edits.with_allocated number false items.old) }
+    ensures first { first.new ≡ Some number }
+{
+    let second = *first;
+    let link = Link::to(number);
+    *first = link;
+    let here = &mut items[number];
+    here.allocated = false;
+    here.next_unallocated = second;
+    here.prev_unallocated = Link::none();
+    lists::join_previous::<FreeList, ItemRecord>(items, second, link);
 }
 
 /// Changes the width of an item, and says that it is allocated.

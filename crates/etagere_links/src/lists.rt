@@ -1,12 +1,13 @@
 //! Lists of records linked by number: inserting and taking out. A link that names no record changes
-//! nothing.
+//! nothing. What ends in `among` needs the records there that it changes, and tests no range.
 //!
 //! Definitions: `Edits`, and `Chains` for what they mean. One body serves every list of `Linked`.
 
-ghost use Rattle.std.specs.Prelude.{◌≡◌, ◌<◌, IfSome, IfOk, OnOk, map, option_and_then};
+ghost use Rattle.std.specs.Prelude.{◌≡◌, ◌<◌, IfSome, IfOk, OnOk, length, map, option_and_then};
 ghost use Rattle.etagere_links.specs.Links.{no_link, bits_of};
 ghost use Rattle.etagere_links.specs.Edits.{AreFitting};
 ghost use Rattle.etagere_links.specs.Edits as spec;
+ghost use Rattle.etagere_links.specs.Neighbours.{HasNeighbours, NamesOneOf};
 
 use crate::chained::Linked;
 use crate::links::Link;
@@ -76,6 +77,15 @@ fn set_previous_of<List, T: Linked<List>>(records: &mut [T], from: Link, previou
     }
 }
 
+/// Changes the link to a list's first, where the record with these neighbours was taken out.
+fn set_first_without(first: &mut Link, previous: Link, next: Link)
+    ensures { first.new ≡ spec.first_without previous next first.old }
+{
+    if previous.number().is_none() {
+        *first = next;
+    }
+}
+
 /// Takes the record of this number out of its list, whose first record `first` names: its neighbours are
 /// linked to each other. Its own links stay.
 pub fn unlink<List, T: Linked<List>>(records: &mut [T], first: &mut Link, number: usize)
@@ -90,9 +100,44 @@ pub fn unlink<List, T: Linked<List>>(records: &mut [T], first: &mut Link, number
     let next = next_of::<List, T>(records, number);
     set_next_of::<List, T>(records, previous, next);
     set_previous_of::<List, T>(records, next, previous);
-    if previous.number().is_none() {
-        *first = next;
+    set_first_without(first, previous, next);
+}
+
+/// Changes the link to the next one in the record that `from` names, which is there.
+fn join_next<List, T: Linked<List>>(records: &mut [T], from: Link, next: Link)
+    requires { NamesOneOf records.old from }
+    ensures { records.new ≡ spec.changed_by from (T.family.with_next next) records.old }
+{
+    if let Some(number) = from.number() {
+        records[number].set_next(next);
     }
+}
+
+/// Changes the link to the previous one in the record that `from` names, which is there.
+pub fn join_previous<List, T: Linked<List>>(records: &mut [T], from: Link, previous: Link)
+    requires { NamesOneOf records.old from }
+    ensures { records.new ≡ spec.changed_by from (T.family.with_previous previous) records.old }
+{
+    if let Some(number) = from.number() {
+        records[number].set_previous(previous);
+    }
+}
+
+/// Takes a record out of its list as `unlink` does, where it and its neighbours are there.
+pub fn unlink_among<List, T: Linked<List>>(records: &mut [T], first: &mut Link, number: usize)
+    requires { HasNeighbours T.family records.old number }
+    ensures records { records.new ≡ spec.unlinked T.family number records.old }
+    ensures first { first.new
+        ≡ spec.first_without
+        (spec.link_at T.family.previous records.old number)
+        (spec.link_at T.family.next records.old number)
+        first.old }
+{
+    let previous = records[number].previous();
+    let next = records[number].next();
+    join_next::<List, T>(records, previous, next);
+    join_previous::<List, T>(records, next, previous);
+    set_first_without(first, previous, next);
 }
 
 /// Puts the record of this number, which stands in no list, between two neighbours.
@@ -141,6 +186,17 @@ pub fn put_aside<List, T: Linked<List>>(records: &mut [T], top: &mut Link, numbe
     let link = Link::to(number);
     set_next_of::<List, T>(records, link, *top);
     *top = link;
+}
+
+/// Puts a record aside as `put_aside` does, where it is there.
+pub fn put_aside_among<List, T: Linked<List>>(records: &mut [T], top: &mut Link, number: usize)
+    requires here { number < length records.old }
+    requires small { number < no_link }
+    ensures records { records.new ≡ spec.put_aside T.family top.old number records.old }
+    ensures top { top.new ≡ Some number }
+{
+    records[number].set_next(*top);
+    *top = Link::to(number);
 }
 
 /// Takes the record that was put aside last off the pile whose top record `top` names; none where the pile

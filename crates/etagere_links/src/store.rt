@@ -45,8 +45,10 @@ impl Records {
     ghost use Rattle.etagere_links.specs.RecordMaking as making;
     ghost use Rattle.etagere_links.specs.RecordMerges as merges;
     ghost use Rattle.etagere_links.specs.RecordUses as using;
+    ghost use Rattle.etagere_links.specs.Neighbours.{HasNeighbours, NamesOneOf};
+    ghost use Rattle.etagere_links.specs.RecordLists.{first_free_of};
     ghost use Rattle.etagere_links.specs.RecordUses.{AreSmall};
-    ghost use Rattle.etagere_links.specs.Records.{item_chain, shelf_chain};
+    ghost use Rattle.etagere_links.specs.Records.{free_list, item_chain, shelf_chain};
 
     /// No records. Takes no memory.
     pub fn new(alloc: Global) -> Records
@@ -264,15 +266,6 @@ impl Records {
         lists::take::<Chain, ShelfRecord>(&self.shelf_records, &mut self.unused_shelves)
     }
 
-    /// Takes an item out of its shelf. Its own links stay.
-    pub fn unlink_item(&mut self, shelf: usize, number: usize)
-        ensures { self.new ≡ edits.item_unlinked shelf number self.old }
-    {
-        let mut first = fields::first_item(&self.shelf_records, shelf);
-        lists::unlink::<Chain, ItemRecord>(&mut self.item_records, &mut first, number);
-        fields::set_first_item(&mut self.shelf_records, shelf, first);
-    }
-
     /// Puts an item that stands in no list after another one of a shelf.
     pub fn insert_item_after(&mut self, previous: usize, number: usize)
         requires previous { previous < no_link }
@@ -410,6 +403,53 @@ impl Records {
         ensures { self.new ≡ edits.shelf_changed number (λ _. shelf) self.old }
     {
         fields::write_shelf(&mut self.shelf_records, number, shelf);
+    }
+
+    /// Lets an item take the place of the free one after it, which is put aside: it gets this width. All that
+    /// the steps read is there, so they test no range.
+    pub fn absorb_free(&mut self, shelf: usize, number: usize, next: usize, width: u16)
+        requires shelf { shelf < length self.old.shelves }
+        requires number { number < length self.old.items }
+        requires small { next < no_link }
+        requires next { HasNeighbours item_chain self.old.items next }
+        requires free { HasNeighbours free_list self.old.items next }
+        ensures { self.new ≡ merges.free_absorbed shelf number next width self.old }
+    {
+        let here = &mut self.shelf_records[shelf];
+        let items: &mut [ItemRecord] = &mut self.item_records;
+        lists::unlink_among::<FreeList, ItemRecord>(items, &mut here.first_unallocated, next);
+        lists::unlink_among::<Chain, ItemRecord>(items, &mut here.first_item, next);
+        lists::put_aside_among::<Chain, ItemRecord>(items, &mut self.unused_items, next);
+        fields::set_width_among(items, number, width);
+    }
+
+    /// Lets a free item take the place of the allocated one after it, which becomes free and is put aside: it
+    /// gets this width. All that the steps read is there, so they test no range.
+    pub fn absorb_allocated(&mut self, shelf: usize, number: usize, next: usize, width: u16)
+        requires shelf { shelf < length self.old.shelves }
+        requires number { number < length self.old.items }
+        requires small { next < no_link }
+        requires next { HasNeighbours item_chain self.old.items next }
+        ensures { self.new ≡ merges.allocated_absorbed shelf number next width self.old }
+    {
+        let here = &mut self.shelf_records[shelf];
+        let items: &mut [ItemRecord] = &mut self.item_records;
+        lists::unlink_among::<Chain, ItemRecord>(items, &mut here.first_item, next);
+        fields::free_aside_among(items, &mut self.unused_items, next);
+        fields::set_width_among(items, number, width);
+    }
+
+    /// Says that an item is free, and puts it in front of the free list of its shelf. All that the steps read
+    /// is there, so they test no range.
+    pub fn free_item(&mut self, shelf: usize, number: usize)
+        requires shelf { shelf < length self.old.shelves }
+        requires number { number < length self.old.items }
+        requires small { number < no_link }
+        requires first { NamesOneOf self.old.items (first_free_of self.old.shelves shelf) }
+        ensures { self.new ≡ merges.item_freed shelf number self.old }
+    {
+        let here = &mut self.shelf_records[shelf];
+        fields::free_front_among(&mut self.item_records, &mut here.first_unallocated, number);
     }
 
     /// Gives the whole of a free item of a shelf.

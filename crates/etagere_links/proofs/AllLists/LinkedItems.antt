@@ -80,10 +80,10 @@ items-keep_previous : IsUnchanged item_chain free_list.previous
 items-keep_previous = record { next = λ link x. refl; previous = λ link x. refl }
 
 -- the links of items are no part of those of a free list
-frees-keep_next : IsUnchanged free_list item_chain.next
+pub frees-keep_next : IsUnchanged free_list item_chain.next
 frees-keep_next = record { next = λ link x. refl; previous = λ link x. refl }
 
-frees-keep_previous : IsUnchanged free_list item_chain.previous
+pub frees-keep_previous : IsUnchanged free_list item_chain.previous
 frees-keep_previous = record { next = λ link x. refl; previous = λ link x. refl }
 
 -- members of a list stay so where one went that is none of them
