@@ -5,7 +5,6 @@ pub mod Edited
 pub mod FreedBounds
 pub mod FreedRanks
 pub mod KeptRanks
-pub mod KnownBounds
 pub mod LeastOffers
 pub mod MergedRanks
 pub mod NewlyRanked

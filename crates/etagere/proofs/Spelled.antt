@@ -5,6 +5,7 @@ pub mod EntryValues
 pub mod FreshKept
 pub mod GivenItems
 pub mod ItemFits
+pub mod ItemLeft
 pub mod ItemLocated
 pub mod ItemMerged
 pub mod ItemReturned
@@ -13,7 +14,9 @@ pub mod KeptCounts
 pub mod LocatedPlacements
 pub mod MergedAround
 pub mod NeighboursMerged
+pub mod NeighboursThere
 pub mod NextMerged
+pub mod NotEmptied
 pub mod NumberedLists
 pub mod PreviousMerged
 pub mod RecordValues

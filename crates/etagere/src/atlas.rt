@@ -36,7 +36,7 @@ use crate::linked::drawing::{send_document, send_part, send_picture};
 use crate::linked::growing::counting::needed_for;
 use crate::linked::growing::framing::{grown_frame, size_fault};
 use crate::linked::growing::grow_shelves;
-use crate::linked::looking::{index_of, number_of, recorded_area, rectangle_of};
+use crate::linked::looking::{index_of, number_of, recorded_area, recorded_shelf, rectangle_of};
 use crate::linked::ranked::RankedShelves;
 use crate::linked::returning::return_item;
 use crate::linked::starting::{fresh_heights, fresh_records, reset_heights, reset_records};
@@ -258,10 +258,10 @@ impl AtlasAllocator {
         let Some(number) = number_of(&self.records, id) else {
             return Err(UnknownId);
         };
-        let area = recorded_area(&self.records, number);
-        let put_aside = return_item(&mut self.records, &mut self.ranked, number);
-        self.items_in_use -= put_aside;
+        let shelf = recorded_shelf(&self.records, number);
+        let area = recorded_area(&self.records, shelf, number);
         self.allocated_space -= area;
+        self.items_in_use -= return_item(&mut self.records, &mut self.ranked, shelf, number);
         Ok(())
     }
 

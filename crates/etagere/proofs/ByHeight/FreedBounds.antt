@@ -20,8 +20,7 @@ use Rattle.etagere.specs.Private.RankedReturned.{freed_width, named_width}
 use Rattle.etagere.specs.Returning.{freed}
 use Rattle.etagere.specs.State.{Item, is_free}
 use Rattle.etagere.proofs.Returned.MergedNear.{merged_items-freed}
-use Rattle.etagere.proofs.Spelled.EntryValues.{widths}
-use Rattle.etagere.proofs.Spelled.ItemsAround.{by_end, free-item, freed-here, next-merged, next-stays, previous-merged, previous-stays, widths-append}
+use Rattle.etagere.proofs.Spelled.ItemsAround.{by_end, free-item, freed-here, next-merged, next-stays, previous-merged, previous-stays}
 use Rattle.etagere.proofs.Spelled.MergedAround.{free_item}
 
 -- a free item is no wider
@@ -124,28 +123,3 @@ freed-within atlas shelf number front back free widest is apart within low =
     rw merged
     (previous-within items (width_of items number + named_width items (free_named items (first_or None back))) widest next.rest front
     (Each-front (IsWithin widest) (map (item_at items) front) (item_at items number ∷ map (item_at items) back) parts) next.within wide)
-
--- a free item that is named is no wider than all of a list whose end it is
-named-first : (items : List ItemRecord) (xs : List ℕ) → named_width items (free_named items (first_or None xs)) ≤ widths items xs
-named-first items [] = omega arith
-named-first items (x ∷ xs) = by_mark (is_allocated_at items x) refl
-  where
-    by_mark : (b : Bool) → is_allocated_at items x ≡ b → named_width items (free_named items (Some x)) ≤ widths items (x ∷ xs)
-    by_mark true e = let none : free_named items (Some x) ≡ None = simp e refl in rw none (omega arith)
-    by_mark false e = let some : free_named items (Some x) ≡ Some x = simp e refl in rw some (omega arith)
-
-named-last : (items : List ItemRecord) (xs : List ℕ) → named_width items (free_named items (last_or None xs)) ≤ widths items xs
-named-last items =
-    by_end (λ (xs : List ℕ). named_width items (free_named items (last_or None xs)) ≤ widths items xs) (omega arith)
-    (λ front x. rw (last-append front x None) (omega (arith, named-first items (x ∷ []), widths-append items front (x ∷ []))))
-
--- how wide an item is with its free neighbours is no more than its shelf
-pub freed_width-le : (atlas : AtlasRecords) (shelf number : ℕ) (front back free : List ℕ) → IsEntry atlas.lists (entry_of shelf (front ++ number ∷ back) free) → freed_width atlas.lists.items number ≤ widths atlas.lists.items (front ++ number ∷ back)
-freed_width-le atlas shelf number front back free is =
-    omega (
-      arith,
-      freed_width-is atlas shelf number front back free is,
-      named-first atlas.lists.items back,
-      named-last atlas.lists.items front,
-      widths-append atlas.lists.items front (number ∷ back),
-    )

@@ -1,6 +1,6 @@
 -- Ranked shelves stay ranked where an item became free and was merged with its free neighbours, once the bound of its
 -- shelf was raised to the width of what became free.
-use Rattle.std.proofs.Common.{◌≡◌, ℕ, List, ◌∷◌, ◌++◌, map, refl, subst, arith, sym, ◌∙◌}
+use Rattle.std.proofs.Common.{◌≡◌, ℕ, Some, List, ◌∷◌, ◌++◌, map, refl, subst, arith, sym, ◌∙◌}
 use Rattle.std.proofs.lemmas.List.{map-append}
 use Rattle.etagere_base.proofs.EachLemmas.{Each-middle}
 use Rattle.etagere_base.specs.Lists.{Each}
@@ -9,6 +9,7 @@ use Rattle.etagere_links.specs.RecordLists.{Records, Entry, IsEntry, first_item_
 use Rattle.etagere_links.proofs.AllLists.LinkedMerges.{entry_of}
 use Rattle.etagere_links.proofs.AllLists.LinkedUnused.{lists_of}
 use Rattle.etagere_links.proofs.FirstLinks.{field_at-kept}
+use Rattle.etagere_links.proofs.RecordChanges.{length-changed_by}
 use Rattle.etagere.specs.AtlasRecords.{AtlasRecords, across_of, along_of, height_of, spelled_shelf}
 use Rattle.etagere.specs.Private.ByHeight.{AreInOrder, place_number, raised}
 use Rattle.etagere.specs.Private.ItemReturned.{emptiness_said, item_merged, names_one_free}
@@ -24,13 +25,14 @@ use Rattle.etagere.proofs.Spelled.ItemsAround.{map-parts}
 use Rattle.etagere.proofs.Spelled.ReturnedLengths.{SameLengths, emptied-lengths}
 use Rattle.etagere.proofs.Spelled.SpelledLists.{with_lists, IsSpelled}
 
--- what an item that became free leaves of ranked shelves, and of those whose bound was raised
-pub record FreesRanks (atlas new : AtlasRecords) (entries edited : List Entry) (shelf width : ℕ) : Type 0 where
-  pub order : (ranked : List RankedShelf) → AreInOrder atlas.lists.shelves ranked → AreInOrder new.lists.shelves ranked
+-- what an item that became free leaves of ranked shelves, and of those whose bound was raised once its shelf says
+-- whether it is empty
+pub record FreesRanks (atlas new : AtlasRecords) (merged : List ShelfRecord) (entries edited : List Entry) (shelf width : ℕ) : Type 0 where
+  pub order : (ranked : List RankedShelf) → AreInOrder atlas.lists.shelves ranked → AreInOrder merged ranked
   pub ranks : (ranked : List RankedShelf) → Ranks atlas entries ranked → Ranks new edited (raised shelf width ranked)
 
 -- an item became free, and its shelf says whether it is empty
-pub frees-ranks : (atlas : AtlasRecords) (before after : List Entry) (shelf number : ℕ) (front back free unused shelves : List ℕ) → IsShelf atlas.frame (spelled_shelf atlas (entry_of shelf (front ++ number ∷ back) free)) → IsSpelled atlas (lists_of (before ++ entry_of shelf (front ++ number ∷ back) free ∷ after) unused shelves) → (merges : MergesItem atlas (item_merged shelf number atlas.lists) before after shelf number front back free unused shelves) → map (spelled_shelf (with_lists atlas (emptiness_said shelf (item_merged shelf number atlas.lists).records))) (before ++ entry_of shelf merges.numbers merges.free_list ∷ after) ≡ map (spelled_shelf (with_lists atlas (item_merged shelf number atlas.lists).records)) (before ++ entry_of shelf merges.numbers merges.free_list ∷ after) → FreesRanks atlas (with_lists atlas (emptiness_said shelf (item_merged shelf number atlas.lists).records)) (before ++ entry_of shelf (front ++ number ∷ back) free ∷ after) (before ++ entry_of shelf merges.numbers merges.free_list ∷ after) shelf (freed_width atlas.lists.items number)
+pub frees-ranks : (atlas : AtlasRecords) (before after : List Entry) (shelf number : ℕ) (front back free unused shelves : List ℕ) → IsShelf atlas.frame (spelled_shelf atlas (entry_of shelf (front ++ number ∷ back) free)) → IsSpelled atlas (lists_of (before ++ entry_of shelf (front ++ number ∷ back) free ∷ after) unused shelves) → (merges : MergesItem atlas (item_merged shelf number atlas.lists) before after shelf number front back free unused shelves) → map (spelled_shelf (with_lists atlas (emptiness_said shelf (item_merged shelf number atlas.lists).records))) (before ++ entry_of shelf merges.numbers merges.free_list ∷ after) ≡ map (spelled_shelf (with_lists atlas (item_merged shelf number atlas.lists).records)) (before ++ entry_of shelf merges.numbers merges.free_list ∷ after) → FreesRanks atlas (with_lists atlas (emptiness_said shelf (item_merged shelf number atlas.lists).records)) (item_merged shelf number atlas.lists).records.shelves (before ++ entry_of shelf (front ++ number ∷ back) free ∷ after) (before ++ entry_of shelf merges.numbers merges.free_list ∷ after) shelf (freed_width atlas.lists.items number)
 frees-ranks atlas before after shelf number front back free unused shelves valid spelled merges said =
     let old : List ShelfRecord = atlas.lists.shelves in
     let entry : Entry = entry_of shelf (front ++ number ∷ back) free in
@@ -48,7 +50,7 @@ frees-ranks atlas before after shelf number front back free unused shelves valid
     let is : IsEntry atlas.lists entry = Each-middle (IsEntry atlas.lists) before entry after spelled.linked.entries in
     let others = map-parts (spelled_shelf new) (spelled_shelf middle) before edited (spelled_shelf middle edited) after (said ∙ map-append (spelled_shelf middle) before (edited ∷ after)) in
     record {
-      order = λ ranked order. in_order-kept old two.shelves ranked (omega (arith, lengths.shelves)) (λ k stands. omega (arith, places k, height k)) order;
+      order = λ ranked order. in_order-kept old one.shelves ranked (omega (arith, lengths.shelves, length-changed_by change one.shelves (Some shelf))) (λ k stands. omega (arith, (merges.same k).along, (merges.same k).across, (merges.same k).height)) order;
       ranks = λ ranked ranks. raised-ranks atlas new before after entry edited (freed_width atlas.lists.items number) ranked refl lengths.shelves places height
           (others.0 ∙ merges.before_same) (others.1 ∙ merges.after_same)
           (λ widest bound wide. subst (λ (s : Shelf). Each (IsWithin widest) s.items) (sym merges.returned) (freed-within atlas shelf number front back free widest is valid.apart bound wide))

@@ -1,5 +1,5 @@
--- What a return adds up of the widths of items fits 16 bits.
-use Rattle.std.proofs.Common.{◌≡◌, ◌≢◌, ℕ, ◌+◌, ◌≤◌, Bool, true, false, ◌==◌, Option, None, Some, List, [], ◌∷◌, ◌++◌, refl, ap, subst, arith, sym, ◌∙◌}
+-- What a return adds up of the widths of items fits 16 bits, and all that it reads of them is there.
+use Rattle.std.proofs.Common.{◌≡◌, ◌≢◌, ℕ, ◌+◌, ◌≤◌, Bool, true, false, ◌==◌, None, Some, List, [], ◌∷◌, ◌++◌, refl, ap, subst, arith, sym, ◌∙◌}
 use Rattle.etagere_base.specs.Frames.{IsFrame}
 use Rattle.etagere_base.proofs.EachLemmas.{Each-middle}
 use Rattle.etagere_base.proofs.FrameSides.{column_width-le, sides_low}
@@ -14,23 +14,15 @@ use Rattle.etagere_links.proofs.AllLists.LinkedMerges.{entry_of}
 use Rattle.etagere_links.proofs.AllLists.LinkedUnused.{lists_of}
 use Rattle.etagere_links.proofs.ListEnds.{first-stands, last-stands-in, times-other}
 use Rattle.etagere.specs.AtlasRecords.{AtlasRecords, is_allocated_at, spelled_shelf}
-use Rattle.etagere.specs.Private.ItemReturned.{CanMergeItem, Step, free_named, free_next, next_absorbed, width_of}
+use Rattle.etagere.specs.Private.ItemReturned.{CanMergeItem, Step, free_next, next_absorbed, width_of}
 use Rattle.etagere.specs.State.{total_width}
 use Rattle.etagere.specs.Valid.{IsShelf}
 use Rattle.etagere.proofs.Spelled.EntryValues.{widths}
 use Rattle.etagere.proofs.Spelled.ItemMerged.{wide-items}
 use Rattle.etagere.proofs.Spelled.ItemsAround.{widths-append, widths-total}
+use Rattle.etagere.proofs.Spelled.NeighboursThere.{has-free-next, named-is, stands-in}
 use Rattle.etagere.proofs.Spelled.NextMerged.{MergesNext, merges-next}
 use Rattle.etagere.proofs.Spelled.SpelledLists.{IsSpelled}
-
--- a free item that a link names is the one that it names
-named-is : (items : List ItemRecord) (link : Option ℕ) (n : ℕ) → free_named items link ≡ Some n → link ≡ Some n
-named-is items None n e = e
-named-is items (Some m) n e = by_mark (is_allocated_at items m) refl
-  where
-    by_mark : (b : Bool) → is_allocated_at items m ≡ b → Some m ≡ Some n
-    by_mark true t = let none : free_named items (Some m) ≡ None = simp t refl in absurd (cc (none, e))
-    by_mark false t = let some : free_named items (Some m) ≡ Some m = simp t refl in sym some ∙ e
 
 -- a member of a list is no wider than all
 member-width : (items : List ItemRecord) (xs : List ℕ) (n : ℕ) → 1 ≤ times n xs → width_of items n ≤ widths items xs
@@ -41,7 +33,7 @@ member-width items (x ∷ xs) n stands = by_test (x == n) refl (member-width ite
     by_test true e later = let same : x ≡ n = grind arith in subst (λ (m : ℕ). width_of items m ≤ widths items (x ∷ xs)) same (omega arith)
     by_test false e later = let other : x ≢ n = grind arith in omega (arith, later (omega (arith, stands, times-other n x xs other)))
 
--- what freeing an item and merging it adds up
+-- what freeing an item and merging it adds up fits 16 bits, and all that it reads is there
 pub can-merge-item : (atlas : AtlasRecords) (before after : List Entry) (shelf number : ℕ) (front back free unused shelves : List ℕ) → IsFrame 65535 atlas.frame → IsShelf atlas.frame (spelled_shelf atlas (entry_of shelf (front ++ number ∷ back) free)) → is_allocated_at atlas.lists.items number ≡ true → IsSpelled atlas (lists_of (before ++ entry_of shelf (front ++ number ∷ back) free ∷ after) unused shelves) → CanMergeItem shelf number atlas.lists
 can-merge-item atlas before after shelf number front back free unused shelves is_frame valid allocated spelled =
     let items : List ItemRecord = atlas.lists.items in
@@ -64,12 +56,15 @@ can-merge-item atlas before after shelf number front back free unused shelves is
     ) in
     let front_width : widths new front ≡ widths items front = sym (widths-total new front) ∙ ap total_width next.front_same ∙ widths-total items front in
     record {
+      here = stands-in atlas.lists before after shelf number front back free unused shelves spelled.linked;
+      beside = has-free-next atlas before after shelf number front back free unused shelves spelled;
       next = λ n e.
           let first : first_or None back ≡ Some n =
-          sym (next-is (link_at item_chain.next items) front back number (first_item_of atlas.lists.shelves shelf) None is.items.forward) ∙ named-is items (link_at item_chain.next items number) n e in
+          sym (next-is (link_at item_chain.next items) front back number (first_item_of atlas.lists.shelves shelf) None is.items.forward) ∙ (named-is items (link_at item_chain.next items number) n e).0 in
           omega (arith, low, member-width items back n (first-stands back n first));
+      absorbed = stands-in one.records before after shelf number front next.rest next.free_list next.aside shelves next.spelled.linked;
       previous = λ n e.
           let last : last_or None front ≡ Some n =
-          sym (previous-is (link_at item_chain.previous new) front next.rest number None still.items.backward) ∙ named-is new (link_at item_chain.previous new number) n e in
+          sym (previous-is (link_at item_chain.previous new) front next.rest number None still.items.backward) ∙ (named-is new (link_at item_chain.previous new number) n e).0 in
           omega (arith, low, next.wide, front_width, member-width new front n (last-stands-in front n last));
     }

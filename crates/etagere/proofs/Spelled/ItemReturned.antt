@@ -4,12 +4,12 @@ use Rattle.std.proofs.lemmas.List.{length-map, map-append}
 use Rattle.std.specs.Prelude.{nat_lt}
 use Rattle.etagere_base.specs.declared.frames.Frame.{Frame}
 use Rattle.etagere_base.proofs.EachLemmas.{Each-front, Each-back, Each-middle, Each-weaken}
-use Rattle.etagere_base.proofs.FrameSides.{column_width-le, sides_low}
+use Rattle.etagere_base.proofs.FrameSides.{sides_low}
 use Rattle.etagere_base.proofs.TimesLemmas.{times-append}
 use Rattle.etagere_base.specs.Lists.{Each, times}
 use Rattle.etagere_base.specs.MergingAt.{merged_at, merged_before}
 use Rattle.etagere_links.specs.declared.records.ItemRecord.{ItemRecord}
-use Rattle.etagere_links.specs.RecordLists.{Records, field_at, Entry, IsEntry, Lists, IsLinked, shelf_numbers, walked_lists}
+use Rattle.etagere_links.specs.RecordLists.{Records, field_at, Entry, Lists, IsLinked, shelf_numbers, walked_lists}
 use Rattle.etagere_links.proofs.AllLists.LinkedFrames.{shelf_numbers-append}
 use Rattle.etagere_links.proofs.AllLists.LinkedMerges.{entry_of}
 use Rattle.etagere_links.proofs.AllLists.LinkedUnused.{lists_of}
@@ -18,7 +18,7 @@ use Rattle.etagere_links.proofs.ListEnds.{times-here}
 use Rattle.etagere.specs.AtlasRecords.{AtlasRecords, is_allocated_at, item_at, shelf_of, spelled_item, spelled_shelf, spelled_state}
 use Rattle.etagere.specs.Merging.{both_empty, combined_shelves, merged_shelf}
 use Rattle.etagere.specs.Places.{column_height}
-use Rattle.etagere.specs.Private.ItemReturned.{CanMergeItem, CanMergeShelves, CanReturn, Step, emptiness_said, item_merged, item_returned, put_aside_by, shelves_merged}
+use Rattle.etagere.specs.Private.ItemReturned.{CanMergeItem, CanMergeShelves, CanReturn, IsLeft, Step, emptiness_said, item_merged, item_returned, merged_width, put_aside_by, shelves_merged}
 use Rattle.etagere.specs.Private.ByHeight.{AreRanked, raised, ranked_numbers}
 use Rattle.etagere.specs.Private.Kept.{AreKept, HasFlag, IsPlaced, atlas_of, bare, state_of}
 use Rattle.etagere.specs.Private.RankedReturned.{CanReturnRanked, freed_width, ranked_returned, ranks_merged}
@@ -27,19 +27,17 @@ use Rattle.etagere.specs.State.{Shelf, AtlasState, items_in_use}
 use Rattle.etagere.specs.StandsFor.{HasCounts}
 use Rattle.etagere.specs.Valid.{IsShelf, IsValid}
 use Rattle.etagere.specs.declared.linked.ranked.RankedShelf.{RankedShelf}
-use Rattle.etagere.proofs.ByHeight.FreedBounds.{freed_width-le}
 use Rattle.etagere.proofs.ByHeight.FreedRanks.{FreesRanks, frees-ranks}
 use Rattle.etagere.proofs.ByHeight.KeptRanks.{kept-ranks, ranks-kept}
-use Rattle.etagere.proofs.ByHeight.KnownBounds.{first-free-bound}
 use Rattle.etagere.proofs.ByHeight.MergedRanks.{Ranks}
 use Rattle.etagere.proofs.Places.Heights.{column_height-append, column_height-none}
 use Rattle.etagere.proofs.Returned.ReturnedValid.{returned-valid}
 use Rattle.etagere.proofs.Spelled.EmptinessSaid.{IsFlagged, emptiness_said-flagged, flags-same}
 use Rattle.etagere.proofs.Spelled.EntryValues.{id_at}
 use Rattle.etagere.proofs.Spelled.ItemFits.{can-merge-item}
+use Rattle.etagere.proofs.Spelled.ItemLeft.{item-left}
 use Rattle.etagere.proofs.Spelled.ItemLocated.{HasItem, in-use-counted, located}
 use Rattle.etagere.proofs.Spelled.ItemMerged.{MergesItem, merges-item}
-use Rattle.etagere.proofs.Spelled.ItemsAround.{widths-total}
 use Rattle.etagere.proofs.Spelled.NeighboursMerged.{AreLow, MergesShelves, can-merge-ranks, can-merge-shelves, merges-shelves}
 use Rattle.etagere.proofs.Spelled.ReturnedAt.{returned-at}
 use Rattle.etagere.proofs.Spelled.ReturnedLengths.{SameLengths, returned-lengths}
@@ -56,7 +54,7 @@ record IsFreed (atlas : AtlasRecords) (records : Records) (put_aside : ℕ) (bef
       map (spelled_shelf (with_lists atlas records)) (before ++ entry_of shelf numbers free_list ∷ after)
       ≡ map (spelled_shelf atlas) before ++ merged_shelf (freed_shelf atlas.frame (length front) (spelled_shelf atlas (entry_of shelf (front ++ number ∷ back) free))) ∷ map (spelled_shelf atlas) after
   counted : length aside ≡ put_aside + length unused
-  ranks : FreesRanks atlas (with_lists atlas records) (before ++ entry_of shelf (front ++ number ∷ back) free ∷ after) (before ++ entry_of shelf numbers free_list ∷ after) shelf (freed_width atlas.lists.items number)
+  ranks : FreesRanks atlas (with_lists atlas records) (item_merged shelf number atlas.lists).records.shelves (before ++ entry_of shelf (front ++ number ∷ back) free ∷ after) (before ++ entry_of shelf numbers free_list ∷ after) shelf (freed_width atlas.lists.items number)
 
 -- an item was freed and merged, and its shelf says whether it is empty
 freed-flagged : (atlas : AtlasRecords) (before after : List Entry) (shelf number : ℕ) (front back free unused shelves : List ℕ) → IsShelf atlas.frame (spelled_shelf atlas (entry_of shelf (front ++ number ∷ back) free)) → is_allocated_at atlas.lists.items number ≡ true → IsFlagged atlas (lists_of (before ++ entry_of shelf (front ++ number ∷ back) free ∷ after) unused shelves) → IsFreed atlas (emptiness_said shelf (item_merged shelf number atlas.lists).records) (item_merged shelf number atlas.lists).put_aside before after shelf number front back free unused shelves
@@ -178,6 +176,7 @@ shelves-after frame records n after middle whole spelled at same merged = rw at 
 record Returns (frame : Frame) (records : Records) (shelf number : ℕ) : Type 0 where
   after : IsReturned (atlas_of frame records) (returned_in shelf number records) (walked_lists records).entries (ranked_in shelf number records) (returned (state_of frame records) (id_at records.items number)) (walked_lists records).unused_items
   can_item : CanMergeItem shelf number records
+  is_left : IsLeft shelf number records
   can_shelves : CanMergeShelves shelf (emptiness_said shelf (item_merged shelf number records).records)
   can_ranked : (ranked : List RankedShelf) → AreRanked frame records ranked → CanReturnRanked shelf number records ranked
 
@@ -209,7 +208,8 @@ returned-there frame records number has kept allocated flagged =
     let low : AreLow (map (spelled_shelf middle) (has.before ++ edited ∷ has.after)) = λ column.
     let same : column_height column (new ∷ back) ≡ column_height column (old ∷ back) = refl in
     rw freed.spelled (omega (arith, same, column_height-append column front (new ∷ back), column_height-append column front (old ∷ back), low-valid state kept.valid column, ap (column_height column) shelves)) in
-    let is : IsEntry records entry = Each-middle (IsEntry records) has.before entry has.after flagged.spelled.linked.entries in
+    let left : IsLeft shelf number records × (merged_width shelf number records ≡ freed_width records.items number) =
+    item-left atlas has.before has.after shelf number has.front has.back has.free unused gone valid allocated flagged in
     let start : (ranked : List RankedShelf) → Ranks atlas (walked_lists records).entries ranked → Ranks atlas (has.before ++ entry ∷ has.after) ranked = λ ranked ranks.
     subst (λ (es : List Entry). Ranks atlas es ranked) has.whole ranks in
     record {
@@ -222,6 +222,7 @@ returned-there frame records number has kept allocated flagged =
             counted = omega (arith, merges.counted, freed.counted);
             ranks = λ ranked ranks. merges.ranks (raised shelf (freed_width records.items number) ranked) (freed.ranks.ranks ranked (start ranked ranks));
           };
+      is_left = left.0;
       can_item = can-merge-item atlas has.before has.after shelf number has.front has.back has.free unused gone kept.valid.frame valid allocated flagged.spelled;
       can_shelves = can-merge-shelves middle has.before has.after edited freed.aside gone low freed.flagged;
       can_ranked = λ ranked are.
@@ -235,16 +236,8 @@ returned-there frame records number has kept allocated flagged =
             times-here shelf (shelf_numbers has.after),
           ) in
           record {
-            width = omega (
-              arith,
-              freed_width-le atlas shelf number has.front has.back has.free is,
-              widths-total records.items (has.front ++ number ∷ has.back),
-              valid.width,
-              column_width-le 65535 frame kept.valid.frame,
-              (sides_low 65535 frame kept.valid.frame).0,
-            );
+            width = left.1;
             stands = stands;
-            known = first-free-bound atlas has.before has.after shelf (has.front ++ number ∷ has.back) has.free unused gone ranked flagged.spelled stands ranks;
             order = freed.ranks.order ranked ranks.order;
             shelves = can-merge-ranks middle has.before has.after edited freed.aside gone (raised shelf (freed_width records.items number) ranked) freed.flagged (freed.ranks.ranks ranked ranks);
           };
@@ -267,7 +260,7 @@ returns-item frame records number kept allocated =
     subst (λ shelf. Returns frame records shelf number) (sym own) (returned-there frame records number has kept allocated flagged) in
     let again = kept-again frame records (item_returned number records) (id_at records.items number) (put_aside_by number records) (ranked_returned number records) kept (returned-lengths number records) there.after in
     record {
-      can = record { item = there.can_item; shelves = there.can_shelves };
+      can = record { item = there.can_item; left = there.is_left; shelves = there.can_shelves };
       kept = again.0.0;
       state = again.0.1;
       counted = again.1;

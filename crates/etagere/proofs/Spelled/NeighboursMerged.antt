@@ -136,6 +136,22 @@ heights-fit atlas before (next ∷ after) entry unused shelves low flagged n e =
         heights-le (length before) all (spelled_shelf atlas entry) (spelled_shelf atlas next) (get-here (spelled_shelf atlas) before entry (next ∷ after)) (get-next (spelled_shelf atlas) before entry next after) (near.touch ∙ t) in
         subst (λ m. height_of atlas.lists.shelves entry.number + height_of atlas.lists.shelves m < 65536) same (omega (arith, both, low (spelled_shelf atlas entry).column))
 
+-- the shelf before one links to it
+shelf-before : (atlas : AtlasRecords) (before after : List Entry) (entry : Entry) (unused shelves : List ℕ) → IsFlagged atlas (lists_of (before ++ entry ∷ after) unused shelves) → (n : ℕ) → link_at shelf_chain.previous atlas.lists.shelves entry.number ≡ Some n → link_at shelf_chain.next atlas.lists.shelves n ≡ Some entry.number
+shelf-before atlas before after entry unused shelves =
+    by_end (λ (xs : List Entry). IsFlagged atlas (lists_of (xs ++ entry ∷ after) unused shelves) → (n : ℕ) → link_at shelf_chain.previous atlas.lists.shelves entry.number ≡ Some n → link_at shelf_chain.next atlas.lists.shelves n ≡ Some entry.number)
+    (λ flagged n e. let none : link_at shelf_chain.previous atlas.lists.shelves entry.number ≡ None = previous-link atlas [] after entry unused shelves flagged.spelled in absurd (cc (none, e)))
+    some before
+  where
+    some : (xs : List Entry) (last : Entry) → IsFlagged atlas (lists_of ((xs ++ last ∷ []) ++ entry ∷ after) unused shelves) → (n : ℕ) → link_at shelf_chain.previous atlas.lists.shelves entry.number ≡ Some n → link_at shelf_chain.next atlas.lists.shelves n ≡ Some entry.number
+    some xs last flagged n e =
+        let named : link_at shelf_chain.previous atlas.lists.shelves entry.number ≡ Some last.number = last-named atlas xs after last entry unused shelves flagged in
+        let same : last.number ≡ n = cc (named, e) in
+        let regrouped : IsFlagged atlas (lists_of (xs ++ last ∷ entry ∷ after) unused shelves) =
+        subst (λ (es : List Entry). IsFlagged atlas (lists_of es unused shelves)) (append_assoc xs (last ∷ []) (entry ∷ after)) flagged in
+        subst (λ m. link_at shelf_chain.next atlas.lists.shelves m ≡ Some entry.number) same
+        (next-link atlas xs (entry ∷ after) last unused shelves regrouped.spelled)
+
 -- and so do those that merging it with its neighbours adds up
 pub can-merge-shelves : (atlas : AtlasRecords) (before after : List Entry) (entry : Entry) (unused shelves : List ℕ) → AreLow (map (spelled_shelf atlas) (before ++ entry ∷ after)) → IsFlagged atlas (lists_of (before ++ entry ∷ after) unused shelves) → CanMergeShelves entry.number atlas.lists
 can-merge-shelves atlas before after entry unused shelves low flagged =
@@ -144,6 +160,7 @@ can-merge-shelves atlas before after entry unused shelves low flagged =
       previous =
           by_end (λ (xs : List Entry). AreLow (map (spelled_shelf atlas) (xs ++ entry ∷ after)) → MergesShelf atlas one (rank_merged entry.number atlas.lists) xs after entry unused shelves → (n : ℕ) → link ≡ Some n → HeightsFit n one.records.shelves)
           first some before low (merges-shelf atlas before after entry unused shelves flagged);
+      linked = shelf-before atlas before after entry unused shelves flagged;
     }
   where
     one : Step

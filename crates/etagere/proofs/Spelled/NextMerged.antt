@@ -19,12 +19,13 @@ use Rattle.etagere.specs.AtlasRecords.{AtlasRecords, is_allocated_at, place_of, 
 use Rattle.etagere.specs.Merging.{both_free, combined_items}
 use Rattle.etagere.specs.Private.ItemReturned.{Step, free_named, free_next, next_absorbed, width_of}
 use Rattle.etagere.specs.Private.Kept.{IsPlaced}
+use Rattle.etagere.specs.Private.RankedReturned.{named_width}
 use Rattle.etagere.specs.State.{Item}
 use Rattle.etagere.proofs.Spelled.AbsorbedItems.{Absorbs, IsRest, rest-of, free-widens, widened-absorbs}
 use Rattle.etagere.proofs.Spelled.EntryValues.{IsWidened, LieFrom-back, free_count, free_count-append, free_count-free, widths}
 use Rattle.etagere.proofs.Spelled.ItemsAround.{IsMember, member-of, free-item, map-parts, next-merged, next-stays, place-apart, widths-append}
 use Rattle.etagere.proofs.Spelled.MergedAround.{free_item, is_first_free, remove-mapped}
-use Rattle.etagere.proofs.Spelled.RecordValues.{SameShelf, map-agrees, shelves-same}
+use Rattle.etagere.proofs.Spelled.RecordValues.{SameItem, SameShelf, items-same, map-agrees, shelves-same}
 use Rattle.etagere.proofs.Spelled.SpelledLists.{with_lists, IsSpelled, EditsItems, items-edited}
 use Rattle.etagere.proofs.Spelled.SpelledMerges.{free_absorbed-spelled}
 
@@ -40,6 +41,7 @@ pub record MergesNext (atlas : AtlasRecords) (step : Step) (before after : List 
   pub allocated : is_allocated_at step.records.items number ≡ true
   pub place : place_of step.records.items number ≡ place_of atlas.lists.items number
   pub front_same : map (item_at step.records.items) front ≡ map (item_at atlas.lists.items) front
+  pub kept : (k : ℕ) → 1 ≤ times k front → SameItem atlas.lists.items step.records.items k
   pub items :
       merged_at both_free combined_items (length front) (map (item_at atlas.lists.items) front ++ free_item (width_of atlas.lists.items number) ∷ map (item_at atlas.lists.items) back)
       ≡ map (item_at step.records.items) front ++ free_item (width_of step.records.items number) ∷ map (item_at step.records.items) rest
@@ -48,12 +50,13 @@ pub record MergesNext (atlas : AtlasRecords) (step : Step) (before after : List 
       ≡ (if is_first_free (map (item_at atlas.lists.items) back)
       then remove_place (along_of atlas.lists.shelves shelf + (widths atlas.lists.items front + width_of atlas.lists.items number)) (map (place_of atlas.lists.items) free)
       else map (place_of atlas.lists.items) free)
+  pub width : width_of step.records.items number ≡ width_of atlas.lists.items number + named_width atlas.lists.items (free_next atlas.lists.items number)
   pub wide : width_of step.records.items number ≤ width_of atlas.lists.items number + widths atlas.lists.items back
   pub counted : length aside ≡ step.put_aside + length unused
 
 -- the next item is not free: nothing changes
-next-kept : (atlas : AtlasRecords) (before after : List Entry) (shelf number : ℕ) (front back free unused shelves : List ℕ) → is_allocated_at atlas.lists.items number ≡ true → is_first_free (map (item_at atlas.lists.items) back) ≡ false → IsSpelled atlas (lists_of (before ++ entry_of shelf (front ++ number ∷ back) free ∷ after) unused shelves) → MergesNext atlas (record { records = atlas.lists; put_aside = 0 }) before after shelf number front back free unused shelves
-next-kept atlas before after shelf number front back free unused shelves allocated none spelled =
+next-kept : (atlas : AtlasRecords) (before after : List Entry) (shelf number : ℕ) (front back free unused shelves : List ℕ) → is_allocated_at atlas.lists.items number ≡ true → is_first_free (map (item_at atlas.lists.items) back) ≡ false → free_next atlas.lists.items number ≡ None → IsSpelled atlas (lists_of (before ++ entry_of shelf (front ++ number ∷ back) free ∷ after) unused shelves) → MergesNext atlas (record { records = atlas.lists; put_aside = 0 }) before after shelf number front back free unused shelves
+next-kept atlas before after shelf number front back free unused shelves allocated none unnamed spelled =
     record {
       rest = back;
       free_list = free;
@@ -65,8 +68,10 @@ next-kept atlas before after shelf number front back free unused shelves allocat
       allocated = allocated;
       place = refl;
       front_same = refl;
+      kept = λ k stands. items-same atlas.lists.items atlas.lists.items k refl;
       items = next-stays (item_at atlas.lists.items) front (width_of atlas.lists.items number) (map (item_at atlas.lists.items) back) none;
       places = rw none refl;
+      width = rw unnamed (omega arith);
       wide = omega arith;
       counted = omega arith;
     }
@@ -80,8 +85,8 @@ widened-places items new number width k widened = by_test (number == k) refl
     by_test false e = (widened.others k (grind arith)).place
 
 -- the next item is free: it is absorbed
-next-taken : (atlas : AtlasRecords) (before after : List Entry) (shelf number next : ℕ) (front back free_front free_back unused shelves : List ℕ) → ((n : ℕ) → 1 ≤ times n (front ++ number ∷ next ∷ back) → 1 ≤ width_of atlas.lists.items n) → is_allocated_at atlas.lists.items number ≡ true → is_allocated_at atlas.lists.items next ≡ false → IsSpelled atlas (lists_of (before ++ entry_of shelf (front ++ number ∷ next ∷ back) (free_front ++ next ∷ free_back) ∷ after) unused shelves) → MergesNext atlas (next_absorbed shelf number (Some next) atlas.lists) before after shelf number front (next ∷ back) (free_front ++ next ∷ free_back) unused shelves
-next-taken atlas before after shelf number next front back free_front free_back unused shelves wide allocated is_free spelled =
+next-taken : (atlas : AtlasRecords) (before after : List Entry) (shelf number next : ℕ) (front back free_front free_back unused shelves : List ℕ) → ((n : ℕ) → 1 ≤ times n (front ++ number ∷ next ∷ back) → 1 ≤ width_of atlas.lists.items n) → is_allocated_at atlas.lists.items number ≡ true → is_allocated_at atlas.lists.items next ≡ false → free_next atlas.lists.items number ≡ Some next → IsSpelled atlas (lists_of (before ++ entry_of shelf (front ++ number ∷ next ∷ back) (free_front ++ next ∷ free_back) ∷ after) unused shelves) → MergesNext atlas (next_absorbed shelf number (Some next) atlas.lists) before after shelf number front (next ∷ back) (free_front ++ next ∷ free_back) unused shelves
+next-taken atlas before after shelf number next front back free_front free_back unused shelves wide allocated is_free named spelled =
     let items : List ItemRecord = atlas.lists.items in
     let numbers : List ℕ = front ++ number ∷ next ∷ back in
     let free : List ℕ = free_front ++ next ∷ free_back in
@@ -103,8 +108,8 @@ next-taken atlas before after shelf number next front back free_front free_back 
     let differ : number ≢ next = λ e.
     let here : times next (number ∷ next ∷ back) ≡ 1 + times next (next ∷ back) = rw e (times-here next (next ∷ back)) in
     omega (arith, apart.once next, count next, here, times-here next back) in
-    let front_same : map (item_at new.items) front ≡ map (item_at items) front =
-    map-agrees (item_at new.items) (item_at items) front (λ k stands. (absorbs.others k (rest.before k stands).0 (rest.before k stands).1).item) in
+    let front_kept : (k : ℕ) → 1 ≤ times k front → SameItem items new.items k = λ k stands. absorbs.others k (rest.before k stands).0 (rest.before k stands).1 in
+    let front_same : map (item_at new.items) front ≡ map (item_at items) front = map-agrees (item_at new.items) (item_at items) front (λ k stands. (front_kept k stands).item) in
     let back_same : map (item_at new.items) back ≡ map (item_at items) back =
     map-agrees (item_at new.items) (item_at items) back (λ k stands. (absorbs.others k (rest.after k stands).0 (rest.after k stands).1).item) in
     let width : width_of new.items number ≡ width_of items number + width_of items next = ap (λ (i : Item). i.width) absorbs.item in
@@ -133,11 +138,13 @@ next-taken atlas before after shelf number next front back free_front free_back 
       allocated = absorbs.allocated ∙ allocated;
       place = absorbs.place;
       front_same = front_same;
+      kept = front_kept;
       items = next-merged (item_at items) front (width_of items number) (item_at items next) (map (item_at items) back) free_next
           ∙ ap (λ (is : List Item). is ++ free_item (width_of items number + width_of items next) ∷ map (item_at items) back) (sym front_same)
           ∙ ap (λ (is : List Item). map (item_at new.items) front ++ free_item (width_of items number + width_of items next) ∷ is) (sym back_same)
           ∙ ap (λ w. map (item_at new.items) front ++ free_item w ∷ map (item_at new.items) back) (sym width);
       places = rw free_next (kept ∙ sym (remove-mapped (place_of items) free_front free_back next others_apart) ∙ ap (λ p. remove_place p (map (place_of items) free)) begins);
+      width = rw named width;
       wide = omega (arith, width);
       counted = omega arith;
     }
@@ -150,7 +157,7 @@ merges-next atlas before after shelf number front [] free unused shelves wide al
     let link : link_at item_chain.next items number ≡ None = next-is (link_at item_chain.next items) front [] number (first_item_of atlas.lists.shelves shelf) None is.items.forward in
     let none : free_next items number ≡ None = ap (free_named items) link in
     subst (λ (o : Option ℕ). MergesNext atlas (next_absorbed shelf number o atlas.lists) before after shelf number front [] free unused shelves) (sym none)
-    (next-kept atlas before after shelf number front [] free unused shelves allocated refl spelled)
+    (next-kept atlas before after shelf number front [] free unused shelves allocated refl none spelled)
 merges-next atlas before after shelf number front (next ∷ back) free unused shelves wide allocated spelled =
     by_mark (is_allocated_at atlas.lists.items next) refl
   where
@@ -163,17 +170,17 @@ merges-next atlas before after shelf number front (next ∷ back) free unused sh
     link : free_next atlas.lists.items number ≡ free_named atlas.lists.items (Some next)
     link = ap (free_named atlas.lists.items) (next-is (link_at item_chain.next atlas.lists.items) front (next ∷ back) number (first_item_of atlas.lists.shelves shelf) None is.items.forward)
 
-    absorbed : is_allocated_at atlas.lists.items next ≡ false → IsMember next free → MergesNext atlas (next_absorbed shelf number (Some next) atlas.lists) before after shelf number front (next ∷ back) free unused shelves
-    absorbed is_free member =
+    absorbed : is_allocated_at atlas.lists.items next ≡ false → free_next atlas.lists.items number ≡ Some next → IsMember next free → MergesNext atlas (next_absorbed shelf number (Some next) atlas.lists) before after shelf number front (next ∷ back) free unused shelves
+    absorbed is_free named member =
         subst (λ (ns : List ℕ). MergesNext atlas (next_absorbed shelf number (Some next) atlas.lists) before after shelf number front (next ∷ back) ns unused shelves) (sym member.whole)
-        (next-taken atlas before after shelf number next front back member.front member.back unused shelves wide allocated is_free
+        (next-taken atlas before after shelf number next front back member.front member.back unused shelves wide allocated is_free named
         (subst (λ (ns : List ℕ). IsSpelled atlas (lists_of (before ++ entry_of shelf (front ++ number ∷ next ∷ back) ns ∷ after) unused shelves)) member.whole spelled))
 
     by_mark : (b : Bool) → is_allocated_at atlas.lists.items next ≡ b → MergesNext atlas (next_absorbed shelf number (free_next atlas.lists.items number) atlas.lists) before after shelf number front (next ∷ back) free unused shelves
     by_mark true e =
         let none : free_named atlas.lists.items (Some next) ≡ None = simp e refl in
         subst (λ (o : Option ℕ). MergesNext atlas (next_absorbed shelf number o atlas.lists) before after shelf number front (next ∷ back) free unused shelves) (sym (link ∙ none))
-        (next-kept atlas before after shelf number front (next ∷ back) free unused shelves allocated (free-item atlas.lists.items next true e) spelled)
+        (next-kept atlas before after shelf number front (next ∷ back) free unused shelves allocated (free-item atlas.lists.items next true e) (link ∙ none) spelled)
     by_mark false e =
         let some : free_named atlas.lists.items (Some next) ≡ Some next = simp e refl in
         let placed : IsPlaced atlas entry = Each-middle (IsPlaced atlas) before entry after spelled.placed in
@@ -187,4 +194,4 @@ merges-next atlas before after shelf number front (next ∷ back) free unused sh
           ap (λ ns. free_count atlas.lists.items next ns) (append_assoc front (number ∷ []) (next ∷ back)),
         ) in
         subst (λ (o : Option ℕ). MergesNext atlas (next_absorbed shelf number o atlas.lists) before after shelf number front (next ∷ back) free unused shelves) (sym (link ∙ some))
-        (absorbed e (member-of next free stands))
+        (absorbed e (link ∙ some) (member-of next free stands))

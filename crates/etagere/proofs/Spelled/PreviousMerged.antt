@@ -19,8 +19,9 @@ use Rattle.etagere_links.proofs.AllLists.LinkedUnused.{lists_of}
 use Rattle.etagere_links.proofs.ListEnds.{times-here, last-append}
 use Rattle.etagere.specs.AtlasRecords.{AtlasRecords, is_allocated_at, place_of, item_at, spelled_shelf}
 use Rattle.etagere.specs.Merging.{both_free, combined_items}
-use Rattle.etagere.specs.Private.ItemReturned.{Step, free_named, free_previous, freed_after, width_of}
+use Rattle.etagere.specs.Private.ItemReturned.{Step, free_named, free_previous, freed_after, left_item, width_of}
 use Rattle.etagere.specs.Private.Kept.{IsPlaced}
+use Rattle.etagere.specs.Private.RankedReturned.{named_width}
 use Rattle.etagere.specs.Returning.{is_free_before}
 use Rattle.etagere.specs.State.{Item}
 use Rattle.etagere.proofs.Spelled.AbsorbedItems.{Absorbs, IsRest, rest-of, absorbed-items, allocated-absorbs}
@@ -31,7 +32,8 @@ use Rattle.etagere.proofs.Spelled.RecordValues.{SameShelf, map-agrees}
 use Rattle.etagere.proofs.Spelled.SpelledLists.{with_lists, IsSpelled, EditsItems, items-edited}
 use Rattle.etagere.proofs.Spelled.SpelledMerges.{allocated_absorbed-spelled, item_freed-spelled, freed-values}
 
--- what a step that frees an item, and merges it with the previous one, makes of its shelf's lists, and what these spell
+-- what a step that frees an item, and merges it with the previous one, makes of its shelf's lists, and what these spell;
+-- and where the item that is left stands there, free, and how wide it is
 pub record FreesItem (atlas : AtlasRecords) (step : Step) (before after : List Entry) (shelf number : ℕ) (front back free unused shelves : List ℕ) : Type 0 where
   pub numbers : List ℕ
   pub free_list : List ℕ
@@ -51,6 +53,12 @@ pub record FreesItem (atlas : AtlasRecords) (step : Step) (before after : List E
       then map (place_of atlas.lists.items) free
       else place_of atlas.lists.items number ∷ map (place_of atlas.lists.items) free)
   pub counted : length aside ≡ step.put_aside + length unused
+  pub left_front : List ℕ
+  pub stands : numbers ≡ left_front ++ left_item number (free_previous atlas.lists.items number) ∷ back
+  pub is_free : is_allocated_at step.records.items (left_item number (free_previous atlas.lists.items number)) ≡ false
+  pub width :
+      width_of step.records.items (left_item number (free_previous atlas.lists.items number))
+      ≡ width_of atlas.lists.items number + named_width atlas.lists.items (free_previous atlas.lists.items number)
 
 -- the members of a list around one of them differ from it
 around-other : (front back : List ℕ) (number : ℕ) → ((k : ℕ) → times k (front ++ number ∷ back) ≤ 1) → (k : ℕ) → 1 ≤ times k front + times k back → number ≢ k
@@ -59,8 +67,8 @@ around-other front back number once k stands e =
     omega (arith, once k, stands, times-append k front (number ∷ back), here)
 
 -- the previous item is not free: the item becomes free
-item-freed : (atlas : AtlasRecords) (before after : List Entry) (shelf number : ℕ) (front back free unused shelves : List ℕ) → is_allocated_at atlas.lists.items number ≡ true → (merged_before both_free combined_items (length front) (map (item_at atlas.lists.items) front ++ free_item (width_of atlas.lists.items number) ∷ map (item_at atlas.lists.items) back) ≡ map (item_at atlas.lists.items) front ++ free_item (width_of atlas.lists.items number) ∷ map (item_at atlas.lists.items) back) → ((others : List Item) → is_free_before (length front) (map (item_at atlas.lists.items) front ++ others) ≡ false) → IsSpelled atlas (lists_of (before ++ entry_of shelf (front ++ number ∷ back) free ∷ after) unused shelves) → FreesItem atlas (freed_after shelf number None atlas.lists) before after shelf number front back free unused shelves
-item-freed atlas before after shelf number front back free unused shelves allocated stays none spelled =
+item-freed : (atlas : AtlasRecords) (before after : List Entry) (shelf number : ℕ) (front back free unused shelves : List ℕ) → is_allocated_at atlas.lists.items number ≡ true → (merged_before both_free combined_items (length front) (map (item_at atlas.lists.items) front ++ free_item (width_of atlas.lists.items number) ∷ map (item_at atlas.lists.items) back) ≡ map (item_at atlas.lists.items) front ++ free_item (width_of atlas.lists.items number) ∷ map (item_at atlas.lists.items) back) → ((others : List Item) → is_free_before (length front) (map (item_at atlas.lists.items) front ++ others) ≡ false) → free_previous atlas.lists.items number ≡ None → IsSpelled atlas (lists_of (before ++ entry_of shelf (front ++ number ∷ back) free ∷ after) unused shelves) → FreesItem atlas (freed_after shelf number None atlas.lists) before after shelf number front back free unused shelves
+item-freed atlas before after shelf number front back free unused shelves allocated stays none unnamed spelled =
     let items : List ItemRecord = atlas.lists.items in
     let numbers : List ℕ = front ++ number ∷ back in
     let entry : Entry = entry_of shelf numbers free in
@@ -95,11 +103,15 @@ item-freed atlas before after shelf number front back free unused shelves alloca
           ∙ sym stays;
       places = λ before_items. rw (none before_items) (ap (λ p. p ∷ map (place_of new.items) free) freed.place ∙ ap (λ ps. place_of items number ∷ ps) kept);
       counted = omega arith;
+      left_front = front;
+      stands = rw unnamed refl;
+      is_free = rw unnamed freed.allocated;
+      width = rw unnamed (omega (arith, ap (λ (i : Item). i.width) freed.item));
     }
 
 -- the previous item is free: it absorbs the item
-item-taken : (atlas : AtlasRecords) (before after : List Entry) (shelf number previous : ℕ) (front back free unused shelves : List ℕ) → is_allocated_at atlas.lists.items number ≡ true → is_allocated_at atlas.lists.items previous ≡ false → IsSpelled atlas (lists_of (before ++ entry_of shelf (front ++ previous ∷ number ∷ back) free ∷ after) unused shelves) → FreesItem atlas (freed_after shelf number (Some previous) atlas.lists) before after shelf number (front ++ previous ∷ []) back free unused shelves
-item-taken atlas before after shelf number previous front back free unused shelves allocated is_free spelled =
+item-taken : (atlas : AtlasRecords) (before after : List Entry) (shelf number previous : ℕ) (front back free unused shelves : List ℕ) → is_allocated_at atlas.lists.items number ≡ true → is_allocated_at atlas.lists.items previous ≡ false → free_previous atlas.lists.items number ≡ Some previous → IsSpelled atlas (lists_of (before ++ entry_of shelf (front ++ previous ∷ number ∷ back) free ∷ after) unused shelves) → FreesItem atlas (freed_after shelf number (Some previous) atlas.lists) before after shelf number (front ++ previous ∷ []) back free unused shelves
+item-taken atlas before after shelf number previous front back free unused shelves allocated is_free named spelled =
     let items : List ItemRecord = atlas.lists.items in
     let numbers : List ℕ = front ++ previous ∷ number ∷ back in
     let entry : Entry = entry_of shelf numbers free in
@@ -133,6 +145,10 @@ item-taken atlas before after shelf number previous front back free unused shelv
           ∙ sym (previous-merged (item_at items) front previous (width_of items number) (map (item_at items) back) last_free);
       places = λ before_items. rw (free-before (item_at items) front previous before_items ∙ last_free) (map-agrees (place_of new.items) (place_of items) free places_same);
       counted = omega arith;
+      left_front = front;
+      stands = rw named refl;
+      is_free = rw named (absorbs.allocated ∙ is_free);
+      width = rw named (omega (arith, ap (λ (i : Item). i.width) absorbs.item));
     }
   where
     absorbed-place : (old new : List ItemRecord) (one next k : ℕ) → Absorbs old new one next → next ≢ k → place_of new k ≡ place_of old k
@@ -159,7 +175,7 @@ frees-item atlas before after shelf number front back free unused shelves alloca
     first : IsSpelled atlas (lists_of (before ++ entry_of shelf (number ∷ back) free ∷ after) unused shelves) → FreesItem atlas (freed_after shelf number (free_previous items number) atlas.lists) before after shelf number [] back free unused shelves
     first spelled =
         subst (λ (o : Option ℕ). FreesItem atlas (freed_after shelf number o atlas.lists) before after shelf number [] back free unused shelves) (sym (link [] spelled))
-        (item-freed atlas before after shelf number [] back free unused shelves allocated refl (λ others. refl) spelled)
+        (item-freed atlas before after shelf number [] back free unused shelves allocated refl (λ others. refl) (link [] spelled) spelled)
 
     some : (xs : List ℕ) (previous : ℕ) → IsSpelled atlas (lists_of (before ++ entry_of shelf ((xs ++ previous ∷ []) ++ number ∷ back) free ∷ after) unused shelves) → FreesItem atlas (freed_after shelf number (free_previous items number) atlas.lists) before after shelf number (xs ++ previous ∷ []) back free unused shelves
     some xs previous spelled = by_mark (is_allocated_at items previous) refl
@@ -178,9 +194,9 @@ frees-item atlas before after shelf number front back free unused shelves alloca
             subst (λ (o : Option ℕ). FreesItem atlas (freed_after shelf number o atlas.lists) before after shelf number (xs ++ previous ∷ []) back free unused shelves) (sym (named ∙ none))
             (item-freed atlas before after shelf number (xs ++ previous ∷ []) back free unused shelves allocated
             (previous-stays (item_at items) xs previous (width_of items number) (map (item_at items) back) marked ∙ sym (parts xs))
-            (λ others. free-before (item_at items) xs previous others ∙ marked) spelled)
+            (λ others. free-before (item_at items) xs previous others ∙ marked) (named ∙ none) spelled)
         by_mark false e =
             let one : free_named items (Some previous) ≡ Some previous = simp e refl in
             subst (λ (o : Option ℕ). FreesItem atlas (freed_after shelf number o atlas.lists) before after shelf number (xs ++ previous ∷ []) back free unused shelves) (sym (named ∙ one))
-            (item-taken atlas before after shelf number previous xs back free unused shelves allocated e
+            (item-taken atlas before after shelf number previous xs back free unused shelves allocated e (named ∙ one)
             (subst (λ (ns : List ℕ). IsSpelled atlas (lists_of (before ++ entry_of shelf ns free ∷ after) unused shelves)) (append_assoc xs (previous ∷ []) (number ∷ back)) spelled))

@@ -1,13 +1,14 @@
 -- A return on linked records, step by step: what merges keeps the record of the earlier place, and
 -- puts the other aside.
-use Rattle.std.specs.Prelude.{◌≡◌, ℕ, ◌+◌, ◌<◌, ◌==◌, Bool, false, ◌&&◌, not, Option, None, Some, is_none, List, if◌then◌else◌}
+use Rattle.std.specs.Prelude.{◌≡◌, ℕ, ◌+◌, ◌<◌, ◌==◌, Bool, false, ◌&&◌, not, Option, None, Some, is_none, List, length, if◌then◌else◌}
 use Rattle.etagere_links.specs.declared.records.ItemRecord.{ItemRecord}
 use Rattle.etagere_links.specs.declared.records.ShelfRecord.{ShelfRecord}
 use Rattle.etagere_links.specs.Edits.{link_at}
+use Rattle.etagere_links.specs.Neighbours.{HasNeighbours, NamesOneOf}
 use Rattle.etagere_links.specs.RecordEdits.{shelf_changed}
-use Rattle.etagere_links.specs.RecordLists.{Records, first_item_of}
+use Rattle.etagere_links.specs.RecordLists.{Records, first_free_of, first_item_of}
 use Rattle.etagere_links.specs.RecordMerges.{free_absorbed, allocated_absorbed, item_freed, shelf_absorbed}
-use Rattle.etagere_links.specs.Records.{item_chain, shelf_chain}
+use Rattle.etagere_links.specs.Records.{free_list, item_chain, shelf_chain}
 use Rattle.etagere.specs.AtlasRecords.{along_of, height_of, is_allocated_at, is_empty_at, item_at, shelf_of}
 
 -- records after a step, and how many item records it put aside
@@ -54,6 +55,11 @@ freed_after shelf number (Some previous) records =
           (width_of records.items previous + width_of records.items number) records;
       put_aside = 1;
     }
+
+-- the item that is left of a freed one: the free one before it, if any
+abbrev pub left_item : ℕ → Option ℕ → ℕ
+left_item number None = number
+left_item number (Some previous) = previous
 
 -- a link names the one item of a list, and that is free
 abbrev pub names_one_free : List ItemRecord → Option ℕ → Bool
@@ -119,6 +125,29 @@ item_merged shelf number records =
     let two = freed_after shelf number (free_previous one.records.items number) one.records in
     record { records = two.records; put_aside = one.put_aside + two.put_aside }
 
+-- the item that is left where one was freed and merged
+abbrev pub left_by : ℕ → ℕ → Records → ℕ
+left_by shelf number records =
+    let one = next_absorbed shelf number (free_next records.items number) records in
+    left_item number (free_previous one.records.items number)
+
+-- how wide the item is that is left
+abbrev pub merged_width : ℕ → ℕ → Records → ℕ
+merged_width shelf number records =
+    width_of (item_merged shelf number records).records.items (left_by shelf number records)
+
+-- the shelf is one free item then
+abbrev pub is_emptied : ℕ → ℕ → Records → Bool
+is_emptied shelf number records =
+    let new = (item_merged shelf number records).records in
+    names_one_free new.items (first_item_of new.shelves shelf)
+
+-- an item stands alone in its shelf
+abbrev pub is_alone : List ItemRecord → ℕ → Bool
+is_alone items number =
+    is_none (link_at item_chain.previous items number)
+    && is_none (link_at item_chain.next items number)
+
 -- the shelf and its empty neighbours in its column become one, where it is empty
 abbrev pub shelves_merged : ℕ → Records → Step
 shelves_merged shelf records =
@@ -154,24 +183,54 @@ HeightsFit shelf shelves =
     (n : ℕ) → empty_next shelves shelf ≡ Some n
     → height_of shelves shelf + height_of shelves n < 65536
 
--- what freeing and merging an item adds up fits 16 bits
+-- there are a shelf, an item of it and its neighbours, and the first of the free list
+pub record StandsIn (shelf number : ℕ) (records : Records) : Type 0 where
+  pub within : shelf < length records.shelves
+  pub item : HasNeighbours item_chain records.items number
+  pub first_free : NamesOneOf records.items (first_free_of records.shelves shelf)
+
+-- a free item after one has neighbours in its shelf and in the free list
+pub record HasFreeNext (number : ℕ) (items : List ItemRecord) : Type 0 where
+  pub item : (n : ℕ) → free_next items number ≡ Some n → HasNeighbours item_chain items n
+  pub free : (n : ℕ) → free_next items number ≡ Some n → HasNeighbours free_list items n
+
+-- what freeing and merging an item adds up fits 16 bits, and all that it reads is there
 pub record CanMergeItem (shelf number : ℕ) (records : Records) : Type 0 where
+  pub here : StandsIn shelf number records
+  pub beside : HasFreeNext number records.items
   pub next : WidthsFit number (free_next records.items number) records.items
+  pub absorbed :
+      (let one = next_absorbed shelf number (free_next records.items number) records in
+      StandsIn shelf number one.records)
   pub previous :
       (let one = next_absorbed shelf number (free_next records.items number) records in
       WidthsFit number (free_previous one.records.items number) one.records.items)
 
--- what merging a shelf with its neighbours adds up fits 16 bits
+-- the item that is left is there, and stands alone in its shelf just where this is one free item; so
+-- far the shelf says that it isn't
+pub record IsLeft (shelf number : ℕ) (records : Records) : Type 0 where
+  pub there :
+      left_by shelf number records < length (item_merged shelf number records).records.items
+  pub alone :
+      is_emptied shelf number records
+      ≡ is_alone (item_merged shelf number records).records.items (left_by shelf number records)
+  pub in_use : is_empty_at (item_merged shelf number records).records.shelves shelf ≡ false
+
+-- what merging a shelf with its neighbours adds up fits 16 bits, and the shelf before it links to it
 pub record CanMergeShelves (shelf : ℕ) (records : Records) : Type 0 where
   pub next : HeightsFit shelf records.shelves
   pub previous :
       (let one = shelf_merged shelf records in
       (n : ℕ) → link_at shelf_chain.previous one.records.shelves shelf ≡ Some n
       → HeightsFit n one.records.shelves)
+  pub linked :
+      (n : ℕ) → link_at shelf_chain.previous records.shelves shelf ≡ Some n
+      → link_at shelf_chain.next records.shelves n ≡ Some shelf
 
--- what a return adds up fits 16 bits
+-- what a return adds up fits 16 bits, and all that it reads is there
 pub record CanReturn (number : ℕ) (records : Records) : Type 0 where
   pub item : CanMergeItem (shelf_of records.items number) number records
+  pub left : IsLeft (shelf_of records.items number) number records
   pub shelves :
       CanMergeShelves (shelf_of records.items number)
       (emptiness_said (shelf_of records.items number)

@@ -1,16 +1,16 @@
 -- The ranked shelves after the steps of a return: the bound of the item's shelf rises to what became
 -- free, and of two shelves that merge the later goes and the other stands where its height puts it.
-use Rattle.std.specs.Prelude.{◌≡◌, ◌≢◌, ℕ, ◌+◌, ◌<◌, ◌≤◌, Option, None, Some, List, length}
+use Rattle.std.specs.Prelude.{◌≡◌, ◌≢◌, ℕ, ◌+◌, ◌≤◌, Option, None, Some, List, length}
 use Rattle.etagere_base.specs.Lists.{times}
 use Rattle.etagere_links.specs.declared.records.ItemRecord.{ItemRecord}
 use Rattle.etagere_links.specs.declared.records.ShelfRecord.{ShelfRecord}
 use Rattle.etagere_links.specs.Edits.{link_at}
 use Rattle.etagere_links.specs.Links.{no_link}
-use Rattle.etagere_links.specs.RecordLists.{Records, first_free_of, first_item_of}
+use Rattle.etagere_links.specs.RecordLists.{Records, first_item_of}
 use Rattle.etagere_links.specs.Records.{shelf_chain}
 use Rattle.etagere.specs.AtlasRecords.{shelf_of}
 use Rattle.etagere.specs.Private.ByHeight.{AreInOrder, bound_of, put_in, raised, ranked_numbers, taken_out}
-use Rattle.etagere.specs.Private.ItemReturned.{emptiness_said, empty_next, free_next, free_previous, item_merged, shelf_merged, shelf_of_item_absorbed, width_of}
+use Rattle.etagere.specs.Private.ItemReturned.{emptiness_said, empty_next, free_next, free_previous, item_merged, merged_width, shelf_merged, shelf_of_item_absorbed, width_of}
 use Rattle.etagere.specs.declared.linked.ranked.RankedShelf.{RankedShelf}
 
 -- the width of an item, where there is one
@@ -24,10 +24,6 @@ freed_width items number =
     width_of items number
     + named_width items (free_next items number)
     + named_width items (free_previous items number)
-
--- how wide the first of the free list of a shelf is
-abbrev pub first_free_width : ℕ → Records → ℕ
-first_free_width shelf records = named_width records.items (first_free_of records.shelves shelf)
 
 -- without the next shelf, and with the other by the height that these records give it
 abbrev pub rank_absorbed : List ShelfRecord → ℕ → ℕ → List RankedShelf → List RankedShelf
@@ -96,14 +92,13 @@ pub record CanMergeRanks (shelf : ℕ) (records : Records) (ranked : List Ranked
       CanMergeNamedRank (link_at shelf_chain.previous one.shelves shelf) one
       (rank_merged shelf records ranked))
 
--- what becomes free of a shelf fits 16 bits; the shelf is ranked then, and so are those that merge
+-- what is left of an item is as wide as what becomes free; the shelf is ranked then, and so are those
+-- that merge
 pub record CanReturnRanked (shelf number : ℕ) (records : Records) (ranked : List RankedShelf)
     : Type 0 where
-  pub width : freed_width records.items number < 65536
+  pub width : merged_width shelf number records ≡ freed_width records.items number
   pub stands : 1 ≤ times shelf (ranked_numbers ranked)
-  pub known : first_free_width shelf records ≤ bound_of shelf ranked
-  pub order :
-      AreInOrder (emptiness_said shelf (item_merged shelf number records).records).shelves ranked
+  pub order : AreInOrder (item_merged shelf number records).records.shelves ranked
   pub shelves :
       CanMergeRanks shelf (emptiness_said shelf (item_merged shelf number records).records)
       (raised shelf (freed_width records.items number) ranked)

@@ -131,6 +131,18 @@ fn position_of(shelves: &[ShelfRecord], ranked: &mut RankedShelves, shelf: usize
     if let Some(index) = ranked.kept_position(shelf) {
         return index;
     }
+    position_by_halves(shelves, ranked, shelf)
+}
+
+/// Where a shelf stands, found by halves, and kept. Not inlined, so that `position_of` stays small where it is.
+#[inline(never)]
+fn position_by_halves(shelves: &[ShelfRecord], ranked: &mut RankedShelves, shelf: usize) -> usize
+    requires order { AreInOrder shelves.now ranked.old.items }
+    requires stands { 1 ≤ times shelf (spec.ranked_numbers ranked.old.items) }
+    ensures within { result < length ranked.old.items }
+    ensures shelf { (spec.ranked_at ranked.old.items result).shelf ≡ shelf }
+    ensures same { ranked.new ≡ ranked.old }
+{
     let index = start_of(shelves, ranked, shelf).index;
     ranked.keep_position(shelf, index);
     index

@@ -3,13 +3,12 @@
 //! Definitions: `Reading`, and `rectangle_of` of `Places`. Nothing here changes the records, and
 //! nothing is walked.
 
-ghost use Rattle.std.specs.Prelude.{◌≡◌, true};
-ghost use Rattle.etagere.specs.AtlasRecords.{is_allocated_at};
+ghost use Rattle.std.specs.Prelude.{◌≡◌, ◌<◌, length, true};
+ghost use Rattle.etagere.specs.AtlasRecords.{is_allocated_at, shelf_of};
 ghost use Rattle.etagere.specs.Places as places;
 ghost use Rattle.etagere.specs.Private.Kept.{AreKept, state_of};
 ghost use Rattle.etagere.specs.Private.Reading as reading;
 
-use crate::linked::fields;
 use etagere_base::{AllocId, Frame, INDEX_MODULUS, Rectangle, rectangle_at};
 use etagere_links::Records;
 
@@ -59,11 +58,21 @@ pub(crate) fn rectangle_of(frame: &Frame, records: &Records, id: AllocId) -> Opt
     Some(recorded_rectangle(frame, records, number))
 }
 
-/// How large the item of this number is.
-pub(crate) fn recorded_area(records: &Records, number: usize) -> u32
+/// The number of the shelf of an item that is there.
+pub(crate) fn recorded_shelf(records: &Records, number: usize) -> usize
+    requires { number < length records.now.items }
+    ensures { result ≡ shelf_of records.now.items number }
+{
+    usize::from(records.items()[number].shelf)
+}
+
+/// How large an item of this shelf is.
+pub(crate) fn recorded_area(records: &Records, shelf: usize, number: usize) -> u32
+    requires item { number < length records.now.items }
+    requires shelf { shelf < length records.now.shelves }
+    requires own { shelf ≡ shelf_of records.now.items number }
     ensures { result ≡ reading.recorded_area records.now number }
 {
-    let shelf = fields::shelf(records.items(), number);
-    u32::from(fields::width(records.items(), number))
-        * u32::from(fields::height(records.shelves(), shelf))
+    let item = &records.items()[number];
+    u32::from(item.width) * u32::from(records.shelves()[shelf].height)
 }

@@ -4,27 +4,36 @@
 //! earlier place. It looks only at the neighbours of the item and of its shelf, and takes no memory: both have to
 //! stay so.
 
-ghost use Rattle.std.specs.Prelude.{◌≡◌, ℕ, ◌<◌, ◌≤◌, Some, IfSome};
-ghost use Rattle.etagere_base.specs.Lists.{times};
+ghost use Rattle.std.specs.Prelude.{◌≡◌, ℕ, ◌<◌, ◌≤◌, Some, IfSome, length};
 ghost use Rattle.etagere.specs.AtlasRecords.{shelf_of};
-ghost use Rattle.etagere.specs.Private.ByHeight.{AreInOrder, bound_of, raised, ranked_numbers};
 ghost use Rattle.etagere.specs.Private.ItemReturned as returned;
-ghost use Rattle.etagere.specs.Private.ItemReturned.{CanMergeItem, CanMergeShelves, CanReturn, HeightsFit, WidthsFit};
+ghost use Rattle.etagere.specs.Private.ItemReturned.{CanMergeItem, CanMergeShelves, CanReturn, HasFreeNext, HeightsFit, StandsIn, WidthsFit};
 ghost use Rattle.etagere.specs.Private.RankedReturned as ranks;
 ghost use Rattle.etagere.specs.Private.RankedReturned.{CanMergeNamedRank, CanMergeRank, CanMergeRanks, CanReturnRanked};
-ghost use Rattle.etagere_links.specs.Edits.{link_at};
 ghost use Rattle.etagere_links.specs.Links.{no_link};
-ghost use Rattle.etagere_links.specs.RecordLists.{first_item_of};
-ghost use Rattle.etagere_links.specs.Records.{item_chain, shelf_chain};
+ghost use Rattle.etagere_links.specs.Neighbours.{NamesOneOf};
 
 use crate::linked::fields;
 use crate::linked::heights::{put_in, raise, ranked_shelf, take_out};
 use crate::linked::ranked::RankedShelves;
 use etagere_links::{Chain, ItemRecord, Link, Records, ShelfRecord, next_of, previous_of};
 
-/// Frees the item of this number, which is allocated, merges what is free with its neighbours, and answers how
-/// many item records were put aside.
-pub(crate) fn return_item(records: &mut Records, ranked: &mut RankedShelves, number: usize) -> u32
+/// The item that is left of one that was freed, and how many item records were put aside.
+#[derive(Drop)]
+struct Merged {
+    left: usize,
+    put_aside: u32,
+}
+
+/// Frees the item of this number, which is allocated in this shelf, merges what is free with its neighbours, and
+/// answers how many item records were put aside.
+pub(crate) fn return_item(
+    records: &mut Records,
+    ranked: &mut RankedShelves,
+    shelf: usize,
+    number: usize,
+) -> u32
+    requires shelf { shelf ≡ shelf_of records.old.items number }
     requires number { number < no_link }
     requires fits { CanReturn number records.old }
     requires ranked { CanReturnRanked (shelf_of records.old.items number) number records.old
@@ -35,169 +44,117 @@ pub(crate) fn return_item(records: &mut Records, ranked: &mut RankedShelves, num
     ensures put_aside { result ≡ returned.put_aside_by number records.old }
     ensures few { result < 5 }
 {
-    let shelf = fields::shelf(records.items(), number);
-    let width = freed_width(records.items(), number);
-    let known = first_free_width(records, shelf);
-    let items = merge_item(records, shelf, number);
-    say_emptiness(records, shelf);
-    raise_above(records.shelves(), ranked, shelf, known, width);
-    items + merge_shelves(records, ranked, shelf)
-}
-
-/// How wide the first of the free list of a shelf is, which its bound is not below; 0 where there is none.
-fn first_free_width(records: &Records, shelf: usize) -> u16
-    ensures { result ≡ ranks.first_free_width shelf records.now }
-{
-    let first = fields::first_free_link(records.shelves(), shelf).number();
-    named_width(records.items(), first)
-}
-
-/// Raises the bound of a shelf, which is not below a known width, to this one, where it is less. Where the known one
-/// is no less, it searches for nothing.
-fn raise_above(
-    shelves: &[ShelfRecord],
-    ranked: &mut RankedShelves,
-    shelf: usize,
-    known: u16,
-    width: u16,
-)
-    requires order { AreInOrder shelves.now ranked.old.items }
-    requires stands { 1 ≤ times shelf (ranked_numbers ranked.old.items) }
-    requires known { known ≤ bound_of shelf ranked.old.items }
-    ensures { ranked.new.items ≡ raised shelf width ranked.old.items }
-{
-    if known < width {
-        raise(shelves, ranked, shelf, width);
+    let merged = merge_item(records, shelf, number);
+    let width = width_of(records.items(), merged.left);
+    raise(records.shelves(), ranked, shelf, width);
+    if is_alone(records.items(), merged.left) {
+        records.set_empty(shelf, true);
+        merged.put_aside + merge_shelves(records, ranked, shelf)
+    } else {
+        merged.put_aside
     }
 }
 
-/// How wide an item is with its free neighbours.
-fn freed_width(items: &[ItemRecord], number: usize) -> u16
-    requires { ranks.freed_width items.now number < 65536 }
-    ensures { result ≡ ranks.freed_width items.now number }
+/// How wide an item is that is there.
+fn width_of(items: &[ItemRecord], number: usize) -> u16
+    requires { number < length items.now }
+    ensures { result ≡ returned.width_of items.now number }
 {
-    fields::width(items, number)
-        + named_width(items, free_next(items, number))
-        + named_width(items, free_previous(items, number))
+    items[number].width
 }
 
-/// How wide an item is, where there is one.
-fn named_width(items: &[ItemRecord], named: Option<usize>) -> u16
-    ensures { result ≡ ranks.named_width items.now named }
+/// Whether an item stands alone in its shelf.
+fn is_alone(items: &[ItemRecord], number: usize) -> bool
+    requires { number < length items.now }
+    ensures { result ≡ returned.is_alone items.now number }
 {
-    match named {
-        None => 0,
-        Some(number) => fields::width(items, number),
-    }
+    let item = &items[number];
+    item.prev.number().is_none() && item.next.number().is_none()
 }
 
 /// Frees an item, and merges it with its free neighbours.
-fn merge_item(records: &mut Records, shelf: usize, number: usize) -> u32
+fn merge_item(records: &mut Records, shelf: usize, number: usize) -> Merged
     requires number { number < no_link }
     requires fits { CanMergeItem shelf number records.old }
     ensures records { records.new ≡ (returned.item_merged shelf number records.old).records }
-    ensures put_aside { result ≡ (returned.item_merged shelf number records.old).put_aside }
-    ensures few { result < 3 }
+    ensures put_aside { result.put_aside
+        ≡ (returned.item_merged shelf number records.old).put_aside }
+    ensures left { result.left ≡ returned.left_by shelf number records.old }
+    ensures few { result.put_aside < 3 }
 {
-    let next = free_next(records.items(), number);
-    let one = absorb_next(records, shelf, number, next);
-    let previous = free_previous(records.items(), number);
-    one + free_after(records, shelf, number, previous)
+    let one = absorb_next(records, shelf, number);
+    let merged = free_after(records, shelf, number);
+    Merged {
+        left: merged.left,
+        put_aside: one + merged.put_aside,
+    }
 }
 
 /// The item that a link names, where that is free.
 fn free_named(items: &[ItemRecord], link: Link) -> Option<usize>
+    requires { NamesOneOf items.now link }
     ensures value { result ≡ returned.free_named items.now link }
     ensures small { IfSome result (λ number. number < no_link) }
 {
-    let number = link.number()?;
-    if fields::is_allocated(items, number) {
-        None
-    } else {
-        Some(number)
+    match link.number() {
+        Some(number) if !items[number].allocated => Some(number),
+        _ => None,
     }
 }
 
-/// The item after one, where that is free.
-fn free_next(items: &[ItemRecord], number: usize) -> Option<usize>
-    ensures value { result ≡ returned.free_next items.now number }
-    ensures small { IfSome result (λ number. number < no_link) }
-{
-    free_named(items, next_of::<Chain, ItemRecord>(items, number))
-}
-
-/// The item before one, where that is free.
-fn free_previous(items: &[ItemRecord], number: usize) -> Option<usize>
-    ensures value { result ≡ returned.free_previous items.now number }
-    ensures small { IfSome result (λ number. number < no_link) }
-{
-    free_named(items, previous_of::<Chain, ItemRecord>(items, number))
-}
-
 /// An allocated item takes the place of the free one after it, if any.
-fn absorb_next(records: &mut Records, shelf: usize, number: usize, next: Option<usize>) -> u32
-    requires small { IfSome next (λ next. next < no_link) }
-    requires fits { WidthsFit number next records.old.items }
+fn absorb_next(records: &mut Records, shelf: usize, number: usize) -> u32
+    requires here { StandsIn shelf number records.old }
+    requires free_next { HasFreeNext number records.old.items }
+    requires fits { WidthsFit number (returned.free_next records.old.items number)
+        records.old.items }
     ensures records { records.new
-        ≡ (returned.next_absorbed shelf number next records.old).records }
+        ≡ (returned.next_absorbed shelf number (returned.free_next records.old.items number)
+        records.old).records }
     ensures put_aside { result
-        ≡ (returned.next_absorbed shelf number next records.old).put_aside }
+        ≡ (returned.next_absorbed shelf number (returned.free_next records.old.items number)
+        records.old).put_aside }
     ensures few { result < 2 }
 {
-    let Some(next) = next else {
+    let item = &records.items()[number];
+    let Some(next) = free_named(records.items(), item.next) else {
         return 0;
     };
-    let width = fields::width(records.items(), number) + fields::width(records.items(), next);
-    records.unlink_free(shelf, next);
-    records.unlink_item(shelf, next);
-    records.put_item_aside(next);
-    records.set_width(number, width);
+    let width = item.width + records.items()[next].width;
+    records.absorb_free(shelf, number, next, width);
     1
 }
 
 /// The free item before an allocated one, if any, takes its place; otherwise the item becomes free.
-fn free_after(records: &mut Records, shelf: usize, number: usize, previous: Option<usize>) -> u32
+fn free_after(records: &mut Records, shelf: usize, number: usize) -> Merged
     requires number { number < no_link }
-    requires fits { WidthsFit number previous records.old.items }
+    requires here { StandsIn shelf number records.old }
+    requires fits { WidthsFit number (returned.free_previous records.old.items number)
+        records.old.items }
     ensures records { records.new
-        ≡ (returned.freed_after shelf number previous records.old).records }
-    ensures put_aside { result
-        ≡ (returned.freed_after shelf number previous records.old).put_aside }
-    ensures few { result < 2 }
+        ≡ (returned.freed_after shelf number (returned.free_previous records.old.items number)
+        records.old).records }
+    ensures put_aside { result.put_aside
+        ≡ (returned.freed_after shelf number (returned.free_previous records.old.items number)
+        records.old).put_aside }
+    ensures left { result.left
+        ≡ returned.left_item number (returned.free_previous records.old.items number) }
+    ensures few { result.put_aside < 2 }
 {
-    let Some(previous) = previous else {
-        records.set_allocated(number, false);
-        records.insert_free_front(shelf, number);
-        return 0;
+    let item = &records.items()[number];
+    let Some(previous) = free_named(records.items(), item.prev) else {
+        records.free_item(shelf, number);
+        return Merged {
+            left: number,
+            put_aside: 0,
+        };
     };
-    let width = fields::width(records.items(), previous) + fields::width(records.items(), number);
-    records.unlink_item(shelf, number);
-    records.set_allocated(number, false);
-    records.put_item_aside(number);
-    records.set_width(previous, width);
-    1
-}
-
-/// Whether a link names the one item of a list, and that is free.
-fn names_one_free(items: &[ItemRecord], first: Option<usize>) -> bool
-    ensures { result ≡ returned.names_one_free items.now first }
-{
-    let Some(number) = first else {
-        return false;
-    };
-    !fields::is_allocated(items, number)
-        && next_of::<Chain, ItemRecord>(items, number)
-            .number()
-            .is_none()
-}
-
-/// Says in the record of a shelf whether it is empty.
-fn say_emptiness(records: &mut Records, shelf: usize)
-    ensures { records.new ≡ returned.emptiness_said shelf records.old }
-{
-    let first = fields::first_item(records.shelves(), shelf);
-    let is_empty = names_one_free(records.items(), first);
-    records.set_empty(shelf, is_empty);
+    let width = records.items()[previous].width + item.width;
+    records.absorb_allocated(shelf, previous, number, width);
+    Merged {
+        left: previous,
+        put_aside: 1,
+    }
 }
 
 /// Merges a shelf with its neighbours, where it and they are empty and stand in one column.

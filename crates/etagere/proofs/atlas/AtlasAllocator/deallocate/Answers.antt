@@ -1,16 +1,19 @@
 use Rattle.std.proofs.Common.{◌≡◌, true, false, refl, ap, sym, ◌∙◌, subst, arith}
 use Rattle.std.specs.Prelude.{is_some}
 use Rattle.etagere.specs.Atlas.{KeepsPromises, Restores, without_id}
+use Rattle.etagere.specs.AtlasRecords.{is_allocated_at}
 use Rattle.etagere.specs.Places.{allocations, is_allocated}
 use Rattle.etagere.specs.Private.Consistent.{state_in}
 use Rattle.etagere.specs.Private.Kept.{state_of}
 use Rattle.etagere.specs.Returning.{returned}
 use Rattle.etagere.specs.State.{AtlasState}
 use Rattle.etagere.proofs.Promises.{promises}
+use Rattle.etagere.proofs.Recorded.RecordedArea.{kept-area}
 use Rattle.etagere.proofs.Recorded.RecordedReturn.{AfterReturn, after-return, can-return, ranked-after}
-use Rattle.etagere.proofs.Recorded.RecordsOfIds.{kept-allocated}
+use Rattle.etagere.proofs.Recorded.RecordsOfIds.{kept-allocated, kept-shelf, marked-within, record-marked}
 use Rattle.etagere.proofs.Returned.Restored.{returned-restores}
 use Rattle.etagere.proofs.atlas.AtlasAllocator.deallocate.Goals as goal
+use Rattle.etagere.proofs.atlas.AtlasAllocator.deallocate.Goals.{After-return_item}
 
 pub returns-in_default-clause-unknown : goal.returns-in_default-clause-unknown
 returns-in_default-clause-unknown c =
@@ -21,43 +24,54 @@ returns-in_default-clause-unknown c =
 pub returns-in_default-clause-promises : goal.returns-in_default-clause-promises
 returns-in_default-clause-promises c = subst KeepsPromises c.self.view_is (promises (state_in c.self.inside) c.self.invariant.kept.valid)
 
-pub return_item-put_aside-requires : goal.return_item-put_aside-requires
-return_item-put_aside-requires c =
-    let inside = c.self.inside in
-    let can = can-return inside.frame inside.records inside.ranked.items c.args.id c.in-Some.number c.self.invariant.kept c.self.invariant.ranked (sym c.number_of.ensures ∙ c.in-Some.is) in
-    record { number = can.0; fits = can.1; ranked = can.2 }
+pub recorded_shelf-shelf-requires : goal.recorded_shelf-shelf-requires
+recorded_shelf-shelf-requires c =
+    let items = c.self.inside.records.items in
+    marked-within items c.in-Some.number (record-marked items c.args.id c.in-Some.number (sym c.number_of.ensures ∙ c.in-Some.is)).0
 
--- what is known at the end
-after : (c : goal.After-self-2-1) → AfterReturn c.self.inside.frame c.self.inside.records c.args.id c.return_item-put_aside.new.records c.return_item-put_aside.result c.recorded_area-area.result
-after c =
-    after-return c.self.inside.frame c.self.inside.records c.return_item-put_aside.new.records c.args.id c.in-Some.number c.return_item-put_aside.result c.recorded_area-area.result
-    c.self.invariant.kept (sym c.number_of.ensures ∙ c.in-Some.is) c.return_item-put_aside.ensures.records c.return_item-put_aside.ensures.put_aside c.recorded_area-area.ensures
+pub recorded_area-area-requires : goal.recorded_area-area-requires
+recorded_area-area-requires c =
+    let records = c.self.inside.records in
+    let marked : is_allocated_at records.items c.in-Some.number ≡ true = (record-marked records.items c.args.id c.in-Some.number (sym c.number_of.ensures ∙ c.in-Some.is)).0 in
+    record {
+      item = marked-within records.items c.in-Some.number marked;
+      shelf = rw c.recorded_shelf-shelf.ensures (kept-shelf c.self.inside.frame records c.in-Some.number c.self.invariant.kept marked);
+      own = c.recorded_shelf-shelf.ensures;
+    }
 
 pub overflow_sub-self : goal.overflow_sub-self
 overflow_sub-self c =
-    let done : AfterReturn c.self.inside.frame c.self.inside.records c.args.id c.return_item-put_aside.new.records c.return_item-put_aside.result c.recorded_area-area.result =
-    after-return c.self.inside.frame c.self.inside.records c.return_item-put_aside.new.records c.args.id c.in-Some.number c.return_item-put_aside.result c.recorded_area-area.result
-    c.self.invariant.kept (sym c.number_of.ensures ∙ c.in-Some.is) c.return_item-put_aside.ensures.records c.return_item-put_aside.ensures.put_aside c.recorded_area-area.ensures in
-    omega (arith, done.counted, c.self.invariant.counted)
+    let inside = c.self.inside in
+    omega (arith, c.recorded_area-area.ensures, kept-area inside.frame inside.records c.args.id c.in-Some.number c.self.invariant.kept (sym c.number_of.ensures ∙ c.in-Some.is), c.self.invariant.space)
+
+pub return_item-requires : goal.return_item-requires
+return_item-requires c =
+    let inside = c.self.inside in
+    let can = can-return inside.frame inside.records inside.ranked.items c.args.id c.in-Some.number c.self.invariant.kept c.self.invariant.ranked (sym c.number_of.ensures ∙ c.in-Some.is) in
+    record { shelf = c.recorded_shelf-shelf.ensures; number = can.0; fits = can.1; ranked = can.2 }
+
+-- what is known once the item was returned
+after : (c : After-return_item) → AfterReturn c.self.inside.frame c.self.inside.records c.args.id c.return_item.new.records c.return_item.result c.recorded_area-area.result
+after c =
+    after-return c.self.inside.frame c.self.inside.records c.return_item.new.records c.args.id c.in-Some.number c.return_item.result c.recorded_area-area.result
+    c.self.invariant.kept (sym c.number_of.ensures ∙ c.in-Some.is) c.return_item.ensures.records c.return_item.ensures.put_aside c.recorded_area-area.ensures
 
 pub overflow_sub-self-2 : goal.overflow_sub-self-2
-overflow_sub-self-2 c =
-    let done : AfterReturn c.self.inside.frame c.self.inside.records c.args.id c.return_item-put_aside.new.records c.return_item-put_aside.result c.recorded_area-area.result =
-    after-return c.self.inside.frame c.self.inside.records c.return_item-put_aside.new.records c.args.id c.in-Some.number c.return_item-put_aside.result c.recorded_area-area.result
-    c.self.invariant.kept (sym c.number_of.ensures ∙ c.in-Some.is) c.return_item-put_aside.ensures.records c.return_item-put_aside.ensures.put_aside c.recorded_area-area.ensures in
-    omega (arith, done.space, c.self.invariant.space)
+overflow_sub-self-2 c = omega (arith, (after c).counted, c.self.invariant.counted)
 
 pub invariant_of-self : goal.invariant_of-self
-invariant_of-self c = record {
-  kept = (after c).kept;
-  ranked = rw (c.return_item-put_aside.ensures.records, c.return_item-put_aside.ensures.ranked)
-      (ranked-after c.self.inside.frame c.self.inside.records c.self.inside.ranked.items c.args.id c.in-Some.number c.self.invariant.kept c.self.invariant.ranked (sym c.number_of.ensures ∙ c.in-Some.is));
-  counted = omega (arith, (after c).counted, c.self.invariant.counted);
-  space = omega (arith, (after c).space, c.self.invariant.space);
-}
+invariant_of-self c =
+    let done = after (goal.at.invariant_of-self c).After-return_item in
+    record {
+      kept = done.kept;
+      ranked = rw (c.return_item.ensures.records, c.return_item.ensures.ranked)
+          (ranked-after c.self.inside.frame c.self.inside.records c.self.inside.ranked.items c.args.id c.in-Some.number c.self.invariant.kept c.self.invariant.ranked (sym c.number_of.ensures ∙ c.in-Some.is));
+      counted = omega (arith, done.counted, c.self.invariant.counted);
+      space = omega (arith, done.space, c.self.invariant.space);
+    }
 
 pub returns-clause-ok : goal.returns-clause-ok
-returns-clause-ok c = (after c).state ∙ ap (λ (state : AtlasState). returned state c.args.id) c.self.view_is
+returns-clause-ok c = (after (goal.at.returns-clause-ok c).After-return_item).state ∙ ap (λ (state : AtlasState). returned state c.args.id) c.self.view_is
 
 pub returns-clause-unknown : goal.returns-clause-unknown
 returns-clause-unknown c =
@@ -68,12 +82,12 @@ returns-clause-unknown c =
     (λ wrong. absurd (cc), λ none. absurd (cc))
 
 pub returns-clause-allocated : goal.returns-clause-allocated
-returns-clause-allocated c = (after c).allocated ∙ ap (λ (state : AtlasState). without_id c.args.id (allocations state)) c.self.view_is
+returns-clause-allocated c = (after (goal.at.returns-clause-allocated c).After-return_item).allocated ∙ ap (λ (state : AtlasState). without_id c.args.id (allocations state)) c.self.view_is
 
 pub returns-clause-restores : goal.returns-clause-restores
 returns-clause-restores c =
-    subst (λ (state : AtlasState). Restores state c.args.id (state_of c.self.inside.frame c.return_item-put_aside.new.records)) c.self.view_is
-    (returned-restores (state_in c.self.inside) c.args.id (state_of c.self.inside.frame c.return_item-put_aside.new.records) (after c).state)
+    subst (λ (state : AtlasState). Restores state c.args.id (state_of c.self.inside.frame c.return_item.new.records)) c.self.view_is
+    (returned-restores (state_in c.self.inside) c.args.id (state_of c.self.inside.frame c.return_item.new.records) (after (goal.at.returns-clause-restores c).After-return_item).state)
 
 pub returns-clause-promises : goal.returns-clause-promises
-returns-clause-promises c = (after c).promises_after
+returns-clause-promises c = (after (goal.at.returns-clause-promises c).After-return_item).promises_after

@@ -1,7 +1,7 @@
 use Rattle.std.proofs.Common.{ap}
 use Rattle.etagere.specs.declared.linked.ranked.RankedShelf.{RankedShelf}
 use Rattle.etagere.proofs.ByHeight.Positions.{StandsAt, stands-found, stands-within}
-use Rattle.etagere.proofs.linked.heights.position_of.Goals as goal
+use Rattle.etagere.proofs.linked.heights.position_by_halves.Goals as goal
 
 -- the shelf stands where halving finds it
 found : (c : goal.After-keep_position) → StandsAt c.args.shelf c.start_of-index.result.index c.args.ranked.now.items
