@@ -15,4 +15,4 @@ pub returns-clause-written : goal.returns-clause-written
 returns-clause-written g c =
     let is : c.in_ok-atlas.atlas ≡ fresh (atlas_frame c.args.size c.args.options.now) = search rules in
     subst (λ (f : Frame). Streams shelf_atlas f c.args.commands.now (g.W.Write.contents c.args.writer.now) (g.W.Write.contents c.stream_all.new.writer) c.map_err-3.result)
-    (ap (λ (s : AtlasState). s.frame) is) (search (rules, c.stream_all.ensures, c.map_err-3.ensures))
+    (ap (λ (s : AtlasState). s.frame) is) (search rules)
