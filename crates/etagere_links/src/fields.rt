@@ -1,5 +1,5 @@
-//! Single fields of records by number. A number past the last record changes nothing. What ends in `among`
-//! needs the records there that it changes, and tests no range.
+//! Fields of records by number, and two steps that free an item and link it at once. A number past the last record
+//! changes nothing. What ends in `among` needs the records there that it changes, and tests no range.
 //!
 //! Definitions: `RecordEdits`. A field that a step writes gets its function here, and keeps all others.
 
@@ -88,7 +88,7 @@ pub fn set_width_among(items: &mut [ItemRecord], number: usize, width: u16)
 }
 
 /// Says that an item that is there is free, and puts its record onto the pile whose top record `top` names.
-pub fn free_aside_among(items: &mut [ItemRecord], top: &mut Link, number: usize)
+pub fn free_and_put_aside_among(items: &mut [ItemRecord], top: &mut Link, number: usize)
     requires here { number < length items.old }
     requires small { number < no_link }
     ensures items { items.new
@@ -103,7 +103,7 @@ pub fn free_aside_among(items: &mut [ItemRecord], top: &mut Link, number: usize)
 
 /// Says that an item that is there is free, and puts it in front of the free list whose first item `first`
 /// names, which is there too.
-pub fn free_front_among(items: &mut [ItemRecord], first: &mut Link, number: usize)
+pub fn free_in_front_among(items: &mut [ItemRecord], first: &mut Link, number: usize)
     requires here { number < length items.old }
     requires small { number < no_link }
     requires first { NamesOneOf items.old first.old }
@@ -119,7 +119,7 @@ pub fn free_front_among(items: &mut [ItemRecord], first: &mut Link, number: usiz
     here.allocated = false;
     here.next_unallocated = second;
     here.prev_unallocated = Link::none();
-    lists::join_previous::<FreeList, ItemRecord>(items, second, link);
+    lists::set_previous_among::<FreeList, ItemRecord>(items, second, link);
 }
 
 /// Changes the width of an item, and says that it is allocated.

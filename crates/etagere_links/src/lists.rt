@@ -103,8 +103,8 @@ pub fn unlink<List, T: Linked<List>>(records: &mut [T], first: &mut Link, number
     set_first_without(first, previous, next);
 }
 
-/// Changes the link to the next one in the record that `from` names, which is there.
-fn join_next<List, T: Linked<List>>(records: &mut [T], from: Link, next: Link)
+/// Changes the link to the next one in the record that `from` names, if any, which is there.
+fn set_next_among<List, T: Linked<List>>(records: &mut [T], from: Link, next: Link)
     requires { NamesOneOf records.old from }
     ensures { records.new ≡ spec.changed_by from (T.family.with_next next) records.old }
 {
@@ -113,8 +113,8 @@ fn join_next<List, T: Linked<List>>(records: &mut [T], from: Link, next: Link)
     }
 }
 
-/// Changes the link to the previous one in the record that `from` names, which is there.
-pub fn join_previous<List, T: Linked<List>>(records: &mut [T], from: Link, previous: Link)
+/// Changes the link to the previous one in the record that `from` names, if any, which is there.
+pub fn set_previous_among<List, T: Linked<List>>(records: &mut [T], from: Link, previous: Link)
     requires { NamesOneOf records.old from }
     ensures { records.new ≡ spec.changed_by from (T.family.with_previous previous) records.old }
 {
@@ -135,8 +135,8 @@ pub fn unlink_among<List, T: Linked<List>>(records: &mut [T], first: &mut Link, 
 {
     let previous = records[number].previous();
     let next = records[number].next();
-    join_next::<List, T>(records, previous, next);
-    join_previous::<List, T>(records, next, previous);
+    set_next_among::<List, T>(records, previous, next);
+    set_previous_among::<List, T>(records, next, previous);
     set_first_without(first, previous, next);
 }
 

@@ -405,8 +405,8 @@ impl Records {
         fields::write_shelf(&mut self.shelf_records, number, shelf);
     }
 
-    /// Lets an item take the place of the free one after it, which is put aside: it gets this width. All that
-    /// the steps read is there, so they test no range.
+    /// Gives an item this width, and lets it take the place of the free one after it, which is put aside. The
+    /// shelf and both items are there, and what the links of the free one name: no range is tested.
     pub fn absorb_free(&mut self, shelf: usize, number: usize, next: usize, width: u16)
         requires shelf { shelf < length self.old.shelves }
         requires number { number < length self.old.items }
@@ -423,8 +423,9 @@ impl Records {
         fields::set_width_among(items, number, width);
     }
 
-    /// Lets a free item take the place of the allocated one after it, which becomes free and is put aside: it
-    /// gets this width. All that the steps read is there, so they test no range.
+    /// Gives a free item this width, and lets it take the place of the allocated one after it, which becomes free
+    /// and is put aside. The shelf and both items are there, and what the links of the later one in the shelf
+    /// name: no range is tested.
     pub fn absorb_allocated(&mut self, shelf: usize, number: usize, next: usize, width: u16)
         requires shelf { shelf < length self.old.shelves }
         requires number { number < length self.old.items }
@@ -435,12 +436,12 @@ impl Records {
         let here = &mut self.shelf_records[shelf];
         let items: &mut [ItemRecord] = &mut self.item_records;
         lists::unlink_among::<Chain, ItemRecord>(items, &mut here.first_item, next);
-        fields::free_aside_among(items, &mut self.unused_items, next);
+        fields::free_and_put_aside_among(items, &mut self.unused_items, next);
         fields::set_width_among(items, number, width);
     }
 
-    /// Says that an item is free, and puts it in front of the free list of its shelf. All that the steps read
-    /// is there, so they test no range.
+    /// Says that an item is free, and puts it in front of the free list of its shelf. The item and the shelf are
+    /// there, and the first of that list: no range is tested.
     pub fn free_item(&mut self, shelf: usize, number: usize)
         requires shelf { shelf < length self.old.shelves }
         requires number { number < length self.old.items }
@@ -449,7 +450,7 @@ impl Records {
         ensures { self.new ≡ merges.item_freed shelf number self.old }
     {
         let here = &mut self.shelf_records[shelf];
-        fields::free_front_among(&mut self.item_records, &mut here.first_unallocated, number);
+        fields::free_in_front_among(&mut self.item_records, &mut here.first_unallocated, number);
     }
 
     /// Gives the whole of a free item of a shelf.

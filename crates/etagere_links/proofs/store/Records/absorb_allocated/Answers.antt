@@ -18,8 +18,8 @@ returns c =
     let old : Records = record { shelves = shelves; items = items; first_shelf = c.self.inside.first; free_items = c.self.inside.unused_items; free_shelves = c.self.inside.unused_shelves } in
     let done : Records = allocated_absorbed c.args.shelf c.args.number next c.args.width old in
     let long : length c.set_width_among.new.items ≡ c.self.inside.item_records.len =
-    c.set_width_among.auto.items ∙ c.free_aside_among.auto.items ∙ c.unlink_among.auto.records ∙ c.deref_mut-items.ensures.len in
-    rw (with_items_is c.self.inside.item_records c.set_width_among.new.items long, c.set_width_among.ensures, c.free_aside_among.ensures.items, c.free_aside_among.ensures.top, c.unlink_among.ensures.records, c.unlink_among.ensures.first, c.deref_mut-items.ensures.value, sym c.self.view_is)
+    c.set_width_among.auto.items ∙ c.free_and_put_aside_among.auto.items ∙ c.unlink_among.auto.records ∙ c.deref_mut-items.ensures.len in
+    rw (with_items_is c.self.inside.item_records c.set_width_among.new.items long, c.set_width_among.ensures, c.free_and_put_aside_among.ensures.items, c.free_and_put_aside_among.ensures.top, c.unlink_among.ensures.records, c.unlink_among.ensures.first, c.deref_mut-items.ensures.value, sym c.self.view_is)
     (ap (λ (written : List ShelfRecord). record done { shelves = written })
     (first_item-written shelves c.args.shelf
     (λ (first : Option ℕ). first_without (link_at item_chain.previous items next) (link_at item_chain.next items next) first)

@@ -3,7 +3,7 @@ use Rattle.etagere_links.specs.declared.records.ItemRecord.{ItemRecord}
 use Rattle.etagere_links.specs.Edits.{changed_at, changed_by}
 use Rattle.etagere_links.specs.Records.{free_list}
 use Rattle.etagere_links.proofs.EditLemmas.{set-changed, changed-twice}
-use Rattle.etagere_links.proofs.fields.free_front_among.Goals as goal
+use Rattle.etagere_links.proofs.fields.free_in_front_among.Goals as goal
 
 pub returns-clause-items : goal.returns-clause-items
 returns-clause-items c =
@@ -13,7 +13,7 @@ returns-clause-items c =
     let free : ItemRecord → ItemRecord = λ (here : ItemRecord). record here { allocated = false } in
     let next : ItemRecord → ItemRecord = free_list.with_next first in
     let previous : ItemRecord → ItemRecord = free_list.with_previous None in
-    rw (c.join_previous.ensures, c.to-link.ensures, c.none-here.ensures)
+    rw (c.set_previous_among.ensures, c.to-link.ensures, c.none-here.ensures)
     (ap (λ (new : List ItemRecord). changed_by first (free_list.with_previous (Some number)) new)
     (set-changed (λ (here : ItemRecord). previous (next (free here))) items number c.index-items-number.result c.requires.here
     ∙ sym (changed-twice previous (λ (here : ItemRecord). next (free here)) items number)

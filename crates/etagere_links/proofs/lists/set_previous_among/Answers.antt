@@ -1,6 +1,6 @@
 use Rattle.std.proofs.Common.{sym, ◌∙◌}
 use Rattle.etagere_links.proofs.EditLemmas.{set-changed_by}
-use Rattle.etagere_links.proofs.lists.join_previous.Goals as goal
+use Rattle.etagere_links.proofs.lists.set_previous_among.Goals as goal
 
 pub returns-in-Some : goal.returns-in-Some
 returns-in-Some g c =

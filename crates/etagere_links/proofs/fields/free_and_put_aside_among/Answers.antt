@@ -1,7 +1,7 @@
 use Rattle.std.proofs.Common.{false, sym, ◌∙◌}
 use Rattle.etagere_links.specs.declared.records.ItemRecord.{ItemRecord}
 use Rattle.etagere_links.proofs.EditLemmas.{set-changed, changed-twice}
-use Rattle.etagere_links.proofs.fields.free_aside_among.Goals as goal
+use Rattle.etagere_links.proofs.fields.free_and_put_aside_among.Goals as goal
 
 pub returns-clause-items : goal.returns-clause-items
 returns-clause-items c =
