@@ -5,7 +5,6 @@ pub mod EntryValues
 pub mod FreshKept
 pub mod GivenItems
 pub mod ItemFits
-pub mod ItemLeft
 pub mod ItemLocated
 pub mod ItemMerged
 pub mod ItemReturned
@@ -20,6 +19,7 @@ pub mod NotEmptied
 pub mod NumberedLists
 pub mod PreviousMerged
 pub mod RecordValues
+pub mod RemainingItem
 pub mod ReturnRows
 pub mod ReturnedAt
 pub mod ReturnedLengths

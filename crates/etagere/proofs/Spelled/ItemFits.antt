@@ -20,7 +20,7 @@ use Rattle.etagere.specs.Valid.{IsShelf}
 use Rattle.etagere.proofs.Spelled.EntryValues.{widths}
 use Rattle.etagere.proofs.Spelled.ItemMerged.{wide-items}
 use Rattle.etagere.proofs.Spelled.ItemsAround.{widths-append, widths-total}
-use Rattle.etagere.proofs.Spelled.NeighboursThere.{has-free-next, named-is, stands-in}
+use Rattle.etagere.proofs.Spelled.NeighboursThere.{free-next-there, named-is, are-there}
 use Rattle.etagere.proofs.Spelled.NextMerged.{MergesNext, merges-next}
 use Rattle.etagere.proofs.Spelled.SpelledLists.{IsSpelled}
 
@@ -56,13 +56,13 @@ can-merge-item atlas before after shelf number front back free unused shelves is
     ) in
     let front_width : widths new front ≡ widths items front = sym (widths-total new front) ∙ ap total_width next.front_same ∙ widths-total items front in
     record {
-      here = stands-in atlas.lists before after shelf number front back free unused shelves spelled.linked;
-      beside = has-free-next atlas before after shelf number front back free unused shelves spelled;
+      here = are-there atlas.lists before after shelf number front back free unused shelves spelled.linked;
+      after = free-next-there atlas before after shelf number front back free unused shelves spelled;
       next = λ n e.
           let first : first_or None back ≡ Some n =
           sym (next-is (link_at item_chain.next items) front back number (first_item_of atlas.lists.shelves shelf) None is.items.forward) ∙ (named-is items (link_at item_chain.next items number) n e).0 in
           omega (arith, low, member-width items back n (first-stands back n first));
-      absorbed = stands-in one.records before after shelf number front next.rest next.free_list next.aside shelves next.spelled.linked;
+      absorbed = are-there one.records before after shelf number front next.rest next.free_list next.aside shelves next.spelled.linked;
       previous = λ n e.
           let last : last_or None front ≡ Some n =
           sym (previous-is (link_at item_chain.previous new) front next.rest number None still.items.backward) ∙ (named-is new (link_at item_chain.previous new number) n e).0 in

@@ -18,7 +18,7 @@ use Rattle.etagere_links.proofs.ListEnds.{times-here}
 use Rattle.etagere.specs.AtlasRecords.{AtlasRecords, is_allocated_at, item_at, shelf_of, spelled_item, spelled_shelf, spelled_state}
 use Rattle.etagere.specs.Merging.{both_empty, combined_shelves, merged_shelf}
 use Rattle.etagere.specs.Places.{column_height}
-use Rattle.etagere.specs.Private.ItemReturned.{CanMergeItem, CanMergeShelves, CanReturn, IsLeft, Step, emptiness_said, item_merged, item_returned, merged_width, put_aside_by, shelves_merged}
+use Rattle.etagere.specs.Private.ItemReturned.{CanMergeItem, CanMergeShelves, CanReturn, IsLinkedBack, IsRemaining, Step, emptiness_said, item_merged, item_returned, merged_width, put_aside_by, shelves_merged}
 use Rattle.etagere.specs.Private.ByHeight.{AreRanked, raised, ranked_numbers}
 use Rattle.etagere.specs.Private.Kept.{AreKept, HasFlag, IsPlaced, atlas_of, bare, state_of}
 use Rattle.etagere.specs.Private.RankedReturned.{CanReturnRanked, freed_width, ranked_returned, ranks_merged}
@@ -35,10 +35,10 @@ use Rattle.etagere.proofs.Returned.ReturnedValid.{returned-valid}
 use Rattle.etagere.proofs.Spelled.EmptinessSaid.{IsFlagged, emptiness_said-flagged, flags-same}
 use Rattle.etagere.proofs.Spelled.EntryValues.{id_at}
 use Rattle.etagere.proofs.Spelled.ItemFits.{can-merge-item}
-use Rattle.etagere.proofs.Spelled.ItemLeft.{item-left}
+use Rattle.etagere.proofs.Spelled.RemainingItem.{item-remaining}
 use Rattle.etagere.proofs.Spelled.ItemLocated.{HasItem, in-use-counted, located}
 use Rattle.etagere.proofs.Spelled.ItemMerged.{MergesItem, merges-item}
-use Rattle.etagere.proofs.Spelled.NeighboursMerged.{AreLow, MergesShelves, can-merge-ranks, can-merge-shelves, merges-shelves}
+use Rattle.etagere.proofs.Spelled.NeighboursMerged.{AreLow, MergesShelves, can-merge-ranks, can-merge-shelves, merges-shelves, shelf-before}
 use Rattle.etagere.proofs.Spelled.ReturnedAt.{returned-at}
 use Rattle.etagere.proofs.Spelled.ReturnedLengths.{SameLengths, returned-lengths}
 use Rattle.etagere.proofs.Spelled.SpelledLists.{with_lists}
@@ -176,8 +176,9 @@ shelves-after frame records n after middle whole spelled at same merged = rw at 
 record Returns (frame : Frame) (records : Records) (shelf number : ℕ) : Type 0 where
   after : IsReturned (atlas_of frame records) (returned_in shelf number records) (walked_lists records).entries (ranked_in shelf number records) (returned (state_of frame records) (id_at records.items number)) (walked_lists records).unused_items
   can_item : CanMergeItem shelf number records
-  is_left : IsLeft shelf number records
+  remains : IsRemaining shelf number records
   can_shelves : CanMergeShelves shelf (emptiness_said shelf (item_merged shelf number records).records)
+  linked : IsLinkedBack shelf (emptiness_said shelf (item_merged shelf number records).records).shelves
   can_ranked : (ranked : List RankedShelf) → AreRanked frame records ranked → CanReturnRanked shelf number records ranked
 
 -- an allocated item was returned that stands there
@@ -208,8 +209,8 @@ returned-there frame records number has kept allocated flagged =
     let low : AreLow (map (spelled_shelf middle) (has.before ++ edited ∷ has.after)) = λ column.
     let same : column_height column (new ∷ back) ≡ column_height column (old ∷ back) = refl in
     rw freed.spelled (omega (arith, same, column_height-append column front (new ∷ back), column_height-append column front (old ∷ back), low-valid state kept.valid column, ap (column_height column) shelves)) in
-    let left : IsLeft shelf number records × (merged_width shelf number records ≡ freed_width records.items number) =
-    item-left atlas has.before has.after shelf number has.front has.back has.free unused gone valid allocated flagged in
+    let remaining : IsRemaining shelf number records × (merged_width shelf number records ≡ freed_width records.items number) =
+    item-remaining atlas has.before has.after shelf number has.front has.back has.free unused gone valid allocated flagged in
     let start : (ranked : List RankedShelf) → Ranks atlas (walked_lists records).entries ranked → Ranks atlas (has.before ++ entry ∷ has.after) ranked = λ ranked ranks.
     subst (λ (es : List Entry). Ranks atlas es ranked) has.whole ranks in
     record {
@@ -222,8 +223,9 @@ returned-there frame records number has kept allocated flagged =
             counted = omega (arith, merges.counted, freed.counted);
             ranks = λ ranked ranks. merges.ranks (raised shelf (freed_width records.items number) ranked) (freed.ranks.ranks ranked (start ranked ranks));
           };
-      is_left = left.0;
+      remains = remaining.0;
       can_item = can-merge-item atlas has.before has.after shelf number has.front has.back has.free unused gone kept.valid.frame valid allocated flagged.spelled;
+      linked = shelf-before middle has.before has.after edited freed.aside gone freed.flagged;
       can_shelves = can-merge-shelves middle has.before has.after edited freed.aside gone low freed.flagged;
       can_ranked = λ ranked are.
           let ranks : Ranks atlas (has.before ++ entry ∷ has.after) ranked = start ranked (kept-ranks frame records ranked kept are) in
@@ -236,7 +238,7 @@ returned-there frame records number has kept allocated flagged =
             times-here shelf (shelf_numbers has.after),
           ) in
           record {
-            width = left.1;
+            width = remaining.1;
             stands = stands;
             order = freed.ranks.order ranked ranks.order;
             shelves = can-merge-ranks middle has.before has.after edited freed.aside gone (raised shelf (freed_width records.items number) ranked) freed.flagged (freed.ranks.ranks ranked ranks);
@@ -260,7 +262,7 @@ returns-item frame records number kept allocated =
     subst (λ shelf. Returns frame records shelf number) (sym own) (returned-there frame records number has kept allocated flagged) in
     let again = kept-again frame records (item_returned number records) (id_at records.items number) (put_aside_by number records) (ranked_returned number records) kept (returned-lengths number records) there.after in
     record {
-      can = record { item = there.can_item; left = there.is_left; shelves = there.can_shelves };
+      can = record { item = there.can_item; remaining = there.remains; shelves = there.can_shelves; linked = there.linked };
       kept = again.0.0;
       state = again.0.1;
       counted = again.1;

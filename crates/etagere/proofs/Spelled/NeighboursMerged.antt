@@ -15,7 +15,7 @@ use Rattle.etagere.specs.AtlasRecords.{AtlasRecords, height_of, spelled_shelf}
 use Rattle.etagere.specs.Merging.{both_empty, combined_shelves}
 use Rattle.etagere.specs.Places.{column_height}
 use Rattle.etagere.specs.Private.ByHeight.{ranked_numbers}
-use Rattle.etagere.specs.Private.ItemReturned.{Step, CanMergeShelves, HeightsFit, are_both_empty, empty_named, empty_next, named_shelf_merged, shelf_merged, shelves_merged}
+use Rattle.etagere.specs.Private.ItemReturned.{Step, CanMergeShelves, HeightsFit, IsLinkedBack, are_both_empty, empty_named, empty_next, named_shelf_merged, shelf_merged, shelves_merged}
 use Rattle.etagere.specs.Private.RankedReturned.{CanMergeNamedRank, CanMergeRank, CanMergeRanks, named_rank_merged, rank_merged, ranks_merged}
 use Rattle.etagere.specs.State.{Shelf}
 use Rattle.etagere.specs.declared.linked.ranked.RankedShelf.{RankedShelf}
@@ -112,6 +112,22 @@ get-next f (y ∷ front) x next back = get-next f front x next back
 abbrev pub AreLow : List Shelf → Type 0
 AreLow shelves = (column : ℕ) → column_height column shelves ≤ 65535
 
+-- the shelf before one links to it
+pub shelf-before : (atlas : AtlasRecords) (before after : List Entry) (entry : Entry) (unused shelves : List ℕ) → IsFlagged atlas (lists_of (before ++ entry ∷ after) unused shelves) → IsLinkedBack entry.number atlas.lists.shelves
+shelf-before atlas before after entry unused shelves =
+    by_end (λ (xs : List Entry). IsFlagged atlas (lists_of (xs ++ entry ∷ after) unused shelves) → IsLinkedBack entry.number atlas.lists.shelves)
+    (λ flagged n e. let none : link_at shelf_chain.previous atlas.lists.shelves entry.number ≡ None = previous-link atlas [] after entry unused shelves flagged.spelled in absurd (cc (none, e)))
+    some before
+  where
+    some : (xs : List Entry) (last : Entry) → IsFlagged atlas (lists_of ((xs ++ last ∷ []) ++ entry ∷ after) unused shelves) → IsLinkedBack entry.number atlas.lists.shelves
+    some xs last flagged n e =
+        let named : link_at shelf_chain.previous atlas.lists.shelves entry.number ≡ Some last.number = last-named atlas xs after last entry unused shelves flagged in
+        let same : last.number ≡ n = cc (named, e) in
+        let regrouped : IsFlagged atlas (lists_of (xs ++ last ∷ entry ∷ after) unused shelves) =
+        subst (λ (es : List Entry). IsFlagged atlas (lists_of es unused shelves)) (append_assoc xs (last ∷ []) (entry ∷ after)) flagged in
+        subst (λ m. link_at shelf_chain.next atlas.lists.shelves m ≡ Some entry.number) same
+        (next-link atlas xs (entry ∷ after) last unused shelves regrouped.spelled)
+
 -- the heights of a shelf and the next one fit 16 bits
 heights-fit : (atlas : AtlasRecords) (before after : List Entry) (entry : Entry) (unused shelves : List ℕ) → AreLow (map (spelled_shelf atlas) (before ++ entry ∷ after)) → IsFlagged atlas (lists_of (before ++ entry ∷ after) unused shelves) → HeightsFit entry.number atlas.lists.shelves
 heights-fit atlas before [] entry unused shelves low flagged n e =
@@ -136,22 +152,6 @@ heights-fit atlas before (next ∷ after) entry unused shelves low flagged n e =
         heights-le (length before) all (spelled_shelf atlas entry) (spelled_shelf atlas next) (get-here (spelled_shelf atlas) before entry (next ∷ after)) (get-next (spelled_shelf atlas) before entry next after) (near.touch ∙ t) in
         subst (λ m. height_of atlas.lists.shelves entry.number + height_of atlas.lists.shelves m < 65536) same (omega (arith, both, low (spelled_shelf atlas entry).column))
 
--- the shelf before one links to it
-shelf-before : (atlas : AtlasRecords) (before after : List Entry) (entry : Entry) (unused shelves : List ℕ) → IsFlagged atlas (lists_of (before ++ entry ∷ after) unused shelves) → (n : ℕ) → link_at shelf_chain.previous atlas.lists.shelves entry.number ≡ Some n → link_at shelf_chain.next atlas.lists.shelves n ≡ Some entry.number
-shelf-before atlas before after entry unused shelves =
-    by_end (λ (xs : List Entry). IsFlagged atlas (lists_of (xs ++ entry ∷ after) unused shelves) → (n : ℕ) → link_at shelf_chain.previous atlas.lists.shelves entry.number ≡ Some n → link_at shelf_chain.next atlas.lists.shelves n ≡ Some entry.number)
-    (λ flagged n e. let none : link_at shelf_chain.previous atlas.lists.shelves entry.number ≡ None = previous-link atlas [] after entry unused shelves flagged.spelled in absurd (cc (none, e)))
-    some before
-  where
-    some : (xs : List Entry) (last : Entry) → IsFlagged atlas (lists_of ((xs ++ last ∷ []) ++ entry ∷ after) unused shelves) → (n : ℕ) → link_at shelf_chain.previous atlas.lists.shelves entry.number ≡ Some n → link_at shelf_chain.next atlas.lists.shelves n ≡ Some entry.number
-    some xs last flagged n e =
-        let named : link_at shelf_chain.previous atlas.lists.shelves entry.number ≡ Some last.number = last-named atlas xs after last entry unused shelves flagged in
-        let same : last.number ≡ n = cc (named, e) in
-        let regrouped : IsFlagged atlas (lists_of (xs ++ last ∷ entry ∷ after) unused shelves) =
-        subst (λ (es : List Entry). IsFlagged atlas (lists_of es unused shelves)) (append_assoc xs (last ∷ []) (entry ∷ after)) flagged in
-        subst (λ m. link_at shelf_chain.next atlas.lists.shelves m ≡ Some entry.number) same
-        (next-link atlas xs (entry ∷ after) last unused shelves regrouped.spelled)
-
 -- and so do those that merging it with its neighbours adds up
 pub can-merge-shelves : (atlas : AtlasRecords) (before after : List Entry) (entry : Entry) (unused shelves : List ℕ) → AreLow (map (spelled_shelf atlas) (before ++ entry ∷ after)) → IsFlagged atlas (lists_of (before ++ entry ∷ after) unused shelves) → CanMergeShelves entry.number atlas.lists
 can-merge-shelves atlas before after entry unused shelves low flagged =
@@ -160,7 +160,6 @@ can-merge-shelves atlas before after entry unused shelves low flagged =
       previous =
           by_end (λ (xs : List Entry). AreLow (map (spelled_shelf atlas) (xs ++ entry ∷ after)) → MergesShelf atlas one (rank_merged entry.number atlas.lists) xs after entry unused shelves → (n : ℕ) → link ≡ Some n → HeightsFit n one.records.shelves)
           first some before low (merges-shelf atlas before after entry unused shelves flagged);
-      linked = shelf-before atlas before after entry unused shelves flagged;
     }
   where
     one : Step

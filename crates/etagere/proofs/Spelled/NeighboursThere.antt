@@ -17,7 +17,7 @@ use Rattle.etagere_links.proofs.AllLists.LinkedMerges.{entry_of}
 use Rattle.etagere_links.proofs.AllLists.LinkedUnused.{lists_of}
 use Rattle.etagere_links.proofs.ListEnds.{first-stands, last-stands-in, times-here}
 use Rattle.etagere.specs.AtlasRecords.{AtlasRecords, is_allocated_at}
-use Rattle.etagere.specs.Private.ItemReturned.{HasFreeNext, StandsIn, free_named, free_next}
+use Rattle.etagere.specs.Private.ItemReturned.{FreeNextIsThere, AreThere, free_named, free_next}
 use Rattle.etagere.specs.Private.Kept.{IsPlaced}
 use Rattle.etagere.proofs.Spelled.EntryValues.{free_count, free_count-append, free_count-free}
 use Rattle.etagere.proofs.Spelled.ItemsAround.{IsMember, member-of}
@@ -53,15 +53,15 @@ member-neighbours family records first xs number within chain stands =
     }
 
 -- the shelf of an item, its neighbours there and the first of the free list are there
-pub stands-in : (records : Records) (before after : List Entry) (shelf number : ℕ) (front back free unused shelves : List ℕ) → IsLinked records (lists_of (before ++ entry_of shelf (front ++ number ∷ back) free ∷ after) unused shelves) → StandsIn shelf number records
-stands-in records before after shelf number front back free unused shelves linked =
+pub are-there : (records : Records) (before after : List Entry) (shelf number : ℕ) (front back free unused shelves : List ℕ) → IsLinked records (lists_of (before ++ entry_of shelf (front ++ number ∷ back) free ∷ after) unused shelves) → AreThere shelf number records
+are-there records before after shelf number front back free unused shelves linked =
     let numbers : List ℕ = front ++ number ∷ back in
     let entry : Entry = entry_of shelf numbers free in
     let first : Option ℕ = first_free_of records.shelves shelf in
     let is : IsEntry records entry = Each-middle (IsEntry records) before entry after linked.entries in
     let apart : IsApart records before after unused [] entry = linked-apart records before after entry unused shelves [] [] linked in
     record {
-      within = apart.number;
+      in_range = apart.number;
       item = member-neighbours item_chain records.items (first_item_of records.shelves shelf) numbers number apart.within is.items
           (omega (arith, times-append number front (number ∷ back), times-here number back));
       first_free = λ k link.
@@ -69,11 +69,11 @@ stands-in records before after shelf number front back free unused shelves linke
     }
 
 -- a free item after one has neighbours in its shelf and in the free list
-pub has-free-next : (atlas : AtlasRecords) (before after : List Entry) (shelf number : ℕ) (front back free unused shelves : List ℕ) → IsSpelled atlas (lists_of (before ++ entry_of shelf (front ++ number ∷ back) free ∷ after) unused shelves) → HasFreeNext number atlas.lists.items
-has-free-next atlas before after shelf number front back free unused shelves spelled =
+pub free-next-there : (atlas : AtlasRecords) (before after : List Entry) (shelf number : ℕ) (front back free unused shelves : List ℕ) → IsSpelled atlas (lists_of (before ++ entry_of shelf (front ++ number ∷ back) free ∷ after) unused shelves) → FreeNextIsThere number atlas.lists.items
+free-next-there atlas before after shelf number front back free unused shelves spelled =
     record {
-      item = λ n e. member-neighbours item_chain items first numbers n apart.within is.items (stands n e);
-      free = λ n e. member-neighbours free_list items (first_free_of atlas.lists.shelves shelf) free n apart.free_within is.free_list (is_free n e);
+      in_shelf = λ n e. member-neighbours item_chain items first numbers n apart.within is.items (stands n e);
+      in_free_list = λ n e. member-neighbours free_list items (first_free_of atlas.lists.shelves shelf) free n apart.free_within is.free_list (is_free n e);
     }
   where
     items : List ItemRecord

@@ -19,7 +19,7 @@ use Rattle.etagere_links.proofs.AllLists.LinkedUnused.{lists_of}
 use Rattle.etagere_links.proofs.ListEnds.{times-here, last-append}
 use Rattle.etagere.specs.AtlasRecords.{AtlasRecords, is_allocated_at, place_of, item_at, spelled_shelf}
 use Rattle.etagere.specs.Merging.{both_free, combined_items}
-use Rattle.etagere.specs.Private.ItemReturned.{Step, free_named, free_previous, freed_after, left_item, width_of}
+use Rattle.etagere.specs.Private.ItemReturned.{Step, free_named, free_previous, freed_after, remaining_item, width_of}
 use Rattle.etagere.specs.Private.Kept.{IsPlaced}
 use Rattle.etagere.specs.Private.RankedReturned.{named_width}
 use Rattle.etagere.specs.Returning.{is_free_before}
@@ -33,7 +33,7 @@ use Rattle.etagere.proofs.Spelled.SpelledLists.{with_lists, IsSpelled, EditsItem
 use Rattle.etagere.proofs.Spelled.SpelledMerges.{allocated_absorbed-spelled, item_freed-spelled, freed-values}
 
 -- what a step that frees an item, and merges it with the previous one, makes of its shelf's lists, and what these spell;
--- and where the item that is left stands there, free, and how wide it is
+-- and where the item that remains stands there, free, and how wide it is
 pub record FreesItem (atlas : AtlasRecords) (step : Step) (before after : List Entry) (shelf number : ℕ) (front back free unused shelves : List ℕ) : Type 0 where
   pub numbers : List ℕ
   pub free_list : List ℕ
@@ -53,11 +53,11 @@ pub record FreesItem (atlas : AtlasRecords) (step : Step) (before after : List E
       then map (place_of atlas.lists.items) free
       else place_of atlas.lists.items number ∷ map (place_of atlas.lists.items) free)
   pub counted : length aside ≡ step.put_aside + length unused
-  pub left_front : List ℕ
-  pub stands : numbers ≡ left_front ++ left_item number (free_previous atlas.lists.items number) ∷ back
-  pub is_free : is_allocated_at step.records.items (left_item number (free_previous atlas.lists.items number)) ≡ false
+  pub remaining_front : List ℕ
+  pub stands : numbers ≡ remaining_front ++ remaining_item number (free_previous atlas.lists.items number) ∷ back
+  pub is_free : is_allocated_at step.records.items (remaining_item number (free_previous atlas.lists.items number)) ≡ false
   pub width :
-      width_of step.records.items (left_item number (free_previous atlas.lists.items number))
+      width_of step.records.items (remaining_item number (free_previous atlas.lists.items number))
       ≡ width_of atlas.lists.items number + named_width atlas.lists.items (free_previous atlas.lists.items number)
 
 -- the members of a list around one of them differ from it
@@ -103,7 +103,7 @@ item-freed atlas before after shelf number front back free unused shelves alloca
           ∙ sym stays;
       places = λ before_items. rw (none before_items) (ap (λ p. p ∷ map (place_of new.items) free) freed.place ∙ ap (λ ps. place_of items number ∷ ps) kept);
       counted = omega arith;
-      left_front = front;
+      remaining_front = front;
       stands = rw unnamed refl;
       is_free = rw unnamed freed.allocated;
       width = rw unnamed (omega (arith, ap (λ (i : Item). i.width) freed.item));
@@ -145,7 +145,7 @@ item-taken atlas before after shelf number previous front back free unused shelv
           ∙ sym (previous-merged (item_at items) front previous (width_of items number) (map (item_at items) back) last_free);
       places = λ before_items. rw (free-before (item_at items) front previous before_items ∙ last_free) (map-agrees (place_of new.items) (place_of items) free places_same);
       counted = omega arith;
-      left_front = front;
+      remaining_front = front;
       stands = rw named refl;
       is_free = rw named (absorbs.allocated ∙ is_free);
       width = rw named (omega (arith, ap (λ (i : Item). i.width) absorbs.item));

@@ -105,14 +105,14 @@ pieces-apart frame front item back placement id room apart =
     (λ split. NoNeighbours-split both_free front item (allocated_item placement.width id) (free_item (item.width - placement.width)) back (λ y h. allocated_item-apart placement.width id y) refl (λ y h. free_item-apart (item.width - placement.width) item y room.free h) apart)
     (λ _. NoNeighbours-changed both_free front item (allocated_item item.width id) back (λ y h. allocated_item-apart item.width id y) (λ y h. refl) apart)
 
--- an allocated item makes a shelf that is not empty
-allocated-not_empty : (front : List Item) (width id : ℕ) (back : List Item) → is_one_free (front ++ allocated_item width id ∷ back) ≡ false
-allocated-not_empty [] width id [] = refl
-allocated-not_empty [] width id (next ∷ back) = refl
-allocated-not_empty (item ∷ []) width id back = refl
-allocated-not_empty (item ∷ next ∷ front) width id back = refl
+-- items of which one is allocated are not one free item
+pub allocated-not_empty : (front back : List Item) (item : Item) → is_free item ≡ false → is_one_free (front ++ item ∷ back) ≡ false
+allocated-not_empty [] [] item e = e
+allocated-not_empty [] (next ∷ back) item e = refl
+allocated-not_empty (one ∷ []) back item e = refl
+allocated-not_empty (one ∷ next ∷ front) back item e = refl
 
 -- items of which one was taken are not one free item
 pub pieces-not_empty : (front : List Item) (item : Item) (back : List Item) (placement : Placement) (id : ℕ) → is_one_free (front ++ (item_pieces placement id item ++ back)) ≡ false
 pieces-not_empty front item back placement id =
-    allocated-not_empty front placement.width id (cond placement.splits_item (free_item (item.width - placement.width) ∷ []) [] ++ back)
+    allocated-not_empty front (cond placement.splits_item (free_item (item.width - placement.width) ∷ []) [] ++ back) (allocated_item placement.width id) refl

@@ -56,10 +56,10 @@ freed_after shelf number (Some previous) records =
       put_aside = 1;
     }
 
--- the item that is left of a freed one: the free one before it, if any
-abbrev pub left_item : ℕ → Option ℕ → ℕ
-left_item number None = number
-left_item number (Some previous) = previous
+-- what remains of a freed item: the free one before it, if there is one, or else itself
+abbrev pub remaining_item : ℕ → Option ℕ → ℕ
+remaining_item number None = number
+remaining_item number (Some previous) = previous
 
 -- a link names the one item of a list, and that is free
 abbrev pub names_one_free : List ItemRecord → Option ℕ → Bool
@@ -67,12 +67,16 @@ names_one_free items None = false
 names_one_free items (Some number) =
     not (is_allocated_at items number) && is_none (link_at item_chain.next items number)
 
+-- a shelf has one item, and that is free
+abbrev pub has_one_free : ℕ → Records → Bool
+has_one_free shelf records = names_one_free records.items (first_item_of records.shelves shelf)
+
 -- a shelf says whether it is empty
 abbrev pub emptiness_said : ℕ → Records → Records
 emptiness_said shelf records =
     shelf_changed shelf
     (λ (here : ShelfRecord).
-    record here { is_empty = names_one_free records.items (first_item_of records.shelves shelf) })
+    record here { is_empty = has_one_free shelf records })
     records
 
 -- two shelves say that they are empty, and stand in one column
@@ -125,22 +129,16 @@ item_merged shelf number records =
     let two = freed_after shelf number (free_previous one.records.items number) one.records in
     record { records = two.records; put_aside = one.put_aside + two.put_aside }
 
--- the item that is left where one was freed and merged
-abbrev pub left_by : ℕ → ℕ → Records → ℕ
-left_by shelf number records =
+-- the item that remains where one was freed and merged
+abbrev pub remaining_in : ℕ → ℕ → Records → ℕ
+remaining_in shelf number records =
     let one = next_absorbed shelf number (free_next records.items number) records in
-    left_item number (free_previous one.records.items number)
+    remaining_item number (free_previous one.records.items number)
 
--- how wide the item is that is left
+-- how wide the item is that remains
 abbrev pub merged_width : ℕ → ℕ → Records → ℕ
 merged_width shelf number records =
-    width_of (item_merged shelf number records).records.items (left_by shelf number records)
-
--- the shelf is one free item then
-abbrev pub is_emptied : ℕ → ℕ → Records → Bool
-is_emptied shelf number records =
-    let new = (item_merged shelf number records).records in
-    names_one_free new.items (first_item_of new.shelves shelf)
+    width_of (item_merged shelf number records).records.items (remaining_in shelf number records)
 
 -- an item stands alone in its shelf
 abbrev pub is_alone : List ItemRecord → ℕ → Bool
@@ -183,55 +181,63 @@ HeightsFit shelf shelves =
     (n : ℕ) → empty_next shelves shelf ≡ Some n
     → height_of shelves shelf + height_of shelves n < 65536
 
--- there are a shelf, an item of it and its neighbours, and the first of the free list
-pub record StandsIn (shelf number : ℕ) (records : Records) : Type 0 where
-  pub within : shelf < length records.shelves
+-- a shelf and an item are there, and the item's neighbours, and the first of the shelf's free list
+pub record AreThere (shelf number : ℕ) (records : Records) : Type 0 where
+  pub in_range : shelf < length records.shelves
   pub item : HasNeighbours item_chain records.items number
   pub first_free : NamesOneOf records.items (first_free_of records.shelves shelf)
 
--- a free item after one has neighbours in its shelf and in the free list
-pub record HasFreeNext (number : ℕ) (items : List ItemRecord) : Type 0 where
-  pub item : (n : ℕ) → free_next items number ≡ Some n → HasNeighbours item_chain items n
-  pub free : (n : ℕ) → free_next items number ≡ Some n → HasNeighbours free_list items n
+-- where the item after one is free, it is there, and so are its neighbours in the shelf and in the
+-- free list
+pub record FreeNextIsThere (number : ℕ) (items : List ItemRecord) : Type 0 where
+  pub in_shelf : (n : ℕ) → free_next items number ≡ Some n → HasNeighbours item_chain items n
+  pub in_free_list : (n : ℕ) → free_next items number ≡ Some n → HasNeighbours free_list items n
 
 -- what freeing and merging an item adds up fits 16 bits, and all that it reads is there
 pub record CanMergeItem (shelf number : ℕ) (records : Records) : Type 0 where
-  pub here : StandsIn shelf number records
-  pub beside : HasFreeNext number records.items
+  pub here : AreThere shelf number records
+  pub after : FreeNextIsThere number records.items
   pub next : WidthsFit number (free_next records.items number) records.items
   pub absorbed :
       (let one = next_absorbed shelf number (free_next records.items number) records in
-      StandsIn shelf number one.records)
+      AreThere shelf number one.records)
   pub previous :
       (let one = next_absorbed shelf number (free_next records.items number) records in
       WidthsFit number (free_previous one.records.items number) one.records.items)
 
--- the item that is left is there, and stands alone in its shelf just where this is one free item; so
+-- the item that remains is there, and stands alone in its shelf just where this is one free item; so
 -- far the shelf says that it isn't
-pub record IsLeft (shelf number : ℕ) (records : Records) : Type 0 where
+pub record IsRemaining (shelf number : ℕ) (records : Records) : Type 0 where
   pub there :
-      left_by shelf number records < length (item_merged shelf number records).records.items
+      remaining_in shelf number records < length (item_merged shelf number records).records.items
   pub alone :
-      is_emptied shelf number records
-      ≡ is_alone (item_merged shelf number records).records.items (left_by shelf number records)
+      has_one_free shelf (item_merged shelf number records).records
+      ≡ is_alone (item_merged shelf number records).records.items (remaining_in shelf number records)
   pub in_use : is_empty_at (item_merged shelf number records).records.shelves shelf ≡ false
 
--- what merging a shelf with its neighbours adds up fits 16 bits, and the shelf before it links to it
+-- what merging a shelf with its neighbours adds up fits 16 bits
 pub record CanMergeShelves (shelf : ℕ) (records : Records) : Type 0 where
   pub next : HeightsFit shelf records.shelves
   pub previous :
       (let one = shelf_merged shelf records in
       (n : ℕ) → link_at shelf_chain.previous one.records.shelves shelf ≡ Some n
       → HeightsFit n one.records.shelves)
-  pub linked :
-      (n : ℕ) → link_at shelf_chain.previous records.shelves shelf ≡ Some n
-      → link_at shelf_chain.next records.shelves n ≡ Some shelf
+
+-- the shelf before one links to it
+abbrev pub IsLinkedBack : ℕ → List ShelfRecord → Type 0
+IsLinkedBack shelf shelves =
+    (n : ℕ) → link_at shelf_chain.previous shelves shelf ≡ Some n
+    → link_at shelf_chain.next shelves n ≡ Some shelf
 
 -- what a return adds up fits 16 bits, and all that it reads is there
 pub record CanReturn (number : ℕ) (records : Records) : Type 0 where
   pub item : CanMergeItem (shelf_of records.items number) number records
-  pub left : IsLeft (shelf_of records.items number) number records
+  pub remaining : IsRemaining (shelf_of records.items number) number records
   pub shelves :
       CanMergeShelves (shelf_of records.items number)
       (emptiness_said (shelf_of records.items number)
       (item_merged (shelf_of records.items number) number records).records)
+  pub linked :
+      IsLinkedBack (shelf_of records.items number)
+      (emptiness_said (shelf_of records.items number)
+      (item_merged (shelf_of records.items number) number records).records).shelves

@@ -92,7 +92,7 @@ pub record CanMergeRanks (shelf : ℕ) (records : Records) (ranked : List Ranked
       CanMergeNamedRank (link_at shelf_chain.previous one.shelves shelf) one
       (rank_merged shelf records ranked))
 
--- what is left of an item is as wide as what becomes free; the shelf is ranked then, and so are those
+-- the item that remains is as wide as what becomes free; the shelf is ranked then, and so are those
 -- that merge
 pub record CanReturnRanked (shelf number : ℕ) (records : Records) (ranked : List RankedShelf)
     : Type 0 where

@@ -1,6 +1,7 @@
 //! Single fields of records by number, and what they are where there is no such record.
 //!
-//! Definitions: `AtlasRecords` and `RecordLists`. A field that is read by number gets its function here.
+//! Definitions: `AtlasRecords` and `RecordLists`. A field that is read by a number that may be past the last record
+//! gets its function here.
 
 ghost use Rattle.std.specs.Prelude.{◌≡◌, ◌<◌, IfSome};
 ghost use Rattle.etagere.specs.AtlasRecords as spec;

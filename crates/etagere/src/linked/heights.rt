@@ -134,7 +134,8 @@ fn position_of(shelves: &[ShelfRecord], ranked: &mut RankedShelves, shelf: usize
     position_by_halves(shelves, ranked, shelf)
 }
 
-/// Where a shelf stands, found by halves, and kept. Not inlined, so that `position_of` stays small where it is.
+/// Where a shelf stands, found by halves; the position is kept. Never inlined, so that `position_of` is small enough
+/// to be.
 #[inline(never)]
 fn position_by_halves(shelves: &[ShelfRecord], ranked: &mut RankedShelves, shelf: usize) -> usize
     requires order { AreInOrder shelves.now ranked.old.items }

@@ -66,7 +66,7 @@ pub(crate) fn recorded_shelf(records: &Records, number: usize) -> usize
     usize::from(records.items()[number].shelf)
 }
 
-/// How large an item of this shelf is.
+/// The area of the item of this number, in this shelf, which is its own. Both are there.
 pub(crate) fn recorded_area(records: &Records, shelf: usize, number: usize) -> u32
     requires item { number < length records.now.items }
     requires shelf { shelf < length records.now.shelves }

@@ -4,10 +4,10 @@
 //! earlier place. It looks only at the neighbours of the item and of its shelf, and takes no memory: both have to
 //! stay so.
 
-ghost use Rattle.std.specs.Prelude.{◌≡◌, ℕ, ◌<◌, ◌≤◌, Some, IfSome, length};
+ghost use Rattle.std.specs.Prelude.{◌≡◌, ℕ, ◌<◌, Some, IfSome, length};
 ghost use Rattle.etagere.specs.AtlasRecords.{shelf_of};
 ghost use Rattle.etagere.specs.Private.ItemReturned as returned;
-ghost use Rattle.etagere.specs.Private.ItemReturned.{CanMergeItem, CanMergeShelves, CanReturn, HasFreeNext, HeightsFit, StandsIn, WidthsFit};
+ghost use Rattle.etagere.specs.Private.ItemReturned.{CanMergeItem, CanMergeShelves, CanReturn, FreeNextIsThere, HeightsFit, AreThere, WidthsFit};
 ghost use Rattle.etagere.specs.Private.RankedReturned as ranks;
 ghost use Rattle.etagere.specs.Private.RankedReturned.{CanMergeNamedRank, CanMergeRank, CanMergeRanks, CanReturnRanked};
 ghost use Rattle.etagere_links.specs.Links.{no_link};
@@ -18,10 +18,10 @@ use crate::linked::heights::{put_in, raise, ranked_shelf, take_out};
 use crate::linked::ranked::RankedShelves;
 use etagere_links::{Chain, ItemRecord, Link, Records, ShelfRecord, next_of, previous_of};
 
-/// The item that is left of one that was freed, and how many item records were put aside.
+/// The item that remains where one was freed, and how many item records were put aside.
 #[derive(Drop)]
 struct Merged {
-    left: usize,
+    item: usize,
     put_aside: u32,
 }
 
@@ -45,9 +45,9 @@ pub(crate) fn return_item(
     ensures few { result < 5 }
 {
     let merged = merge_item(records, shelf, number);
-    let width = width_of(records.items(), merged.left);
+    let width = width_of(records.items(), merged.item);
     raise(records.shelves(), ranked, shelf, width);
-    if is_alone(records.items(), merged.left) {
+    if is_alone(records.items(), merged.item) {
         records.set_empty(shelf, true);
         merged.put_aside + merge_shelves(records, ranked, shelf)
     } else {
@@ -79,18 +79,18 @@ fn merge_item(records: &mut Records, shelf: usize, number: usize) -> Merged
     ensures records { records.new ≡ (returned.item_merged shelf number records.old).records }
     ensures put_aside { result.put_aside
         ≡ (returned.item_merged shelf number records.old).put_aside }
-    ensures left { result.left ≡ returned.left_by shelf number records.old }
+    ensures item { result.item ≡ returned.remaining_in shelf number records.old }
     ensures few { result.put_aside < 3 }
 {
     let one = absorb_next(records, shelf, number);
     let merged = free_after(records, shelf, number);
     Merged {
-        left: merged.left,
+        item: merged.item,
         put_aside: one + merged.put_aside,
     }
 }
 
-/// The item that a link names, where that is free.
+/// The item that a link names, where that is free. If it names one, that is there.
 fn free_named(items: &[ItemRecord], link: Link) -> Option<usize>
     requires { NamesOneOf items.now link }
     ensures value { result ≡ returned.free_named items.now link }
@@ -104,8 +104,8 @@ fn free_named(items: &[ItemRecord], link: Link) -> Option<usize>
 
 /// An allocated item takes the place of the free one after it, if any.
 fn absorb_next(records: &mut Records, shelf: usize, number: usize) -> u32
-    requires here { StandsIn shelf number records.old }
-    requires free_next { HasFreeNext number records.old.items }
+    requires here { AreThere shelf number records.old }
+    requires after { FreeNextIsThere number records.old.items }
     requires fits { WidthsFit number (returned.free_next records.old.items number)
         records.old.items }
     ensures records { records.new
@@ -128,7 +128,7 @@ fn absorb_next(records: &mut Records, shelf: usize, number: usize) -> u32
 /// The free item before an allocated one, if any, takes its place; otherwise the item becomes free.
 fn free_after(records: &mut Records, shelf: usize, number: usize) -> Merged
     requires number { number < no_link }
-    requires here { StandsIn shelf number records.old }
+    requires here { AreThere shelf number records.old }
     requires fits { WidthsFit number (returned.free_previous records.old.items number)
         records.old.items }
     ensures records { records.new
@@ -137,22 +137,22 @@ fn free_after(records: &mut Records, shelf: usize, number: usize) -> Merged
     ensures put_aside { result.put_aside
         ≡ (returned.freed_after shelf number (returned.free_previous records.old.items number)
         records.old).put_aside }
-    ensures left { result.left
-        ≡ returned.left_item number (returned.free_previous records.old.items number) }
+    ensures item { result.item
+        ≡ returned.remaining_item number (returned.free_previous records.old.items number) }
     ensures few { result.put_aside < 2 }
 {
     let item = &records.items()[number];
     let Some(previous) = free_named(records.items(), item.prev) else {
         records.free_item(shelf, number);
         return Merged {
-            left: number,
+            item: number,
             put_aside: 0,
         };
     };
     let width = records.items()[previous].width + item.width;
     records.absorb_allocated(shelf, previous, number, width);
     Merged {
-        left: previous,
+        item: previous,
         put_aside: 1,
     }
 }

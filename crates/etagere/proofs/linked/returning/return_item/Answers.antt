@@ -5,7 +5,7 @@ use Rattle.etagere_links.specs.RecordEdits.{shelf_changed}
 use Rattle.etagere_links.specs.RecordLists.{Records}
 use Rattle.etagere.specs.AtlasRecords.{shelf_of}
 use Rattle.etagere.specs.Private.ByHeight.{raised}
-use Rattle.etagere.specs.Private.ItemReturned.{emptiness_said, is_emptied, item_merged, merged_width, width_of}
+use Rattle.etagere.specs.Private.ItemReturned.{emptiness_said, has_one_free, item_merged, merged_width, width_of}
 use Rattle.etagere.specs.Private.RankedReturned.{freed_width}
 use Rattle.etagere.proofs.Spelled.NotEmptied.{StaysInUse, stays-in-use}
 use Rattle.etagere.proofs.linked.returning.return_item.Goals as goal
@@ -16,7 +16,7 @@ merge_item-merged-requires-clause-fits c = rw c.requires.shelf (c.requires.fits.
 
 pub width_of-width-requires : goal.width_of-width-requires
 width_of-width-requires c =
-    rw (c.items.ensures, c.merge_item-merged.ensures.records, c.merge_item-merged.ensures.left, c.requires.shelf) (c.requires.fits.left.there)
+    rw (c.items.ensures, c.merge_item-merged.ensures.records, c.merge_item-merged.ensures.item, c.requires.shelf) (c.requires.fits.remaining.there)
 
 pub raise-requires-clause-order : goal.raise-requires-clause-order
 raise-requires-clause-order c = rw (c.shelves.ensures, c.merge_item-merged.ensures.records, c.requires.shelf) (c.requires.ranked.order)
@@ -26,7 +26,7 @@ raise-requires-clause-stands c = rw c.requires.shelf (c.requires.ranked.stands)
 
 pub is_alone-requires : goal.is_alone-requires
 is_alone-requires c =
-    rw (c.items-2.ensures, c.merge_item-merged.ensures.records, c.merge_item-merged.ensures.left, c.requires.shelf) (c.requires.fits.left.there)
+    rw (c.items-2.ensures, c.merge_item-merged.ensures.records, c.merge_item-merged.ensures.item, c.requires.shelf) (c.requires.fits.remaining.there)
 
 -- the bound that rises is that of the item's shelf, and it rises to what becomes free
 rises : (c : After-raise) → c.raise.new.ranked.items ≡ raised (shelf_of c.args.records.now.items c.args.number) (freed_width c.args.records.now.items c.args.number) c.args.ranked.now.items
@@ -34,21 +34,21 @@ rises c =
     let items : List ItemRecord = c.args.records.now.items in
     let wide : c.width_of-width.result ≡ merged_width c.args.shelf c.args.number c.args.records.now =
     c.width_of-width.ensures
-    ∙ ap (λ (is : List ItemRecord). width_of is c.merge_item-merged.result.left) (c.items.ensures ∙ ap (λ (r : Records). r.items) c.merge_item-merged.ensures.records)
-    ∙ ap (width_of (item_merged c.args.shelf c.args.number c.args.records.now).records.items) c.merge_item-merged.ensures.left in
+    ∙ ap (λ (is : List ItemRecord). width_of is c.merge_item-merged.result.item) (c.items.ensures ∙ ap (λ (r : Records). r.items) c.merge_item-merged.ensures.records)
+    ∙ ap (width_of (item_merged c.args.shelf c.args.number c.args.records.now).records.items) c.merge_item-merged.ensures.item in
     c.raise.ensures
     ∙ ap (λ s. raised s c.width_of-width.result c.args.ranked.now.items) c.requires.shelf
     ∙ ap (λ w. raised (shelf_of items c.args.number) w c.args.ranked.now.items)
     (wide ∙ ap (λ s. merged_width s c.args.number c.args.records.now) c.requires.shelf ∙ c.requires.ranked.width)
 
--- the item that is left stands alone just where its shelf is empty
-emptied : (c : After-is_alone) → is_emptied (shelf_of c.args.records.now.items c.args.number) c.args.number c.args.records.now ≡ c.is_alone.result
+-- the item that remains stands alone just where its shelf is empty
+emptied : (c : After-is_alone) → (let shelf = shelf_of c.args.records.now.items c.args.number in has_one_free shelf (item_merged shelf c.args.number c.args.records.now).records ≡ c.is_alone.result)
 emptied c =
-    c.requires.fits.left.alone
-    ∙ sym (rw (c.is_alone.ensures, c.items-2.ensures, c.merge_item-merged.ensures.records, c.merge_item-merged.ensures.left, c.requires.shelf) refl)
+    c.requires.fits.remaining.alone
+    ∙ sym (rw (c.is_alone.ensures, c.items-2.ensures, c.merge_item-merged.ensures.records, c.merge_item-merged.ensures.item, c.requires.shelf) refl)
 
 -- the records once the shelf says that it is empty
-said : (c : After-set_empty) → (let shelf = shelf_of c.args.records.now.items c.args.number in is_emptied shelf c.args.number c.args.records.now ≡ true → c.set_empty.new.self ≡ emptiness_said shelf (item_merged shelf c.args.number c.args.records.now).records)
+said : (c : After-set_empty) → (let shelf = shelf_of c.args.records.now.items c.args.number in has_one_free shelf (item_merged shelf c.args.number c.args.records.now).records ≡ true → c.set_empty.new.self ≡ emptiness_said shelf (item_merged shelf c.args.number c.args.records.now).records)
 said c is_empty =
     let shelf : ℕ = shelf_of c.args.records.now.items c.args.number in
     let merged : Records = (item_merged shelf c.args.number c.args.records.now).records in
@@ -93,7 +93,7 @@ returns-then-is_alone-clause-put_aside c =
 -- where the shelf isn't empty, nothing else changes
 stays : (c : After-is_alone) → c.is_alone.result ≡ false → (let shelf = shelf_of c.args.records.now.items c.args.number in StaysInUse shelf (item_merged shelf c.args.number c.args.records.now).records)
 stays c in_use =
-    stays-in-use (shelf_of c.args.records.now.items c.args.number) c.args.number c.args.records.now c.requires.fits.left c.requires.fits.shelves
+    stays-in-use (shelf_of c.args.records.now.items c.args.number) c.args.number c.args.records.now c.requires.fits.remaining c.requires.fits.linked
     (emptied c ∙ in_use)
 
 pub returns-else-is_alone-clause-records : goal.returns-else-is_alone-clause-records
