@@ -80,7 +80,7 @@ impl Model for BucketedAtlasAllocator {
 }
 
 impl BucketedAtlasAllocator {
-    /// An empty atlas of this size in pixels, with the default options.
+    /// An empty atlas of this size in pixels, whose sides are at most 65534, with the default options.
     ///
     /// Returns the first fault; `Memory` only where there is no other and no memory. Takes no memory.
     pub fn new(alloc: Global, size: Size) -> Result<BucketedAtlasAllocator, OptionsFault>
@@ -97,7 +97,7 @@ impl BucketedAtlasAllocator {
         BucketedAtlasAllocator::with_options(alloc, size, &DEFAULT_OPTIONS)
     }
 
-    /// An empty atlas of this size in pixels.
+    /// An empty atlas of this size in pixels, whose sides are at most 65534.
     ///
     /// Returns the first fault; `Memory` only where there is no other and no memory. Takes no memory.
     pub fn with_options(
@@ -139,6 +139,7 @@ impl BucketedAtlasAllocator {
     ) -> Result<BucketedAtlasAllocator, RestoreFault>
         ensures ok { IfOk result (λ atlas. StandsFor (snapshot_records snapshot) atlas) }
         ensures fault { IfErr result (λ fault. Breaks (snapshot_records snapshot) fault) }
+        ensures promises { IfOk result KeepsPromises }
     {
         let mut steps = 0;
         restore_bucketed(alloc, snapshot, &mut steps)
@@ -169,7 +170,8 @@ impl BucketedAtlasAllocator {
     ) -> BucketedAtlasAllocator
         requires { IsSnapshotJudged (snapshot_records snapshot) judged.frame judged.shelves.items
             judged.in_use judged.space }
-        ensures { result ≡ state_of (snapshot_records snapshot) }
+        ensures state { result ≡ state_of (snapshot_records snapshot) }
+        ensures promises { KeepsPromises result }
     {
         BucketedAtlasAllocator {
             frame: judged.frame,

@@ -3,6 +3,7 @@
 //! Definitions: `Restoring`, and `StandsFor` for the rules. Time and steps are linear in the number of records.
 
 ghost use Rattle.std.specs.Prelude.{◌≡◌, ◌≤◌, ◌<◌, ◌*◌, ◌+◌, ◌^◌, pos, IfErr, IfNone, IfOk, IfSome, OnOk, length, map};
+ghost use Rattle.etagere_bucketed.specs.Atlas.{KeepsPromises};
 ghost use Rattle.etagere_bucketed.specs.Frames.{IsBucketedFrame};
 ghost use Rattle.etagere_bucketed.specs.Private.Judging as judging;
 ghost use Rattle.etagere_bucketed.specs.Private.Restored.{IsSnapshotJudged};
@@ -139,6 +140,7 @@ pub fn restore_bucketed(
 ) -> Result<BucketedAtlasAllocator, RestoreFault>
     ensures ok { IfOk result (λ atlas. StandsFor (spec.snapshot_records snapshot) atlas) }
     ensures fault { IfErr result (λ fault. spec.Breaks (spec.snapshot_records snapshot) fault) }
+    ensures promises { IfOk result KeepsPromises }
     ensures steps { OnOk result (length snapshot.buckets.items ≤ steps.new) }
     ensures bound { steps.new
         ≤ 4 * (length snapshot.shelves.items + length snapshot.buckets.items) }

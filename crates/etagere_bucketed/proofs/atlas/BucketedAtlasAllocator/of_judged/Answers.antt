@@ -1,11 +1,13 @@
 use Rattle.std.proofs.Common.{◌≡◌, ◌∙◌, ℕ, List, ap, subst, sym}
 use Rattle.etagere_base.specs.declared.frames.Frame.{Frame}
+use Rattle.etagere_bucketed.specs.Atlas.{KeepsPromises}
 use Rattle.etagere_bucketed.specs.BucketRecords.{BucketRecords, bucket_walk}
 use Rattle.etagere_bucketed.specs.Private.Restored.{IsSnapshotJudged}
 use Rattle.etagere_bucketed.specs.Private.Store.{KeptShelf, Stored, stored_state}
 use Rattle.etagere_bucketed.specs.Private.Witnessed.{HasTotals, Witnessed}
 use Rattle.etagere_bucketed.specs.Restoring.{snapshot_records, state_of}
 use Rattle.etagere_bucketed.specs.State.{BucketedState}
+use Rattle.etagere_bucketed.proofs.Promises.{valid-promises}
 use Rattle.etagere_bucketed.proofs.Spelling.ReadBack.{state-read}
 use Rattle.etagere_bucketed.proofs.atlas.BucketedAtlasAllocator.of_judged.Goals as goal
 
@@ -31,5 +33,11 @@ invariant_of-result c =
           (record { column = c.from.ensures ∙ totals.column; height = c.from-2.ensures ∙ totals.height; in_use = totals.in_use; space = totals.space });
     }
 
-pub returns : goal.returns
-returns c = judged-state (snapshot_records c.args.snapshot) c.args.judged.frame c.args.judged.shelves.items c.args.judged.in_use c.args.judged.space c.requires
+pub returns-clause-state : goal.returns-clause-state
+returns-clause-state c = judged-state (snapshot_records c.args.snapshot) c.args.judged.frame c.args.judged.shelves.items c.args.judged.in_use c.args.judged.space c.requires
+
+pub returns-clause-promises : goal.returns-clause-promises
+returns-clause-promises c =
+    let atlas : BucketRecords = snapshot_records c.args.snapshot in
+    subst KeepsPromises (sym (judged-state atlas c.args.judged.frame c.args.judged.shelves.items c.args.judged.in_use c.args.judged.space c.requires))
+    (valid-promises (state_of atlas) c.requires.witnessed.valid)
