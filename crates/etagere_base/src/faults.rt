@@ -12,7 +12,7 @@ use thiserror::Error;
 /// Why an atlas can't be made. A call returns the first fault, in this order.
 #[derive(Clone, Copy, Debug, PartialEq, Eq, Error)]
 pub enum OptionsFault {
-    /// A side of the atlas is below 1 or above 65535.
+    /// A side of the atlas is below 1, or above 65535, or above 65534 where the atlas is bucketed.
     #[error("Size")]
     Size,
     /// Width times height is above 2147483647.

@@ -17,8 +17,8 @@ pub struct AllocatorOptions {
     pub alignment: Size,
     /// Whether the shelves stand upright, side by side, in place of lying one above another.
     pub vertical_shelves: bool,
-    /// How many columns are asked for, at least 1, each with shelves of its own. As many are made as fit,
-    /// which can be more.
+    /// How many columns are asked for, at least 1, each with shelves of its own. A shelf atlas gets as many as
+    /// fit, which can be more; a bucketed one gets just these.
     pub num_columns: i32,
 }
 
