@@ -90,7 +90,7 @@ impl AtlasAllocator {
     /// An empty atlas of this size in pixels, with the default options.
     ///
     /// Returns the first fault; `Memory` only where there is no other and no memory. Takes
-    /// memory for the records of one shelf and its item, and for the shelf's place by height.
+    /// memory for the records of one shelf and its item, and for the shelf's place by height. Takes constant time.
     pub fn new(alloc: Global, size: Size) -> Result<AtlasAllocator, OptionsFault>
         ensures ok { IfOk result
             (λ atlas. atlas ≡ fresh (frames.atlas_frame size default_options)) }
@@ -108,7 +108,8 @@ impl AtlasAllocator {
     /// An empty atlas of this size in pixels.
     ///
     /// Returns the first fault; `Memory` only where there is no other and no memory. Takes
-    /// memory for the records of a shelf and its item in each column, and for the shelf's place by height.
+    /// memory for the records of a shelf and its item in each column, and for the shelf's place by height. Goes
+    /// through the columns.
     pub fn with_options(
         alloc: Global,
         size: Size,
@@ -181,7 +182,7 @@ impl AtlasAllocator {
         }
     }
 
-    /// The size of the atlas in pixels, as it was made or has grown. Takes the same time always.
+    /// The size of the atlas in pixels, as it was made or has grown. Takes constant time.
     pub fn size(&self) -> Size
         ensures { result
             ≡ record { width = pos self.now.frame.width; height = pos self.now.frame.height } }
@@ -196,9 +197,9 @@ impl AtlasAllocator {
     ///
     /// `Err` comes only where the place is to be split and there was no memory. Nothing changes after an `Err`
     /// or none. A split takes memory only where no record that was put aside is left for it, or no room in the list
-    /// of shelves by height; a size that needs no split takes none. Finds by halves where the shelves begin that are
-    /// tall enough, and goes through them by height, in each that may have an item wide enough through its free list
-    /// up to the first one that is. Where a shelf is split, those that are taller move in their list.
+    /// of shelves by height; a size that needs no split takes none. Finds by binary search where the shelves begin that
+    /// are tall enough, and goes through them by height, in each that may have an item wide enough through its free
+    /// list up to the first one that is. Where a shelf is split, those that are taller move in their list.
     pub fn allocate(&mut self, size: Size) -> Result<Option<Allocation>, AllocError>
         ensures placed { IfOk result
             (λ answer. IfSome answer (λ allocation. Allocates self.old size allocation self.new)) }
@@ -244,8 +245,8 @@ impl AtlasAllocator {
     /// Takes back the rectangle that is allocated under an id, and merges what is free with its neighbours.
     ///
     /// `Err` comes exactly where nothing is allocated under the id; then nothing changes. Takes no memory. It looks at
-    /// the record of the id, and at those beside it and its shelf, whose place by height it finds at once or by halves.
-    /// Where shelves merge, those that are taller move in their list.
+    /// the record of the id, and at those beside it and its shelf, whose place by height it finds at once or by binary
+    /// search. Where shelves merge, those that are taller move in their list.
     pub fn deallocate(&mut self, id: AllocId) -> Result<(), UnknownId>
         ensures ok { OnOk result (self.new ≡ returned self.old id) }
         ensures unknown { IsErr result ↔ (is_allocated self.old id ≡ false) }
@@ -267,17 +268,17 @@ impl AtlasAllocator {
 
     /// The rectangle that is allocated under an id, as it was given; none exactly where nothing is.
     ///
-    /// Takes no memory, and the same time always.
+    /// Takes no memory, and constant time.
     pub fn get(&self, id: AllocId) -> Option<Rectangle>
         ensures { result ≡ places.rectangle_of self.now id }
     {
         rectangle_of(&self.frame, &self.records, id)
     }
 
-    /// The record number of what is allocated under an id, which it keeps as long as it is allocated; none exactly
-    /// where nothing is. Record numbers are small: they are below the count of records.
+    /// The index (the number of its record) of what is allocated under an id, which it keeps as long as it is
+    /// allocated; none exactly where nothing is. An index is small: it is below the count of records.
     ///
-    /// Takes no memory, and the same time always.
+    /// Takes no memory, and constant time.
     pub fn get_index(&self, id: AllocId) -> Option<u32>
         ensures { result ≡ places.index_of self.now id }
     {
@@ -286,14 +287,14 @@ impl AtlasAllocator {
 
     /// The atlas as it is saved: its frame and all its records, those put aside too.
     ///
-    /// Takes memory for all records. The error comes only where a growth was refused.
+    /// The error comes only where there was no memory. Takes memory for all records, and goes through them.
     pub fn snapshot(&self) -> Result<AtlasSnapshot, AllocError>
         ensures { IfOk result (λ snapshot. StandsFor (snapshot_records snapshot) self.now) }
     {
         snapshot_of(&self.frame, &self.records, self.allocated_space)
     }
 
-    /// Everything that is allocated, each once, by rising record number, and then none for ever.
+    /// Everything that is allocated, each once, by rising index, and then none for ever.
     ///
     /// Takes no memory. All steps together take time linear in the count of records.
     pub fn iter(&self) -> Iter<'_>
@@ -314,7 +315,7 @@ impl AtlasAllocator {
     /// Returns the first fault; `Memory` only where there is no other, the growth needs records and there was no
     /// memory. Nothing changes after a fault. Takes memory for the records that it needs as far as too few were put
     /// aside, and for the places by height of new shelves. Where no column becomes wider or taller and none is added,
-    /// it takes the same time always. Else it goes through all shelves, for wider columns through all items too, and
+    /// it takes constant time. Else it goes through all shelves, for wider columns through all items too, and
     /// then sorts the shelves.
     pub fn grow(&mut self, size: Size) -> Result<(), AtlasGrowFault>
         ensures ok { OnOk result (self.new ≡ atlas_grown self.old size) }
@@ -363,21 +364,21 @@ impl AtlasAllocator {
         self.allocated_space = 0;
     }
 
-    /// Whether nothing is allocated. Takes the same time always.
+    /// Whether nothing is allocated. Takes constant time.
     pub fn is_empty(&self) -> bool
         ensures { IsTrue result ↔ (allocations self.now ≡ []) }
     {
         self.allocated_space == 0
     }
 
-    /// The areas of everything that is allocated, added up, in square pixels. Takes the same time always.
+    /// The areas of everything that is allocated, added up, in square pixels. Takes constant time.
     pub fn allocated_space(&self) -> i32
         ensures { result ≡ pos (space.allocated_space self.now) }
     {
         self.allocated_space as i32
     }
 
-    /// The area of the atlas less what is allocated, in square pixels. Takes the same time always.
+    /// The area of the atlas less what is allocated, in square pixels. Takes constant time.
     pub fn free_space(&self) -> i32
         ensures free { result ≡ pos
             (self.now.frame.width * self.now.frame.height - space.allocated_space self.now) }
@@ -428,8 +429,10 @@ impl AtlasAllocator {
 impl Clone for AtlasAllocator {
     ghost is_clone = { λ atlas other. other ≡ atlas };
 
-    /// An atlas that equals this one, its ids and its later answers too, and shares nothing with it. Takes
-    /// memory for all records.
+    /// An atlas that equals this one, its ids and its later answers too, and shares nothing with it.
+    ///
+    /// The error comes only where there was no memory. Takes memory for all records, and for the places of shelves by
+    /// height, and goes through them.
     fn clone(&self) -> Result<AtlasAllocator, AllocError> {
         Ok(AtlasAllocator {
             frame: self.frame,

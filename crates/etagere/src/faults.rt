@@ -1,4 +1,4 @@
-//! Why a growth is refused, and by which number.
+//! Why a growth of a shelf atlas is refused, and by which number.
 //!
 //! Definitions: `Faults`. Numbers are public and don't change.
 
@@ -7,7 +7,7 @@ ghost use Rattle.etagere.specs.Faults.{grow_fault_number};
 
 use thiserror::Error;
 
-/// Why an atlas can't grow to a size. The first is returned, in this order.
+/// Why a shelf atlas can't grow to a size. The first is returned, in this order.
 #[derive(Clone, Copy, Debug, PartialEq, Eq, Error)]
 pub enum AtlasGrowFault {
     /// A side of the size is below 1 or above 65535.

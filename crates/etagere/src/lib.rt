@@ -1,8 +1,10 @@
 //! A texture atlas allocator: rectangles are placed on shelves and given back in any order.
 //!
-//! The calls stand in `atlas`, those that count the steps of a restoring in `laws`, and why a growth is refused in
-//! `faults`. All else is private: `linked` has what calls do to the records, `placements` what was found out of a
-//! place.
+//! The calls stand in `atlas`, those that count the steps of a restoring in `laws`, why a growth is refused in
+//! `faults`, what is saved in `snapshots`, and the iterator in `listing`. All else is private: `linked` has what calls
+//! do to the records, `placements` what was found out of a place, `restoring` follows the links of a snapshot, `judging`
+//! has the passes that judge its rules, and `model_laws` the laws of the model. The bucketed atlas of
+//! `etagere_bucketed` is given on under its own name.
 #![tactic(auto)]
 
 mod atlas;

@@ -1,4 +1,4 @@
-//! Everything that is allocated, one by one, by rising record numbers.
+//! Everything that is allocated, one by one, by rising index, which is the number of its record.
 //!
 //! Definitions: `Listing`, and `Reading` for the same by records. Contracts see an `Iter` as the list of
 //! what is still to come.

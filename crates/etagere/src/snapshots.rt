@@ -34,7 +34,7 @@ pub struct AtlasSnapshot {
     pub free_items: Link,
     /// The shelf record that was put aside last.
     pub free_shelves: Link,
-    /// The areas of everything that is allocated, added up.
+    /// The areas of everything that is allocated, added up, in square pixels.
     pub allocated_space: i32,
     /// The shelf records, by number.
     pub shelves: Vec<ShelfRecord>,

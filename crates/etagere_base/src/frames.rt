@@ -14,7 +14,7 @@ use crate::geometry::Size;
 use crate::options::AllocatorOptions;
 use crate::sides::{Sides, side, swapped_axes, up};
 
-/// No side of a shelf atlas is longer, in pixels, nor one that is asked of any.
+/// The longest side of a shelf atlas, and of a size that is asked of an atlas of either kind, in pixels.
 pub const LONGEST_SIDE: u16 = 65535;
 
 /// No atlas has a larger area, in square pixels.
@@ -24,12 +24,19 @@ pub const LARGEST_AREA: u64 = 2147483647;
 /// number of its columns.
 #[derive(Clone, Copy, Debug, PartialEq, Eq)]
 pub struct Frame {
+    /// The side along x.
     pub width: u32,
+    /// The side along y.
     pub height: u32,
+    /// Widths are rounded up to multiples of this.
     pub alignment_width: u32,
+    /// Heights are rounded up to multiples of this.
     pub alignment_height: u32,
+    /// Whether the shelves lie along the height.
     pub vertical: bool,
+    /// The width of a column, along the shelves.
     pub column_width: u32,
+    /// How many columns there are.
     pub columns: u32,
 }
 

@@ -1,7 +1,7 @@
 //! Ids, and what an allocation gives its caller.
 //!
-//! Contracts see an id as its number. How numbers are chosen is a matter of each allocator, and may
-//! change.
+//! Contracts see an id as its number. How numbers are chosen is a matter of each allocator: those of a
+//! shelf atlas have an index and a generation, those of a bucketed atlas a layout of their own.
 
 ghost use Rattle.std.specs.Prelude.{◌≡◌, ℕ};
 
@@ -9,7 +9,8 @@ use crate::geometry::Rectangle;
 use serde::{Deserialize, Serialize};
 use std::marker::Model;
 
-/// An id modulo this is its index.
+/// An id of a shelf atlas is the index, which is the number of its item's record, plus this times the
+/// record's generation. It says nothing of the ids of a bucketed atlas.
 pub const INDEX_MODULUS: u32 = 65536;
 
 /// What names an allocation from `allocate` to its return. It is serialized as its number.

@@ -31,7 +31,7 @@ impl Model for ShortText {
 }
 
 impl ShortText {
-    /// The text of a word.
+    /// The text of a word of at most 66 bytes.
     pub fn new(word: &str) -> ShortText
         requires { length word.now ≤ 66 }
         ensures { result ≡ word.now }
@@ -41,7 +41,7 @@ impl ShortText {
         ShortText { buffer }
     }
 
-    /// Begins anew with a word.
+    /// Begins anew with a word of at most 66 bytes.
     pub fn begin(&mut self, word: &str)
         requires { length word.now ≤ 66 }
         ensures { self.new ≡ word.now }
@@ -57,7 +57,7 @@ impl ShortText {
         self.buffer.as_str()
     }
 
-    /// Adds a word.
+    /// Adds a word, with which the text has at most 66 bytes.
     pub fn push(&mut self, word: &str)
         requires { length self.old + length word.now ≤ 66 }
         ensures { self.new ≡ self.old ++ word.now }
@@ -65,7 +65,8 @@ impl ShortText {
         self.buffer.push_str(word);
     }
 
-    /// Adds the decimal digits of a number.
+    /// Adds the decimal digits of a number, where ten more bytes fit into the 66. Always inlined: the line of a
+    /// reply has up to five numbers.
     #[inline(always)]
     pub fn push_number(&mut self, number: u32)
         requires { length self.old + 10 ≤ 66 }

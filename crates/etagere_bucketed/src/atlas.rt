@@ -187,7 +187,7 @@ impl BucketedAtlasAllocator {
         }
     }
 
-    /// The size in pixels that the atlas was made with, or has grown to. Takes the same time always.
+    /// The size in pixels that the atlas was made with, or has grown to. Takes constant time.
     pub fn size(&self) -> Size
         ensures { result
             ≡ record { width = pos self.now.frame.width; height = pos self.now.frame.height } }
@@ -247,8 +247,8 @@ impl BucketedAtlasAllocator {
     ///
     /// `Err` comes exactly where no bucket that holds something live has given an item under the id since it was
     /// empty; then nothing changes. That an id comes back once is the caller's part: a second return of one is
-    /// taken for that of another item of its bucket. Takes no memory. Takes the same time always, but for the shelves
-    /// that are dropped.
+    /// taken for that of another item of its bucket. Takes no memory, and constant time but for the shelves that are
+    /// dropped, through whose buckets it goes.
     pub fn deallocate(&mut self, id: AllocId) -> Result<(), UnknownId>
         ensures ok { OnOk result (self.new ≡ bucket_returned self.old id) }
         ensures unknown { IsErr result ↔ (is_known self.old id ≡ false) }
@@ -303,7 +303,7 @@ impl BucketedAtlasAllocator {
 
     /// Takes everything back at once: the atlas is as new, with its present size and columns.
     ///
-    /// Takes no memory, and gives none back.
+    /// Takes no memory, and gives none back. Takes constant time.
     pub fn clear(&mut self)
         ensures cleared { self.new ≡ fresh self.old.frame }
         ensures promises { KeepsPromises self.new }
@@ -315,21 +315,21 @@ impl BucketedAtlasAllocator {
         self.allocated_space = 0;
     }
 
-    /// Whether nothing is allocated. Takes the same time always.
+    /// Whether nothing is allocated. Takes constant time.
     pub fn is_empty(&self) -> bool
         ensures { IsTrue result ↔ (list_all is_idle self.now.shelves ≡ true) }
     {
         self.allocated_space == 0
     }
 
-    /// The areas that buckets have used, added up, in square pixels. Takes the same time always.
+    /// The areas that buckets have used, added up, in square pixels. Takes constant time.
     pub fn allocated_space(&self) -> i32
         ensures { result ≡ pos (space.allocated_space self.now) }
     {
         self.allocated_space as i32
     }
 
-    /// The area of the atlas less what is allocated, in square pixels. Takes the same time always.
+    /// The area of the atlas less what is allocated, in square pixels. Takes constant time.
     pub fn free_space(&self) -> i32
         ensures free { result ≡ pos
             (self.now.frame.width * self.now.frame.height - space.allocated_space self.now) }
@@ -382,8 +382,9 @@ impl BucketedAtlasAllocator {
 impl Clone for BucketedAtlasAllocator {
     ghost is_clone = { λ atlas other. other ≡ atlas };
 
-    /// An atlas that equals this one, its ids and its later answers too, and shares nothing with it. Takes memory
-    /// for all records, and goes through them.
+    /// An atlas that equals this one, its ids and its later answers too, and shares nothing with it.
+    ///
+    /// The error comes only where there was no memory. Takes memory for all records, and goes through them.
     fn clone(&self) -> Result<BucketedAtlasAllocator, AllocError> {
         Ok(BucketedAtlasAllocator {
             frame: self.frame,

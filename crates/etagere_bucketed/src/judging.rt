@@ -33,6 +33,7 @@ pub(crate) struct Stack {
     pub height: u32,
 }
 
+/// Whether sides and area keep their ranges.
 fn has_sides(frame: &Frame) -> bool
     ensures { result ≡ spec.has_sides frame.now }
 {
@@ -44,6 +45,7 @@ fn has_sides(frame: &Frame) -> bool
         && frame.width * frame.height < 1 << 31
 }
 
+/// Whether both alignments keep their range.
 fn has_alignments(frame: &Frame) -> bool
     ensures { result ≡ spec.has_alignments frame.now }
 {
@@ -53,6 +55,7 @@ fn has_alignments(frame: &Frame) -> bool
         && frame.alignment_height < 1 << 31
 }
 
+/// The side of the atlas along its shelves.
 fn along_side(frame: &Frame) -> u32
     ensures { result ≡ spec.along_side frame.now }
 {
@@ -63,6 +66,7 @@ fn along_side(frame: &Frame) -> u32
     }
 }
 
+/// Whether there are columns, at least 1 wide and aligned, and they fit side by side.
 fn has_columns(frame: &Frame) -> bool
     requires width { frame.now.column_width < 2 ^ 16 }
     requires columns { frame.now.columns < 2 ^ 16 }
@@ -84,6 +88,7 @@ pub(crate) fn is_frame(frame: &Frame) -> bool
     has_sides(frame) && has_alignments(frame) && has_columns(frame)
 }
 
+/// Whether the bucket of this number is there and names this shelf.
 fn is_owned(buckets: &[BucketRecord], shelf: u16, number: u16) -> bool
     ensures { result ≡ spec.is_owned buckets.now shelf number }
 {
@@ -105,6 +110,7 @@ pub(crate) fn are_owned(buckets: &[BucketRecord], shelf: u16, numbers: &[u16]) -
     true
 }
 
+/// Whether the bucket of this number is there and nothing of it is live.
 fn is_unused(buckets: &[BucketRecord], number: u16) -> bool
     ensures { result ≡ spec.is_unused buckets.now number }
 {
@@ -126,6 +132,7 @@ pub(crate) fn are_unused(buckets: &[BucketRecord], numbers: &[u16]) -> bool
     true
 }
 
+/// Whether a bucket's used width, given count and live count agree, where its shelf has this bucket width and height.
 fn is_filled(alignment: u32, width: u16, height: u16, bucket: &BucketRecord) -> bool
     requires { 1 ≤ alignment }
     ensures { result ≡ spec.is_filled alignment width height bucket.now }
@@ -147,13 +154,14 @@ fn is_filled(alignment: u32, width: u16, height: u16, bucket: &BucketRecord) -> 
     }
 }
 
-// a generation of 8 bits always does
+/// Whether the generation of a bucket fits into an id: one of 8 bits always does.
 fn fits_id(bucket: &BucketRecord) -> bool
     ensures { result ≡ spec.fits_id bucket.now }
 {
     u32::from(bucket.generation) < GENERATIONS
 }
 
+/// Whether a bucket keeps its rule but for its place.
 fn is_sound(alignment: u32, width: u16, height: u16, bucket: &BucketRecord) -> bool
     requires { 1 ≤ alignment }
     ensures { result ≡ spec.is_sound alignment width height bucket.now }
@@ -161,6 +169,7 @@ fn is_sound(alignment: u32, width: u16, height: u16, bucket: &BucketRecord) -> b
     is_filled(alignment, width, height, bucket) && fits_id(bucket)
 }
 
+/// Whether the bucket of this number is there and keeps its rule but for its place.
 fn is_sound_at(
     alignment: u32,
     width: u16,
@@ -196,6 +205,7 @@ pub(crate) fn are_sound(
     true
 }
 
+/// Where a bucket stands along, if that is aligned and the bucket ends at `end` at most.
 fn stand_at(alignment: u32, width: u16, end: u32, bucket: &BucketRecord) -> Option<u32>
     requires { 1 ≤ alignment }
     ensures { result ≡ spec.stand_at alignment width end bucket.now }
@@ -208,6 +218,7 @@ fn stand_at(alignment: u32, width: u16, end: u32, bucket: &BucketRecord) -> Opti
     }
 }
 
+/// Where the bucket of this number stands along, if it is there, as `stand_at` tells.
 fn stand_by(
     alignment: u32,
     width: u16,
@@ -242,6 +253,7 @@ pub(crate) fn last_stand(
     Some(place)
 }
 
+/// Whether the last bucket stands where its shelf begins.
 fn ends_at(begin: u32, last: Option<u32>) -> bool
     ensures { result ≡ spec.ends_at begin last }
 {
@@ -251,6 +263,7 @@ fn ends_at(begin: u32, last: Option<u32>) -> bool
     }
 }
 
+/// Whether the buckets of a shelf, of these numbers, keep their rule.
 fn has_buckets(
     frame: &Frame,
     buckets: &[BucketRecord],
@@ -271,6 +284,7 @@ fn has_buckets(
         && ends_at(begin, last_stand(alignment, width, buckets, end, numbers))
 }
 
+/// How many items of the bucket of this number are live; 0 where it isn't there.
 fn live_at(buckets: &[BucketRecord], number: u16) -> u16
     ensures { result ≡ spec.live_of buckets.now number }
 {
@@ -292,6 +306,7 @@ pub(crate) fn live_items(buckets: &[BucketRecord], numbers: &[u16]) -> u32
     live
 }
 
+/// How much of its width the bucket of this number has used; 0 where it isn't there.
 fn used_at(width: u16, buckets: &[BucketRecord], number: u16) -> u16
     ensures { result ≡ spec.used_at width buckets.now number }
 {
@@ -314,6 +329,7 @@ pub(crate) fn used_width(width: u16, buckets: &[BucketRecord], numbers: &[u16]) 
     used
 }
 
+/// The width that the bucket of this number can give; 0 where it isn't there.
 fn room_at(buckets: &[BucketRecord], number: u16) -> u16
     ensures { result ≡ spec.room_at buckets.now number }
 {
@@ -372,6 +388,7 @@ pub(crate) fn judged_row(
     })
 }
 
+/// The stack with one shelf more, if that stands where it must: on the last one, or first in the next column.
 fn stacked_on(frame: &Frame, stack: &Stack, shelf: &BucketShelfRecord) -> Option<Stack>
     requires frame { IsBucketedFrame frame.now }
     requires height { stack.now.height < 2 ^ 16 }
@@ -395,6 +412,7 @@ fn stacked_on(frame: &Frame, stack: &Stack, shelf: &BucketShelfRecord) -> Option
     }
 }
 
+/// The stack of all shelves, if each stands where it must.
 fn stack_end(frame: &Frame, shelves: &[BucketShelfRecord]) -> Option<Stack>
     requires { IsBucketedFrame frame.now }
     ensures { result ≡ spec.stack_end frame.now (record { opened = 0; height = 0 }) shelves.now }

@@ -18,8 +18,8 @@ pub(crate) struct NewBuckets {
     pub x: u16,
 }
 
-/// Makes room for so many records in all. The error comes only where there are fewer and a growth was
-/// refused.
+/// Makes room for so many records in all. The error comes only where there are fewer and there was no
+/// memory.
 pub(crate) fn reserve_records(buckets: &mut Vec<BucketRecord>, count: u32) -> Result<(), AllocError>
     ensures same { buckets.new.items ≡ buckets.old.items }
     ensures room { OnOk result (count ≤ vec_capacity buckets.new) }

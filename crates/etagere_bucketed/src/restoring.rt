@@ -128,7 +128,10 @@ pub(crate) fn judged_snapshot(
     })
 }
 
-/// Makes an atlas from a snapshot, as `BucketedAtlasAllocator::restore` does, and counts the links that it reads.
+/// Makes an atlas from a snapshot, as `BucketedAtlasAllocator::restore` does, and counts the links that it reads. It is
+/// what the laws of restoring are stated of, and not meant for users.
+///
+/// Returns a fault whose rule is broken; `Memory` only where there was no memory. The snapshot is used up either way.
 ///
 /// `steps` becomes the number of links that were read, which is at most four times the number of records, whether the
 /// snapshot is accepted or not. Takes memory for what is kept beside the shelves, and some for each record while it

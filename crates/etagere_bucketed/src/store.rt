@@ -29,10 +29,10 @@ use etagere_links::Link;
 use std::alloc::{AllocError, Global};
 use std::marker::Model;
 
-/// An id counts what a bucket has given by this many.
+/// The unit of an item's number in an id of this atlas: it stands from bit 12 on, above the bucket's number.
 pub(crate) const GIVEN_UNIT: u32 = 4096;
 
-/// An id counts the bucket's generation by this many.
+/// The unit of the bucket's generation in an id of this atlas: it stands from bit 24 on.
 pub(crate) const GENERATION_UNIT: u32 = 16777216;
 
 /// A shelf's record, and beside it how many items of its buckets are live, and the greatest width that one of them
@@ -107,7 +107,7 @@ impl Store {
 
     /// Makes the new shelves, with their buckets, where so many are in use. Takes memory for the records
     /// of shelves, and for those of buckets as far as too few were put aside. The error comes only where
-    /// a growth was refused, and then nothing has changed.
+    /// there was no memory, and then nothing has changed.
     pub(crate) fn add(
         &mut self,
         frame: &Frame,
@@ -142,7 +142,7 @@ impl Store {
     }
 
     /// Makes the records ready for a place, where so many buckets are in use, and answers its bucket.
-    /// The error comes only where shelves are to be added and a growth was refused, and then nothing has
+    /// The error comes only where shelves are to be added and there was no memory, and then nothing has
     /// changed.
     pub(crate) fn prepare(
         &mut self,
@@ -289,7 +289,7 @@ impl Store {
 
     /// Gives the shelves their buckets for a width that is added at a place, where so many are left, and
     /// answers how many they are. Takes memory as far as too few records were put aside. The error comes
-    /// only where a growth of that was refused, and then nothing has changed.
+    /// only where there was none, and then nothing has changed.
     pub(crate) fn widen(&mut self, place: u32, added: u32, left: u32) -> Result<u32, AllocError>
         requires shelves { length self.old.shelves ≤ most_buckets }
         requires buckets { length self.old.buckets + left ≤ no_link }
@@ -333,7 +333,8 @@ impl Store {
     }
 }
 
-/// The id of the item that a bucket gives as this one since it was empty.
+/// The id of the item that a bucket gives as this one since it was empty: bits 0 to 11 are the bucket's number, bits 12
+/// to 23 which of its items it is, counted from 1, and bits 24 to 31 the bucket's generation.
 fn id_of(number: u32, given: u32, generation: u8) -> AllocId
     requires number { number < 4096 }
     requires given { given < 4096 }

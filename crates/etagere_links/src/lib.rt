@@ -1,5 +1,10 @@
-//! Records linked by number: links of 16 bits, lists of records, and walks that follow links. Each edit
-//! changes one list as a list, and nothing else.
+//! Records linked by number: links of 16 bits, lists of records, and walks that follow links. An edit of `lists`
+//! changes one list as a list, and nothing else; a step of `store` may change several lists, and fields too.
+//!
+//! `links` has the link, `records` the records of a shelf atlas, and `chained` says which links of a record belong to
+//! which list. `lists` edits a list, `fields` a field by number, and `uses` puts records to use; `store` has all
+//! records of a shelf atlas, and the steps that are made of these. `walking` and `marking` follow the links of any
+//! records, as a snapshot may have them. Both atlases stand on links and walks, the shelf atlas on all.
 #![tactic(auto)]
 
 mod chained;

@@ -37,7 +37,7 @@ pub fn previous_of<List, T: Linked<List>>(records: &[T], number: usize) -> Link
 
 /// The bits of the links to the next one, of all records in order of their numbers: what a walk follows.
 ///
-/// Takes two bytes of memory for each record. The error comes only where a growth was refused.
+/// Takes two bytes of memory for each record. The error comes only where there was no memory.
 pub fn next_bits<List, T: Linked<List>>(
     alloc: Global,
     records: &[T],

@@ -1,7 +1,8 @@
-//! All records of a shelf atlas, and the steps of which allocations and returns are made.
+//! All records of a shelf atlas, and the steps of which allocations, returns and growths are made.
 //!
-//! Definitions: `RecordLists`, `RecordEdits`, `RecordMerges`. A step is one call for each list or field
-//! that it changes.
+//! Definitions: `RecordLists` for what records are, `RecordEdits`, `RecordMerges`, `RecordUses` and
+//! `RecordMaking` for the steps, `Neighbours` for what those ask that test no range. A step calls `lists`,
+//! `fields` or `uses` for each list or field that it changes.
 
 ghost use Rattle.std.specs.Prelude.{◌≡◌, ◌+◌, ◌<◌, ◌≤◌, true, [], length, IfOk, IfSome, OnOk, OnErr, if◌then◌else◌};
 ghost use Rattle.etagere_links.specs.Links.{no_link};
@@ -96,7 +97,8 @@ impl Records {
         }
     }
 
-    /// Takes memory for so many further shelf records, and as many item records.
+    /// Takes memory for so many further shelf records, and as many item records. The error comes only where
+    /// there was none; the records stay as they are in any case.
     pub fn reserve(&mut self, more: usize) -> Result<(), AllocError>
         ensures { self.new ≡ self.old }
     {
@@ -171,8 +173,8 @@ impl Records {
         self.shelf_records.clone()
     }
 
-    /// Makes an item record, whose number is that of the records before it. The error comes only where a
-    /// growth was refused, and then nothing has changed.
+    /// Makes an item record, whose number is that of the records before it. The error comes only where
+    /// there was no memory, and then nothing has changed.
     pub fn make_item(&mut self, item: ItemRecord) -> Result<(), AllocError>
         ensures ok { OnOk result (self.new ≡ edits.item_made item self.old) }
         ensures err { OnErr result (self.new ≡ self.old) }
@@ -181,8 +183,8 @@ impl Records {
         Ok(())
     }
 
-    /// Makes a shelf record, whose number is that of the records before it. The error comes only where a
-    /// growth was refused, and then nothing has changed.
+    /// Makes a shelf record, whose number is that of the records before it. The error comes only where
+    /// there was no memory, and then nothing has changed.
     pub fn make_shelf(&mut self, shelf: ShelfRecord) -> Result<(), AllocError>
         ensures ok { OnOk result (self.new ≡ edits.shelf_made shelf self.old) }
         ensures err { OnErr result (self.new ≡ self.old) }
@@ -192,8 +194,8 @@ impl Records {
     }
 
     /// Puts the records to use that the rests of a split need: those put aside last, and new ones where
-    /// there are too few, for the rest of a shelf before the rest of an item. The error comes only where a
-    /// growth was refused, and then nothing has changed.
+    /// there are too few, for the rest of a shelf before the rest of an item. The error comes only where
+    /// there was no memory, and then nothing has changed.
     pub fn use_rests(&mut self, of_shelf: bool, of_item: bool) -> Result<Rests, AllocError>
         requires items { length (using.rests_used of_shelf of_item self.old).items ≤ no_link }
         requires shelves { length (using.rests_used of_shelf of_item self.old).shelves ≤ no_link }
@@ -230,8 +232,8 @@ impl Records {
         uses::missing::<ShelfRecord>(&self.shelf_records, self.unused_shelves, wanted)
     }
 
-    /// Makes so many item and shelf records, which stand in no list. The error comes only where a growth was
-    /// refused, and then nothing has changed.
+    /// Makes so many item and shelf records, which stand in no list. The error comes only where there was no
+    /// memory, and then nothing has changed.
     pub fn make_records(&mut self, items: usize, shelves: usize) -> Result<(), AllocError>
         ensures ok { OnOk result (self.new ≡ making.records_made items shelves self.old) }
         ensures err { OnErr result (self.new ≡ self.old) }

@@ -1,6 +1,7 @@
 //! Puts records to use: those put aside last, and new ones where there are too few.
 //!
-//! Definitions: `RecordUses`. Room is made for all before the first is put to use; this has to stay so.
+//! Definitions: `RecordUses` for what a split puts to use, and `RecordMaking` for making many records and using one
+//! again. Room is made for all before the first is put to use; this has to stay so.
 
 ghost use Rattle.std.specs.Prelude.{◌≡◌, ◌+◌, ◌<◌, ◌≤◌, true, OnOk, OnErr, IfSome, is_some, length, vec_capacity, if◌then◌else◌};
 ghost use Rattle.etagere_links.specs.Edits.{changed_by};
@@ -42,7 +43,7 @@ fn missing_items(items: &[ItemRecord], unused: Link, of_shelf: bool, of_item: bo
     usize::from(below.number().is_none())
 }
 
-/// Makes room for the item records that are missing. The error comes only where a growth was refused.
+/// Makes room for the item records that are missing. The error comes only where there was no memory.
 pub(crate) fn reserve_items(
     items: &mut Vec<ItemRecord>,
     unused: Link,
@@ -64,8 +65,8 @@ pub(crate) fn reserve_items(
     Ok(())
 }
 
-/// Makes room for a shelf record where one is wanted and none was put aside. The error comes only where a
-/// growth was refused.
+/// Makes room for a shelf record where one is wanted and none was put aside. The error comes only where
+/// there was no memory.
 pub(crate) fn reserve_shelf(
     shelves: &mut Vec<ShelfRecord>,
     unused: Link,

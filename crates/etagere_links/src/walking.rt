@@ -41,7 +41,7 @@ impl WalkRoom {
 
     /// Follows links from `start` on, as `walk` does, where there are no more links than the room is for.
     ///
-    /// Takes two bytes of memory for each record met. The error comes only where a growth was refused. The
+    /// Takes two bytes of memory for each record met. The error comes only where there was no memory. The
     /// time is linear in the number of records met.
     pub fn walk(&mut self, alloc: Global, links: &[u16], start: u16) -> Result<Walk, AllocError>
         requires few { length links.now ≤ no_link }
@@ -59,8 +59,8 @@ impl WalkRoom {
 /// Follows links from `start` on: `links` has the link of each record, in order of their numbers, which are
 /// at most 65535. The walk stops at a link that is no record's number, and before a record that it has met.
 ///
-/// Takes two bytes of memory for each record and for each record met. The error comes only where a growth
-/// was refused. The time is linear in the number of records.
+/// Takes two bytes of memory for each record and for each record met. The error comes only where there was
+/// no memory. The time is linear in the number of records.
 pub fn walk(alloc: Global, links: &[u16], start: u16) -> Result<Walk, AllocError>
     requires { length links.now ≤ no_link }
     ensures met { IfOk result (λ walk. walk.met.items ≡ (spec.walk links.now start).met) }
@@ -71,7 +71,7 @@ pub fn walk(alloc: Global, links: &[u16], start: u16) -> Result<Walk, AllocError
     WalkRoom::new(alloc, links.len())?.walk(alloc, links, start)
 }
 
-// a record was met where the place noted for it is one of those that were met, and has it
+/// Whether a record was met: the place noted for it is one of those that were met, and has it.
 fn is_met(places: &[u16], met: &[u16], at: u16) -> bool
     requires within { at < length places.now }
     requires placed { ArePlaced places.now met.now }
@@ -81,6 +81,7 @@ fn is_met(places: &[u16], met: &[u16], at: u16) -> bool
     place < met.len() && met[place] == at
 }
 
+/// Follows links from `start` on as `WalkRoom::walk` does, and notes in `places` where in the walk each record was met.
 fn walk_within(
     alloc: Global,
     places: &mut [u16],

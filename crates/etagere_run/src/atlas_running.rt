@@ -1,4 +1,5 @@
 //! Runs on a shelf atlas.
+//!
 //! Definition: `AtlasRuns`, an instance of `Runs`. A new command needs its pairs in `AtlasStep`.
 
 ghost use Rattle.std.specs.Prelude.{ℕ, List, IfOk, IfErr, OnOk};

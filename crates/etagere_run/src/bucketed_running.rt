@@ -1,4 +1,5 @@
 //! Runs on a bucketed atlas.
+//!
 //! Definition: `BucketedRuns`, an instance of `Runs`. A new command needs its pairs in `BucketedStep`.
 
 ghost use Rattle.std.specs.Prelude.{ℕ, List, IfOk, IfErr, OnOk};

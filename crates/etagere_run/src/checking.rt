@@ -1,4 +1,5 @@
 //! Checks a saved atlas: reads all of the input, restores what it says, and only then writes a line.
+//!
 //! Definitions: `Checking` for what is written, `Saved` for what an answer says.
 
 ghost use Rattle.std.specs.Prelude.{◌≡◌, IfErr, IfOk, OnOk};

@@ -1,4 +1,5 @@
 //! The commands of a run, and the replies to them, which serve every kind of run.
+//!
 //! The definitions of runs (`AtlasRuns`, `BucketedRuns`) and of the text of replies (`ReplyText`) match on them.
 
 use etagere::{Allocation, Rectangle, Size};

@@ -1,6 +1,7 @@
 //! Draws a script or a snapshot, which its first byte tells: reads all of it, judges it, runs or
-//! restores it, and only then writes the picture of what is there. Definition: `Drawing`, over
-//! `Script`, `Runs` and `Saved`. What a picture shows is decided by each atlas.
+//! restores it, and only then writes the picture of what is there.
+//!
+//! Definition: `Drawing`, over `Script`, `Runs` and `Saved`. What a picture shows is decided by each atlas.
 
 ghost use Rattle.std.specs.Prelude.{◌≡◌, ℕ, List, Ok, Err, IfErr, IfOk, OnErr, OnOk};
 ghost use Rattle.std.specs.Io.KnownBytes.{IsAtEnd};

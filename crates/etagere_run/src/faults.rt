@@ -1,5 +1,6 @@
 //! How runs, replays, drawings and checks end: faults with their numbers, outcomes, exit statuses
 //! and words.
+//!
 //! Definition: `Faults`. A new fault or outcome goes here and there; what goes to standard output
 //! stands in `replaying`, `drawing` and `checking`.
 

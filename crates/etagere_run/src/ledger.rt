@@ -1,5 +1,6 @@
 //! The ledger of a run: what each command was given that is live. A table with a place for each command, for which
 //! room is taken before the first one, so that nothing here takes memory later and a position is found in one step.
+//!
 //! Definition: `Tables`, which reads the table as the entries of `Live`. Another representation keeps the clauses
 //! with its own reading; callers know nothing else of it.
 

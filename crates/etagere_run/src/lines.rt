@@ -1,4 +1,5 @@
 //! Bytes as lines, and a line as words, one after another from the front.
+//!
 //! Definition: `Lines`. Nothing here knows a command or a number, takes memory or copies bytes.
 
 ghost use Rattle.std.specs.Prelude.{◌≡◌, ◌≢◌, ◌<◌, ◌≤◌, ◌∷◌, ◌++◌, [], All, IfNone, IfSome, length, slice_index, take};

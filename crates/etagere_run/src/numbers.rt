@@ -1,4 +1,5 @@
 //! The numbers that words spell: an `i32` with a sign or none, and a position.
+//!
 //! Definition: `Numbers`. A word that spells none, or one out of range, is none.
 
 ghost use Rattle.std.specs.Prelude.{◌≡◌, ◌-◌, ◌^◌};

@@ -1,5 +1,6 @@
 //! Lines as programs write them: a letter, one or two numbers without a sign, and a line feed, read in one pass. Every
 //! other line, and a wrong one too, is left to `lines` and `words`.
+//!
 //! Definition: `PlainLines`, over `Lines`, `Numbers` and `Words`.
 
 ghost use Rattle.std.specs.Prelude.{◌≡◌, ◌<◌, ◌^◌, pos, IfSome};
@@ -11,7 +12,8 @@ use etagere::Size;
 /// How many bytes a number and what ends it have at most.
 const SHORT: usize = 9;
 
-/// The command of the first line, where that is plain, and the bytes after it.
+/// The command of the first line, where that is plain, and the bytes after it. Always inlined: it is called for each
+/// line behind the header of a script.
 #[inline(always)]
 pub fn plain_command<C: Spelled>(bytes: &[u8]) -> Option<(C, &[u8])>
     ensures { IfSome result (λ parts.
@@ -38,7 +40,8 @@ pub fn plain_command<C: Spelled>(bytes: &[u8]) -> Option<(C, &[u8])>
     }
 }
 
-/// The value of the digits that stand first, where they are fewer than nine, and the bytes after them.
+/// The value of the digits that stand first, where they are fewer than nine, and the bytes after them. Always inlined,
+/// as `plain_command` is.
 #[inline(always)]
 fn leading_number(bytes: &[u8]) -> Option<(u32, &[u8])>
     ensures number { IfSome result (λ parts. BeginsWithNumber bytes.now parts.0 parts.1.now) }
@@ -59,7 +62,7 @@ fn leading_number(bytes: &[u8]) -> Option<(u32, &[u8])>
     None
 }
 
-/// The size with these sides.
+/// The size with these sides. Always inlined, as `plain_command` is.
 #[inline(always)]
 fn size_of_sides(width: u32, height: u32) -> Size
     requires { (width < 2 ^ 31) × (height < 2 ^ 31) }

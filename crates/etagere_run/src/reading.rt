@@ -1,4 +1,5 @@
 //! Everything that a reader has, up to its end, in memory.
+//!
 //! A failed read is told from missing memory, and is never retried.
 
 ghost use Rattle.std.specs.Prelude.{◌≡◌, ◌≢◌, IfErr, IfOk, IfSome, OnOk};

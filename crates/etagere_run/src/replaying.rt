@@ -1,4 +1,5 @@
 //! Replays a script: reads all of it, judges it, and runs it, writing each reply's line before the next command runs.
+//!
 //! Definition: `Replaying`, over `Script`, `AtlasRuns`, `BucketedRuns` and `ReplyText`. What is written, and where, is
 //! settled there.
 

@@ -1,4 +1,5 @@
 //! The text of a reply: one line, made in a small buffer. Nothing here takes memory.
+//!
 //! Definition: `ReplyText`. A new reply needs its words there and here, and room in the buffer.
 
 ghost use Rattle.std.specs.Prelude.{◌≡◌, ◌≤◌, ◌+◌, ◌++◌, ◌∷◌, [], decimal, length};
@@ -71,7 +72,7 @@ impl Line {
         self.text.push_number(number);
     }
 
-    /// Adds a place, with a minus sign where it is negative.
+    /// Adds a place, with a minus sign where it is negative. Always inlined: a line with a rectangle has four places.
     #[inline(always)]
     fn push_place(&mut self, place: i32)
         requires { length self.old + 11 ≤ LINE_CAPACITY }
@@ -87,7 +88,7 @@ impl Line {
         self.push(digits.format(place));
     }
 
-    /// Adds a space and a place.
+    /// Adds a space and a place. Always inlined, as `push_place` is.
     #[inline(always)]
     fn push_next_place(&mut self, place: i32)
         requires { length self.old + 12 ≤ LINE_CAPACITY }
@@ -99,7 +100,7 @@ impl Line {
         self.push_place(place);
     }
 
-    /// Adds the corners of a rectangle.
+    /// Adds the corners of a rectangle. Always inlined: this is most of what a line with a rectangle costs.
     #[inline(always)]
     fn push_corners(&mut self, rectangle: &Rectangle)
         requires { length self.old + 47 ≤ LINE_CAPACITY }

@@ -1,4 +1,5 @@
 //! Runs of whatever kind: one command, one call, one reply, and a ledger of what is live.
+//!
 //! Definitions: `Runs` and `Live`; `Tied` is what private functions keep between ledger and atlas. An atlas that is to
 //! have runs implements `Answering`, over a `Kind` of its own. Streams answer by `answer_next` too.
 

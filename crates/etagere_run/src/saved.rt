@@ -1,5 +1,7 @@
-//! A saved atlas as `check` and `draw` read it. Definition: `Saved`. The rules of a snapshot are
-//! those of each atlas, and its JSON text is read by serde: a new kind of atlas goes here.
+//! A saved atlas as `check` and `draw` read it.
+//!
+//! Definition: `Saved`. The rules of a snapshot are those of each atlas, and its JSON text is read by serde: a new kind
+//! of atlas goes here.
 
 ghost use Rattle.std.specs.Prelude.{◌≡◌};
 ghost use Rattle.etagere_run.specs.Private.Judged.{refusal};

@@ -1,6 +1,8 @@
 //! Reads a script: a header, then a command on each line with bytes, or the number of the first
-//! line that isn't good. Definitions: `Script`, over `Lines` and `Words`; what private functions
-//! answer is `ScriptReading`. A new kind of line goes into `Words`.
+//! line that isn't good.
+//!
+//! Definitions: `Script`, over `Lines` and `Words`; what private functions answer is `ScriptReading`. A new kind of
+//! line goes into `Words`.
 
 ghost use Rattle.std.specs.Prelude.{◌≡◌, ◌<◌, ◌+◌, ◌^◌, length};
 ghost use Rattle.etagere_run.specs.Lines.{filled_from, lines_of};

@@ -1,5 +1,6 @@
 //! Runs whose replies go out one by one: each reply's line is made before the next command runs, and goes to a writer
 //! through a buffer of fixed size. No list of replies and no text is kept.
+//!
 //! Definition: `Streaming`, over `Runs` and `ReplyText`. A kind of run that is to be streamed gets a call like these two.
 
 ghost use Rattle.std.specs.Prelude.{ℕ, List, length, IfErr, OnErr, OnOk};

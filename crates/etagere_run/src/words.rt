@@ -1,4 +1,5 @@
 //! What the words of a line stand for: a header, or a command for an atlas of one kind.
+//!
 //! Definitions: `Words`, over `Lines` and `Numbers`. A new command goes into the table of its atlas here and there.
 
 ghost use Rattle.std.specs.Prelude.{◌≡◌, ℕ, List, [], ◌∷◌, Option, Some, IfSome};

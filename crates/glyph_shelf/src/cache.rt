@@ -61,7 +61,7 @@ impl GlyphCache {
     /// An empty cache of at most `capacity` keys, over an atlas of this size in pixels.
     ///
     /// Returns the first fault of the size and options; `Memory` only where there is no other and no memory. Takes
-    /// memory for two atlases, and none for keys that aren't there yet.
+    /// memory for two atlases, and none for keys that aren't there yet. Goes through the columns.
     pub fn new(
         alloc: Global,
         size: Size,
@@ -138,7 +138,7 @@ impl GlyphCache {
     /// Takes a key out, and answers the rectangle that it had; none where the key isn't there, and then nothing
     /// changes.
     ///
-    /// Takes no memory.
+    /// Takes no memory. The atlas takes the rectangle back as by `AtlasAllocator::deallocate`, at the same cost.
     pub fn remove(&mut self, key: u64) -> Option<Rectangle>
         ensures value { result ≡ rectangle_at self.old key }
         ensures removed { self.new ≡ without_key self.old key }
@@ -157,7 +157,7 @@ impl GlyphCache {
         self.kept.clear();
     }
 
-    /// How many keys are there. Takes the same time always.
+    /// How many keys are there. Takes constant time.
     pub fn len(&self) -> usize
         ensures len { result ≡ length self.now.entries }
         ensures promises { KeepsCachePromises self.now }
@@ -165,14 +165,14 @@ impl GlyphCache {
         self.kept.len()
     }
 
-    /// Whether no key is there. Takes the same time always.
+    /// Whether no key is there. Takes constant time.
     pub fn is_empty(&self) -> bool
         ensures { IsTrue result ↔ (self.now.entries ≡ []) }
     {
         self.kept.len() == 0
     }
 
-    /// How many keys there may be. Takes the same time always.
+    /// How many keys there may be. Takes constant time.
     pub fn capacity(&self) -> NonZeroUsize
         ensures { non_zero_usize_get result ≡ self.now.capacity }
     {

@@ -19,7 +19,7 @@ use std::alloc::{AllocError, Global};
 /// Whether the free list of each of these shelves has each of its free items once and links back.
 /// What is unused says which items are in use.
 ///
-/// Takes a byte of memory for each item record. The error comes only where a growth was refused.
+/// Takes a byte of memory for each item record. The error comes only where there was no memory.
 pub(crate) fn judge_free_lists(
     alloc: Global,
     items: &[ItemRecord],

@@ -1,4 +1,6 @@
 //! Links back along lists that walks have met.
+//!
+//! Definitions: `LinkBack` and `ItemsLinkBack` of `Judging`, and `LeadsBack` of `Chains` for one list.
 ghost use Rattle.std.specs.Prelude.{◌≡◌, false};
 ghost use Rattle.etagere_base.specs.Deciding.{Decides};
 ghost use Rattle.etagere_base.specs.Lists.{Each};

@@ -2,8 +2,9 @@
 //!
 //! Definitions: `Choice`, `Searching` for the same by records, and `ByHeight` for the order. A search starts
 //! at the first shelf that is tall enough, and takes the first good fit; only where there is none, it looks for the
-//! first bad one by place, from the first bad fit on that it met. It opens a shelf only where the bound on its free
-//! items lets it hope, and corrects that where it hoped in vain. Nothing here changes the records.
+//! first bad one by place, from the first bad fit on that it met. It goes through the free list of a shelf only where
+//! the bound on its free items is wide enough, and lowers the bound to the widest of them where none fits. Nothing here
+//! changes the records.
 
 ghost use Rattle.std.specs.Prelude.{◌≡◌, ◌≤◌, ◌<◌, ◌^◌, None, Some, IfSome, drop, length, map, nat_lt};
 ghost use Rattle.etagere_base.specs.Frames.{IsFrame, longest_side};
@@ -143,8 +144,10 @@ fn best_candidate(
     }
 }
 
-/// The first good fit from this position on, where all shelves are tall enough. Where there is none, no shelf before
-/// the first bad fit whose bound let it hope has a place.
+/// The first good fit from this position on, where all shelves are tall enough. Where there is none, the answer is the
+/// position from which a bad fit is to be looked for: that of the first shelf that is too tall for a good fit and whose
+/// bound is wide enough, or the end. No shelf before it has a free item that is wide enough: their bounds were too
+/// small, or their free lists were searched.
 fn first_good(
     records: &Records,
     ranked: &mut RankedShelves,

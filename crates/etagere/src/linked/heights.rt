@@ -79,7 +79,7 @@ pub(crate) fn order_or_zero(shelves: &[ShelfRecord], shelf: usize) -> u64
     }
 }
 
-/// Where the shelves begin that don't come before this height and place, by halves.
+/// Where the shelves begin that don't come before this height and place, by binary search.
 pub(crate) fn first_from(
     shelves: &[ShelfRecord],
     ranked: &RankedShelves,
@@ -120,7 +120,7 @@ fn start_of(shelves: &[ShelfRecord], ranked: &RankedShelves, shelf: usize) -> St
     first_from(shelves, ranked, u32::from(record.height), place)
 }
 
-/// Where a shelf stands: where it did last time if it still does, else by halves.
+/// Where a shelf stands: where it did last time if it still does, else by binary search.
 fn position_of(shelves: &[ShelfRecord], ranked: &mut RankedShelves, shelf: usize) -> usize
     requires order { AreInOrder shelves.now ranked.old.items }
     requires stands { 1 ≤ times shelf (spec.ranked_numbers ranked.old.items) }
@@ -134,8 +134,8 @@ fn position_of(shelves: &[ShelfRecord], ranked: &mut RankedShelves, shelf: usize
     position_by_halves(shelves, ranked, shelf)
 }
 
-/// Where a shelf stands, found by halves; the position is kept. Never inlined, so that `position_of` is small enough
-/// to be.
+/// Where a shelf stands, found by binary search; the position is kept. Never inlined, so that `position_of` is small
+/// enough to be.
 #[inline(never)]
 fn position_by_halves(shelves: &[ShelfRecord], ranked: &mut RankedShelves, shelf: usize) -> usize
     requires order { AreInOrder shelves.now ranked.old.items }

@@ -204,7 +204,8 @@ fn merge_shelf(records: &mut Records, ranked: &mut RankedShelves, shelf: usize) 
     }
 }
 
-/// An empty shelf takes the place of the next one, which has this number and is empty too.
+/// An empty shelf takes the place of the next one, which has this number and is empty too. Never inlined, so that a
+/// return that merges no shelves doesn't carry it.
 #[inline(never)]
 fn absorb_shelf(records: &mut Records, ranked: &mut RankedShelves, shelf: usize, next: usize) -> u32
     requires next { returned.empty_next records.old.shelves shelf ≡ Some next }
