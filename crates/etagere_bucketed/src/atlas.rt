@@ -303,7 +303,7 @@ impl BucketedAtlasAllocator {
 
     /// Takes everything back at once: the atlas is as new, with its present size and columns.
     ///
-    /// Takes no memory, and gives none back. Takes constant time.
+    /// Takes no memory, and gives none back. Takes constant time, since dropping a record does nothing.
     pub fn clear(&mut self)
         ensures cleared { self.new ≡ fresh self.old.frame }
         ensures promises { KeepsPromises self.new }

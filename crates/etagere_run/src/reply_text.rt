@@ -100,7 +100,7 @@ impl Line {
         self.push_place(place);
     }
 
-    /// Adds the corners of a rectangle. Always inlined: this is most of what a line with a rectangle costs.
+    /// Adds the corners of a rectangle. Always inlined: each line with a rectangle has them.
     #[inline(always)]
     fn push_corners(&mut self, rectangle: &Rectangle)
         requires { length self.old + 47 ≤ LINE_CAPACITY }

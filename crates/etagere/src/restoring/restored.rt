@@ -71,8 +71,8 @@ fn judge_atlas(alloc: Global, atlas: &LoadedAtlas, steps: &mut u64) -> Result<u3
 /// Makes an atlas from a snapshot, as `AtlasAllocator::restore` does, and counts the links that it follows. It is
 /// what the laws of restoring are stated of, and not meant for users.
 ///
-/// Returns a fault whose rule is broken; `Memory` only where there was no memory. Takes some memory for each record
-/// while it runs, and for a place by height for each shelf record, used or not.
+/// Returns a fault whose rule is broken; `Memory` only where there was no memory. The snapshot is used up either way.
+/// Takes some memory for each record while it runs, and for a place by height for each shelf record, used or not.
 ///
 /// `steps` becomes the number of links that were followed, whether the snapshot is accepted or refused: at most four
 /// times the number of its records, and after `Ok` at least as many as shelves and items are in use.
