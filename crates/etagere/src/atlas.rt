@@ -434,10 +434,12 @@ impl Clone for AtlasAllocator {
     /// The error comes only where there was no memory. Takes memory for all records, and for the places of shelves by
     /// height, and goes through them.
     fn clone(&self) -> Result<AtlasAllocator, AllocError> {
+        let records = self.records.clone()?;
+        let ranked = self.ranked.copied(records.shelves().len())?;
         Ok(AtlasAllocator {
             frame: self.frame,
-            records: self.records.clone()?,
-            ranked: self.ranked.clone()?,
+            records,
+            ranked,
             items_in_use: self.items_in_use,
             allocated_space: self.allocated_space,
         })

@@ -25,8 +25,9 @@ pub fn quiet_shelves(rt: &(impl Print + AllocGlobal)) -> Result<(), ReplayFault>
     try_shelves(rt, restored, kept)
 }
 
-/// The rest of a shelf is filled without a split, and after the clear the whole atlas. Where nothing is allocated, a
-/// growth needs no record, nor does one to the present size.
+/// The rest of a shelf is filled without a split, another shelf is split by records that were put aside, and after the
+/// clear the whole atlas is filled. Where nothing is allocated, a growth needs no record, nor does one to the present
+/// size.
 fn try_shelves(
     rt: &impl Print,
     mut atlas: AtlasAllocator,
@@ -34,7 +35,7 @@ fn try_shelves(
 ) -> Result<(), ReplayFault> {
     look_at(rt, &atlas, kept)?;
     list(rt, &atlas)?;
-    try_all(rt, &mut atlas, kept, &[size2(696, 200)])?;
+    try_all(rt, &mut atlas, kept, &[size2(696, 200), size2(500, 300)])?;
     let larger = size2(1200, 1100);
     say_reply(rt, &atlas.grow_to(larger))?;
     say_reply(rt, &atlas.place(larger))?;

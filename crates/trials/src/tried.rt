@@ -157,6 +157,8 @@ impl Used for AtlasAllocator {
         given(&mut atlas, 900, 200)?;
         atlas.give_back(first);
         let kept = given(&mut atlas, 300, 200)?;
+        let tall = given(&mut atlas, 500, 300)?;
+        atlas.give_back(tall);
         Ok((atlas, kept))
     }
 }
