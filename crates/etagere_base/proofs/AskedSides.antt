@@ -1,7 +1,7 @@
 -- What a size asks of the shelves: both sides, aligned, within a column. What lies at a place is as large as a size
 -- where it has the sides asked for.
-use Rattle.std.proofs.Common.{◌≡◌, ℕ, ◌%◌, ◌≤◌, Bool, true, false, cond, Option, None, Some, nat_le, nat_lt, subst, arith, refl}
-use Rattle.std.proofs.Math.Nat.{mul-mod_left}
+use Rattle.std.proofs.Common.{◌≡◌, ℕ, suc, ◌+◌, ◌-◌, ◌*◌, ◌/◌, ◌%◌, ◌<◌, ◌≤◌, Bool, true, false, cond, Option, None, Some, nat_le, nat_lt, subst, arith, refl}
+use Rattle.std.proofs.Math.Nat.{div-lt_iff_lt-mul, mul-le-mul_right, mul-mod_left}
 use Rattle.std.proofs.lemmas.Bool.{and_parts, leb-true}
 use Rattle.std.proofs.lemmas.Int.{ints}
 use Rattle.std.specs.Prelude.{◌&&◌}
@@ -11,7 +11,7 @@ use Rattle.etagere_base.specs.declared.sides.Sides.{Sides}
 use Rattle.etagere_base.specs.Frames.{IsFrame, across_side, alignment_along, asked, fitting, is_side}
 use Rattle.etagere_base.specs.Places.{rectangle_at}
 use Rattle.etagere_base.specs.Rectangles.{IsLarge}
-use Rattle.etagere_base.specs.Sides.{coarseness, side, step, swapped_axes, up}
+use Rattle.etagere_base.specs.Sides.{IsRoundedUp, coarseness, side, step, swapped_axes, up}
 
 -- what is asked of the shelves has both sides, is aligned and fits a column
 pub record IsAsked (frame : Frame) (sides : Sides) : Type 0 where
@@ -26,13 +26,19 @@ pub test-both : {A : Type 0} (b : Bool) (o : Option A) (y : A) → cond b o None
 test-both true o y h = (cc, h)
 test-both false o y h = cc
 
--- a length is at most what it is rounded up to, and that is a multiple of the alignment
-pub up-multiple : (length alignment : ℕ) → 1 ≤ alignment → (length ≤ up length alignment) × (up length alignment % alignment ≡ 0)
-up-multiple length alignment h = (omega arith, mul-mod_left _ _)
+-- what a length is rounded up to is the least multiple of the alignment that is not below it
+pub rounded-up : (length alignment : ℕ) → 1 ≤ alignment → IsRoundedUp length alignment (up length alignment)
+rounded-up length alignment h = record { multiple = mul-mod_left _ _; enough = omega arith; least = none_between }
+  where
+    none_between : (count : ℕ) → length ≤ count * alignment → up length alignment ≤ count * alignment
+    none_between count within =
+        let below : (length + (alignment - 1)) / alignment < suc count =
+        (div-lt_iff_lt-mul {k = alignment} {x = length + (alignment - 1)} {y = suc count} h).1 (omega arith) in
+        mul-le-mul_right alignment (omega arith)
 
 -- a height is at most what it is stepped to
 pub step-tall : (height : ℕ) → height ≤ step height
-step-tall height = (up-multiple height (coarseness height) (grind arith)).0
+step-tall height = (rounded-up height (coarseness height) (grind arith)).enough
 
 -- sides that fit a column
 fitting-fits : (frame : Frame) (s sides : Sides) → fitting frame s ≡ Some sides
@@ -70,13 +76,13 @@ sides_positive n m h = (grind arith, grind arith)
 pub asked-sides : (longest : ℕ) (frame : Frame) (size : Size) (sides : Sides) → IsFrame longest frame → asked frame size ≡ Some sides → IsAsked frame sides
 asked-sides longest frame size sides valid h =
     let tests = test-both (is_side 65535 size.width && is_side 65535 size.height) _ sides h in
-    let wide = up-multiple (side size.width) frame.alignment_width valid.alignment_width.0 in
-    let tall = up-multiple (side size.height) frame.alignment_height valid.alignment_height.0 in
+    let wide = rounded-up (side size.width) frame.alignment_width valid.alignment_width.0 in
+    let tall = rounded-up (side size.height) frame.alignment_height valid.alignment_height.0 in
     let range = sides_positive (side size.width) (side size.height) tests.0 in
     let fits = fitting-fits frame _ sides tests.1 in
     let laid = subst (IsLaid frame) fits.0
     (swapped-laid frame (up (side size.width) frame.alignment_width) (up (side size.height) frame.alignment_height)
-    (omega arith) (omega arith) wide.1 tall.1) in
+    (omega arith) (omega arith) wide.multiple tall.multiple) in
     record { along = laid.along; across = laid.across; aligned = laid.aligned; narrow = fits.1; short = fits.2 }
 
 -- what is asked of the shelves is the size rounded up

@@ -1,5 +1,5 @@
 -- Lengths: rounding by an alignment, the steps of heights of shelves, and swapping the axes.
-use Rattle.std.specs.Prelude.{ℕ, ◌+◌, ◌-◌, ◌*◌, ◌/◌, Bool, true, false, ℤ, pos, negsuc, nat_lt, if◌then◌else◌}
+use Rattle.std.specs.Prelude.{◌≡◌, ℕ, ◌+◌, ◌-◌, ◌*◌, ◌/◌, ◌%◌, ◌≤◌, Bool, true, false, ℤ, pos, negsuc, nat_lt, if◌then◌else◌}
 use Rattle.etagere_base.specs.declared.sides.Sides.{Sides}
 
 -- a signed length as a number: 0 where it is negative
@@ -15,6 +15,12 @@ swapped_axes false sides = sides
 -- the least multiple of the alignment that is not below the length
 abbrev pub up : ℕ → ℕ → ℕ
 up length alignment = (length + (alignment - 1)) / alignment * alignment
+
+-- a length rounded up: of the multiples of the alignment that are not below it, this is the least
+pub record IsRoundedUp (length alignment rounded : ℕ) : Type 0 where
+  pub multiple : rounded % alignment ≡ 0
+  pub enough : length ≤ rounded
+  pub least : (count : ℕ) → length ≤ count * alignment → rounded ≤ count * alignment
 
 -- the greatest multiple of the alignment that is not above the length
 abbrev pub down : ℕ → ℕ → ℕ

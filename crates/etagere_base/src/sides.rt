@@ -5,6 +5,7 @@
 
 ghost use Rattle.std.specs.Prelude.{◌≡◌, ◌+◌, ◌<◌, ◌≤◌, ◌^◌};
 ghost use Rattle.etagere_base.specs.Sides as spec;
+ghost use Rattle.etagere_base.specs.Sides.{IsRoundedUp};
 
 /// Two lengths in pixels: one along the shelves, one across them.
 #[derive(Clone, Copy, Debug, PartialEq, Eq)]
@@ -40,7 +41,8 @@ pub fn swapped_axes(vertical: bool, sides: Sides) -> Sides
 pub fn up(length: u32, alignment: u32) -> u32
     requires positive { 0 < alignment }
     requires fits { length + alignment ≤ 2 ^ 32 }
-    ensures { result ≡ spec.up length alignment }
+    ensures value { result ≡ spec.up length alignment }
+    ensures rounded { IsRoundedUp length alignment result }
 {
     (length + (alignment - 1)) / alignment * alignment
 }
