@@ -7,5 +7,6 @@ pub mod GrownShelves
 pub mod Made
 pub mod Merged
 pub mod NewFrames
+pub mod Powers
 pub mod Shares
 pub mod Shelves

@@ -1,12 +1,13 @@
 -- Laws of the model, proved of all its states: each step keeps a state valid and a ledger tied to
 -- it, and counts the space that is allocated.
-use Rattle.std.specs.Prelude.{◌≡◌, ℕ, ◌+◌, ◌*◌, ◌≤◌, true, Some, slice_get, List, [], ◌∷◌, ◌++◌, map}
+use Rattle.std.specs.Prelude.{◌≡◌, ℕ, ◌+◌, ◌*◌, ◌^◌, ◌≤◌, true, Some, slice_get, List, [], ◌∷◌, ◌++◌, map}
 use Rattle.etagere_base.specs.declared.geometry.Size.{Size}
 use Rattle.etagere_base.specs.declared.frames.Frame.{Frame}
 use Rattle.etagere_base.specs.declared.ids.Allocation.{Allocation}
 use Rattle.etagere_base.specs.Lists.{Each, times}
 use Rattle.etagere_base.specs.Places.{rectangle_at}
 use Rattle.etagere_base.specs.Rectangles.{AreApart, IsAligned, IsInside, IsLarge}
+use Rattle.etagere_bucketed.specs.Adding.{least_power_of_two}
 use Rattle.etagere_bucketed.specs.Atlas.{Allocates, Grows, KeepsPromises}
 use Rattle.etagere_bucketed.specs.Frames.{IsBucketedFrame}
 use Rattle.etagere_bucketed.specs.Returning.{bucket_returned, is_known, returned_bucket, tag_of}
@@ -100,3 +101,14 @@ abbrev pub TiedIsAlwaysSafe : Type 0
 TiedIsAlwaysSafe =
     (entries : List Allocation) (state : BucketedState) → AreTied entries state
     → TiedIsSafe entries state
+
+-- a power of two that is not below a number, and no other such power is less
+pub record IsLeastPower (number power : ℕ) : Type 0 where
+  pub exponent : ℕ
+  pub is_power : power ≡ 2 ^ exponent
+  pub enough : number ≤ power
+  pub least : (other : ℕ) → number ≤ 2 ^ other → power ≤ 2 ^ other
+
+-- what a long shelf is divided into is the least power of two that is not below its number
+abbrev pub PowersAreLeast : Type 0
+PowersAreLeast = (number : ℕ) → number ≤ 4096 → IsLeastPower number (least_power_of_two number)

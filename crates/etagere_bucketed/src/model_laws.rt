@@ -2,7 +2,7 @@
 //!
 //! Definitions: `Laws`. A law that callers or readers want gets its function here.
 
-ghost use Rattle.etagere_bucketed.specs.Laws.{GivesEnough, StepsCountSpace, StepsKeepTied, StepsKeepValid, TiedIsAlwaysSafe, ValidKeepsPromises};
+ghost use Rattle.etagere_bucketed.specs.Laws.{GivesEnough, PowersAreLeast, StepsCountSpace, StepsKeepTied, StepsKeepValid, TiedIsAlwaysSafe, ValidKeepsPromises};
 ghost use Rattle.etagere_bucketed.specs.Private.Restored.{StandsWitnessed};
 ghost use Rattle.etagere_bucketed.specs.Private.Witnessed.{WitnessedStands};
 ghost use Rattle.etagere_bucketed.specs.Restoring.{BrokenStandsForNone};
@@ -16,6 +16,11 @@ pub(crate) fn each_step_keeps_a_state_valid()
 /// What a size is given is as large as the size, and aligned.
 pub(crate) fn what_is_given_is_enough()
     ensures { GivesEnough }
+{}
+
+/// A shelf is divided into buckets by the least power of two that is large enough.
+pub(crate) fn a_power_of_two_is_the_least()
+    ensures { PowersAreLeast }
 {}
 
 /// A ledger of what is live stays tied to the state, and what it has lies inside and apart.

@@ -1,6 +1,7 @@
 pub mod Chains
 pub mod Edits
 pub mod Families
+pub mod Laws
 pub mod Links
 pub mod Lists
 pub mod Marks

@@ -4,7 +4,8 @@
 //! `links` has the link, `records` the records of a shelf atlas, and `chained` says which links of a record belong to
 //! which list. `lists` edits a list, `fields` a field by number, and `uses` puts records to use; `store` has all
 //! records of a shelf atlas, and the steps that are made of these. `walking` and `marking` follow the links of any
-//! records, as a snapshot may have them. Both atlases stand on links and walks, the shelf atlas on all.
+//! records, as a snapshot may have them. Both atlases stand on links and walks, the shelf atlas on all. `model_laws` has
+//! the laws of the definitions.
 #![tactic(auto)]
 
 mod chained;
@@ -12,6 +13,7 @@ mod fields;
 mod links;
 mod lists;
 mod marking;
+mod model_laws;
 mod records;
 mod store;
 mod uses;

@@ -1,0 +1,67 @@
+-- Laws of edits: what an edit of links does to the list that they spell.
+use Rattle.std.specs.Prelude.{◌≡◌, ℕ, ◌<◌, ◌≤◌, Option, None, Some, List, ◌∷◌, ◌++◌, length}
+use Rattle.etagere_base.specs.Lists.{times}
+use Rattle.etagere_links.specs.Chains.{IsChainIn, IsPileIn}
+use Rattle.etagere_links.specs.Edits.{first_without, link_at, linked_between, put_aside, unlinked}
+use Rattle.etagere_links.specs.Families.{Family}
+use Rattle.etagere_links.specs.Records.{free_list, item_chain, shelf_chain}
+
+-- links spell this list forward and backward, of records that are there, each once
+pub record IsListed {T : Type 0} (family : Family T) (records : List T) (first : Option ℕ)
+    (numbers : List ℕ) : Type 0 where
+  pub spelled : IsChainIn family records first numbers
+  pub once : (k : ℕ) → times k numbers ≤ 1
+  pub there : (k : ℕ) → 1 ≤ times k numbers → k < length records
+
+-- a record is there, and not in this list
+pub record IsOutside {T : Type 0} (records : List T) (numbers : List ℕ) (number : ℕ) : Type 0 where
+  pub there : number < length records
+  pub absent : times number numbers ≡ 0
+
+-- a record that is taken out is the only one that the list loses
+abbrev pub TakesOut : {T : Type 0} → Family T → Type 0
+TakesOut {T} family =
+    (records : List T) (first : Option ℕ) (front back : List ℕ) (number : ℕ)
+    → IsListed family records first (front ++ number ∷ back)
+    → IsChainIn family (unlinked family number records)
+    (first_without (link_at family.previous records number) (link_at family.next records number)
+    first)
+    (front ++ back)
+
+-- a record that is put in front comes before all others
+abbrev pub PutsInFront : {T : Type 0} → Family T → Type 0
+PutsInFront {T} family =
+    (records : List T) (first : Option ℕ) (numbers : List ℕ) (number : ℕ)
+    → IsListed family records first numbers → IsOutside records numbers number
+    → IsChainIn family (linked_between family None first number records) (Some number)
+    (number ∷ numbers)
+
+-- a record that is put after another comes next to it
+abbrev pub PutsAfter : {T : Type 0} → Family T → Type 0
+PutsAfter {T} family =
+    (records : List T) (first : Option ℕ) (front back : List ℕ) (previous number : ℕ)
+    → IsListed family records first (front ++ previous ∷ back)
+    → IsOutside records (front ++ previous ∷ back) number
+    → IsChainIn family
+    (linked_between family (Some previous) (link_at family.next records previous) number records)
+    first (front ++ previous ∷ number ∷ back)
+
+-- a record that is put aside lies on top of those that were put aside before
+abbrev pub PutsAside : {T : Type 0} → Family T → Type 0
+PutsAside {T} family =
+    (records : List T) (top : Option ℕ) (numbers : List ℕ) (number : ℕ)
+    → IsPileIn family records top numbers → IsOutside records numbers number
+    → IsPileIn family (put_aside family top number records) (Some number) (number ∷ numbers)
+
+-- each edit of links changes the list as a list
+pub record EditsAList {T : Type 0} (family : Family T) : Type 0 where
+  pub takes_out : TakesOut family
+  pub puts_in_front : PutsInFront family
+  pub puts_after : PutsAfter family
+  pub puts_aside : PutsAside family
+
+-- so they do for each kind of list
+pub record EditsEachList : Type 0 where
+  pub items : EditsAList item_chain
+  pub free_lists : EditsAList free_list
+  pub shelves : EditsAList shelf_chain
