@@ -1,14 +1,16 @@
 //! A clone of an atlas looks the same, answers the same later calls in the same way, and shares
 //! nothing: what is changed in one of the two leaves the other as it was. Each is shown on horizontal
-//! and on vertical shelves; lengths are given along the shelves first, then across.
+//! and on vertical shelves, where lengths are given along the shelves first, then across; and of a bucketed
+//! atlas on horizontal ones.
 
-use crate::judging::{equal, equal_at, holds, holds_at};
+use crate::judging::{ends_clean, equal, equal_at, has_spaces, holds, holds_at, is_at, is_refused};
 use etagere::{
-    AllocId, Allocation, AllocatorOptions, AtlasAllocator, DEFAULT_OPTIONS, Rectangle, Size, size2,
+    AllocId, Allocation, AllocatorOptions, AtlasAllocator, BucketedAtlasAllocator, DEFAULT_OPTIONS,
+    Rectangle, Size, size2,
 };
 use std::process::Abort;
 use std::test::Fail;
-use test_support::calls::{Atlas, return_one};
+use test_support::calls::{Atlas, new_buckets, place_all, return_all, return_one};
 use test_support::corners::{corners, oriented, swapped};
 
 /// What is asked of a new atlas with two columns of 80, 100 across.
@@ -204,4 +206,35 @@ fn looks_left(
     holds(rt, changed.is_empty());
     equal(rt, &looks_of(rt, other, ids)?, before);
     Ok(())
+}
+
+/// Fills the first bucket, which is used for the second time, and gives everything back.
+fn is_filled_and_emptied(
+    rt: &impl Abort,
+    atlas: &mut BucketedAtlasAllocator,
+    kept: AllocId,
+) -> Result<(), Fail> {
+    has_spaces(rt, atlas, 128, 128);
+    let again = is_at(rt, atlas, (16, 8), [0, 0, 16, 8])?;
+    equal(rt, &again.id.serialize(), &16781312);
+    is_refused(rt, atlas, (1, 1))?;
+    return_all(atlas, &[again.id, kept])?;
+    ends_clean(rt, atlas);
+    Ok(())
+}
+
+/// Two shelves of one bucket each were filled, and the first was given back.
+#[test]
+fn a_bucketed_clone_answers_later_calls_as_the_first_does(rt: HostRuntime) -> Result<(), Fail> {
+    let mut atlas = new_buckets(rt.alloc(), (16, 16))?;
+    let ids = place_all(rt.alloc(), &mut atlas, &[(16, 8), (16, 8)])?;
+    return_one(&mut atlas, ids.as_slice(), 0)?;
+    let kept = *ids.get(1).ok_or("not given")?;
+    let mut clone = atlas.clone()?;
+    let mut other = atlas.clone()?;
+    holds(&rt, clone.snapshot()? == atlas.snapshot()?);
+    is_filled_and_emptied(&rt, &mut clone, kept)?;
+    is_filled_and_emptied(&rt, &mut atlas, kept)?;
+    atlas.clear();
+    is_filled_and_emptied(&rt, &mut other, kept)
 }

@@ -1,8 +1,13 @@
-//! The plain types: numbers of ids, sides and areas, when two allocations are equal, and the default
-//! options, all by the names under which `etagere` gives them to its users.
+//! The plain types: numbers of ids, sides and areas, when two allocations are equal, which values hash alike, and the
+//! default options, all by the names under which `etagere` gives them to its users.
 
-use crate::judging::{equal, holds, holds_at};
-use etagere::{AllocId, Allocation, AllocatorOptions, DEFAULT_OPTIONS, Rectangle, point2, size2};
+use crate::judging::{equal, equal_at, holds, holds_at};
+use etagere::{
+    AllocId, Allocation, AllocatorOptions, DEFAULT_OPTIONS, Point, Rectangle, Size, point2, size2,
+};
+use std::fmt::Debug;
+use std::hash::{DefaultHasher, Hash, Hasher};
+use std::process::Abort;
 
 #[test]
 fn an_id_is_its_number(rt: HostRuntime) {
@@ -63,4 +68,59 @@ fn allocations_are_equal_by_id_and_rectangle(rt: HostRuntime) {
         holds_at(&rt, one != other, &(one, other));
         holds_at(&rt, !(one == other), &(one, other));
     }
+}
+
+fn hash_of(value: &impl Hash) -> u64 {
+    let mut state = DefaultHasher::new();
+    value.hash(&mut state);
+    state.finish()
+}
+
+/// Of these, two have the same hash exactly where they are equal.
+fn are_hashed_by_what_is_compared<T: Eq + Hash + Debug>(rt: &impl Abort, values: &[T]) {
+    for one in values {
+        for other in values {
+            let is_alike = hash_of(one) == hash_of(other);
+            equal_at(rt, &is_alike, &(*one == *other), &(one, other));
+        }
+    }
+}
+
+#[test]
+fn equal_values_hash_alike(rt: HostRuntime) {
+    let points = [point2(1, 2), point2(2, 1), Point { x: 1, y: 2 }];
+    are_hashed_by_what_is_compared(&rt, &points);
+    let [one, other, same] = points;
+    let rectangles = [
+        Rectangle {
+            min: one,
+            max: other,
+        },
+        Rectangle {
+            min: other,
+            max: one,
+        },
+        Rectangle {
+            min: same,
+            max: other,
+        },
+    ];
+    are_hashed_by_what_is_compared(&rt, &rectangles);
+    let sizes = [
+        size2(1, -2),
+        size2(-2, 1),
+        Size {
+            width: 1,
+            height: -2,
+        },
+    ];
+    are_hashed_by_what_is_compared(&rt, &sizes);
+    let vertical = AllocatorOptions {
+        vertical_shelves: true,
+        ..DEFAULT_OPTIONS
+    };
+    let options = [DEFAULT_OPTIONS, vertical, AllocatorOptions::default()];
+    are_hashed_by_what_is_compared(&rt, &options);
+    let id = AllocId::deserialize(65536);
+    are_hashed_by_what_is_compared(&rt, &[id, AllocId::deserialize(1), id]);
 }
