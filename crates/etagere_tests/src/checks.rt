@@ -15,6 +15,11 @@ const NEW_ATLAS: &str =
 const GIVEN: &str =
     r#"{"atlas":{"width":20,"height":8,"alignment_width":1,"alignment_height":1,"vertical_shelves":false,"shelf_width":20,"first_shelf":0,"free_items":65535,"free_shelves":65535,"allocated_space":64,"shelves":[{"x":0,"y":0,"height":8,"prev":65535,"next":65535,"first_item":0,"first_unallocated":1,"is_empty":false}],"items":[{"x":0,"width":8,"prev":65535,"next":1,"prev_unallocated":7,"next_unallocated":7,"shelf":0,"allocated":true,"generation":1},{"x":8,"width":12,"prev":0,"next":65535,"prev_unallocated":65535,"next_unallocated":65535,"shelf":0,"allocated":false,"generation":1}]}}"#;
 
+/// An atlas of 1000x1000 that has given (100, 100) and (900, 200), taken the first back, and given (300, 200): its items
+/// 1 and 3 are allocated, and its item 0 is the whole of the first shelf.
+const EXAMPLE: &str =
+    r#"{"atlas":{"width":1000,"height":1000,"alignment_width":1,"alignment_height":1,"vertical_shelves":false,"shelf_width":1000,"first_shelf":0,"free_items":65535,"free_shelves":65535,"allocated_space":268800,"shelves":[{"x":0,"y":0,"height":112,"prev":65535,"next":1,"first_item":0,"first_unallocated":0,"is_empty":true},{"x":0,"y":112,"height":224,"prev":0,"next":2,"first_item":1,"first_unallocated":4,"is_empty":false},{"x":0,"y":336,"height":224,"prev":1,"next":3,"first_item":3,"first_unallocated":5,"is_empty":false},{"x":0,"y":560,"height":440,"prev":2,"next":65535,"first_item":2,"first_unallocated":2,"is_empty":true}],"items":[{"x":0,"width":1000,"prev":65535,"next":65535,"prev_unallocated":65535,"next_unallocated":65535,"shelf":0,"allocated":false,"generation":1},{"x":0,"width":900,"prev":65535,"next":4,"prev_unallocated":65535,"next_unallocated":65535,"shelf":1,"allocated":true,"generation":1},{"x":0,"width":1000,"prev":65535,"next":65535,"prev_unallocated":65535,"next_unallocated":65535,"shelf":3,"allocated":false,"generation":2},{"x":0,"width":300,"prev":65535,"next":5,"prev_unallocated":65535,"next_unallocated":65535,"shelf":2,"allocated":true,"generation":1},{"x":900,"width":100,"prev":1,"next":65535,"prev_unallocated":65535,"next_unallocated":65535,"shelf":1,"allocated":false,"generation":1},{"x":300,"width":700,"prev":3,"next":65535,"prev_unallocated":65535,"next_unallocated":65535,"shelf":2,"allocated":false,"generation":1}]}}"#;
+
 /// A bucketed atlas of 16x16 that has given (16, 8) twice.
 const FILLED: &str =
     r#"{"bucketed":{"width":16,"height":16,"alignment_width":1,"alignment_height":1,"vertical_shelves":false,"column_width":16,"num_columns":1,"current_column":0,"available_height":0,"first_unallocated_bucket":65535,"allocated_space":256,"shelves":[{"x":0,"y":0,"height":8,"bucket_width":16,"first_bucket":0},{"x":0,"y":8,"height":8,"bucket_width":16,"first_bucket":1}],"buckets":[{"x":0,"free_space":0,"next":65535,"refcount":1,"item_count":1,"shelf":0,"generation":0},{"x":0,"free_space":0,"next":65535,"refcount":1,"item_count":1,"shelf":1,"generation":0}]}}"#;
@@ -109,6 +114,16 @@ fn links_of_an_atlas_are_judged(rt: HostRuntime) -> Result<(), Fail> {
     is_broken(&rt, GIVEN, old, r#""next_unallocated":1,"shelf""#, 7)?;
     is_broken(&rt, GIVEN, r#""free_items":65535"#, r#""free_items":1"#, 8)?;
     is_broken(&rt, GIVEN, r#""prev":0"#, r#""prev":65535"#, 3)
+}
+
+#[test]
+fn an_empty_shelf_whose_item_comes_after_itself_is_judged(rt: HostRuntime) -> Result<(), Fail> {
+    writes(&rt, EXAMPLE.as_bytes(), Checked::Fine, "ok\n")?;
+    let old =
+        r#""width":1000,"prev":65535,"next":65535,"prev_unallocated":65535,"next_unallocated":65535,"shelf":0"#;
+    let new =
+        r#""width":1000,"prev":65535,"next":0,"prev_unallocated":65535,"next_unallocated":65535,"shelf":0"#;
+    is_broken(&rt, EXAMPLE, old, new, 8)
 }
 
 #[test]
@@ -210,6 +225,39 @@ fn other_texts_are_unreadable(rt: HostRuntime) -> Result<(), Fail> {
     is_unreadable(&rt, too_wide.as_bytes())?;
     let twice = format!(in rt.alloc(); "{NEW_ATLAS}{NEW_ATLAS}")?;
     is_unreadable(&rt, twice.as_bytes())
+}
+
+#[test]
+fn whole_numbers_have_no_point_exponent_or_negative_zero(rt: HostRuntime) -> Result<(), Fail> {
+    let table = [
+        (
+            NEW_ATLAS,
+            r#""alignment_width":1"#,
+            r#""alignment_width":1.0"#,
+        ),
+        (
+            NEW_ATLAS,
+            r#""alignment_width":1"#,
+            r#""alignment_width":1e0"#,
+        ),
+        (
+            NEW_ATLAS,
+            r#""allocated_space":0"#,
+            r#""allocated_space":-0"#,
+        ),
+        (NEW_ATLAS, r#""generation":1"#, r#""generation":1.0"#),
+        (NEW_ATLAS, r#""generation":1"#, r#""generation":1e0"#),
+        (NEW_ATLAS, r#""shelf":0"#, r#""shelf":-0"#),
+        (NEW_ATLAS, r#""first_shelf":0"#, r#""first_shelf":-0"#),
+        (FILLED, r#""generation":0"#, r#""generation":0.0"#),
+        (FILLED, r#""generation":0"#, r#""generation":0e0"#),
+        (FILLED, r#""generation":0"#, r#""generation":-0"#),
+    ];
+    for (text, old, new) in table {
+        let input = changed(&rt, text, old, new)?;
+        is_unreadable(&rt, input.as_bytes())?;
+    }
+    Ok(())
 }
 
 #[test]

@@ -18,3 +18,5 @@ mod plain_walks;
 mod restoring;
 #[cfg(test)]
 mod round_trips;
+#[cfg(test)]
+mod walks;

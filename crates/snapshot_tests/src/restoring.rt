@@ -60,6 +60,28 @@ fn what_was_saved_is_restored_with_its_ids(rt: HostRuntime) -> Result<(), Fail> 
     Ok(())
 }
 
+/// What an atlas of 1000 by 1000 saves that has given (100, 100) and (900, 200), taken the first back, and given
+/// (300, 200).
+fn saved_example(rt: &impl AllocGlobal) -> Result<AtlasSnapshot, Fail> {
+    let mut atlas = new_atlas(rt.alloc(), (1000, 1000))?;
+    let ids = place_all(rt.alloc(), &mut atlas, &[(100, 100), (900, 200)])?;
+    return_one(&mut atlas, ids.as_slice(), 0)?;
+    placed(&mut atlas, (300, 200))?;
+    Ok(atlas.snapshot()?)
+}
+
+#[test]
+fn the_readme_example_is_restored_with_its_ids(rt: HostRuntime) -> Result<(), Fail> {
+    let atlas = AtlasAllocator::restore(rt.alloc(), saved_example(&rt)?)?;
+    let third = AllocId::deserialize(65539);
+    let wanted = rectangle(0, 336, 300, 560);
+    equal(&rt, &atlas.get(third), &Some(wanted));
+    let mut circle = saved_example(&rt)?;
+    item(&mut circle, 0)?.next = Link::to(0);
+    is_refused(&rt, circle, &[RestoreFault::Sharing]);
+    Ok(())
+}
+
 #[test]
 fn items_are_in_one_list_each(rt: HostRuntime) -> Result<(), Fail> {
     let mut circle = saved(&rt)?;

@@ -86,7 +86,7 @@ pub fn look_alike<T: Atlas>(
     Ok(())
 }
 
-/// Compares an atlas with what its text is restored to, and ten further calls of both.
+/// Compares an atlas with what its text is restored to, and ten further calls of both, or more where something is live.
 fn is_restored<T: Saved + Drop>(
     rt: &(impl AllocGlobal + Abort),
     mut atlas: T,
@@ -102,7 +102,7 @@ fn is_restored<T: Saved + Drop>(
         look_alike(rt, &restored, &atlas)?;
         holds(rt, restored.give_back(*id) == atlas.give_back(*id));
     }
-    for size in [(1, 1), (32, 32), (900, 100)] {
+    for size in [(1, 1), (32, 32), (900, 100), (2, 40), (500, 16)] {
         answer_alike(rt, &mut restored, &mut atlas, size)?;
     }
     look_alike(rt, &restored, &atlas)
