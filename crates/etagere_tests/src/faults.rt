@@ -2,7 +2,7 @@
 //! the order in which faults are tested.
 
 use crate::judging::equal;
-use etagere::{OptionsFault, UnknownId};
+use etagere::{AtlasGrowFault, GrowFault, OptionsFault, RestoreFault, UnknownId};
 use etagere_run::{Checked, Outcome, ReplayFault, RunFault, StreamFault};
 use std::fmt::Display;
 use std::process::Abort;
@@ -34,6 +34,54 @@ fn options_faults_are_numbered_in_the_order_of_their_tests(rt: HostRuntime) -> R
     }
     equal(&rt, &UnknownId.number(), &1);
     says(&rt, UnknownId, "UnknownId")
+}
+
+#[test]
+fn faults_of_growths_are_numbered_in_the_order_of_their_tests(rt: HostRuntime) -> Result<(), Fail> {
+    let table = [
+        (AtlasGrowFault::Size, 1, "Size"),
+        (AtlasGrowFault::Smaller, 2, "Smaller"),
+        (AtlasGrowFault::Area, 3, "Area"),
+        (AtlasGrowFault::Records, 4, "Records"),
+        (AtlasGrowFault::Memory, 5, "Memory"),
+    ];
+    for (fault, number, text) in table {
+        equal(&rt, &fault.number(), &number);
+        says(&rt, fault, text)?;
+    }
+    let table = [
+        (GrowFault::Size, 1, "Size"),
+        (GrowFault::Smaller, 2, "Smaller"),
+        (GrowFault::Area, 3, "Area"),
+        (GrowFault::Memory, 4, "Memory"),
+    ];
+    for (fault, number, text) in table {
+        equal(&rt, &fault.number(), &number);
+        says(&rt, fault, text)?;
+    }
+    Ok(())
+}
+
+#[test]
+fn faults_of_snapshots_have_the_numbers_of_their_rules(rt: HostRuntime) -> Result<(), Fail> {
+    let table = [
+        (RestoreFault::Frame, 1, "Frame"),
+        (RestoreFault::Counts, 2, "Counts"),
+        (RestoreFault::Link, 3, "Link"),
+        (RestoreFault::Shelves, 4, "Shelves"),
+        (RestoreFault::Runs, 5, "Runs"),
+        (RestoreFault::Neighbours, 6, "Neighbours"),
+        (RestoreFault::FreeList, 7, "FreeList"),
+        (RestoreFault::Sharing, 8, "Sharing"),
+        (RestoreFault::Unused, 9, "Unused"),
+        (RestoreFault::Space, 10, "Space"),
+        (RestoreFault::Memory, 11, "Memory"),
+    ];
+    for (fault, number, text) in table {
+        equal(&rt, &fault.number(), &number);
+        says(&rt, fault, text)?;
+    }
+    Ok(())
 }
 
 #[test]
