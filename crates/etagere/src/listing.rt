@@ -3,7 +3,7 @@
 //! Definitions: `Listing`, and `Reading` for the same by records. Contracts see an `Iter` as the list of
 //! what is still to come.
 
-ghost use Rattle.std.specs.Prelude.{◌≡◌, ◌≤◌, true, length};
+ghost use Rattle.std.specs.Prelude.{◌≡◌, true};
 ghost use Rattle.std.specs.Iterator.{YieldsFirst, item_count};
 ghost use Rattle.etagere.specs.AtlasRecords.{is_allocated_at};
 ghost use Rattle.etagere.specs.Listing.{listed};

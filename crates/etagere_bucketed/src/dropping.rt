@@ -2,7 +2,7 @@
 //!
 //! Definitions: `Private/Returns`. The buckets of a dropped shelf are put aside as a whole, in their order.
 
-ghost use Rattle.std.specs.Prelude.{◌≡◌, ◌<◌, ◌≤◌, ◌+◌, ◌^◌, Some, length, vec_len, vec_capacity};
+ghost use Rattle.std.specs.Prelude.{◌≡◌, ◌<◌, ◌≤◌, ◌+◌, Some, length, vec_len, vec_capacity};
 ghost use Rattle.etagere_links.specs.Edits.{changed_by};
 ghost use Rattle.etagere_bucketed.specs.BucketRecords.{next_of};
 ghost use Rattle.etagere_bucketed.specs.Picking.{or_else};

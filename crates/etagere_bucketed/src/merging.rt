@@ -2,7 +2,7 @@
 //!
 //! Definitions: `Searching` and `StoreEdits`, and `Merging` for what they mean.
 
-ghost use Rattle.std.specs.Prelude.{◌≡◌, ◌+◌, ◌<◌, ◌≤◌, ◌^◌, Some, IfSome, length, take, drop};
+ghost use Rattle.std.specs.Prelude.{◌≡◌, ◌+◌, ◌<◌, ◌≤◌, ◌^◌, Some, length, drop};
 ghost use Rattle.std.specs.List.{list_all};
 ghost use Rattle.etagere_links.specs.Edits.{changed_by};
 ghost use Rattle.etagere_bucketed.specs.Private.Searching as spec;

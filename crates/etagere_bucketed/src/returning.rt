@@ -2,7 +2,7 @@
 //!
 //! Definitions: `Private/Returns`, and `Returning` for what they mean. A return looks at one bucket and its shelf.
 
-ghost use Rattle.std.specs.Prelude.{◌≡◌, ◌<◌, ◌≤◌, ◌*◌, ◌^◌, Some, length, nat_le};
+ghost use Rattle.std.specs.Prelude.{◌≡◌, ◌<◌, ◌≤◌, ◌*◌, Some, length, nat_le};
 ghost use Rattle.etagere_links.specs.Edits.{changed_by};
 ghost use Rattle.etagere_bucketed.specs.Private.Returns as spec;
 ghost use Rattle.etagere_bucketed.specs.Returning as returning;

@@ -2,7 +2,7 @@
 //!
 //! Definitions: `Store`, `StoreEdits`. `Store` also says when records spell a state.
 
-ghost use Rattle.std.specs.Prelude.{◌≡◌, ◌+◌, ◌-◌, ◌*◌, ◌<◌, ◌≤◌, ◌^◌, [], None, Some, IfOk, IfSome, IsSome, OnOk, OnErr, length, slice_get, vec_len, vec_capacity};
+ghost use Rattle.std.specs.Prelude.{◌≡◌, ◌+◌, ◌-◌, ◌*◌, ◌<◌, ◌≤◌, ◌^◌, [], None, Some, IfOk, IsSome, OnOk, OnErr, length, slice_get, vec_len, vec_capacity};
 ghost use Rattle.etagere_links.specs.Edits.{changed_by};
 ghost use Rattle.etagere_links.specs.Links.{no_link};
 ghost use Rattle.etagere_bucketed.specs.Adding as adding;

@@ -3,10 +3,10 @@
 //! Definitions: `Walking`. Links are followed by walks alone, and each link that is read is counted. Records are
 //! marked after each walk, so that all walks but the last one met different records.
 
-ghost use Rattle.std.specs.Prelude.{◌≡◌, ◌+◌, ◌*◌, ◌/◌, ◌%◌, ◌<◌, ◌≤◌, ◌^◌, ◌++◌, ℕ, [], List, IfErr, IfOk, OnOk, length, map};
+ghost use Rattle.std.specs.Prelude.{◌≡◌, ◌+◌, ◌*◌, ◌/◌, ◌%◌, ◌<◌, ◌≤◌, ◌^◌, ◌++◌, ℕ, [], List, IfErr, IfOk, OnOk, length};
 ghost use Rattle.etagere_base.specs.Frames.{alignment_along};
 ghost use Rattle.etagere_base.specs.Lists.{Each};
-ghost use Rattle.etagere_links.specs.Links.{bits_of, no_link};
+ghost use Rattle.etagere_links.specs.Links.{no_link};
 ghost use Rattle.etagere_links.specs.Marks.{IsMarkedBy};
 ghost use Rattle.etagere_links.specs.RecordLists.{HasEachOnce};
 ghost use Rattle.etagere_links.specs.Walks.{walk};

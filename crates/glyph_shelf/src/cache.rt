@@ -3,8 +3,7 @@
 //! Definitions: `Cache` for what the clauses see, `Placing` for what becomes of it, `Promises` for what every cache
 //! keeps, `Private.Consistent` for what the fields keep. The clauses stay as they are: callers prove by them.
 
-ghost use Rattle.std.specs.Prelude.{◌≡◌, ◌↔◌, [], Err, Some, IfOk, IfErr, IfSome, IfNone, IsOkAnd, IsErrOf, OnOk, IsTrue, length, nat_eq};
-ghost use Rattle.std.specs.Map.{lookup};
+ghost use Rattle.std.specs.Prelude.{◌≡◌, ◌↔◌, [], Err, Some, IfOk, IfErr, IfSome, IsOkAnd, IsErrOf, OnOk, IsTrue, length};
 ghost use Rattle.std.specs.NonZero.{non_zero_usize_get};
 ghost use Rattle.etagere_base.specs.Frames as frames;
 ghost use Rattle.etagere_base.specs.Frames.{IsAccepted, longest_side, options_fault};

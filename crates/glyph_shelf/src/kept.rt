@@ -2,7 +2,7 @@
 //!
 //! Definitions: `Cache`, `Placing` and `Promises` for what the clauses say, `Private.Kept` for what the fields keep.
 
-ghost use Rattle.std.specs.Prelude.{◌≡◌, ◌+◌, ◌≤◌, ◌<◌, [], ◌∷◌, None, true, false, is_some, nat_eq, length, option_map, IfOk, IfErr, IfSome, IfNone, OnOk, OnErr, vec_len, vec_capacity};
+ghost use Rattle.std.specs.Prelude.{◌≡◌, ◌<◌, [], ◌∷◌, None, true, is_some, nat_eq, length, option_map, IfOk, IfErr, IfSome, IfNone, OnOk, OnErr};
 ghost use Rattle.std.specs.Map.{lookup};
 ghost use Rattle.std.specs.NonZero.{non_zero_usize_get};
 ghost use Rattle.etagere.specs.Choice as choice;

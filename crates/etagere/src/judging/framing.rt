@@ -3,7 +3,7 @@
 //! Definitions: `IsFrame` of `Frames`, and `HasCounts` of `StandsFor`. All is computed wide, so
 //! nothing wraps.
 
-ghost use Rattle.std.specs.Prelude.{◌≡◌, ◌≤◌, ◌<◌, ◌^◌, length};
+ghost use Rattle.std.specs.Prelude.{◌≡◌, ◌≤◌, ◌<◌, ◌^◌};
 ghost use Rattle.etagere_base.specs.Deciding.{Decides};
 ghost use Rattle.etagere_base.specs.Frames as frames;
 ghost use Rattle.etagere_base.specs.Frames.{IsFrame, longest_side};

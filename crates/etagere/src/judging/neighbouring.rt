@@ -10,7 +10,6 @@ ghost use Rattle.etagere.specs.AtlasRecords as spec;
 ghost use Rattle.etagere.specs.Merging as merging;
 ghost use Rattle.etagere.specs.Private.Judging.{judged};
 ghost use Rattle.etagere.specs.StandsFor.{HasNeighbours};
-ghost use Rattle.etagere.specs.State.{Shelf};
 
 use crate::judging::WalkedShelf;
 use crate::judging::filling::is_one_free;

@@ -8,7 +8,7 @@
 
 ghost use Rattle.std.specs.Prelude.{◌≡◌, ◌≤◌, ◌<◌, ◌^◌, None, Some, IfSome, drop, length, map, nat_lt};
 ghost use Rattle.etagere_base.specs.Frames.{IsFrame, longest_side};
-ghost use Rattle.etagere_base.specs.Lists.{Each, times};
+ghost use Rattle.etagere_base.specs.Lists.{times};
 ghost use Rattle.etagere_links.specs.RecordLists.{IsLinked, shelf_walk, walked_lists};
 ghost use Rattle.etagere.specs.AtlasRecords.{height_of};
 ghost use Rattle.etagere.specs.Choice as choice;

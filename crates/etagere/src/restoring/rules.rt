@@ -2,7 +2,7 @@
 //!
 //! Definitions: `Rules`, which has the rules as the passes of `judging` test them.
 
-ghost use Rattle.std.specs.Prelude.{◌≡◌, ℕ, ◌++◌, ◌≤◌, IfErr, OnOk, length};
+ghost use Rattle.std.specs.Prelude.{ℕ, ◌++◌, ◌≤◌, IfErr, OnOk, length};
 ghost use Rattle.etagere_base.specs.Frames.{IsFrame, longest_side};
 ghost use Rattle.etagere_base.specs.Lists.{Each, times};
 ghost use Rattle.etagere_links.specs.Links.{no_link};
