@@ -86,10 +86,7 @@ fn follow_items(
         Ok(unused) => unused,
         Err(fault) => return Err(chain_fault(fault)),
     };
-    let shelves = match walk_chains(alloc, atlas, room, marks, links, numbers, steps) {
-        Ok(shelves) => shelves,
-        Err(fault) => return Err(fault),
-    };
+    let shelves = walk_chains(alloc, atlas, room, marks, links, numbers, steps)?;
     if !all_marked(marks) {
         return Err(RestoreFault::Sharing);
     }

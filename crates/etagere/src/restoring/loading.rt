@@ -23,10 +23,7 @@ impl LoadedAtlas {
         ensures counts { OnOk result (HasCounts (snapshot_records snapshot)) }
         ensures fault { IfErr result (IsBroken (snapshot_records snapshot)) }
     {
-        let frame = match snapshot_frame(&snapshot) {
-            Ok(frame) => frame,
-            Err(fault) => return Err(fault),
-        };
+        let frame = snapshot_frame(&snapshot)?;
         if !has_counts(&frame, &snapshot.shelves, &snapshot.items) {
             return Err(RestoreFault::Counts);
         }

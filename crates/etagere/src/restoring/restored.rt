@@ -49,23 +49,18 @@ fn judge_atlas(alloc: Global, atlas: &LoadedAtlas, steps: &mut u64) -> Result<u3
     ensures each { IfOk result
         (λ count. length (state_spelled atlas.now).shelves + count ≤ steps.new) }
 {
-    let walked = match walk_records(alloc, atlas, steps) {
-        Ok(walked) => walked,
-        Err(fault) => return Err(fault),
-    };
+    let walked = walk_records(alloc, atlas, steps)?;
     let shelves = atlas.records.shelves();
     let items = atlas.records.items();
-    match judge_rules(
+    judge_rules(
         alloc,
         &atlas.frame,
         shelves,
         items,
         &walked,
         atlas.allocated_space,
-    ) {
-        Ok(()) => Ok(count_items(&walked.shelves)),
-        Err(fault) => Err(fault),
-    }
+    )?;
+    Ok(count_items(&walked.shelves))
 }
 
 /// Makes an atlas from a snapshot, as `AtlasAllocator::restore` does, and counts the links that it follows. It is
@@ -90,14 +85,8 @@ pub fn restore_atlas(
         ≤ 4 * (length snapshot.shelves.items + length snapshot.items.items) }
 {
     *steps = 0;
-    let atlas = match LoadedAtlas::of_snapshot(snapshot) {
-        Ok(atlas) => atlas,
-        Err(fault) => return Err(fault),
-    };
-    let items_in_use = match judge_atlas(alloc, &atlas, steps) {
-        Ok(items_in_use) => items_in_use,
-        Err(fault) => return Err(fault),
-    };
+    let atlas = LoadedAtlas::of_snapshot(snapshot)?;
+    let items_in_use = judge_atlas(alloc, &atlas, steps)?;
     let Ok(ranked) = ranked_shelves(alloc, &atlas.frame, &atlas.records) else {
         return Err(RestoreFault::Memory);
     };

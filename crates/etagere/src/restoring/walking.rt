@@ -35,20 +35,11 @@ pub(crate) fn walk_records(
     ensures each { IfOk result
         (λ walked. length walked.shelves.items + length (item_numbers walked.shelves.items) ≤ steps.new) }
 {
-    let numbers = match walk_shelves(alloc, atlas, steps) {
-        Ok(numbers) => numbers,
-        Err(fault) => return Err(fault),
-    };
+    let numbers = walk_shelves(alloc, atlas, steps)?;
     if !links_back::<Chain, ShelfRecord>(atlas.records.shelves(), &numbers) {
         return Err(RestoreFault::Link);
     }
-    let WalkedItems { shelves, unused } = match walk_items(alloc, atlas, &numbers, steps) {
-        Ok(walked) => walked,
-        Err(fault) => return Err(fault),
-    };
-    let shelves = match walk_free_lists(alloc, atlas, shelves, steps) {
-        Ok(shelves) => shelves,
-        Err(fault) => return Err(fault),
-    };
+    let WalkedItems { shelves, unused } = walk_items(alloc, atlas, &numbers, steps)?;
+    let shelves = walk_free_lists(alloc, atlas, shelves, steps)?;
     Ok(WalkedItems { shelves, unused })
 }

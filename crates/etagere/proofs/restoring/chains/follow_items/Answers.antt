@@ -41,10 +41,10 @@ returns-then-not-all_marked-clause-fault c =
     c.bits-first.ensures.value ∙ ap bits_of (c.unused_items.ensures ∙ ap (λ (a : AtlasRecords). a.lists.free_items) c.atlas.view_is) in
     let walks = walks-by item_chain.next atlas.lists.items atlas.lists.free_items c.args.links.now c.bits-first.result c.requires.links start in
     let numbers : List ℕ = (shelf_walk atlas.lists).met in
-    let entries : c.in-Ok-walk_chains.shelves.items ≡ map (chain_entry atlas.lists) numbers =
-    c.in-Ok-walk_chains.ensures.ok ∙ ap (map (chain_entry atlas.lists)) c.requires.numbers in
+    let entries : c.in_ok-shelves.shelves.items ≡ map (chain_entry atlas.lists) numbers =
+    c.in_ok-shelves.ensures.ok ∙ ap (map (chain_entry atlas.lists)) c.requires.numbers in
     let marked : IsMarkedBy c.walk_chains.new.marks (unused ++ item_numbers (map (chain_entry atlas.lists) numbers)) =
-    subst (λ (es : List Entry). IsMarkedBy c.walk_chains.new.marks (unused ++ item_numbers es)) entries c.in-Ok-walk_chains.ensures.marked in
+    subst (λ (es : List Entry). IsMarkedBy c.walk_chains.new.marks (unused ++ item_numbers es)) entries c.in_ok-shelves.ensures.marked in
     let count : length c.walk_chains.new.marks ≡ length atlas.lists.items =
     c.walk_chains.auto.marks ∙ c.walk_marking.auto.marks ∙ c.requires.marks ∙ links-length item_chain.next atlas.lists.items c.args.links.now c.requires.links in
     λ (shared : IsShared atlas).
@@ -60,10 +60,10 @@ returns-clause-ok c =
     c.bits-first.ensures.value ∙ ap bits_of (c.unused_items.ensures ∙ ap (λ (a : AtlasRecords). a.lists.free_items) c.atlas.view_is) in
     let walks = walks-by item_chain.next atlas.lists.items atlas.lists.free_items c.args.links.now c.bits-first.result c.requires.links start in
     let numbers : List ℕ = (shelf_walk atlas.lists).met in
-    let entries : c.in-Ok-walk_chains.shelves.items ≡ map (chain_entry atlas.lists) numbers =
-    c.in-Ok-walk_chains.ensures.ok ∙ ap (map (chain_entry atlas.lists)) c.requires.numbers in
+    let entries : c.in_ok-shelves.shelves.items ≡ map (chain_entry atlas.lists) numbers =
+    c.in_ok-shelves.ensures.ok ∙ ap (map (chain_entry atlas.lists)) c.requires.numbers in
     let marked : IsMarkedBy c.walk_chains.new.marks (unused ++ item_numbers (map (chain_entry atlas.lists) numbers)) =
-    subst (λ (es : List Entry). IsMarkedBy c.walk_chains.new.marks (unused ++ item_numbers es)) entries c.in-Ok-walk_chains.ensures.marked in
+    subst (λ (es : List Entry). IsMarkedBy c.walk_chains.new.marks (unused ++ item_numbers es)) entries c.in_ok-shelves.ensures.marked in
     let count : length c.walk_chains.new.marks ≡ length atlas.lists.items =
     c.walk_chains.auto.marks ∙ c.walk_marking.auto.marks ∙ c.requires.marks ∙ links-length item_chain.next atlas.lists.items c.args.links.now c.requires.links in
     let unused_met : c.in-Ok.unused.items ≡ unused = c.in-Ok.ensures.met ∙ ap (λ (w : Walked). w.met) walks in
@@ -73,9 +73,9 @@ returns-clause-ok c =
     record {
       met = entries;
       unused_met = unused_met;
-      chains = subst (Each (HasChain atlas.lists)) c.requires.numbers c.in-Ok-walk_chains.ensures.chains;
+      chains = subst (Each (HasChain atlas.lists)) c.requires.numbers c.in_ok-shelves.ensures.chains;
       unused_end = sym (ap (λ (w : Walked). w.end) walks) ∙ c.in-Ok.ensures.end;
-      once = subst (λ (ns : List ℕ). HasEachOnce (length atlas.lists.items) (item_numbers c.in-Ok-walk_chains.shelves.items ++ ns)) (sym unused_met)
+      once = subst (λ (ns : List ℕ). HasEachOnce (length atlas.lists.items) (item_numbers c.in_ok-shelves.shelves.items ++ ns)) (sym unused_met)
           (subst (λ (es : List Entry). HasEachOnce (length atlas.lists.items) (item_numbers es ++ unused)) (sym entries)
           (once-back unused (item_numbers (map (chain_entry atlas.lists) numbers)) (length atlas.lists.items) once));
       next_fits = c.requires.fit;

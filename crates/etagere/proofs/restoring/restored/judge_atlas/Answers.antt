@@ -2,6 +2,7 @@ use Rattle.std.specs.Prelude.{ℤ}
 use Rattle.std.proofs.Common.{◌≡◌, ℕ, List, ◌++◌, length, ap, rules, subst, sym, SFits, w32, ◌∙◌}
 use Rattle.std.proofs.lemmas.Int.{to_z-of_z}
 use Rattle.std.proofs.lemmas.List.{length-map}
+use Rattle.std.proofs.lemmas.Result.{err_from_is_err_and}
 use Rattle.etagere_base.specs.declared.frames.Frame.{Frame}
 use Rattle.etagere_links.specs.declared.records.ItemRecord.{ItemRecord}
 use Rattle.etagere_links.specs.declared.records.ShelfRecord.{ShelfRecord}
@@ -15,7 +16,7 @@ use Rattle.etagere.proofs.Loaded.WalksFit.{walked-few, walked-frees, walked-item
 use Rattle.etagere.proofs.Loaded.WalksRestore.{walked-count}
 use Rattle.etagere.proofs.Loaded.WalksStand.{walked-kept, walked-stands}
 use Rattle.etagere.proofs.restoring.restored.judge_atlas.Goals as goal
-use Rattle.etagere.proofs.restoring.restored.judge_atlas.Goals.{In-Ok-judge_rules}
+use Rattle.etagere.proofs.restoring.restored.judge_atlas.Goals.{In_ok-judge_rules}
 
 -- what is said of the fields of an atlas is said of the atlas
 said : (P : Frame → List ShelfRecord → List ItemRecord → ℤ → Type 0) (fields atlas : AtlasRecords) (shelves : List ShelfRecord) (items : List ItemRecord)
@@ -32,64 +33,65 @@ shelves-count atlas entries are = ap length are ∙ sym (length-map (walked_entr
 
 pub judge_rules-requires-clause-few : goal.judge_rules-requires-clause-few
 judge_rules-requires-clause-few c =
-    walked-few c.args.atlas.now c.in-Ok.walked.shelves.items c.in-Ok.walked.unused.items c.in-Ok.ensures.ok c.requires.counts.shelves.1
+    walked-few c.args.atlas.now c.in_ok-walked.walked.shelves.items c.in_ok-walked.walked.unused.items c.in_ok-walked.ensures.ok c.requires.counts.shelves.1
 
 pub judge_rules-requires-clause-short : goal.judge_rules-requires-clause-short
 judge_rules-requires-clause-short c =
-    walked-short c.args.atlas.now c.in-Ok.walked.shelves.items c.in-Ok.walked.unused.items c.in-Ok.ensures.ok c.requires.counts.items.1
+    walked-short c.args.atlas.now c.in_ok-walked.walked.shelves.items c.in_ok-walked.walked.unused.items c.in_ok-walked.ensures.ok c.requires.counts.items.1
 
 pub judge_rules-requires-clause-shelves : goal.judge_rules-requires-clause-shelves
 judge_rules-requires-clause-shelves c =
-    walked-once c.args.atlas.now c.in-Ok.walked.shelves.items c.in-Ok.walked.unused.items c.in-Ok.ensures.ok
+    walked-once c.args.atlas.now c.in_ok-walked.walked.shelves.items c.in_ok-walked.walked.unused.items c.in_ok-walked.ensures.ok
 
 pub judge_rules-requires-clause-items : goal.judge_rules-requires-clause-items
 judge_rules-requires-clause-items c =
     let same = c.items-items.ensures ∙ ap (λ (a : AtlasRecords). a.lists.items) c.atlas.view_is in
-    subst (λ (is : List ItemRecord). HasEachOnce (length is) (item_numbers c.in-Ok.walked.shelves.items ++ c.in-Ok.walked.unused.items)) (sym same)
-    (walked-items c.args.atlas.now c.in-Ok.walked.shelves.items c.in-Ok.walked.unused.items c.in-Ok.ensures.ok)
+    subst (λ (is : List ItemRecord). HasEachOnce (length is) (item_numbers c.in_ok-walked.walked.shelves.items ++ c.in_ok-walked.walked.unused.items)) (sym same)
+    (walked-items c.args.atlas.now c.in_ok-walked.walked.shelves.items c.in_ok-walked.walked.unused.items c.in_ok-walked.ensures.ok)
 
 pub judge_rules-requires-clause-once : goal.judge_rules-requires-clause-once
 judge_rules-requires-clause-once c =
-    walked-frees c.args.atlas.now c.in-Ok.walked.shelves.items c.in-Ok.walked.unused.items c.in-Ok.ensures.ok c.requires.counts.items.1
+    walked-frees c.args.atlas.now c.in_ok-walked.walked.shelves.items c.in_ok-walked.walked.unused.items c.in_ok-walked.ensures.ok c.requires.counts.items.1
 
 -- what was judged stands for what it spells
-stands : (c : In-Ok-judge_rules) → StandsFor c.args.atlas.now (state_spelled c.args.atlas.now)
+stands : (c : In_ok-judge_rules) → StandsFor c.args.atlas.now (state_spelled c.args.atlas.now)
 stands c =
     let atlas = c.args.atlas.now in
     let fields : AtlasRecords = record { frame = c.atlas.inside.frame; lists = c.atlas.inside.records; allocated_space = c.atlas.inside.allocated_space } in
-    let entries : List Entry = c.in-Ok.walked.shelves.items in
-    let unused : List ℕ = c.in-Ok.walked.unused.items in
+    let entries : List Entry = c.in_ok-walked.walked.shelves.items in
+    let unused : List ℕ = c.in_ok-walked.walked.unused.items in
     let fits : SFits w32 c.atlas.inside.allocated_space = search rules in
-    walked-stands atlas entries unused c.in-Ok.ensures.ok
+    walked-stands atlas entries unused c.in_ok-walked.ensures.ok
     (said (λ frame shelves items space. KeepsRules frame shelves items entries unused space) fields atlas c.shelves-shelves.result.now c.items-items.result.now
     c.atlas.view_is c.shelves-shelves.ensures c.items-items.ensures
-    (subst (KeepsRules c.atlas.inside.frame c.shelves-shelves.result.now c.items-items.result.now entries unused) (to_z-of_z w32 c.atlas.inside.allocated_space fits) c.in-Ok-judge_rules.ensures.ok))
+    (subst (KeepsRules c.atlas.inside.frame c.shelves-shelves.result.now c.items-items.result.now entries unused) (to_z-of_z w32 c.atlas.inside.allocated_space fits) c.in_ok-judge_rules.ensures.ok))
     c.requires.frame c.requires.columns c.requires.counts
 
-pub returns-in-Ok-judge_rules-clause-ok : goal.returns-in-Ok-judge_rules-clause-ok
-returns-in-Ok-judge_rules-clause-ok c = stands (goal.at.returns-in-Ok-judge_rules-clause-ok c).In-Ok-judge_rules
+pub returns-clause-ok : goal.returns-clause-ok
+returns-clause-ok c = stands (goal.at.returns-clause-ok c).In_ok-judge_rules
 
-pub returns-in-Ok-judge_rules-clause-kept : goal.returns-in-Ok-judge_rules-clause-kept
-returns-in-Ok-judge_rules-clause-kept c =
-    walked-kept c.args.atlas.now c.in-Ok.walked.shelves.items c.in-Ok.walked.unused.items c.in-Ok.ensures.ok
-    (stands (goal.at.returns-in-Ok-judge_rules-clause-kept c).In-Ok-judge_rules)
+pub returns-clause-kept : goal.returns-clause-kept
+returns-clause-kept c =
+    walked-kept c.args.atlas.now c.in_ok-walked.walked.shelves.items c.in_ok-walked.walked.unused.items c.in_ok-walked.ensures.ok
+    (stands (goal.at.returns-clause-kept c).In_ok-judge_rules)
 
-pub returns-in-Ok-judge_rules-clause-items : goal.returns-in-Ok-judge_rules-clause-items
-returns-in-Ok-judge_rules-clause-items c =
+pub returns-clause-items : goal.returns-clause-items
+returns-clause-items c =
     c.count_items.ensures ∙ ap (λ (es : List Entry). length (item_numbers es)) c.deref.ensures.value
-    ∙ walked-count c.args.atlas.now c.in-Ok.walked.shelves.items c.in-Ok.ensures.ok.entries_met
+    ∙ walked-count c.args.atlas.now c.in_ok-walked.walked.shelves.items c.in_ok-walked.ensures.ok.entries_met
 
-pub returns-clause-fault : goal.returns-clause-fault
-returns-clause-fault c =
+pub returns-in_err-judge_rules-clause-fault : goal.returns-in_err-judge_rules-clause-fault
+returns-in_err-judge_rules-clause-fault c =
     let atlas = c.args.atlas.now in
     let fields : AtlasRecords = record { frame = c.atlas.inside.frame; lists = c.atlas.inside.records; allocated_space = c.atlas.inside.allocated_space } in
-    let entries : List Entry = c.in-Ok.walked.shelves.items in
-    let unused : List ℕ = c.in-Ok.walked.unused.items in
-    let fault = c.in-Err-judge_rules.fault in
+    let entries : List Entry = c.in_ok-walked.walked.shelves.items in
+    let unused : List ℕ = c.in_ok-walked.walked.unused.items in
+    let fault = c.in_err-judge_rules.field-0.0 in
     let fits : SFits w32 c.atlas.inside.allocated_space = search rules in
-    rule-broken atlas fault
-    (subst (λ (us : List ℕ). BreaksRule atlas.frame atlas.lists.shelves atlas.lists.items (walked_entries atlas) us atlas.allocated_space fault) c.in-Ok.ensures.ok.unused_met
-    (subst (λ (es : List Entry). BreaksRule atlas.frame atlas.lists.shelves atlas.lists.items es unused atlas.allocated_space fault) c.in-Ok.ensures.ok.entries_met
+    let passed = err_from_is_err_and c.from_residual-in_err-judge_rules.result c.from_residual-in_err-judge_rules.ensures.1 in
+    rw (passed.1, passed.2) (rule-broken atlas fault
+    (subst (λ (us : List ℕ). BreaksRule atlas.frame atlas.lists.shelves atlas.lists.items (walked_entries atlas) us atlas.allocated_space fault) c.in_ok-walked.ensures.ok.unused_met
+    (subst (λ (es : List Entry). BreaksRule atlas.frame atlas.lists.shelves atlas.lists.items es unused atlas.allocated_space fault) c.in_ok-walked.ensures.ok.entries_met
     (said (λ frame shelves items space. BreaksRule frame shelves items entries unused space fault) fields atlas c.shelves-shelves.result.now c.items-items.result.now
     c.atlas.view_is c.shelves-shelves.ensures c.items-items.ensures
-    (subst (λ (space : ℤ). BreaksRule c.atlas.inside.frame c.shelves-shelves.result.now c.items-items.result.now entries unused space fault) (to_z-of_z w32 c.atlas.inside.allocated_space fits) c.in-Err-judge_rules.ensures.fault))))
+    (subst (λ (space : ℤ). BreaksRule c.atlas.inside.frame c.shelves-shelves.result.now c.items-items.result.now entries unused space fault) (to_z-of_z w32 c.atlas.inside.allocated_space fits) c.in_err-judge_rules.ensures.fault)))))
