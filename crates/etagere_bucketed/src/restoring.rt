@@ -103,17 +103,14 @@ pub(crate) fn judged_snapshot(
         return Err(RestoreFault::Shelves);
     }
     let unused = snapshot.first_unallocated_bucket;
-    let lists = match judged_lists(
+    let lists = judged_lists(
         alloc,
         steps,
         &frame,
         &snapshot.buckets,
         &snapshot.shelves,
         unused,
-    ) {
-        Ok(lists) => lists,
-        Err(fault) => return Err(fault),
-    };
+    )?;
     if ends_idle(&lists.kept.shelves) {
         return Err(RestoreFault::Neighbours);
     }
@@ -148,10 +145,7 @@ pub fn restore_bucketed(
     ensures bound { steps.new
         ≤ 4 * (length snapshot.shelves.items + length snapshot.buckets.items) }
 {
-    let judged = match judged_snapshot(alloc, &snapshot, steps) {
-        Ok(judged) => judged,
-        Err(fault) => return Err(fault),
-    };
+    let judged = judged_snapshot(alloc, &snapshot, steps)?;
     Ok(BucketedAtlasAllocator::of_judged(judged, snapshot))
 }
 

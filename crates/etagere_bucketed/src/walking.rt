@@ -111,10 +111,7 @@ pub(crate) fn judged_shelf(
     ensures bound { steps.new ≤ steps.old + length buckets.now }
 {
     let first = shelf.first_bucket.bits();
-    let walked = match walk_list(alloc, room, links, marks, first, steps) {
-        Ok(walked) => walked,
-        Err(fault) => return Err(fault),
-    };
+    let walked = walk_list(alloc, room, links, marks, first, steps)?;
     judged_row(frame, buckets, shelf, number, &walked.met)
 }
 
@@ -160,7 +157,7 @@ pub(crate) fn judged_shelves(
     let mut space: u64 = 0;
     for number in 0..shelves.len() {
         let shelf = &shelves[number];
-        let told = match judged_shelf(
+        let told = judged_shelf(
             alloc,
             room,
             links,
@@ -170,10 +167,7 @@ pub(crate) fn judged_shelves(
             buckets,
             shelf,
             number as u16,
-        ) {
-            Ok(told) => told,
-            Err(fault) => return Err(fault),
-        };
+        )?;
         let Ok(()) = kept.push(told.kept) else {
             return Err(RestoreFault::Memory);
         };
@@ -213,10 +207,7 @@ fn judge_unused(
     ensures bound { steps.new ≤ steps.old + length buckets.now }
 {
     let first = unused.bits();
-    let walked = match walk_list(alloc, room, links, marks, first, steps) {
-        Ok(walked) => walked,
-        Err(fault) => return Err(fault),
-    };
+    let walked = walk_list(alloc, room, links, marks, first, steps)?;
     if !all_marked(marks) {
         return Err(RestoreFault::Sharing);
     }
@@ -266,15 +257,10 @@ fn judged_marking(
     ensures steps { OnOk result (length buckets.now ≤ steps.new) }
     ensures bound { steps.new ≤ 2 * length buckets.now }
 {
-    let kept = match judged_shelves(alloc, room, links, marks, steps, frame, buckets, shelves) {
-        Ok(kept) => kept,
-        Err(fault) => return Err(fault),
-    };
+    let kept = judged_shelves(alloc, room, links, marks, steps, frame, buckets, shelves)?;
     let in_use = *steps as u32;
-    match judge_unused(alloc, room, links, marks, steps, buckets, unused) {
-        Ok(()) => Ok(JudgedLists { kept, in_use }),
-        Err(fault) => Err(fault),
-    }
+    judge_unused(alloc, room, links, marks, steps, buckets, unused)?;
+    Ok(JudgedLists { kept, in_use })
 }
 
 /// Follows all lists of a snapshot and judges what they have.

@@ -1,4 +1,5 @@
 use Rattle.std.proofs.Common.{pos, ◌≡◌, ◌∙◌, ◌%◌, ◌/◌, ◌<◌, ℕ, Bool, true, false, List, ap, arith, refl, subst, sym}
+use Rattle.std.proofs.lemmas.Result.{err_from_is_err_and}
 use Rattle.etagere_base.proofs.DecidingLemmas.{denied, granted}
 use Rattle.etagere_base.specs.declared.faults.RestoreFault.TheVariants as faults
 use Rattle.etagere_base.specs.declared.frames.Frame.{Frame}
@@ -50,15 +51,16 @@ judged_lists-requires-clause-columns c =
     (subst (λ (ss : List BucketShelfRecord). Each (λ (shelf : BucketShelfRecord). shelf.x / atlas.frame.column_width < atlas.frame.columns) ss) (sym c.deref-3.ensures.value)
     (columns-said atlas.frame atlas.buckets atlas.shelves has.columns))
 
-pub returns-in-Err-clause-fault : goal.returns-in-Err-clause-fault
-returns-in-Err-clause-fault c =
-    c.in-Err.ensures.fault (snapshot_records c.args.snapshot.now) (sym c.snapshot_frame-frame.ensures.value) (sym c.deref-3.ensures.value) (sym c.deref-2.ensures.value) refl
+pub returns-in_err-lists-clause-fault : goal.returns-in_err-lists-clause-fault
+returns-in_err-lists-clause-fault c =
+    let passed = err_from_is_err_and c.from_residual.result c.from_residual.ensures.1 in
+    rw (passed.1, passed.2) (c.in_err-lists.ensures.fault (snapshot_records c.args.snapshot.now) (sym c.snapshot_frame-frame.ensures.value) (sym c.deref-3.ensures.value) (sym c.deref-2.ensures.value) refl)
 
 pub returns-then-ends_idle-clause-fault : goal.returns-then-ends_idle-clause-fault
 returns-then-ends_idle-clause-fault c =
     let atlas : BucketRecords = snapshot_records c.args.snapshot.now in
-    let lists = same-lists atlas c.snapshot_frame-frame.result c.deref-2.result.now c.deref-3.result.now c.in-Ok.lists.kept.shelves.items c.in-Ok.lists.in_use c.in-Ok.lists.kept.space
-    c.snapshot_frame-frame.ensures.value c.deref-2.ensures.value c.deref-3.ensures.value c.in-Ok.ensures.ok in
+    let lists = same-lists atlas c.snapshot_frame-frame.result c.deref-2.result.now c.deref-3.result.now c.in_ok-lists.lists.kept.shelves.items c.in_ok-lists.lists.in_use c.in_ok-lists.lists.kept.space
+    c.snapshot_frame-frame.ensures.value c.deref-2.ensures.value c.deref-3.ensures.value c.in_ok-lists.ensures.ok in
     let said : c.ends_idle.result ≡ ends_idle (state_of atlas).shelves =
     c.ends_idle.ensures ∙ ap (λ (ks : List KeptShelf). judging.ends_idle ks) (c.deref-4.ensures.value ∙ lists.kept) ∙ idle-kept atlas.frame atlas.buckets atlas.shelves in
     λ (keeps : ends_idle (state_of atlas).shelves ≡ false). let none : c.ends_idle.result ≡ false = said ∙ keeps in absurd (cc)
@@ -74,11 +76,11 @@ returns-clause-ok c =
     let frame : Keeps atlas faults.Frame =
     granted (is_frame atlas.frame) (Keeps atlas faults.Frame) (frame-decided atlas.frame) (ap (λ (f : Frame). is_frame f) (sym c.snapshot_frame-frame.ensures.value) ∙ sym c.is_frame.ensures ∙ framed) in
     let counts : HasCounts atlas = record { shelves = omega arith; buckets = omega arith } in
-    let kept : List KeptShelf = c.in-Ok.lists.kept.shelves.items in
-    let used : ℕ = c.in-Ok.lists.in_use in
-    let area : ℕ = c.in-Ok.lists.kept.space in
+    let kept : List KeptShelf = c.in_ok-lists.lists.kept.shelves.items in
+    let used : ℕ = c.in_ok-lists.lists.in_use in
+    let area : ℕ = c.in_ok-lists.lists.kept.space in
     let lists = same-lists atlas c.snapshot_frame-frame.result c.deref-2.result.now c.deref-3.result.now kept used area
-    c.snapshot_frame-frame.ensures.value c.deref-2.ensures.value c.deref-3.ensures.value c.in-Ok.ensures.ok in
+    c.snapshot_frame-frame.ensures.value c.deref-2.ensures.value c.deref-3.ensures.value c.in_ok-lists.ensures.ok in
     let busy : c.ends_idle.result ≡ false = c.if-ends_idle.false in
     let neighbours : ends_idle (state_of atlas).shelves ≡ false =
     sym (c.ends_idle.ensures ∙ ap (λ (ks : List KeptShelf). judging.ends_idle ks) (c.deref-4.ensures.value ∙ lists.kept) ∙ idle-kept atlas.frame atlas.buckets atlas.shelves) ∙ busy in

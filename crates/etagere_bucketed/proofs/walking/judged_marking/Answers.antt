@@ -1,41 +1,46 @@
 use Rattle.std.proofs.Common.{◌++◌, ℕ, List, arith, length, length-append}
+use Rattle.std.proofs.lemmas.Result.{err_from_is_err_and}
 use Rattle.etagere_bucketed.specs.BucketRecords.{bucket_walk}
 use Rattle.etagere_bucketed.specs.StandsFor.{walked_numbers}
 use Rattle.etagere_bucketed.proofs.Judged.Breaches.{unused-breaks}
 use Rattle.etagere_bucketed.proofs.Spelling.StandsKept.{once-length}
 use Rattle.etagere_bucketed.proofs.walking.judged_marking.Goals as goal
 
-pub returns-in-Err-clause-fault : goal.returns-in-Err-clause-fault
-returns-in-Err-clause-fault c = λ atlas frame shelves buckets _. c.in-Err.ensures.fault atlas frame shelves buckets
+pub returns-in_err-kept-clause-fault : goal.returns-in_err-kept-clause-fault
+returns-in_err-kept-clause-fault c =
+    let passed = err_from_is_err_and c.from_residual.result c.from_residual.ensures.1 in
+    rw (passed.1, passed.2) (λ atlas frame shelves buckets _. c.in_err-kept.ensures.fault atlas frame shelves buckets)
 
-pub returns-in-Ok-judge_unused-clause-ok : goal.returns-in-Ok-judge_unused-clause-ok
-returns-in-Ok-judge_unused-clause-ok c =
-    let so_far = c.in-Ok.ensures.ok in
+pub returns-clause-ok : goal.returns-clause-ok
+returns-clause-ok c =
+    let so_far = c.in_ok-kept.ensures.ok in
     record {
       judged = so_far.judged;
       kept = so_far.kept;
       count = so_far.counted;
       space = so_far.space;
       next = c.requires.fit;
-      first = c.in-Ok-judge_unused.ensures.fits;
-      ends = c.in-Ok-judge_unused.ensures.ends;
-      once = c.in-Ok-judge_unused.ensures.once (walked_numbers c.args.buckets.now c.args.shelves.now)
+      first = c.in_ok-judge_unused.ensures.fits;
+      ends = c.in_ok-judge_unused.ensures.ends;
+      once = c.in_ok-judge_unused.ensures.once (walked_numbers c.args.buckets.now c.args.shelves.now)
           so_far.marked;
-      idle = c.in-Ok-judge_unused.ensures.idle;
+      idle = c.in_ok-judge_unused.ensures.idle;
     }
 
-pub returns-in-Ok-judge_unused-clause-steps : goal.returns-in-Ok-judge_unused-clause-steps
-returns-in-Ok-judge_unused-clause-steps c =
-    let so_far = c.in-Ok.ensures.ok in
+pub returns-clause-steps : goal.returns-clause-steps
+returns-clause-steps c =
+    let so_far = c.in_ok-kept.ensures.ok in
     let buckets = c.args.buckets.now in
     let numbers : List ℕ = walked_numbers buckets c.args.shelves.now in
     let met : List ℕ = (bucket_walk buckets c.args.unused).met in
-    let once = c.in-Ok-judge_unused.ensures.once numbers
+    let once = c.in_ok-judge_unused.ensures.once numbers
     so_far.marked in
-    omega (arith, once-length (length buckets) (numbers ++ met) once, length-append numbers met, so_far.counted, c.in-Ok-judge_unused.ensures.steps)
+    omega (arith, once-length (length buckets) (numbers ++ met) once, length-append numbers met, so_far.counted, c.in_ok-judge_unused.ensures.steps)
 
-pub returns-in-Err-judge_unused-clause-fault : goal.returns-in-Err-judge_unused-clause-fault
-returns-in-Err-judge_unused-clause-fault c = λ atlas.
-    unused-breaks c.args.frame.now c.args.buckets.now c.args.shelves.now atlas c.judged_shelves.new.marks c.args.unused c.in-Err-judge_unused.fault
-    c.in-Ok.ensures.ok.marked
-    c.in-Err-judge_unused.ensures.fault
+pub returns-in_err-judge_unused-clause-fault : goal.returns-in_err-judge_unused-clause-fault
+returns-in_err-judge_unused-clause-fault c =
+    let passed = err_from_is_err_and c.from_residual-in_err-judge_unused.result c.from_residual-in_err-judge_unused.ensures.1 in
+    rw (passed.1, passed.2) (λ atlas.
+    unused-breaks c.args.frame.now c.args.buckets.now c.args.shelves.now atlas c.judged_shelves.new.marks c.args.unused c.in_err-judge_unused.field-0.0
+    c.in_ok-kept.ensures.ok.marked
+    c.in_err-judge_unused.ensures.fault)

@@ -1,5 +1,6 @@
 use Rattle.std.proofs.Common.{◌≡◌, ◌+◌, ℕ, Some, List, [], ◌∷◌, ◌++◌, length, take, arith, refl, subst, sym, ◌∙◌}
 use Rattle.std.proofs.lemmas.Option.{slice_get_read}
+use Rattle.std.proofs.lemmas.Result.{err_from_is_err_and}
 use Rattle.std.specs.Prelude.{slice_get}
 use Rattle.etagere_bucketed.specs.declared.records.BucketShelfRecord.{BucketShelfRecord}
 use Rattle.etagere_bucketed.specs.Private.Store.{KeptShelf}
@@ -18,11 +19,13 @@ loop-number-init c =
       omega (arith, c.requires.steps),
     )
 
-pub returns-in-Err-clause-fault : goal.returns-in-Err-clause-fault
-returns-in-Err-clause-fault c = λ atlas.
-    breaks-at c.args.frame.now c.args.buckets.now c.args.shelves.now atlas c.loop-number.number c.index-shelves-number.result c.loop-number.marks c.in-Err.fault
+pub returns-in_err-told-clause-fault : goal.returns-in_err-told-clause-fault
+returns-in_err-told-clause-fault c =
+    let passed = err_from_is_err_and c.from_residual.result c.from_residual.ensures.1 in
+    rw (passed.1, passed.2) (λ atlas.
+    breaks-at c.args.frame.now c.args.buckets.now c.args.shelves.now atlas c.loop-number.number c.index-shelves-number.result c.loop-number.marks c.in_err-told.field-0.0
     (slice_get_read c.args.shelves.now (length c.args.shelves.now) c.loop-number.number c.index-shelves-number.result refl (omega arith) c.index-shelves-number.is)
-    c.loop-number.invariant.0.marked c.in-Err.ensures.fault
+    c.loop-number.invariant.0.marked c.in_err-told.ensures.fault)
 
 pub loop-number-preserved : goal.loop-number-preserved
 loop-number-preserved c =
@@ -31,20 +34,20 @@ loop-number-preserved c =
     let shelves = c.args.shelves.now in
     let n = c.loop-number.number in
     let x = c.index-shelves-number.result in
-    let told = c.in-Ok.told in
+    let told = c.in_ok-told.told in
     let marks = c.judged_shelf.new.marks in
     let area : ℕ = c.loop-number.space + told.space in
     let here : slice_get shelves n ≡ Some x = slice_get_read shelves (length shelves) n x refl (omega arith) c.index-shelves-number.is in
     let before : length (take n shelves) ≡ n = length_of_take shelves n (omega arith) in
-    let one = subst (λ (k : ℕ). IsShelfJudged frame buckets k x told) (sym before) c.in-Ok.ensures.ok in
-    let all = more-kept frame buckets (take n shelves) x c.loop-number.kept.items told c.loop-number.marks marks c.loop-number.steps c.loop-number.space c.loop-number.invariant.0 one c.in-Ok.ensures.marked in
-    let counted = subst (λ (s : ℕ). AreKeptSoFar frame buckets (take n shelves ++ x ∷ []) (c.loop-number.kept.items ++ told.kept ∷ []) marks s area) (sym c.in-Ok.ensures.steps) all in
-    let kept = subst (λ (ks : List KeptShelf). AreKeptSoFar frame buckets (take n shelves ++ x ∷ []) ks marks c.judged_shelf.new.steps area) (sym c.in-Ok-push.ensures.items) counted in
+    let one = subst (λ (k : ℕ). IsShelfJudged frame buckets k x told) (sym before) c.in_ok-told.ensures.ok in
+    let all = more-kept frame buckets (take n shelves) x c.loop-number.kept.items told c.loop-number.marks marks c.loop-number.steps c.loop-number.space c.loop-number.invariant.0 one c.in_ok-told.ensures.marked in
+    let counted = subst (λ (s : ℕ). AreKeptSoFar frame buckets (take n shelves ++ x ∷ []) (c.loop-number.kept.items ++ told.kept ∷ []) marks s area) (sym c.in_ok-told.ensures.steps) all in
+    let kept = subst (λ (ks : List KeptShelf). AreKeptSoFar frame buckets (take n shelves ++ x ∷ []) ks marks c.judged_shelf.new.steps area) (sym c.in-Ok.ensures.items) counted in
     let done = subst (λ (xs : List BucketShelfRecord). AreKeptSoFar frame buckets xs c.push.new.self.items marks c.judged_shelf.new.steps area) (sym (take-next shelves n x here)) kept in
     let long : length marks ≡ length buckets = c.judged_shelf.auto.marks ∙ c.loop-number.invariant.2 in (
       done,
       c.judged_shelf.ensures.room ∙ c.loop-number.invariant.1,
       long,
-      omega (arith, c.in-Ok.ensures.small, c.in-Ok.ensures.steps, c.loop-number.invariant.3),
+      omega (arith, c.in_ok-told.ensures.small, c.in_ok-told.ensures.steps, c.loop-number.invariant.3),
       omega (arith, long, steps-few frame buckets (take (n + 1) shelves) c.push.new.self.items marks c.judged_shelf.new.steps area done),
     )
