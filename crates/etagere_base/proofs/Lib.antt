@@ -18,6 +18,7 @@ pub mod ListEdits
 pub mod Merged
 pub mod MergedKeeps
 pub mod NoNeighboursLemmas
+pub mod PlainEqual
 pub mod ReplacedLists
 pub mod TimesLemmas
 pub mod Totals

@@ -12,6 +12,7 @@ mod geometry;
 mod ids;
 mod options;
 mod places;
+mod plain_laws;
 mod sending;
 mod short_text;
 mod sides;

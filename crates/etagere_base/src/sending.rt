@@ -4,16 +4,18 @@
 
 ghost use Rattle.std.specs.Prelude.{OnOk, OnErr};
 ghost use Rattle.std.specs.Io.KnownBytes.{Appends};
-ghost use Rattle.etagere_base.specs.Sending.{AppendsBeginning};
+ghost use Rattle.etagere_base.specs.Sending.{AppendsBeginning, AppendsPart};
 
 use std::io::{self, ErrorKind, Write};
 
-/// Writes a whole text. After a fault of the writer a beginning of the text went out; a write that
-/// accepts no byte is answered as `WriteZero`.
+/// Writes a whole text, by one call of `write` where the writer takes all of it. After a fault of the writer a
+/// beginning of the text went out, and not all of it; a write that accepts no byte is answered as `WriteZero`.
 pub fn send<W: Write>(text: &[u8], writer: &mut W) -> io::Result<()>
     ensures whole { OnOk result (Appends (W.contents writer.old) (W.contents writer.new) text.now) }
     ensures beginning { OnErr result
         (AppendsBeginning (W.contents writer.old) (W.contents writer.new) text.now) }
+    ensures part { OnErr result
+        (AppendsPart (W.contents writer.old) (W.contents writer.new) text.now) }
 {
     let mut sent = 0;
     while sent < text.len() {
