@@ -5,6 +5,7 @@ pub mod AllLists
 pub mod ChainEdits
 pub mod Chains
 pub mod Families
+mod FirstFaults
 pub mod FirstLinks
 mod FirstWrites
 pub mod LinkBits
@@ -16,6 +17,7 @@ mod NeighbourFrames
 pub mod RecordChanges
 pub mod RecordFrames
 pub mod RecordLists
+pub mod ReadLinks
 pub mod Tallies
 pub mod UsedRecords
 pub mod WalkChains

@@ -25,8 +25,8 @@ absent-has number (x ∷ xs) absent =
     times-other number x xs other ∙ rest
 
 -- a walk goes on before a record that it has not met
-goes-on : (links met : List ℕ) (at : ℕ) → at < length links → times at met ≡ 0 → is_end links met at ≡ false
-goes-on links met at within fresh = grind (arith, has-absent at met fresh)
+goes-on : (links met : List ℕ) (at : ℕ) → at < length links → length links ≤ no_link → times at met ≡ 0 → is_end links met at ≡ false
+goes-on links met at within few fresh = grind (arith, has-absent at met fresh)
 
 -- the rest of a walk along links that spell a list
 walked-pile : (links : List ℕ) (next : ℕ → Option ℕ) → ((k : ℕ) → k < length links → slice_index links k ≡ bits_of (next k)) → length links ≤ no_link → (steps : ℕ) (met xs : List ℕ) (start : Option ℕ) → length xs ≤ steps → ((k : ℕ) → times k (met ++ xs) ≤ 1) → ((k : ℕ) → 1 ≤ times k xs → k < length links) → IsPile next start xs → walked_from steps links met (bits_of start) ≡ record { met = met ++ xs; end = no_link }
@@ -42,7 +42,7 @@ walked-pile links next reads few (suc steps) met (x ∷ xs) start enough once wi
     walked-pile links next reads few steps (met ++ x ∷ []) xs (next x) (omega arith)
     (λ k. rw moved (once k)) (λ k stands. within k (omega (arith, stands))) pile.1 in
     rw pile.0
-    (walked_from-step (suc steps) steps links met x (goes-on links met x here fresh) refl
+    (walked_from-step (suc steps) steps links met x (goes-on links met x here few fresh) refl
     ∙ ap (λ at. walked_from steps links (met ++ x ∷ []) at) (reads x here)
     ∙ rest
     ∙ ap (λ all. record { met = all; end = no_link }) moved)

@@ -1,8 +1,9 @@
 -- Walks and steps on small records, by computing.
-use Rattle.std.proofs.Common.{◌≡◌, true, false, None, Some, [], ◌∷◌, refl}
+use Rattle.std.proofs.Common.{◌≡◌, ℕ, List, length, true, false, None, Some, [], ◌∷◌, refl}
 use Rattle.etagere_links.specs.RecordLists.{Records, walked_lists}
 use Rattle.etagere_links.specs.RecordMerges.{free_absorbed, item_freed}
 use Rattle.etagere_links.specs.Walks.{walk}
+use Rattle.etagere_links.proofs.WalkSteps.{walked_from-end}
 
 -- a walk through all records, to none
 row_through : walk (2 ∷ 65535 ∷ 1 ∷ []) 0 ≡ record { met = 0 ∷ 2 ∷ 1 ∷ []; end = 65535 }
@@ -19,6 +20,10 @@ row_past = refl
 -- a walk that begins at none
 row_none : walk (1 ∷ 0 ∷ []) 65535 ≡ record { met = []; end = 65535 }
 row_none = refl
+
+-- a walk that begins at none meets no record, however many there are
+row_no_start : (links : List ℕ) → walk links 65535 ≡ record { met = []; end = 65535 }
+row_no_start links = walked_from-end (length links) links [] 65535 refl
 
 -- a walk through no records
 row_empty : walk [] 0 ≡ record { met = []; end = 0 }

@@ -2,6 +2,7 @@
 use Rattle.std.proofs.Common.{◌≡◌, ℕ, zero, suc, ◌<◌, ◌≤◌, Bool, true, false, List, [], ◌∷◌, ◌++◌, length, refl, ap, arith, sym, ◌∙◌}
 use Rattle.std.specs.List.{list_any}
 use Rattle.std.specs.Prelude.{◌==◌, slice_index}
+use Rattle.etagere_links.specs.Links.{no_link}
 use Rattle.etagere_links.specs.Walks.{Walked, is_end, walked_from}
 
 -- a number stands in a list
@@ -26,8 +27,8 @@ pub end-marked : (links met : List ℕ) (at number : ℕ) (mark : Bool) → numb
 end-marked links met at number mark e marked is_met = rw (← e) (grind (arith, marked, is_met))
 
 -- before another record it does not
-pub end-other : (links met : List ℕ) (at number : ℕ) (mark : Bool) → number ≡ at → number < length links → mark ≡ false → mark ≡ has number met → is_end links met at ≡ false
-end-other links met at number mark e within marked is_met = rw (← e) (grind (arith, marked, is_met))
+pub end-other : (links met : List ℕ) (at number : ℕ) (mark : Bool) → number ≡ at → number < length links → length links ≤ no_link → mark ≡ false → mark ≡ has number met → is_end links met at ≡ false
+end-other links met at number mark e within few marked is_met = rw (← e) (grind (arith, marked, is_met))
 
 -- what a walk was that stops here
 pub walked-end : (steps : ℕ) (links met : List ℕ) (at : ℕ) (whole : Walked) → walked_from steps links met at ≡ whole → is_end links met at ≡ true → (met ≡ whole.met) × (at ≡ whole.end)

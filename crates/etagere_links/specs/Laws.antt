@@ -1,5 +1,5 @@
 -- Laws of edits: what an edit of links does to the list that they spell.
-use Rattle.std.specs.Prelude.{◌≡◌, ℕ, ◌<◌, ◌≤◌, Option, None, Some, List, ◌∷◌, ◌++◌, length}
+use Rattle.std.specs.Prelude.{◌≡◌, ℕ, ◌<◌, ◌≤◌, Option, None, Some, option_and_then, List, [], ◌∷◌, ◌++◌, length}
 use Rattle.etagere_base.specs.Lists.{times}
 use Rattle.etagere_links.specs.Chains.{IsChainIn, IsPileIn}
 use Rattle.etagere_links.specs.Edits.{first_without, link_at, linked_between, put_aside, unlinked}
@@ -53,12 +53,29 @@ PutsAside {T} family =
     → IsPileIn family records top numbers → IsOutside records numbers number
     → IsPileIn family (put_aside family top number records) (Some number) (number ∷ numbers)
 
+-- the record that is taken off what was put aside is the one that lies on top, and the others are left
+abbrev pub TakesOffTop : {T : Type 0} → Family T → Type 0
+TakesOffTop {T} family =
+    (records : List T) (top : Option ℕ) (number : ℕ) (numbers : List ℕ)
+    → IsPileIn family records top (number ∷ numbers)
+    → (top ≡ Some number)
+    × IsPileIn family records (option_and_then (link_at family.next records) top) numbers
+
+-- nothing is taken where nothing was put aside
+abbrev pub TakesNone : {T : Type 0} → Family T → Type 0
+TakesNone {T} family =
+    (records : List T) (top : Option ℕ)
+    → IsPileIn family records top []
+    → (top ≡ None) × (option_and_then (link_at family.next records) top ≡ None)
+
 -- each edit of links changes the list as a list
 pub record EditsAList {T : Type 0} (family : Family T) : Type 0 where
   pub takes_out : TakesOut family
   pub puts_in_front : PutsInFront family
   pub puts_after : PutsAfter family
   pub puts_aside : PutsAside family
+  pub takes_off_top : TakesOffTop family
+  pub takes_none : TakesNone family
 
 -- so they do for each kind of list
 pub record EditsEachList : Type 0 where

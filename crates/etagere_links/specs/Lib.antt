@@ -3,6 +3,7 @@ pub mod Edits
 pub mod Families
 pub mod Laws
 pub mod Links
+pub mod LinksRead
 pub mod Lists
 pub mod Marks
 pub mod Neighbours

@@ -1,15 +1,17 @@
 -- Following links through records.
 use Rattle.std.specs.Prelude.{ℕ, zero, suc, Bool, ◌||◌, List, [], ◌∷◌, ◌++◌, length, slice_index, nat_le, ◌==◌, if◌then◌else◌}
 use Rattle.std.specs.List.{list_any}
+use Rattle.etagere_links.specs.Links.{no_link}
 
 -- a walk: the numbers of the records that it met, in order, and the link at which it stopped
 pub record Walked : Type 0 where
   pub met : List ℕ
   pub end : ℕ
 
--- a walk stops at a link that names no record, or one that it has met
+-- a walk stops at none, at a link that is no record's number, or at one that it has met
 abbrev pub is_end : List ℕ → List ℕ → ℕ → Bool
-is_end links met at = nat_le (length links) at || list_any (λ number. number == at) met
+is_end links met at =
+    (at == no_link) || nat_le (length links) at || list_any (λ number. number == at) met
 
 -- the rest of a walk of at most so many steps, from a link on
 abbrev pub walked_from : ℕ → List ℕ → List ℕ → ℕ → Walked

@@ -7,7 +7,7 @@ ghost use Rattle.etagere_base.specs.Lists.{Each};
 ghost use Rattle.etagere_links.specs.Links.{no_link};
 ghost use Rattle.etagere_links.specs.Marks.{HasTwice, IsMarkedBy};
 ghost use Rattle.etagere_links.specs.RecordLists.{HasEachOnce};
-ghost use Rattle.etagere_links.specs.WalkFaults.{BreaksOff};
+ghost use Rattle.etagere_links.specs.WalkFaults.{BreaksOff, IsFirst, first_fault, links_by};
 ghost use Rattle.etagere_links.specs.Walks as spec;
 
 use crate::walking::WalkRoom;
@@ -27,10 +27,11 @@ pub enum WalkFault {
 }
 
 /// Follows links from `start` on and marks what it meets, which is a list of records that ends at none and
-/// of which none was marked before. Adds the links that were read to `steps`.
+/// of which none was marked before. Adds the links that were read to `steps`, also where the walk is refused.
 ///
 /// Returns the first fault, in the order of `WalkFault`, where what was met is no such list; then the marks
-/// are of no use. Takes two bytes of memory for each record met. The time is linear in their number.
+/// are of no use. `Memory` comes only where there was none, and then no link was read. Takes two bytes of memory for
+/// each record met. The time is linear in their number.
 pub fn walk_marking(
     alloc: Global,
     room: &mut WalkRoom,
@@ -48,10 +49,16 @@ pub fn walk_marking(
     ensures end { OnOk result ((spec.walk links.now start).end ≡ no_link) }
     ensures marked { OnOk result ((numbers : List ℕ) → IsMarkedBy marks.old numbers →
         IsMarkedBy marks.new (numbers ++ (spec.walk links.now start).met)) }
+    ensures none { OnOk result
+        (first_fault marks.old (length links.now) (spec.walk links.now start) ≡ None) }
+    ensures first { IfErr result
+        (IsFirst marks.old (length links.now) (spec.walk links.now start)) }
     ensures fault { IfErr result
         (BreaksOff marks.old (length links.now) (spec.walk links.now start)) }
     ensures steps { OnOk result
         (steps.new ≡ steps.old + length (spec.walk links.now start).met) }
+    ensures read { IfErr result
+        (λ fault. steps.new ≡ steps.old + links_by (spec.walk links.now start) fault) }
     ensures bound { steps.new ≤ steps.old + length links.now }
 {
     let Ok(walk) = room.walk(alloc, links, start) else {

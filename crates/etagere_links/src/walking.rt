@@ -57,7 +57,7 @@ impl WalkRoom {
 }
 
 /// Follows links from `start` on: `links` has the link of each record, in order of their numbers, which are
-/// at most 65535. The walk stops at a link that is no record's number, and before a record that it has met.
+/// at most 65535. The walk stops at none, at a link that is no record's number, and before a record that it has met.
 ///
 /// Takes two bytes of memory for each record and for each record met. The error comes only where there was
 /// no memory. The time is linear in the number of records.

@@ -1,6 +1,7 @@
-use Rattle.std.proofs.Common.{◌≡◌, ℕ, Option, None, List, ◌∷◌, ◌++◌, subst, sym}
+use Rattle.std.proofs.Common.{◌≡◌, ℕ, Option, None, List, ◌∷◌, ◌++◌, refl, subst, sym}
+use Rattle.std.specs.Prelude.{option_and_then}
 use Rattle.etagere_links.specs.Edits.{first_without, link_at, unlinked}
-use Rattle.etagere_links.specs.Chains.{IsChainIn}
+use Rattle.etagere_links.specs.Chains.{IsChainIn, IsPileIn}
 use Rattle.etagere_links.specs.Families.{Family, IsFamily}
 use Rattle.etagere_links.specs.Laws.{EditsAList}
 use Rattle.etagere_links.specs.Lists.{first_or, last_or}
@@ -32,6 +33,10 @@ edits family laws =
           inserted_after-spells family laws records first front back previous number outside.there outside.absent listed.once listed.there listed.spelled;
       puts_aside = λ records top numbers number spelled outside.
           put_aside-spells family laws records top numbers number outside.there outside.absent spelled;
+      takes_off_top = λ records top number numbers spelled.
+          (spelled.0, subst (λ (from : Option ℕ). IsPileIn family records (option_and_then (link_at family.next records) from) numbers) (sym spelled.0) spelled.1);
+      takes_none = λ records top spelled.
+          (spelled, subst (λ (from : Option ℕ). option_and_then (link_at family.next records) from ≡ None) (sym spelled) refl);
     }
 
 pub returns : goal.returns

@@ -22,7 +22,7 @@ loop-step-preserved c =
     let same : c.from-number.result ≡ at = c.from-number.ensures in
     let within : at < length links = omega (arith, same, c.if-number-links.false) in
     let met_before : c.is_met.result ≡ has at met = c.is_met.ensures ∙ ap (has at) c.deref.ensures.value in
-    let goes : is_end links met at ≡ false = end-other links met at at c.is_met.result refl within c.if-is_met.false met_before in
+    let goes : is_end links met at ≡ false = end-other links met at at c.is_met.result refl within c.requires.few c.if-is_met.false met_before in
     let less : length links - c.loop-step.step ≡ suc (length links - (c.loop-step.step + 1)) = omega arith in
     record {
       rest = rw (c.in_ok-push.ensures.items, same) (sym (walked_from-step _ _ _ _ _ goes less) ∙ kept.rest);
