@@ -1,15 +1,16 @@
--- An allocation leads from a valid state to a valid one, keeps a ledger tied, and gives a rectangle that is large enough
--- and aligned.
-use Rattle.std.proofs.Common.{◌≡◌, ℕ, ◌+◌, ◌*◌, ◌/◌, ◌%◌, List, [], ◌∷◌, ◌++◌, pos, refl, ap, arith, sym, ◌∙◌, subst, take}
+-- An allocation leads from a valid state to a valid one, keeps a ledger tied, and gives a rectangle that lies inside, is
+-- large enough and aligned.
+use Rattle.std.proofs.Common.{◌≡◌, ℕ, ◌+◌, ◌*◌, ◌/◌, ◌%◌, ◌≤◌, List, [], ◌∷◌, ◌++◌, pos, refl, ap, arith, sym, ◌∙◌, subst, take}
 use Rattle.std.proofs.Math.Nat.{add-mul}
 use Rattle.std.proofs.lemmas.Nat.{div-add-mod'}
 use Rattle.etagere_base.specs.declared.frames.Frame.{Frame}
 use Rattle.etagere_base.specs.declared.geometry.Size.{Size}
 use Rattle.etagere_base.specs.declared.ids.Allocation.{Allocation}
 use Rattle.etagere_base.specs.declared.sides.Sides.{Sides}
-use Rattle.etagere_base.specs.Frames.{alignment_along}
+use Rattle.etagere_base.specs.Frames.{across_side, alignment_along, along_side}
 use Rattle.etagere_base.specs.Places.{rectangle_at}
-use Rattle.etagere_base.specs.Rectangles.{IsAligned, IsLarge}
+use Rattle.etagere_base.specs.Rectangles.{IsAligned, IsInside, IsLarge}
+use Rattle.etagere_base.proofs.Boxes.{LiesIn, inside-from_lies}
 use Rattle.etagere_base.proofs.ReplacedLists.{split-at}
 use Rattle.std.specs.Prelude.{slice_get, Some}
 use Rattle.etagere_base.proofs.AskedSides.{asked-is, large-at}
@@ -25,9 +26,12 @@ use Rattle.etagere_bucketed.specs.Placing.{BucketPlacement, placement_of}
 use Rattle.etagere_bucketed.specs.Taking.{allocation_in, bucket_taken, needed_buckets, prepared}
 use Rattle.etagere_bucketed.specs.Tied.{AreTied}
 use Rattle.etagere_bucketed.specs.Valid.{IsValid, StandBetween}
+use Rattle.etagere_bucketed.proofs.Ledger.BusyApart.{height-own}
+use Rattle.etagere_bucketed.proofs.Ledger.EntriesApart.{column-within}
 use Rattle.etagere_bucketed.proofs.Ledger.EntriesTaken.{begins-along, ends-along}
 use Rattle.etagere_bucketed.proofs.Validity.Placed.{IsPlaced, placement-placed}
 use Rattle.etagere_bucketed.proofs.Shelving.Shares.{aligned-sum}
+use Rattle.etagere_bucketed.proofs.Shelving.Shelves.{column_height-append}
 use Rattle.etagere_bucketed.proofs.Validity.Taken.{spot-valid}
 use Rattle.etagere_bucketed.proofs.Validity.TakenValid.{given-is, taken-valid}
 use Rattle.etagere_bucketed.proofs.Ledger.TiedTaken.{tied-taken}
@@ -93,6 +97,43 @@ allocates-large old size allocation new valid h =
 stand-aligned : (al width begin end : ℕ) (left : List Bucket) (b : Bucket) (right : List Bucket) → StandBetween al width begin end (left ++ b ∷ right) → b.place % al ≡ 0
 stand-aligned al width begin end [] b right stand = stand.0
 stand-aligned al width begin end (x ∷ left) b right stand = stand-aligned al width begin x.place left b right stand.2
+
+-- and ends where the first of them ends, or before
+stand-ends : (al width begin end : ℕ) (left : List Bucket) (b : Bucket) (right : List Bucket) → StandBetween al width begin end (left ++ b ∷ right) → b.place + width ≤ end
+stand-ends al width begin end [] b right stand = stand.1
+stand-ends al width begin end (x ∷ left) b right stand = omega (arith, stand-ends al width begin x.place left b right stand.2, stand.1)
+
+-- what is given lies inside
+pub allocates-inside : (old : BucketedState) (size : Size) (allocation : Allocation) (new : BucketedState) → IsValid old → Allocates old size allocation new → IsInside old.frame allocation.rectangle
+allocates-inside old size allocation new valid h =
+    let placed = allocates-placed old size allocation new valid h in
+    let frame = old.frame in
+    let spot = placed.ready.spot in
+    let shelf = spot.shelf in
+    let can = placed.ready.can in
+    let at = can.at in
+    let shelves = prepared frame old.shelves h.tags h.placement.place in
+    let is_shelf = (spot-valid frame shelves spot at placed.ready.valid).0 in
+    let begin = column_place frame shelf.column in
+    let end = begin + frame.column_width in
+    let right = stand-ends (alignment_along frame) shelf.bucket_width begin end at.left spot.bucket at.right (subst (StandBetween (alignment_along frame) shelf.bucket_width begin end) at.buckets is_shelf.stand) in
+    let above = ap (column_height shelf.column) at.before in
+    let whole = ap (column_height shelf.column) at.whole ∙ column_height-append shelf.column at.front (shelf ∷ at.back) in
+    let lies : LiesIn frame 0 (along_side frame) 0 (across_side frame) (allocation_in frame placed.sides.along shelves spot).rectangle = record {
+      along = spot.bucket.place + spot.bucket.used;
+      across = column_height shelf.column (take spot.number shelves);
+      width = placed.sides.along;
+      height = shelf.height;
+      is = refl;
+      wide = placed.asks.along;
+      tall = can.tall;
+      from_left = omega arith;
+      to_right = omega (arith, right, can.room, column-within frame shelf.column valid.frame is_shelf.column);
+      from_top = omega arith;
+      to_bottom = omega (arith, above, whole, height-own shelf at.back, placed.ready.valid.heights shelf.column);
+    } in
+    subst (λ (a : Allocation). IsInside frame a.rectangle) (allocates-is old size allocation new h placed)
+    (inside-from_lies frame (allocation_in frame placed.sides.along shelves spot).rectangle lies)
 
 -- a length without a remainder is so many alignments
 multiple : (length alignment : ℕ) → length % alignment ≡ 0 → length ≡ length / alignment * alignment

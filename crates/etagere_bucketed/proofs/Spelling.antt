@@ -15,3 +15,4 @@ pub mod SpotRecords
 pub mod Stands
 pub mod StandsKept
 pub mod TakenRecords
+pub mod UsedAreas

@@ -1,5 +1,5 @@
 -- What a snapshot of a bucketed atlas stands for, and which of its rules a refusal names.
-use Rattle.std.specs.Prelude.{◌≡◌, false, pos}
+use Rattle.std.specs.Prelude.{◌≡◌, false}
 use Rattle.etagere_base.specs.declared.faults.RestoreFault.{RestoreFault}
 use Rattle.etagere_base.specs.declared.faults.RestoreFault.TheVariants.{Frame, Counts, Link, Shelves, Runs, Neighbours, FreeList, Sharing, Unused, Space, Memory}
 use Rattle.etagere_base.specs.Lists.{Each}
@@ -7,8 +7,7 @@ use Rattle.etagere_base.specs.Sides.{side}
 use Rattle.etagere_bucketed.specs.declared.snapshots.BucketedSnapshot.{BucketedSnapshot}
 use Rattle.etagere_bucketed.specs.BucketRecords.{BucketRecords, bucket_walk, spelled_state}
 use Rattle.etagere_bucketed.specs.Frames.{IsBucketedFrame}
-use Rattle.etagere_bucketed.specs.Space.{allocated_space}
-use Rattle.etagere_bucketed.specs.StandsFor.{HasBuckets, HasCounts, HasLinks, HasShelves, IsShared, StandsFor, live_of}
+use Rattle.etagere_bucketed.specs.StandsFor.{HasBuckets, HasCounts, HasLinks, HasShelves, IsShared, StandsFor, live_of, used_area}
 use Rattle.etagere_bucketed.specs.State.{BucketedState}
 use Rattle.etagere_bucketed.specs.Valid.{ends_idle}
 
@@ -48,7 +47,7 @@ Keeps atlas Neighbours = ends_idle (state_of atlas).shelves ≡ false
 Keeps atlas FreeList = Unit {0}
 Keeps atlas Sharing = IsShared atlas
 Keeps atlas Unused = Each (λ bucket. live_of atlas.buckets bucket ≡ 0) (bucket_walk atlas.buckets atlas.unused).met
-Keeps atlas Space = atlas.allocated_space ≡ pos (allocated_space (state_of atlas))
+Keeps atlas Space = atlas.allocated_space ≡ used_area atlas.buckets atlas.shelves
 Keeps atlas Memory = Unit {0}
 
 -- the rule that a fault names is broken, or memory was wanting

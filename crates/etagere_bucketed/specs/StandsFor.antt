@@ -1,17 +1,17 @@
 -- When the records of a bucketed atlas stand for a state: the rules that a snapshot has to keep.
-use Rattle.std.specs.Prelude.{◌≡◌, ℕ, pos, suc, ◌+◌, ◌/◌, ◌%◌, ◌<◌, ◌≤◌, ◌||◌, false, List, [], ◌∷◌, ◌++◌, IsTrue, length, nat_lt, ◌==◌, if◌then◌else◌}
-use Rattle.etagere_base.specs.Frames.{across_side}
+use Rattle.std.specs.Prelude.{◌≡◌, ℕ, ℤ, pos, ◌+ℤ◌, ◌-ℤ◌, ◌*ℤ◌, suc, ◌+◌, ◌-◌, ◌*◌, ◌/◌, ◌%◌, ◌<◌, ◌≤◌, ◌||◌, false, List, [], ◌∷◌, ◌++◌, IfSome, IsTrue, length, map, nat_lt, slice_get, ◌==◌, if◌then◌else◌}
+use Rattle.etagere_base.specs.declared.frames.Frame.{Frame}
+use Rattle.etagere_base.specs.Frames.{across_side, alignment_along}
 use Rattle.etagere_base.specs.Lists.{Each}
 use Rattle.etagere_links.specs.Links.{no_link}
 use Rattle.etagere_links.specs.RecordLists.{HasEachOnce, field_at}
 use Rattle.etagere_links.specs.Walks.{Walked}
 use Rattle.etagere_bucketed.specs.declared.records.BucketRecord.{BucketRecord}
 use Rattle.etagere_bucketed.specs.declared.records.BucketShelfRecord.{BucketShelfRecord}
-use Rattle.etagere_bucketed.specs.BucketRecords.{BucketRecords, bucket_walk, spelled_shelf, spelled_state}
+use Rattle.etagere_bucketed.specs.BucketRecords.{BucketRecords, bucket_walk, spelled_state}
 use Rattle.etagere_bucketed.specs.Frames.{IsBucketedFrame}
-use Rattle.etagere_bucketed.specs.Space.{allocated_space}
-use Rattle.etagere_bucketed.specs.State.{BucketShelf, BucketedState, available_height, column_height, current_column, most_buckets}
-use Rattle.etagere_bucketed.specs.Valid.{IsShelf, OpenColumns, ends_idle}
+use Rattle.etagere_bucketed.specs.State.{BucketShelf, BucketedState, available_height, column_height, current_column, generations, most_buckets, most_given}
+use Rattle.etagere_bucketed.specs.Valid.{OpenColumns, ends_idle}
 
 -- there are at most as many records of a kind as buckets can be in use
 pub record HasCounts (atlas : BucketRecords) : Type 0 where
@@ -33,6 +33,15 @@ live_of buckets number = field_at (λ (bucket : BucketRecord). bucket.refcount) 
 -- how much width the bucket of this number has left
 abbrev pub free_of : List BucketRecord → ℕ → ℕ
 free_of buckets number = field_at (λ (bucket : BucketRecord). bucket.free_space) 0 buckets number
+
+-- where the bucket of this number stands along
+abbrev pub place_of : List BucketRecord → ℕ → ℕ
+place_of buckets number = field_at (λ (bucket : BucketRecord). bucket.x) 0 buckets number
+
+-- how often the bucket of this number was emptied
+abbrev pub generation_of : List BucketRecord → ℕ → ℕ
+generation_of buckets number =
+    field_at (λ (bucket : BucketRecord). bucket.generation) 0 buckets number
 
 -- the walks of shelves, of which the first has this number, stop in range, and their buckets name
 -- them
@@ -62,9 +71,10 @@ AreStacked column_width before (shelf ∷ shelves) =
     (shelf.y ≡ height_before column_width (shelf.x / column_width) before)
     × AreStacked column_width (before ++ shelf ∷ []) shelves
 
--- the shelves stand in the columns, column after column, none too tall; the records say where each
--- begins, and what the last column leaves
+-- the shelves stand in the columns, which have a width, column after column, none too tall; the
+-- records say where each begins, and what the last column leaves
 pub record HasShelves (atlas : BucketRecords) (state : BucketedState) : Type 0 where
+  pub wide : 1 ≤ length atlas.shelves → 1 ≤ atlas.frame.column_width
   pub columns : Each (λ (shelf : BucketShelf). shelf.column < state.frame.columns) state.shelves
   pub opened : OpenColumns 0 state.shelves
   pub along : Each (λ (shelf : BucketShelfRecord). shelf.x % atlas.frame.column_width ≡ 0)
@@ -74,11 +84,66 @@ pub record HasShelves (atlas : BucketRecords) (state : BucketedState) : Type 0 w
   pub current_column : atlas.current_column ≡ current_column state.shelves
   pub available_height : atlas.available_height ≡ available_height state.frame state.shelves
 
--- the buckets of a shelf stand side by side in it, and none has given more than it has
-pub record HasBuckets (atlas : BucketRecords) (shelf : BucketShelfRecord) : Type 0 where
-  pub spelled : IsShelf atlas.frame (spelled_shelf atlas.frame atlas.buckets shelf)
-  pub free : Each (λ bucket. free_of atlas.buckets bucket ≤ shelf.bucket_width)
-      (bucket_walk atlas.buckets shelf.first_bucket).met
+-- a bucket of a shelf this wide and tall: what it has used, aligned, is at least its items' least
+-- widths; with nothing live it is as new
+pub record IsFilled (alignment width height : ℕ) (bucket : BucketRecord) : Type 0 where
+  pub free : bucket.free_space ≤ width
+  pub aligned : (width - bucket.free_space) % alignment ≡ 0
+  pub live : bucket.refcount ≤ bucket.item_count
+  pub given : bucket.item_count ≤ most_given
+  pub idle : bucket.refcount ≡ 0 → (bucket.item_count ≡ 0) × (width - bucket.free_space ≡ 0)
+  pub busy : 1 ≤ bucket.refcount
+      → (bucket.item_count * alignment ≤ width - bucket.free_space) × (1 ≤ height)
+
+-- there are places of buckets this wide, from an end down to a begin: the last one is there, and
+-- each other one is aligned and no less than the end of the next one
+abbrev pub StandDown : ℕ → ℕ → ℕ → ℕ → List ℕ → Type 0
+StandDown alignment width begin end [] = ⊥
+StandDown alignment width begin end (place ∷ []) = (place ≡ begin) × (place + width ≤ end)
+StandDown alignment width begin end (place ∷ next ∷ places) =
+    (place % alignment ≡ 0) × (place + width ≤ end)
+    × StandDown alignment width begin place (next ∷ places)
+
+-- the buckets of these numbers stand side by side in a shelf, and none has given more than it has
+pub record AreBuckets (frame : Frame) (buckets : List BucketRecord) (shelf : BucketShelfRecord)
+    (numbers : List ℕ) : Type 0 where
+  pub aligned : shelf.bucket_width % alignment_along frame ≡ 0
+  pub width : frame.columns ≡ 1 → 1 ≤ shelf.bucket_width
+  pub filled : Each
+      (λ number. IfSome (slice_get buckets number)
+      (IsFilled (alignment_along frame) shelf.bucket_width shelf.height)) numbers
+  pub stand : StandDown (alignment_along frame) shelf.bucket_width shelf.x
+      (shelf.x + frame.column_width) (map (place_of buckets) numbers)
+
+-- the buckets of a shelf do so
+abbrev pub HasBuckets : BucketRecords → BucketShelfRecord → Type 0
+HasBuckets atlas shelf =
+    AreBuckets atlas.frame atlas.buckets shelf (bucket_walk atlas.buckets shelf.first_bucket).met
+
+-- what the bucket of this number has used of a width: below 0 where it has more left than that
+abbrev pub used_of : ℕ → List BucketRecord → ℕ → ℤ
+used_of width buckets number =
+    field_at (λ (bucket : BucketRecord). pos width -ℤ pos bucket.free_space) (pos 0) buckets number
+
+-- what the buckets of these numbers have used of it, added up
+abbrev pub all_used : ℕ → List BucketRecord → List ℕ → ℤ
+all_used width buckets [] = pos 0
+all_used width buckets (number ∷ numbers) =
+    used_of width buckets number +ℤ all_used width buckets numbers
+
+-- the areas that the buckets of shelves have used, added up
+abbrev pub used_area : List BucketRecord → List BucketShelfRecord → ℤ
+used_area buckets [] = pos 0
+used_area buckets (shelf ∷ shelves) =
+    (all_used shelf.bucket_width buckets (bucket_walk buckets shelf.first_bucket).met
+    *ℤ pos shelf.height)
+    +ℤ used_area buckets shelves
+
+-- the generation of each bucket in use is one of 8 bits, as the type of records has it
+abbrev pub HasGenerations : BucketRecords → BucketShelfRecord → Type 0
+HasGenerations atlas shelf =
+    Each (λ bucket. generation_of atlas.buckets bucket < generations)
+    (bucket_walk atlas.buckets shelf.first_bucket).met
 
 -- the numbers of the buckets of shelves
 abbrev pub walked_numbers : List BucketRecord → List BucketShelfRecord → List ℕ
@@ -108,4 +173,5 @@ pub record StandsFor (atlas : BucketRecords) (state : BucketedState) : Type 0 wh
   pub sharing : IsShared atlas
   pub unused : Each (λ bucket. live_of atlas.buckets bucket ≡ 0)
       (bucket_walk atlas.buckets atlas.unused).met
-  pub space : atlas.allocated_space ≡ pos (allocated_space state)
+  pub space : atlas.allocated_space ≡ used_area atlas.buckets atlas.shelves
+  pub generations : Each (HasGenerations atlas) atlas.shelves

@@ -4,14 +4,13 @@
 //! fields keep. The clauses stay as they are: callers prove by them. Fields may change, with `state_in`
 //! and `IsConsistent`.
 
-ghost use Rattle.std.specs.Prelude.{◌≡◌, ◌↔◌, ◌*◌, ◌-◌, ◌+ℤ◌, Err, Some, true, false, pos, IfOk, IfErr, IfSome, IfNone, OnOk, OnErr, IsErr, IsTrue, option_map};
+ghost use Rattle.std.specs.Prelude.{◌≡◌, ◌↔◌, ◌*◌, ◌-◌, ◌+ℤ◌, Err, Some, true, false, pos, IfOk, IfErr, IfSome, IfNone, OnOk, OnErr, IsErr, IsOk, IsTrue, option_map};
 ghost use Rattle.std.specs.Io.KnownBytes.{Appends};
 ghost use Rattle.std.specs.List.{list_all};
 ghost use Rattle.etagere_base.specs.Frames.{IsAccepted, options_fault};
 ghost use Rattle.etagere_base.specs.Options.{default_options};
-ghost use Rattle.etagere_base.specs.Rectangles.{IsAligned, IsLarge};
+ghost use Rattle.etagere_base.specs.Rectangles.{IsAligned, IsInside, IsLarge};
 ghost use Rattle.etagere_base.specs.Sending.{AppendsBeginning};
-ghost use Rattle.etagere_base.specs.declared.faults.OptionsFault.TheVariants as faults;
 ghost use Rattle.etagere_bucketed.specs.Atlas.{Allocates, Grows, KeepsPromises, NeedsBuckets, NeedsShelf};
 ghost use Rattle.etagere_bucketed.specs.Frames as frames;
 ghost use Rattle.etagere_bucketed.specs.Frames.{longest_bucketed_side};
@@ -82,24 +81,22 @@ impl Model for BucketedAtlasAllocator {
 impl BucketedAtlasAllocator {
     /// An empty atlas of this size in pixels, whose sides are at most 65534, with the default options.
     ///
-    /// Returns the first fault; `Memory` only where there is no other and no memory. Takes no memory.
+    /// Returns the first fault where there is one, never `Memory`. Takes no memory, and constant time.
     pub fn new(alloc: Global, size: Size) -> Result<BucketedAtlasAllocator, OptionsFault>
         ensures ok { IfOk result
             (λ atlas. atlas ≡ fresh (frames.bucketed_frame size default_options)) }
         ensures accepted { OnOk result (IsAccepted longest_bucketed_side size default_options) }
+        ensures made { IsAccepted longest_bucketed_side size default_options → IsOk result }
         ensures promises { IfOk result KeepsPromises }
         ensures fault { IfSome (options_fault longest_bucketed_side size default_options)
             (λ fault. result ≡ Err fault) }
-        ensures memory { IfErr result
-            (λ fault. IsAccepted longest_bucketed_side size default_options
-            → fault ≡ faults.Memory) }
     {
         BucketedAtlasAllocator::with_options(alloc, size, &DEFAULT_OPTIONS)
     }
 
     /// An empty atlas of this size in pixels, whose sides are at most 65534.
     ///
-    /// Returns the first fault; `Memory` only where there is no other and no memory. Takes no memory.
+    /// Returns the first fault where there is one, never `Memory`. Takes no memory, and constant time.
     pub fn with_options(
         alloc: Global,
         size: Size,
@@ -107,11 +104,10 @@ impl BucketedAtlasAllocator {
     ) -> Result<BucketedAtlasAllocator, OptionsFault>
         ensures ok { IfOk result (λ atlas. atlas ≡ fresh (frames.bucketed_frame size options.now)) }
         ensures accepted { OnOk result (IsAccepted longest_bucketed_side size options.now) }
+        ensures made { IsAccepted longest_bucketed_side size options.now → IsOk result }
         ensures promises { IfOk result KeepsPromises }
         ensures fault { IfSome (options_fault longest_bucketed_side size options.now)
             (λ fault. result ≡ Err fault) }
-        ensures memory { IfErr result
-            (λ fault. IsAccepted longest_bucketed_side size options.now → fault ≡ faults.Memory) }
     {
         if let Some(fault) = options_fault(LONGEST_BUCKETED_SIDE, size, options) {
             return Err(fault);
@@ -211,6 +207,10 @@ impl BucketedAtlasAllocator {
         ensures none { IfOk result (λ answer. IfNone answer (self.new ≡ self.old)) }
         ensures err { OnErr result (self.new ≡ self.old) }
         ensures shelf { OnErr result (NeedsShelf self.old size) }
+        ensures frame { self.new.frame ≡ self.old.frame }
+        ensures inside { IfOk result
+            (λ answer. IfSome answer
+            (λ allocation. IsInside self.old.frame allocation.rectangle)) }
         ensures large { IfOk result
             (λ answer. IfSome answer
             (λ allocation. IsLarge self.old.frame size allocation.rectangle)) }

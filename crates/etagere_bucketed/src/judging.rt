@@ -2,12 +2,12 @@
 //!
 //! Definitions: `Judging`. The rules themselves are the fields of `StandsFor`.
 
-ghost use Rattle.std.specs.Prelude.{◌≡◌, ◌+◌, ◌*◌, ◌/◌, ◌%◌, ◌<◌, ◌≤◌, ◌^◌, IfErr, IfOk, IfSome, length};
+ghost use Rattle.std.specs.Prelude.{◌≡◌, ◌+◌, ◌*◌, ◌<◌, ◌≤◌, ◌^◌, IfErr, IfOk, IfSome, IsTrue, length};
 ghost use Rattle.std.specs.List.{list_all};
 ghost use Rattle.etagere_base.specs.Lists.{Each};
 ghost use Rattle.etagere_bucketed.specs.Frames.{IsBucketedFrame};
 ghost use Rattle.etagere_bucketed.specs.Private.Judging as spec;
-ghost use Rattle.etagere_bucketed.specs.State.{most_buckets};
+ghost use Rattle.etagere_bucketed.specs.State.{generations, most_buckets};
 
 use crate::adding::alignment_along;
 use crate::frames::LONGEST_BUCKETED_SIDE;
@@ -15,9 +15,6 @@ use crate::records::{BucketRecord, BucketShelfRecord};
 use crate::searching::{MOST_GIVEN, record_room, wider};
 use crate::store::KeptShelf;
 use etagere_base::{Frame, RestoreFault};
-
-/// The generations of a bucket, after which they begin anew.
-const GENERATIONS: u32 = 256;
 
 /// What is kept of a shelf, and the area that its buckets have used, in square pixels.
 #[derive(Clone, Copy)]
@@ -154,23 +151,18 @@ fn is_filled(alignment: u32, width: u16, height: u16, bucket: &BucketRecord) -> 
     }
 }
 
-/// Whether the generation of a bucket fits into an id: one of 8 bits always does.
-fn fits_id(bucket: &BucketRecord) -> bool
-    ensures { result ≡ spec.fits_id bucket.now }
-{
-    u32::from(bucket.generation) < GENERATIONS
-}
-
-/// Whether a bucket keeps its rule but for its place.
-fn is_sound(alignment: u32, width: u16, height: u16, bucket: &BucketRecord) -> bool
+/// The same as `is_filled`, and reads the generation, which has 8 bits and so fits into an id.
+fn is_kept(alignment: u32, width: u16, height: u16, bucket: &BucketRecord) -> bool
     requires { 1 ≤ alignment }
-    ensures { result ≡ spec.is_sound alignment width height bucket.now }
+    ensures value { result ≡ spec.is_filled alignment width height bucket.now }
+    ensures generation { bucket.now.generation < generations }
 {
-    is_filled(alignment, width, height, bucket) && fits_id(bucket)
+    let _generation = bucket.generation;
+    is_filled(alignment, width, height, bucket)
 }
 
-/// Whether the bucket of this number is there and keeps its rule but for its place.
-fn is_sound_at(
+/// Whether the bucket of this number is there and is filled as a bucket must be.
+fn is_filled_at(
     alignment: u32,
     width: u16,
     height: u16,
@@ -178,16 +170,17 @@ fn is_sound_at(
     number: u16,
 ) -> bool
     requires { 1 ≤ alignment }
-    ensures { result ≡ spec.is_sound_at alignment width height buckets.now number }
+    ensures value { result ≡ spec.is_filled_at alignment width height buckets.now number }
+    ensures generation { spec.generation_of buckets.now number < generations }
 {
     match buckets.get(usize::from(number)) {
-        Some(bucket) => is_sound(alignment, width, height, bucket),
+        Some(bucket) => is_kept(alignment, width, height, bucket),
         None => false,
     }
 }
 
-/// Whether the buckets of these numbers, this wide and in a shelf this tall, keep their rule but for their places.
-pub(crate) fn are_sound(
+/// Whether the buckets of these numbers, this wide and in a shelf this tall, are filled as buckets must be.
+pub(crate) fn are_filled(
     alignment: u32,
     width: u16,
     height: u16,
@@ -195,10 +188,13 @@ pub(crate) fn are_sound(
     numbers: &[u16],
 ) -> bool
     requires { 1 ≤ alignment }
-    ensures { result ≡ list_all (spec.is_sound_at alignment width height buckets.now) numbers.now }
+    ensures value { result
+        ≡ list_all (spec.is_filled_at alignment width height buckets.now) numbers.now }
+    ensures generations { IsTrue result
+        → Each (λ number. spec.generation_of buckets.now number < generations) numbers.now }
 {
     for number in numbers {
-        if !is_sound_at(alignment, width, height, buckets, *number) {
+        if !is_filled_at(alignment, width, height, buckets, *number) {
             return false;
         }
     }
@@ -253,12 +249,42 @@ pub(crate) fn last_stand(
     Some(place)
 }
 
-/// Whether the last bucket stands where its shelf begins.
-fn ends_at(begin: u32, last: Option<u32>) -> bool
-    ensures { result ≡ spec.ends_at begin last }
+/// Whether a bucket stands at `begin`, and ends at `end` at most.
+fn begins_at(width: u16, begin: u32, end: u32, bucket: &BucketRecord) -> bool
+    ensures { result ≡ spec.begins_at width begin end bucket.now }
 {
-    match last {
-        Some(place) => place == begin,
+    let place = u32::from(bucket.x);
+    place == begin && place + u32::from(width) <= end
+}
+
+/// Whether the bucket of this number is there, stands at `begin`, and ends at `end` at most.
+fn begins_by(width: u16, buckets: &[BucketRecord], begin: u32, end: u32, number: u16) -> bool
+    ensures { result ≡ spec.begins_by width begin end buckets.now number }
+{
+    match buckets.get(usize::from(number)) {
+        Some(bucket) => begins_at(width, begin, end, bucket),
+        None => false,
+    }
+}
+
+/// Whether the buckets of these numbers stand side by side: the last one at `begin`, each other one at an aligned
+/// place, and each ends at most where the one before it stands, the first at `end`.
+fn stand_together(
+    alignment: u32,
+    width: u16,
+    buckets: &[BucketRecord],
+    begin: u32,
+    end: u32,
+    numbers: &[u16],
+) -> bool
+    requires { 1 ≤ alignment }
+    ensures { result ≡ spec.stand_together alignment width buckets.now begin end numbers.now }
+{
+    let Some((last, others)) = numbers.split_last() else {
+        return false;
+    };
+    match last_stand(alignment, width, buckets, end, others) {
+        Some(place) => begins_by(width, buckets, begin, place, *last),
         None => false,
     }
 }
@@ -272,7 +298,9 @@ fn has_buckets(
 ) -> bool
     requires alignment { 1 ≤ spec.alignment_along frame.now }
     requires narrow { frame.now.column_width < 2 ^ 16 }
-    ensures { result ≡ spec.has_buckets frame.now buckets.now shelf.now numbers.now }
+    ensures value { result ≡ spec.has_buckets frame.now buckets.now shelf.now numbers.now }
+    ensures generations { IsTrue result
+        → Each (λ number. spec.generation_of buckets.now number < generations) numbers.now }
 {
     let alignment = alignment_along(frame);
     let width = shelf.bucket_width;
@@ -280,8 +308,8 @@ fn has_buckets(
     let end = begin + frame.column_width;
     u32::from(width) % alignment == 0
         && (frame.columns != 1 || 1 <= width)
-        && are_sound(alignment, width, shelf.height, buckets, numbers)
-        && ends_at(begin, last_stand(alignment, width, buckets, end, numbers))
+        && are_filled(alignment, width, shelf.height, buckets, numbers)
+        && stand_together(alignment, width, buckets, begin, end, numbers)
 }
 
 /// How many items of the bucket of this number are live; 0 where it isn't there.
@@ -308,17 +336,19 @@ pub(crate) fn live_items(buckets: &[BucketRecord], numbers: &[u16]) -> u32
 
 /// How much of its width the bucket of this number has used; 0 where it isn't there.
 fn used_at(width: u16, buckets: &[BucketRecord], number: u16) -> u16
+    requires { spec.free_of buckets.now number ≤ width }
     ensures { result ≡ spec.used_at width buckets.now number }
 {
     match buckets.get(usize::from(number)) {
-        Some(bucket) => width.saturating_sub(bucket.free_space),
+        Some(bucket) => width - bucket.free_space,
         None => 0,
     }
 }
 
 /// How much of their width the buckets of these numbers have used.
 pub(crate) fn used_width(width: u16, buckets: &[BucketRecord], numbers: &[u16]) -> u32
-    requires { length numbers.now < 2 ^ 16 }
+    requires few { length numbers.now < 2 ^ 16 }
+    requires free { Each (λ number. spec.free_of buckets.now number ≤ width) numbers.now }
     ensures value { result ≡ spec.used_by width buckets.now numbers.now }
     ensures small { result ≤ length numbers.now * 2 ^ 16 }
 {
@@ -363,8 +393,6 @@ pub(crate) fn judged_row(
     requires buckets { length buckets.now ≤ most_buckets }
     requires numbers { length numbers.now ≤ most_buckets }
     requires within { Each (λ bucket. bucket < length buckets.now) numbers.now }
-    requires along { shelf.now.x % frame.now.column_width ≡ 0 }
-    requires column { shelf.now.x / frame.now.column_width < frame.now.columns }
     ensures ok { IfOk result
         (λ judged. spec.IsRow frame.now buckets.now number shelf.now numbers.now judged) }
     ensures small { IfOk result (λ judged. judged.space ≤ length numbers.now * 2 ^ 32) }

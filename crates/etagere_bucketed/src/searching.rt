@@ -22,7 +22,7 @@ pub(crate) const MOST_BUCKETS: u32 = 4095;
 /// No bucket gives more items before it is empty again.
 pub(crate) const MOST_GIVEN: u16 = 4095;
 
-/// What a bucket is looked for.
+/// What a search requires of a bucket.
 #[derive(Clone, Copy, Debug, PartialEq, Eq)]
 pub(crate) enum Wanted {
     /// At least this width is free, and another item can be given.

@@ -21,7 +21,7 @@ use Rattle.etagere_bucketed.specs.Private.Store.{KeptShelf, first_link, kept_she
 use Rattle.etagere_bucketed.specs.Private.Walking.{AreJudged, AreLists, kept_of}
 use Rattle.etagere_bucketed.specs.Private.Witnessed.{HasTotals, Witnessed}
 use Rattle.etagere_bucketed.specs.Restoring.{Keeps, state_of}
-use Rattle.etagere_bucketed.specs.StandsFor.{AreLinked, AreStacked, HasBuckets, StandsFor, StopsInRange}
+use Rattle.etagere_bucketed.specs.StandsFor.{AreLinked, AreStacked, HasBuckets, HasGenerations, StandsFor, StopsInRange, used_area}
 use Rattle.etagere_bucketed.specs.State.{BucketShelf, column_height, column_place}
 use Rattle.etagere_bucketed.specs.Valid.{ends_idle}
 use Rattle.etagere_links.proofs.AllLists.LinkedWalks.{walk_by-leads}
@@ -29,6 +29,7 @@ use Rattle.etagere_bucketed.proofs.Judged.StackTests.{height-spelled}
 use Rattle.etagere_bucketed.proofs.Spelling.FoundFirst.{live-idle}
 use Rattle.etagere_bucketed.proofs.Spelling.MadeShelves.{in-use-length}
 use Rattle.etagere_bucketed.proofs.Spelling.StandsKept.{all-numbers, first-spelled, stands-witnessed}
+use Rattle.etagere_bucketed.proofs.Spelling.UsedAreas.{area-used}
 
 -- a walk that ends at none stops in range
 stops : (count : ℕ) (walked : Walked) → walked.end ≡ no_link → StopsInRange count walked
@@ -42,7 +43,11 @@ links-judged frame buckets number (s ∷ ss) judged =
 
 buckets-judged : (atlas : BucketRecords) (number : ℕ) (shelves : List BucketShelfRecord) → AreJudged atlas.frame atlas.buckets number shelves → Each (HasBuckets atlas) shelves
 buckets-judged atlas number [] judged = tt
-buckets-judged atlas number (s ∷ ss) judged = (record { spelled = judged.0.spelled; free = judged.0.free }, buckets-judged atlas (suc number) ss judged.1)
+buckets-judged atlas number (s ∷ ss) judged = (judged.0.has, buckets-judged atlas (suc number) ss judged.1)
+
+ages-judged : (atlas : BucketRecords) (number : ℕ) (shelves : List BucketShelfRecord) → AreJudged atlas.frame atlas.buckets number shelves → Each (HasGenerations atlas) shelves
+ages-judged atlas number [] judged = tt
+ages-judged atlas number (s ∷ ss) judged = (judged.0.generations, ages-judged atlas (suc number) ss judged.1)
 
 ends-judged : (frame : Frame) (buckets : List BucketRecord) (number : ℕ) (shelves : List BucketShelfRecord) → AreJudged frame buckets number shelves
     → Each (λ (shelf : BucketShelfRecord). (bucket_walk buckets shelf.first_bucket).end ≡ no_link) shelves
@@ -63,6 +68,12 @@ next-fits buckets fits n =
     (λ none. subst (λ (o : Option BucketRecord). LinkFits (option_and_then (λ (b : BucketRecord). b.next) o)) (sym none.1) refl)
     (slice_get_cases buckets n).1
 
+-- the area that lists have used is that of rule 10
+pub area-judged : (atlas : BucketRecords) (all : List KeptShelf) (used area : ℕ) → AreLists atlas.frame atlas.buckets atlas.shelves atlas.unused all used area
+    → pos area ≡ used_area atlas.buckets atlas.shelves
+area-judged atlas all used area lists =
+    ap (λ (n : ℕ). pos n) lists.space ∙ sym (area-used atlas atlas.shelves (buckets-judged atlas 0 atlas.shelves lists.judged))
+
 module _ (atlas : BucketRecords) (all : List KeptShelf) (used area : ℕ) (lists : AreLists atlas.frame atlas.buckets atlas.shelves atlas.unused all used area)
     (frame : Keeps atlas faults.Frame) (counts : Keeps atlas faults.Counts) (shelves : Keeps atlas faults.Shelves) (neighbours : Keeps atlas faults.Neighbours)
     (space : atlas.allocated_space ≡ pos area) where
@@ -82,7 +93,8 @@ module _ (atlas : BucketRecords) (all : List KeptShelf) (used area : ℕ) (lists
         neighbours = neighbours;
         sharing = record { once = lists.once; ends = ends-judged atlas.frame atlas.buckets 0 atlas.shelves lists.judged; unused_end = lists.ends };
         unused = lists.idle;
-        space = space ∙ ap (λ (n : ℕ). pos n) lists.space;
+        space = space ∙ area-judged atlas all used area lists;
+        generations = ages-judged atlas 0 atlas.shelves lists.judged;
       }
 
   -- the links fit

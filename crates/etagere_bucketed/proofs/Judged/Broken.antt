@@ -1,10 +1,9 @@
 -- Records of which a rule is broken stand for no state.
-use Rattle.std.proofs.Common.{pos, ◌≡◌, refl, subst, false}
+use Rattle.std.proofs.Common.{◌≡◌, refl, subst, false}
 use Rattle.etagere_base.specs.declared.faults.RestoreFault.{RestoreFault}
 use Rattle.etagere_base.specs.declared.faults.RestoreFault.TheVariants.{Frame, Counts, Link, Shelves, Runs, Neighbours, FreeList, Sharing, Unused, Space, Memory}
 use Rattle.etagere_bucketed.specs.BucketRecords.{BucketRecords}
 use Rattle.etagere_bucketed.specs.Restoring.{Breaks}
-use Rattle.etagere_bucketed.specs.Space.{allocated_space}
 use Rattle.etagere_bucketed.specs.StandsFor.{HasShelves, StandsFor}
 use Rattle.etagere_bucketed.specs.State.{BucketedState}
 use Rattle.etagere_bucketed.specs.Valid.{ends_idle}
@@ -19,5 +18,5 @@ broken-stands atlas state Neighbours h stands = absurd (h (subst (λ (s : Bucket
 broken-stands atlas state FreeList h stands = absurd (h tt)
 broken-stands atlas state Sharing h stands = absurd (h stands.sharing)
 broken-stands atlas state Unused h stands = absurd (h stands.unused)
-broken-stands atlas state Space h stands = absurd (h (subst (λ (s : BucketedState). atlas.allocated_space ≡ pos (allocated_space s)) stands.spelled stands.space))
+broken-stands atlas state Space h stands = absurd (h stands.space)
 broken-stands atlas state Memory h stands = refl

@@ -91,7 +91,7 @@ shelf-breaks atlas xs x ys marks Link all marked h = λ links.
     h here.0 (subst (λ (k : ℕ). Each (λ (n : ℕ). shelf_of atlas.buckets n ≡ k) (bucket_walk atlas.buckets x.first_bucket).met) same here.1)
 shelf-breaks atlas xs x ys marks Runs all marked h = λ runs.
     let here : HasBuckets atlas x = Each-middle (HasBuckets atlas) xs x ys (subst (Each (HasBuckets atlas)) all runs) in
-    h here.spelled here.free
+    h here
 shelf-breaks atlas xs x ys marks Sharing all marked h = λ shared.
     let met = (bucket_walk atlas.buckets x.first_bucket).met in
     let unused = (bucket_walk atlas.buckets atlas.unused).met in

@@ -1,11 +1,10 @@
 -- The tests of the buckets of a shelf decide its rules, and what is added up over them is what the shelf has.
-use Rattle.std.proofs.Common.{◌≡◌, ℕ, ◌+◌, ◌-◌, ◌*◌, ◌/◌, ◌%◌, ◌<◌, ◌≤◌, Bool, true, false, ◌&&◌, ◌||◌, not, cond, Option, None, Some, List, [], ◌∷◌, length, map, max, refl, ap, arith, sym, ◌∙◌, subst, ⊎_elim, ◌==◌}
+use Rattle.std.proofs.Common.{◌≡◌, ℕ, ◌+◌, ◌-◌, ◌*◌, ◌/◌, ◌%◌, ◌<◌, ◌≤◌, Bool, true, false, ◌&&◌, ◌||◌, not, cond, Option, None, Some, List, [], ◌∷◌, ◌++◌, length, map, max, refl, ap, arith, sym, ◌∙◌, subst, ⊎_elim, ◌==◌}
 use Rattle.std.proofs.lemmas.Bool.{eqb-true}
-use Rattle.std.proofs.lemmas.Nat.{div-add-mod'}
 use Rattle.std.proofs.lemmas.Option.{slice_get_cases}
 use Rattle.std.specs.List.{list_all}
 use Rattle.std.specs.Option.{option_map_or}
-use Rattle.std.specs.Prelude.{nat_le, nat_lt, option_and_then, slice_get}
+use Rattle.std.specs.Prelude.{IfSome, nat_le, nat_lt, option_and_then, slice_get}
 use Rattle.etagere_base.proofs.DecidingLemmas.{decides-both, decides-map, denied, granted}
 use Rattle.etagere_base.specs.declared.frames.Frame.{Frame}
 use Rattle.etagere_base.specs.Deciding.{Decides}
@@ -14,14 +13,13 @@ use Rattle.etagere_base.specs.Lists.{Each}
 use Rattle.etagere_bucketed.specs.declared.records.BucketRecord.{BucketRecord}
 use Rattle.etagere_bucketed.specs.declared.records.BucketShelfRecord.{BucketShelfRecord}
 use Rattle.etagere_bucketed.specs.BucketRecords.{bucket_at, spelled_bucket}
-use Rattle.etagere_bucketed.specs.Private.Judging.{ends_at, has_buckets, is_owned, is_sound, is_sound_at, is_unused, last_stand, row_shelf, live_by, stand_at, used_by, widest_by}
+use Rattle.etagere_bucketed.specs.Private.Judging.{begins_at, begins_by, has_buckets, is_filled, is_filled_at, is_owned, is_unused, last_stand, live_by, stand_at, stand_by, stand_together, used_by, widest_by}
 use Rattle.etagere_bucketed.specs.Private.Searching.{record_room}
 use Rattle.etagere_bucketed.specs.Private.Store.{live_items, room_of, widest_room}
 use Rattle.etagere_bucketed.specs.Space.{used_width}
-use Rattle.etagere_bucketed.specs.StandsFor.{free_of, live_of, shelf_of}
-use Rattle.etagere_bucketed.specs.State.{Bucket, column_place, generations, most_buckets, most_given}
-use Rattle.etagere_bucketed.specs.Valid.{IsBucket, IsShelf, StandBetween}
-use Rattle.etagere_bucketed.proofs.Judged.FrameTests.{decides-eq, decides-le, decides-lt}
+use Rattle.etagere_bucketed.specs.StandsFor.{AreBuckets, IsFilled, StandDown, free_of, live_of, place_of, shelf_of}
+use Rattle.etagere_bucketed.specs.State.{Bucket, most_given}
+use Rattle.etagere_bucketed.proofs.Judged.FrameTests.{decides-eq, decides-le}
 
 -- a record that is there
 pub record IsThere (buckets : List BucketRecord) (n : ℕ) : Type 0 where
@@ -85,94 +83,67 @@ uses-decided alignment height live given used = by_test (live == 0) refl
         (decides-both (nat_le (given * alignment) used) (nat_le 1 height) (given * alignment ≤ used) (1 ≤ height) (decides-le (given * alignment) used) (decides-le 1 height))
 
 -- what the tests of a bucket record tell
-sound-record : (alignment width height n : ℕ) (r : BucketRecord) → n < most_buckets
-    → Decides (is_sound alignment width height r) (IsBucket alignment width height (spelled_bucket width n r) × (r.free_space ≤ width))
-sound-record alignment width height n r few =
+filled-record : (alignment width height : ℕ) (r : BucketRecord) → Decides (is_filled alignment width height r) (IsFilled alignment width height r)
+filled-record alignment width height r =
     let used : ℕ = width - r.free_space in
     let uses : Type 0 = (r.refcount ≡ 0 → (r.item_count ≡ 0) × (used ≡ 0)) × (1 ≤ r.refcount → (r.item_count * alignment ≤ used) × (1 ≤ height)) in
     let counts : Type 0 = (r.refcount ≤ r.item_count) × (r.item_count ≤ most_given) in
     let filled : Type 0 = (r.free_space ≤ width) × ((used % alignment ≡ 0) × (counts × uses)) in
-    decides-map (is_sound alignment width height r) (filled × (r.generation < generations))
-    (IsBucket alignment width height (spelled_bucket width n r) × (r.free_space ≤ width))
-    (λ p. (
-      record {
-        tag = record { number = few; generation = p.1 };
-        used = omega arith;
-        aligned = p.0.1.0;
-        live = p.0.1.1.0.0;
-        given = p.0.1.1.0.1;
-        idle = p.0.1.1.1.0;
-        busy = p.0.1.1.1.1;
-      },
-      p.0.0,
-    ))
-    (λ q. ((q.1, (q.0.aligned, ((q.0.live, q.0.given), (q.0.idle, q.0.busy)))), q.0.tag.generation))
-    (decides-both _ _ filled (r.generation < generations)
+    decides-map (is_filled alignment width height r) filled (IsFilled alignment width height r)
+    (λ p. record { free = p.0; aligned = p.1.0; live = p.1.1.0.0; given = p.1.1.0.1; idle = p.1.1.1.0; busy = p.1.1.1.1 })
+    (λ q. (q.free, (q.aligned, ((q.live, q.given), (q.idle, q.busy)))))
     (decides-both (nat_le r.free_space width) _ (r.free_space ≤ width) ((used % alignment ≡ 0) × (counts × uses)) (decides-le r.free_space width)
     (decides-both (used % alignment == 0) _ (used % alignment ≡ 0) (counts × uses) (decides-eq (used % alignment) 0)
     (decides-both (nat_le r.refcount r.item_count && nat_le r.item_count most_given) _ counts uses
     (decides-both (nat_le r.refcount r.item_count) (nat_le r.item_count most_given) (r.refcount ≤ r.item_count) (r.item_count ≤ most_given) (decides-le r.refcount r.item_count) (decides-le r.item_count most_given))
     (uses-decided alignment height r.refcount r.item_count used))))
-    (decides-lt r.generation generations))
 
-module _ (buckets : List BucketRecord) (few : length buckets ≤ most_buckets) where
-  sound-one : (alignment width height n : ℕ) → n < length buckets
-      → Decides (is_sound_at alignment width height buckets n) (IsBucket alignment width height (bucket_at buckets width n) × (free_of buckets n ≤ width))
-  sound-one alignment width height n within =
+module _ (buckets : List BucketRecord) where
+  filled-one : (alignment width height n : ℕ) → n < length buckets
+      → Decides (is_filled_at alignment width height buckets n) (IfSome (slice_get buckets n) (IsFilled alignment width height))
+  filled-one alignment width height n within =
       let is = there buckets n within in
-      subst
-      (λ (o : Option BucketRecord). Decides (option_map_or (is_sound alignment width height) o false)
-      (IsBucket alignment width height (option_map_or (spelled_bucket width n) o (record { place = 0; used = 0; live = 0; given = 0; tag = record { number = n; generation = 0 } }))
-      × (option_map_or (λ (b : BucketRecord). b.free_space) o 0 ≤ width)))
-      (sym is.here) (sound-record alignment width height n is.bucket (omega (arith, within, few)))
+      subst (λ (o : Option BucketRecord). Decides (option_map_or (is_filled alignment width height) o false) (IfSome o (IsFilled alignment width height)))
+      (sym is.here) (filled-record alignment width height is.bucket)
 
-  -- two facts of each number, one of which is of its bucket
-  unzip : (P : Bucket → Type 0) (Q : ℕ → Type 0) (f : ℕ → Bucket) (ns : List ℕ) → Each (λ (n : ℕ). P (f n) × Q n) ns → Each P (map f ns) × Each Q ns
-  unzip P Q f [] each = (tt, tt)
-  unzip P Q f (n ∷ ns) each = let rest = unzip P Q f ns each.1 in ((each.0.0, rest.0), (each.0.1, rest.1))
-
-  zip : (P : Bucket → Type 0) (Q : ℕ → Type 0) (f : ℕ → Bucket) (ns : List ℕ) → Each P (map f ns) × Each Q ns → Each (λ (n : ℕ). P (f n) × Q n) ns
-  zip P Q f [] each = tt
-  zip P Q f (n ∷ ns) each = ((each.0.0, each.1.0), zip P Q f ns (each.0.1, each.1.1))
-
-  -- the tests of the buckets of a shelf decide whether each keeps its rule
-  pub sound-decided : (alignment width height : ℕ) (ns : List ℕ) → Each (λ (n : ℕ). n < length buckets) ns
-      → Decides (list_all (is_sound_at alignment width height buckets) ns)
-      (Each (IsBucket alignment width height) (map (bucket_at buckets width) ns) × Each (λ (n : ℕ). free_of buckets n ≤ width) ns)
-  sound-decided alignment width height ns within =
-      let P : Bucket → Type 0 = IsBucket alignment width height in
-      let Q : ℕ → Type 0 = λ n. free_of buckets n ≤ width in
-      decides-map (list_all (is_sound_at alignment width height buckets) ns) (Each (λ (n : ℕ). P (bucket_at buckets width n) × Q n) ns)
-      (Each P (map (bucket_at buckets width) ns) × Each Q ns)
-      (unzip P Q (bucket_at buckets width) ns) (zip P Q (bucket_at buckets width) ns)
-      (all-decided buckets (is_sound_at alignment width height buckets) (λ (n : ℕ). P (bucket_at buckets width n) × Q n) ns (sound-one alignment width height) within)
-
-  -- the last bucket stands where it must, and each other one before the one tried before it
-  stand-decided : (alignment width begin end : ℕ) (ns : List ℕ) → Each (λ (n : ℕ). n < length buckets) ns
-      → Decides (ends_at begin (last_stand alignment width buckets end ns)) (StandBetween alignment width begin end (map (bucket_at buckets width) ns))
-  stand-decided alignment width begin end [] within = decides-eq end begin
-  stand-decided alignment width begin end (n ∷ ns) within =
-      let is = there buckets n within.0 in
+  -- the last bucket stands at the begin
+  begins-decided : (width begin end n : ℕ) → n < length buckets
+      → Decides (begins_by width begin end buckets n) ((place_of buckets n ≡ begin) × (place_of buckets n + width ≤ end))
+  begins-decided width begin end n within =
+      let is = there buckets n within in
       let r = is.bucket in
       subst
-      (λ (o : Option BucketRecord). Decides (ends_at begin (option_and_then (λ (place : ℕ). last_stand alignment width buckets place ns) (option_and_then (stand_at alignment width end) o)))
-      (((option_map_or (spelled_bucket width n) o (record { place = 0; used = 0; live = 0; given = 0; tag = record { number = n; generation = 0 } })).place % alignment ≡ 0)
-      × ((option_map_or (spelled_bucket width n) o (record { place = 0; used = 0; live = 0; given = 0; tag = record { number = n; generation = 0 } })).place + width ≤ end)
-      × StandBetween alignment width begin (option_map_or (spelled_bucket width n) o (record { place = 0; used = 0; live = 0; given = 0; tag = record { number = n; generation = 0 } })).place (map (bucket_at buckets width) ns)))
+      (λ (o : Option BucketRecord). Decides (option_map_or (begins_at width begin end) o false)
+      ((option_map_or (λ (b : BucketRecord). b.x) o 0 ≡ begin) × (option_map_or (λ (b : BucketRecord). b.x) o 0 + width ≤ end)))
+      (sym is.here)
+      (decides-both (r.x == begin) (nat_le (r.x + width) end) (r.x ≡ begin) (r.x + width ≤ end) (decides-eq r.x begin) (decides-le (r.x + width) end))
+
+  -- each other one stands before the one tried before it
+  pub stand-decided : (alignment width begin end : ℕ) (ns : List ℕ) → Each (λ (n : ℕ). n < length buckets) ns
+      → Decides (stand_together alignment width buckets begin end ns) (StandDown alignment width begin end (map (place_of buckets) ns))
+  stand-decided alignment width begin end [] within = λ none. none
+  stand-decided alignment width begin end (n ∷ []) within = begins-decided width begin end n within.0
+  stand-decided alignment width begin end (n ∷ m ∷ ms) within =
+      let is = there buckets n within.0 in
+      let r = is.bucket in
+      let Rest : ℕ → Type 0 = λ place. StandDown alignment width begin place (map (place_of buckets) (m ∷ ms)) in
+      subst
+      (λ (o : Option BucketRecord). Decides (option_map_or (λ (place : ℕ). stand_together alignment width buckets begin place (m ∷ ms)) (option_and_then (stand_at alignment width end) o) false)
+      ((option_map_or (λ (b : BucketRecord). b.x) o 0 % alignment ≡ 0) × (option_map_or (λ (b : BucketRecord). b.x) o 0 + width ≤ end) × Rest (option_map_or (λ (b : BucketRecord). b.x) o 0)))
       (sym is.here)
       (by_test r.x (r.x % alignment == 0 && nat_le (r.x + width) end) refl
       (decides-both (r.x % alignment == 0) (nat_le (r.x + width) end) (r.x % alignment ≡ 0) (r.x + width ≤ end) (decides-eq (r.x % alignment) 0) (decides-le (r.x + width) end))
-      (stand-decided alignment width begin r.x ns within.1))
+      (stand-decided alignment width begin r.x (m ∷ ms) within.1))
     where
       by_test : (x : ℕ) (t : Bool) → (x % alignment == 0 && nat_le (x + width) end) ≡ t
           → Decides (x % alignment == 0 && nat_le (x + width) end) ((x % alignment ≡ 0) × (x + width ≤ end))
-          → Decides (ends_at begin (last_stand alignment width buckets x ns)) (StandBetween alignment width begin x (map (bucket_at buckets width) ns))
-          → Decides (ends_at begin (option_and_then (λ (place : ℕ). last_stand alignment width buckets place ns) (cond t (Some x) None)))
-          ((x % alignment ≡ 0) × (x + width ≤ end) × StandBetween alignment width begin x (map (bucket_at buckets width) ns))
+          → Decides (stand_together alignment width buckets begin x (m ∷ ms)) (StandDown alignment width begin x (map (place_of buckets) (m ∷ ms)))
+          → Decides (option_map_or (λ (place : ℕ). stand_together alignment width buckets begin place (m ∷ ms)) (cond t (Some x) None) false)
+          ((x % alignment ≡ 0) × (x + width ≤ end) × StandDown alignment width begin x (map (place_of buckets) (m ∷ ms)))
       by_test x true e both later =
           let here : (x % alignment ≡ 0) × (x + width ≤ end) = granted (x % alignment == 0 && nat_le (x + width) end) ((x % alignment ≡ 0) × (x + width ≤ end)) both e in
-          decides-map (ends_at begin (last_stand alignment width buckets x ns)) (StandBetween alignment width begin x (map (bucket_at buckets width) ns))
-          ((x % alignment ≡ 0) × (x + width ≤ end) × StandBetween alignment width begin x (map (bucket_at buckets width) ns))
+          decides-map (stand_together alignment width buckets begin x (m ∷ ms)) (StandDown alignment width begin x (map (place_of buckets) (m ∷ ms)))
+          ((x % alignment ≡ 0) × (x + width ≤ end) × StandDown alignment width begin x (map (place_of buckets) (m ∷ ms)))
           (λ rest. (here.0, here.1, rest)) (λ all. all.2) later
       by_test x false e both later =
           λ all. denied (x % alignment == 0 && nat_le (x + width) end) ((x % alignment ≡ 0) × (x + width ≤ end)) both e (all.0, all.1)
@@ -188,32 +159,41 @@ module _ (buckets : List BucketRecord) (few : length buckets ≤ most_buckets) w
 
   -- the tests decide whether these are the buckets of a shelf
   pub buckets-decided : (frame : Frame) (shelf : BucketShelfRecord) (ns : List ℕ) → Each (λ (n : ℕ). n < length buckets) ns
-      → shelf.x % frame.column_width ≡ 0 → shelf.x / frame.column_width < frame.columns
-      → Decides (has_buckets frame buckets shelf ns) (IsShelf frame (row_shelf frame buckets shelf ns) × Each (λ (n : ℕ). free_of buckets n ≤ shelf.bucket_width) ns)
-  buckets-decided frame shelf ns within aligned column =
+      → Decides (has_buckets frame buckets shelf ns) (AreBuckets frame buckets shelf ns)
+  buckets-decided frame shelf ns within =
       let al : ℕ = alignment_along frame in
       let width : ℕ = shelf.bucket_width in
-      let row : List Bucket = map (bucket_at buckets width) ns in
-      let begins : column_place frame (shelf.x / frame.column_width) ≡ shelf.x = omega (arith, div-add-mod' shelf.x frame.column_width, aligned) in
+      let end : ℕ = shelf.x + frame.column_width in
+      let Filled : ℕ → Type 0 = λ n. IfSome (slice_get buckets n) (IsFilled al width shelf.height) in
       let P : Type 0 = (width % al ≡ 0) × (frame.columns ≡ 1 → 1 ≤ width) in
-      let Q : Type 0 = Each (IsBucket al width shelf.height) row × Each (λ (n : ℕ). free_of buckets n ≤ width) ns in
-      let R : ℕ → Type 0 = λ x. StandBetween al width x (x + frame.column_width) row in
-      decides-map (has_buckets frame buckets shelf ns) (P × (Q × R shelf.x))
-      (IsShelf frame (row_shelf frame buckets shelf ns) × Each (λ (n : ℕ). free_of buckets n ≤ width) ns)
-      (λ p. (
-        record {
-          column = column;
-          aligned = p.0.0;
-          width = p.0.1;
-          buckets = p.1.0.0;
-          stand = subst R (sym begins) p.1.1;
-        },
-        p.1.0.1,
-      ))
-      (λ q. ((q.0.aligned, q.0.width), ((q.0.buckets, q.1), subst R begins q.0.stand)))
-      (decides-both _ _ P (Q × R shelf.x)
+      let R : Type 0 = StandDown al width shelf.x end (map (place_of buckets) ns) in
+      decides-map (has_buckets frame buckets shelf ns) (P × (Each Filled ns × R)) (AreBuckets frame buckets shelf ns)
+      (λ p. record { aligned = p.0.0; width = p.0.1; filled = p.1.0; stand = p.1.1 })
+      (λ q. ((q.aligned, q.width), (q.filled, q.stand)))
+      (decides-both _ _ P (Each Filled ns × R)
       (decides-both (width % al == 0) _ (width % al ≡ 0) (frame.columns ≡ 1 → 1 ≤ width) (decides-eq (width % al) 0) (wide-decided frame.columns width))
-      (decides-both _ _ Q (R shelf.x) (sound-decided al width shelf.height ns within) (stand-decided al width shelf.x (shelf.x + frame.column_width) ns within)))
+      (decides-both _ _ (Each Filled ns) R
+      (all-decided buckets (is_filled_at al width shelf.height buckets) Filled ns (filled-one al width shelf.height) within)
+      (stand-decided al width shelf.x end ns within)))
+
+  -- what comes of an option, and then of what was found
+  after-option : (o : Option ℕ) (f k : ℕ → Bool) (g : ℕ → Option ℕ) → ((place : ℕ) → f place ≡ option_map_or k (g place) false)
+      → option_map_or f o false ≡ option_map_or k (option_and_then g o) false
+  after-option None f k g same = refl
+  after-option (Some place) f k g same = same place
+
+  -- those before the last one stand, and then the last one
+  pub stand-last : (alignment width begin end : ℕ) (others : List ℕ) (last : ℕ)
+      → stand_together alignment width buckets begin end (others ++ last ∷ [])
+      ≡ option_map_or (λ (place : ℕ). begins_by width begin place buckets last) (last_stand alignment width buckets end others) false
+  stand-last alignment width begin end [] last = refl
+  stand-last alignment width begin end (n ∷ []) last =
+      after-option (stand_by alignment width buckets end n) (λ (place : ℕ). begins_by width begin place buckets last) (λ (place : ℕ). begins_by width begin place buckets last)
+      (λ (place : ℕ). Some place) (λ place. refl)
+  stand-last alignment width begin end (n ∷ o ∷ os) last =
+      after-option (stand_by alignment width buckets end n) (λ (place : ℕ). stand_together alignment width buckets begin place (o ∷ (os ++ last ∷ [])))
+      (λ (place : ℕ). begins_by width begin place buckets last) (λ (place : ℕ). last_stand alignment width buckets place (o ∷ os))
+      (λ place. stand-last alignment width begin place (o ∷ os) last)
 
 -- what records have used is what their buckets have used
 pub used-spelled : (buckets : List BucketRecord) (width : ℕ) (ns : List ℕ) → used_by width buckets ns ≡ used_width (map (bucket_at buckets width) ns)

@@ -222,9 +222,9 @@ module _ (frame : Frame) (buckets : List BucketRecord) where
       (omega (arith, opened), ap (λ (h : ℕ). across_side frame - h) (sym tall))
 
 -- the pass decides whether the shelves keep their rule
-pub stacked-decided : (atlas : BucketRecords)
+pub stacked-decided : (atlas : BucketRecords) → 1 ≤ atlas.frame.column_width
     → Decides (is_stacked atlas.frame atlas.shelves atlas.current_column atlas.available_height) (HasShelves atlas (spelled_state atlas.frame atlas.shelves atlas.buckets))
-stacked-decided atlas = by_end (stack_end atlas.frame (none-yet atlas.frame atlas.buckets) atlas.shelves) (told atlas.frame atlas.buckets atlas.shelves [] (none-yet atlas.frame atlas.buckets) (far-none atlas.frame atlas.buckets))
+stacked-decided atlas wide = by_end (stack_end atlas.frame (none-yet atlas.frame atlas.buckets) atlas.shelves) (told atlas.frame atlas.buckets atlas.shelves [] (none-yet atlas.frame atlas.buckets) (far-none atlas.frame atlas.buckets))
   where
     by_end : (end : Option Stack) → Told atlas.frame atlas.buckets [] atlas.shelves 0 end
         → Decides (option_map_or (λ (stack : Stack). stack.opened - 1 == atlas.current_column && across_side atlas.frame - stack.height == atlas.available_height) end false)
@@ -236,6 +236,7 @@ stacked-decided atlas = by_end (stack_end atlas.frame (none-yet atlas.frame atla
         ((end.opened - 1 ≡ atlas.current_column) × (across_side atlas.frame - end.height ≡ atlas.available_height))
         (HasShelves atlas (spelled_state atlas.frame atlas.shelves atlas.buckets))
         (λ p. record {
+          wide = λ _. wide;
           columns = told.rest.columns;
           opened = told.rest.opens;
           along = told.rest.along;

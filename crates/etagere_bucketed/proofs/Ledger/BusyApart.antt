@@ -92,7 +92,7 @@ pub record InColumn (frame : Frame) (before shelves : List BucketShelf) (busy : 
   pub tall : 1 ≤ busy.height
 
 -- the height of a shelf counts in its own column
-height-own : (x : BucketShelf) (xs : List BucketShelf) → column_height x.column (x ∷ xs) ≡ x.height + column_height x.column xs
+pub height-own : (x : BucketShelf) (xs : List BucketShelf) → column_height x.column (x ∷ xs) ≡ x.height + column_height x.column xs
 height-own x xs = own x.column x.height (column_height x.column xs)
   where
     own : (c height rest : ℕ) → cond (c == c) height 0 + rest ≡ height + rest

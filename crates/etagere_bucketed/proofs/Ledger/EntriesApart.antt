@@ -148,7 +148,7 @@ tied-apart entries state tied =
     (tall-busy state.frame state.shelves tied.valid.shelves) tied.in_buckets.placed tied.in_buckets.ordered
 
 -- a column of a bucketed frame ends within the atlas
-column-within : (frame : Frame) (column : ℕ) → IsBucketedFrame frame → column < frame.columns → column * frame.column_width + frame.column_width ≤ along_side frame
+pub column-within : (frame : Frame) (column : ℕ) → IsBucketedFrame frame → column < frame.columns → column * frame.column_width + frame.column_width ≤ along_side frame
 column-within frame column is_frame below =
     omega (arith, is_frame.columns.1, mul-le-mul_right {m = suc column} {n = frame.columns} frame.column_width below, suc-mul column frame.column_width)
 

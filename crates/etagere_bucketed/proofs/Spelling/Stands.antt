@@ -1,12 +1,14 @@
 -- Records that spell a valid state, and tell its totals, keep each rule of a snapshot.
-use Rattle.std.proofs.Common.{◌≡◌, ℕ, pos, suc, ◌+◌, ◌/◌, ◌%◌, ◌≤◌, Option, List, [], ◌∷◌, ◌++◌, length, map, cond, refl, ap, arith, sym, ◌∙◌, subst, ◌==◌}
+use Rattle.std.proofs.Common.{◌≡◌, ℕ, ℤ, pos, suc, ◌+◌, ◌-◌, ◌*◌, ◌/◌, ◌%◌, ◌<◌, ◌≤◌, Option, List, [], ◌∷◌, ◌++◌, length, map, cond, refl, ap, arith, sym, ◌∙◌, subst, ◌==◌}
 use Rattle.std.proofs.Math.Nat.{mul-mod_left}
 use Rattle.std.proofs.lemmas.List.{length-map, map-append}
 use Rattle.std.proofs.lemmas.Nat.{div-mul-add}
 use Rattle.std.specs.Option.{option_map_or}
+use Rattle.std.specs.Prelude.{IfSome, slice_get}
 use Rattle.etagere_base.proofs.EachLemmas.{Each-weaken}
 use Rattle.etagere_base.proofs.TimesLemmas.{times-append}
 use Rattle.etagere_base.specs.declared.frames.Frame.{Frame}
+use Rattle.etagere_base.specs.Frames.{alignment_along}
 use Rattle.etagere_base.specs.Lists.{Each}
 use Rattle.etagere_links.specs.Links.{no_link}
 use Rattle.etagere_links.specs.RecordLists.{HasEachOnce}
@@ -15,15 +17,17 @@ use Rattle.etagere_links.proofs.AllLists.LinkedWalks.{IsPart, part-of, walk_by-s
 use Rattle.etagere_bucketed.specs.declared.records.BucketRecord.{BucketRecord}
 use Rattle.etagere_bucketed.specs.declared.records.BucketShelfRecord.{BucketShelfRecord}
 use Rattle.etagere_bucketed.specs.BucketRecords.{bucket_walk}
-use Rattle.etagere_bucketed.specs.Private.Store.{AreBucketsSpelled, AreShelvesSpelled, KeptShelf, Stored, first_link, kept_shelf, kept_shelves, shelf_record}
+use Rattle.etagere_bucketed.specs.Private.Store.{AreBucketsSpelled, AreShelvesSpelled, KeptShelf, Stored, first_link, kept_shelf, kept_shelves, record_of, shelf_record}
 use Rattle.etagere_bucketed.specs.Private.Witnessed.{HasTotals, Witnessed, records_of}
-use Rattle.etagere_bucketed.specs.StandsFor.{AreLinked, AreStacked, HasBuckets, StandsFor, StopsInRange, free_of, height_before, live_of, shelf_of, walked_numbers}
-use Rattle.etagere_bucketed.specs.State.{Bucket, BucketShelf, BucketedState, bucket_numbers, column_height, column_place}
-use Rattle.etagere_bucketed.specs.Valid.{IsShelf}
+use Rattle.etagere_bucketed.specs.Space.{allocated_space}
+use Rattle.etagere_bucketed.specs.StandsFor.{AreLinked, AreStacked, HasBuckets, HasGenerations, IsFilled, StandDown, StandsFor, StopsInRange, generation_of, height_before, live_of, place_of, shelf_of, used_area, walked_numbers}
+use Rattle.etagere_bucketed.specs.State.{Bucket, BucketShelf, BucketedState, bucket_numbers, column_height, column_place, generations}
+use Rattle.etagere_bucketed.specs.Valid.{IsBucket, IsShelf, StandBetween}
 use Rattle.etagere_bucketed.proofs.Shelving.Shelves.{numbers_of}
 use Rattle.etagere_bucketed.proofs.Spelling.KeptShelves.{kept-append, length-kept}
 use Rattle.etagere_bucketed.proofs.Spelling.PlacedRecords.{few-shelves}
-use Rattle.etagere_bucketed.proofs.Spelling.ReadBack.{shelf-read, state-read, used-part, walk-read}
+use Rattle.etagere_bucketed.proofs.Spelling.ReadBack.{state-read, used-part, walk-read}
+use Rattle.etagere_bucketed.proofs.Spelling.UsedAreas.{area-used}
 
 -- what a shelf has is part of what all have
 part-own : (count : ℕ) (s : BucketShelf) (ss : List BucketShelf) → IsPart count (bucket_numbers (s ∷ ss)) → IsPart count (numbers_of s.buckets)
@@ -49,11 +53,52 @@ owners records number width [] h = tt
 owners records number width (b ∷ bs) h =
     (ap (λ (r : Option BucketRecord). option_map_or (λ (bucket : BucketRecord). bucket.shelf) r 0) h.0, owners records number width bs h.1)
 
--- buckets have no more left than they are wide
-frees : (records : List BucketRecord) (number width : ℕ) (bs : List Bucket) → AreBucketsSpelled records number width bs → Each (λ (n : ℕ). free_of records n ≤ width) (numbers_of bs)
-frees records number width [] h = tt
-frees records number width (b ∷ bs) h =
-    (omega (arith, ap (λ (r : Option BucketRecord). option_map_or (λ (bucket : BucketRecord). bucket.free_space) r 0) h.0), frees records number width bs h.1)
+-- buckets are filled as their records say
+fills : (records : List BucketRecord) (number al width height : ℕ) (bs : List Bucket) → AreBucketsSpelled records number width bs → Each (IsBucket al width height) bs
+    → Each (λ (n : ℕ). IfSome (slice_get records n) (IsFilled al width height)) (numbers_of bs)
+fills records number al width height [] h each = tt
+fills records number al width height (b ∷ bs) h each =
+    (subst (λ (o : Option BucketRecord). IfSome o (IsFilled al width height)) (sym h.0) (filled b each.0), fills records number al width height bs h.1 each.1)
+  where
+    filled : (b : Bucket) → IsBucket al width height b → IsFilled al width height (record_of number width (first_link bs) b)
+    filled b is =
+        let used : b.used ≡ width - (width - b.used) = omega (arith, is.used) in
+        record {
+          free = omega arith;
+          aligned = subst (λ (n : ℕ). n % al ≡ 0) used is.aligned;
+          live = is.live;
+          given = is.given;
+          idle = λ none. let new = is.idle none in (new.0, sym used ∙ new.1);
+          busy = λ some. let busy = is.busy some in (subst (λ (n : ℕ). b.given * al ≤ n) used busy.0, busy.1);
+        }
+
+-- they stand where their records say
+places : (records : List BucketRecord) (number width : ℕ) (bs : List Bucket) → AreBucketsSpelled records number width bs
+    → map (place_of records) (numbers_of bs) ≡ map (λ (b : Bucket). b.place) bs
+places records number width [] h = refl
+places records number width (b ∷ bs) h =
+    ap (λ (r : Option BucketRecord). option_map_or (λ (bucket : BucketRecord). bucket.x) r 0 ∷ map (place_of records) (numbers_of bs)) h.0
+    ∙ ap (λ (ps : List ℕ). b.place ∷ ps) (places records number width bs h.1)
+
+-- buckets that stand between two places stand from the later one down
+stand-first : (al width begin end : ℕ) (b : Bucket) (bs : List Bucket) → StandBetween al width begin end (b ∷ bs)
+    → StandDown al width begin end (map (λ (x : Bucket). x.place) (b ∷ bs))
+stand-first al width begin end b [] stand = (stand.2, stand.1)
+stand-first al width begin end b (c ∷ cs) stand = (stand.0, stand.1, stand-first al width begin b.place c cs stand.2)
+
+stand-down : (al width begin end : ℕ) (bs : List Bucket) → begin < end → StandBetween al width begin end bs
+    → StandDown al width begin end (map (λ (x : Bucket). x.place) bs)
+stand-down al width begin end [] some stand = omega (arith, some, stand)
+stand-down al width begin end (b ∷ bs) some stand = stand-first al width begin end b bs stand
+
+-- their generations have 8 bits
+ages : (records : List BucketRecord) (number al width height : ℕ) (bs : List Bucket) → AreBucketsSpelled records number width bs → Each (IsBucket al width height) bs
+    → Each (λ (n : ℕ). generation_of records n < generations) (numbers_of bs)
+ages records number al width height [] h each = tt
+ages records number al width height (b ∷ bs) h each = (
+  omega (arith, ap (λ (r : Option BucketRecord). option_map_or (λ (bucket : BucketRecord). bucket.generation) r 0) h.0, each.0.tag.generation),
+  ages records number al width height bs h.1 each.1,
+)
 
 -- the links of shelves
 linked : (frame : Frame) (records : List BucketRecord) (number : ℕ) (before ss : List BucketShelf) → length records ≤ no_link → IsPart (length records) (bucket_numbers ss)
@@ -72,13 +117,32 @@ buckets-in : (frame : Frame) (stored : Stored) (column height space number : ℕ
     → Each (HasBuckets (records_of frame stored column height space)) (map shelf_record (kept_shelves frame before ss))
 buckets-in frame stored column height space number before [] wide few part each h = tt
 buckets-in frame stored column height space number before (s ∷ ss) wide few part each h =
-    let own = part-own (length stored.buckets) s ss part in
-    let walked = walk-read stored.buckets number s.bucket_width s.buckets few own h.0 in (
+    let al = alignment_along frame in
+    let begin = column_place frame s.column in
+    let end = begin + frame.column_width in
+    let down = stand-down al s.bucket_width begin end s.buckets (omega (arith, wide)) each.0.stand in
+    let walked = walk-read stored.buckets number s.bucket_width s.buckets few (part-own (length stored.buckets) s ss part) h.0 in (
       record {
-        spelled = subst (IsShelf frame) (sym (shelf-read frame stored.buckets number before s wide few own each.0 h.0)) each.0;
-        free = subst (λ (w : Walked). Each (λ (n : ℕ). free_of stored.buckets n ≤ s.bucket_width) w.met) (sym walked) (frees stored.buckets number s.bucket_width s.buckets h.0);
+        aligned = each.0.aligned;
+        width = each.0.width;
+        filled = subst (λ (w : Walked). Each (λ (n : ℕ). IfSome (slice_get stored.buckets n) (IsFilled al s.bucket_width s.height)) w.met) (sym walked)
+            (fills stored.buckets number al s.bucket_width s.height s.buckets h.0 each.0.buckets);
+        stand = subst (λ (w : Walked). StandDown al s.bucket_width begin end (map (place_of stored.buckets) w.met)) (sym walked)
+            (subst (StandDown al s.bucket_width begin end) (sym (places stored.buckets number s.bucket_width s.buckets h.0)) down);
       },
       buckets-in frame stored column height space (suc number) (before ++ s ∷ []) ss wide few (part-rest (length stored.buckets) s ss part) each.1 h.1,
+    )
+
+-- the generations of the buckets of shelves
+ages-in : (frame : Frame) (stored : Stored) (column height space number : ℕ) (before ss : List BucketShelf) → length stored.buckets ≤ no_link
+    → IsPart (length stored.buckets) (bucket_numbers ss) → Each (IsShelf frame) ss → AreShelvesSpelled stored.buckets number ss
+    → Each (HasGenerations (records_of frame stored column height space)) (map shelf_record (kept_shelves frame before ss))
+ages-in frame stored column height space number before [] few part each h = tt
+ages-in frame stored column height space number before (s ∷ ss) few part each h =
+    let walked = walk-read stored.buckets number s.bucket_width s.buckets few (part-own (length stored.buckets) s ss part) h.0 in (
+      subst (λ (w : Walked). Each (λ (n : ℕ). generation_of stored.buckets n < generations) w.met) (sym walked)
+          (ages stored.buckets number (alignment_along frame) s.bucket_width s.height s.buckets h.0 each.0.buckets),
+      ages-in frame stored column height space (suc number) (before ++ s ∷ []) ss few (part-rest (length stored.buckets) s ss part) each.1 h.1,
     )
 
 -- the numbers and ends that walks meet
@@ -141,8 +205,11 @@ witnessed-stands state stored unused column height in_use space witnessed totals
     let each : (P : BucketShelfRecord → Type 0) → Each P (map shelf_record (kept_shelves frame [] ss)) → Each P (map shelf_record stored.shelves) =
     λ P ps. subst (Each P) kept ps in
     let met = numbers-in frame stored.buckets 0 [] ss few part spells.buckets in
+    let records = records_of frame stored column height space in
+    let read = state-read frame stored unused ss wide valid.shelves spells in
+    let has = each (HasBuckets records) (buckets-in frame stored column height space 0 [] ss wide few part valid.shelves.each spells.buckets) in
     record {
-      spelled = sym (state-read frame stored unused ss wide valid.shelves spells);
+      spelled = sym read;
       frame = valid.frame;
       counts = record {
         shelves = omega (arith, length-map stored.shelves shelf_record, ap (λ (ks : List KeptShelf). length ks) spells.shelves, length-kept frame [] ss, few-shelves frame ss wide valid.shelves.each, valid.shelves.few);
@@ -153,6 +220,7 @@ witnessed-stands state stored unused column height in_use space witnessed totals
         unused = stops (length stored.buckets) (bucket_walk stored.buckets stored.unused) (ap (λ (w : Walked). w.end) walked);
       };
       shelves = record {
+        wide = λ _. wide;
         columns = Each-weaken (IsShelf frame) _ ss (λ shelf is. is.column) valid.shelves.each;
         opened = valid.shelves.columns;
         along = each _ (alongs frame [] ss);
@@ -161,7 +229,7 @@ witnessed-stands state stored unused column height in_use space witnessed totals
         current_column = totals.column;
         available_height = totals.height;
       };
-      buckets = each (HasBuckets (records_of frame stored column height space)) (buckets-in frame stored column height space 0 [] ss wide few part valid.shelves.each spells.buckets);
+      buckets = has;
       neighbours = valid.ends;
       sharing = record {
         once = subst (λ (ns : List ℕ). HasEachOnce (length stored.buckets) (ns ++ (bucket_walk stored.buckets stored.unused).met)) (sym met.0 ∙ ap (walked_numbers stored.buckets) kept)
@@ -170,5 +238,6 @@ witnessed-stands state stored unused column height in_use space witnessed totals
         unused_end = ap (λ (w : Walked). w.end) walked;
       };
       unused = subst (λ (w : Walked). Each (λ (n : ℕ). live_of stored.buckets n ≡ 0) w.met) (sym walked) spells.pool.idle;
-      space = ap (λ (n : ℕ). pos n) totals.space;
+      space = ap (λ (n : ℕ). pos n) totals.space ∙ ap (λ (s : BucketedState). pos (allocated_space s)) (sym read) ∙ sym (area-used records (map shelf_record stored.shelves) has);
+      generations = each (HasGenerations records) (ages-in frame stored column height space 0 [] ss few part valid.shelves.each spells.buckets);
     }

@@ -1,11 +1,13 @@
 -- The converse of `Stands`: records that keep each rule of a snapshot, and whose links fit their bits, spell a valid state.
-use Rattle.std.proofs.Common.{◌≡◌, ℕ, suc, ◌-◌, ◌<◌, ◌≤◌, Option, None, Some, List, [], ◌∷◌, ◌++◌, length, map, length-append, refl, ap, arith, sym, ◌∙◌, subst, ⊎_elim}
+use Rattle.std.proofs.Common.{◌≡◌, ℕ, suc, ◌-◌, ◌*◌, ◌/◌, ◌%◌, ◌<◌, ◌≤◌, Option, None, Some, List, [], ◌∷◌, ◌++◌, length, map, length-append, refl, ap, arith, sym, ◌∙◌, subst, ⊎_elim}
+use Rattle.std.proofs.lemmas.Nat.{div-add-mod'}
 use Rattle.std.proofs.lemmas.Option.{slice_get_cases}
 use Rattle.std.specs.Option.{option_map_or}
-use Rattle.std.specs.Prelude.{◌+◌, option_and_then, slice_get, nat_lt, if◌then◌else◌}
+use Rattle.std.specs.Prelude.{◌+◌, IfSome, option_and_then, slice_get, nat_lt, if◌then◌else◌}
 use Rattle.etagere_base.proofs.EachLemmas.{Each-back, Each-front}
 use Rattle.etagere_base.proofs.TimesLemmas.{times-append}
 use Rattle.etagere_base.specs.declared.frames.Frame.{Frame}
+use Rattle.etagere_base.specs.Frames.{alignment_along}
 use Rattle.etagere_base.specs.Lists.{Each, times}
 use Rattle.etagere_links.proofs.AllLists.LinkedWalks.{IsPart, part-of, walk_by-leads}
 use Rattle.etagere_links.proofs.ListEnds.{times-here}
@@ -19,11 +21,14 @@ use Rattle.etagere_bucketed.specs.BucketRecords.{BucketRecords, bucket_at, bucke
 use Rattle.etagere_bucketed.specs.Private.Restored.{LinkFits, LinksFit, stored_from}
 use Rattle.etagere_bucketed.specs.Private.Store.{AreBucketsSpelled, AreShelvesSpelled, IsPool, first_link, record_of}
 use Rattle.etagere_bucketed.specs.Private.Witnessed.{Witnessed}
-use Rattle.etagere_bucketed.specs.StandsFor.{AreLinked, HasBuckets, StandsFor, free_of, shelf_of, walked_numbers}
-use Rattle.etagere_bucketed.specs.State.{Bucket, BucketShelf, BucketedState, bucket_numbers}
-use Rattle.etagere_bucketed.specs.Valid.{IsShelf, IsValid}
+use Rattle.etagere_bucketed.specs.StandsFor.{AreBuckets, AreLinked, HasBuckets, HasGenerations, IsFilled, StandDown, StandsFor, free_of, generation_of, place_of, shelf_of, walked_numbers}
+use Rattle.etagere_bucketed.specs.Frames.{IsBucketedFrame}
+use Rattle.etagere_bucketed.specs.State.{Bucket, BucketShelf, BucketedState, bucket_numbers, column_place, generations, most_buckets}
+use Rattle.etagere_bucketed.specs.Valid.{IsBucket, IsShelf, IsValid, StandBetween}
+use Rattle.etagere_bucketed.proofs.Shelving.Shares.{aligned-times}
 use Rattle.etagere_bucketed.proofs.Shelving.Shelves.{numbers_of}
 use Rattle.etagere_bucketed.proofs.Spelling.MadeShelves.{in-use-length}
+use Rattle.etagere_bucketed.proofs.Spelling.UsedAreas.{frees-filled}
 
 -- the bucket of a number has that number
 bucket_at-number : (buckets : List BucketRecord) (width n : ℕ) → (bucket_at buckets width n).tag.number ≡ n
@@ -108,17 +113,97 @@ shelves-spelled atlas number (shelf ∷ shelves) few fit firsts linked has ends 
     let walked = bucket_walk atlas.buckets shelf.first_bucket in (
       buckets-spelled atlas.buckets number shelf.bucket_width shelf.first_bucket walked.met
           (Each-front (λ (n : ℕ). n < length atlas.buckets) walked.met (walked_numbers atlas.buckets shelves) within)
-          linked.1 has.0.free
+          linked.1 (frees-filled atlas.buckets (alignment_along atlas.frame) shelf.bucket_width shelf.height walked.met has.0.filled)
           (walk_by-leads (λ (bucket : BucketRecord). bucket.next) atlas.buckets shelf.first_bucket fit firsts.0 few ends.0),
       shelves-spelled atlas (suc number) shelves few fit firsts.1 linked.2 has.1 ends.1
           (Each-back (λ (n : ℕ). n < length atlas.buckets) walked.met (walked_numbers atlas.buckets shelves) within),
     )
 
--- the shelves that records spell are as shelves must be
-each-shelf : (atlas : BucketRecords) (shelves : List BucketShelfRecord) → Each (HasBuckets atlas) shelves
+module _ (buckets : List BucketRecord) (al width : ℕ) where
+  -- the bucket that a record spells is as a bucket must be
+  bucket-kept : (height n : ℕ) → length buckets ≤ most_buckets → n < length buckets → IfSome (slice_get buckets n) (IsFilled al width height)
+      → generation_of buckets n < generations → IsBucket al width height (bucket_at buckets width n)
+  bucket-kept height n few within filled age =
+      ⊎_elim (λ found. of_record found.0 found.2) (λ none. absurd (omega (arith, within, none.0))) (slice_get_cases buckets n).1
+    where
+      of_record : (r : BucketRecord) → slice_get buckets n ≡ Some r → IsBucket al width height (bucket_at buckets width n)
+      of_record r here =
+          let is : IsFilled al width height r = subst (λ (o : Option BucketRecord). IfSome o (IsFilled al width height)) here filled in
+          let young : r.generation < generations = subst (λ (o : Option BucketRecord). option_map_or (λ (b : BucketRecord). b.generation) o 0 < generations) here age in
+          subst
+          (λ (o : Option BucketRecord). IsBucket al width height (option_map_or (spelled_bucket width n) o
+          (record { place = 0; used = 0; live = 0; given = 0; tag = record { number = n; generation = 0 } })))
+          (sym here)
+          (record {
+            tag = record { number = omega (arith, few, within); generation = young };
+            used = omega arith;
+            aligned = is.aligned;
+            live = is.live;
+            given = is.given;
+            idle = is.idle;
+            busy = is.busy;
+          })
+
+  -- so are those of numbers
+  each-bucket : (height : ℕ) (ns : List ℕ) → length buckets ≤ most_buckets → Each (λ (n : ℕ). n < length buckets) ns
+      → Each (λ (n : ℕ). IfSome (slice_get buckets n) (IsFilled al width height)) ns → Each (λ (n : ℕ). generation_of buckets n < generations) ns
+      → Each (IsBucket al width height) (map (bucket_at buckets width) ns)
+  each-bucket height [] few within filled ages = tt
+  each-bucket height (n ∷ ns) few within filled ages =
+      (bucket-kept height n few within.0 filled.0 ages.0, each-bucket height ns few within.1 filled.1 ages.1)
+
+  -- a bucket stands where its record says
+  place-same : (n : ℕ) → (bucket_at buckets width n).place ≡ place_of buckets n
+  place-same n = by_record (slice_get buckets n)
+    where
+      by_record : (r : Option BucketRecord) → (option_map_or (spelled_bucket width n) r
+          (record { place = 0; used = 0; live = 0; given = 0; tag = record { number = n; generation = 0 } })).place ≡ option_map_or (λ (b : BucketRecord). b.x) r 0
+      by_record None = refl
+      by_record (Some r) = refl
+
+  -- buckets that stand down to an aligned place stand between
+  stand-between : (begin end : ℕ) (ns : List ℕ) → begin % al ≡ 0 → StandDown al width begin end (map (place_of buckets) ns)
+      → StandBetween al width begin end (map (bucket_at buckets width) ns)
+  stand-between begin end [] even stand = absurd stand
+  stand-between begin end (n ∷ []) even stand =
+      subst (λ (p : ℕ). (p % al ≡ 0) × (p + width ≤ end) × (p ≡ begin)) (sym (place-same n)) (ap (λ (p : ℕ). p % al) stand.0 ∙ even, stand.1, stand.0)
+  stand-between begin end (n ∷ m ∷ ms) even stand =
+      subst (λ (p : ℕ). (p % al ≡ 0) × (p + width ≤ end) × StandBetween al width begin p (map (bucket_at buckets width) (m ∷ ms))) (sym (place-same n))
+      (stand.0, stand.1, stand-between begin (place_of buckets n) (m ∷ ms) even stand.2)
+
+-- the shelf that a record spells is as a shelf must be
+one-shelf : (frame : Frame) (buckets : List BucketRecord) (shelf : BucketShelfRecord) (ns : List ℕ) → IsBucketedFrame frame → length buckets ≤ most_buckets
+    → shelf.x % frame.column_width ≡ 0 → shelf.x / frame.column_width < frame.columns → Each (λ (n : ℕ). n < length buckets) ns
+    → AreBuckets frame buckets shelf ns → Each (λ (n : ℕ). generation_of buckets n < generations) ns
+    → IsShelf frame (record { column = shelf.x / frame.column_width; height = shelf.height; bucket_width = shelf.bucket_width; buckets = map (bucket_at buckets shelf.bucket_width) ns })
+one-shelf frame buckets shelf ns is_frame few along column within has ages =
+    let al = alignment_along frame in
+    let width = shelf.bucket_width in
+    let row : List Bucket = map (bucket_at buckets width) ns in
+    let begins : shelf.x ≡ column_place frame (shelf.x / frame.column_width) = omega (arith, div-add-mod' shelf.x frame.column_width, along) in
+    let even : shelf.x % al ≡ 0 = ap (λ (n : ℕ). n % al) begins ∙ aligned-times (shelf.x / frame.column_width) frame.column_width al is_frame.aligned in
+    record {
+      column = column;
+      aligned = has.aligned;
+      width = has.width;
+      buckets = each-bucket buckets al width shelf.height ns few within has.filled ages;
+      stand = subst (λ (x : ℕ). StandBetween al width x (x + frame.column_width) row) begins (stand-between buckets al width shelf.x (shelf.x + frame.column_width) ns even has.stand);
+    }
+
+-- so are the shelves that records spell
+each-shelf : (atlas : BucketRecords) (shelves : List BucketShelfRecord) → IsBucketedFrame atlas.frame → length atlas.buckets ≤ most_buckets
+    → Each (λ (shelf : BucketShelfRecord). shelf.x % atlas.frame.column_width ≡ 0) shelves
+    → Each (λ (shelf : BucketShelf). shelf.column < atlas.frame.columns) (map (spelled_shelf atlas.frame atlas.buckets) shelves)
+    → Each (λ (n : ℕ). n < length atlas.buckets) (walked_numbers atlas.buckets shelves) → Each (HasBuckets atlas) shelves → Each (HasGenerations atlas) shelves
     → Each (IsShelf atlas.frame) (map (spelled_shelf atlas.frame atlas.buckets) shelves)
-each-shelf atlas [] has = tt
-each-shelf atlas (shelf ∷ shelves) has = (has.0.spelled, each-shelf atlas shelves has.1)
+each-shelf atlas [] is_frame few along columns within has ages = tt
+each-shelf atlas (shelf ∷ shelves) is_frame few along columns within has ages =
+    let met = (bucket_walk atlas.buckets shelf.first_bucket).met in (
+      one-shelf atlas.frame atlas.buckets shelf met is_frame few along.0 columns.0
+          (Each-front (λ (n : ℕ). n < length atlas.buckets) met (walked_numbers atlas.buckets shelves) within) has.0 ages.0,
+      each-shelf atlas shelves is_frame few along.1 columns.1
+          (Each-back (λ (n : ℕ). n < length atlas.buckets) met (walked_numbers atlas.buckets shelves) within) has.1 ages.1,
+    )
 
 -- what stands once below a count, and nowhere else, is so many
 pub once-length : (count : ℕ) (ns : List ℕ) → HasEachOnce count ns → length ns ≡ count
@@ -170,7 +255,7 @@ module _ (atlas : BucketRecords) (fit : LinksFit atlas) (stands : StandsFor atla
       record {
         frame = stands.frame;
         shelves = record {
-          each = each-shelf atlas atlas.shelves stands.buckets;
+          each = each-shelf atlas atlas.shelves stands.frame stands.counts.buckets stands.shelves.along stands.shelves.columns within stands.buckets stands.generations;
           columns = stands.shelves.opened;
           heights = stands.shelves.heights;
           numbers = part.once;

@@ -1,5 +1,5 @@
 -- The passes over the records of a snapshot that test its rules, as the code makes them.
-use Rattle.std.specs.Prelude.{◌≡◌, ◌≤◌, ℕ, ◌+◌, ◌-◌, ◌*◌, ◌/◌, ◌%◌, ◌^◌, max, Bool, false, ◌&&◌, ◌||◌, not, Option, None, Some, option_and_then, List, [], ◌∷◌, length, map, slice_get, nat_le, nat_lt, ◌==◌, if◌then◌else◌}
+use Rattle.std.specs.Prelude.{◌≡◌, ◌<◌, ◌≤◌, ℕ, ◌+◌, ◌-◌, ◌*◌, ◌/◌, ◌%◌, ◌^◌, max, Bool, false, ◌&&◌, ◌||◌, not, Option, None, Some, option_and_then, List, [], ◌∷◌, length, map, slice_get, nat_le, nat_lt, ◌==◌, if◌then◌else◌}
 use Rattle.std.specs.List.{list_all}
 use Rattle.std.specs.Option.{option_map_or}
 use Rattle.etagere_base.specs.declared.faults.RestoreFault.{RestoreFault}
@@ -17,9 +17,9 @@ use Rattle.etagere_bucketed.specs.Frames.{longest_bucketed_side}
 use Rattle.etagere_bucketed.specs.Private.Searching.{is_kept_idle, record_room}
 use Rattle.etagere_bucketed.specs.Private.Store.{KeptShelf, live_items, widest_room}
 use Rattle.etagere_bucketed.specs.Space.{used_width}
-pub use Rattle.etagere_bucketed.specs.StandsFor.{free_of, live_of, shelf_of}
+use Rattle.etagere_bucketed.specs.StandsFor.{AreBuckets}
+pub use Rattle.etagere_bucketed.specs.StandsFor.{free_of, generation_of, live_of, shelf_of}
 use Rattle.etagere_bucketed.specs.State.{BucketShelf, generations, most_given}
-use Rattle.etagere_bucketed.specs.Valid.{IsShelf}
 
 -- the sides of a frame and its area keep their ranges
 abbrev pub has_sides : Frame → Bool
@@ -60,17 +60,9 @@ is_filled alignment width height bucket =
     && (if bucket.refcount == 0 then bucket.item_count == 0 && width - bucket.free_space == 0
     else nat_le (bucket.item_count * alignment) (width - bucket.free_space) && nat_le 1 height)))
 
--- its generation fits an id
-abbrev pub fits_id : BucketRecord → Bool
-fits_id bucket = nat_lt bucket.generation generations
-
--- the record keeps the rule of buckets but for its place
-abbrev pub is_sound : ℕ → ℕ → ℕ → BucketRecord → Bool
-is_sound alignment width height bucket = is_filled alignment width height bucket && fits_id bucket
-
--- so does the record of this number
-abbrev pub is_sound_at : ℕ → ℕ → ℕ → List BucketRecord → ℕ → Bool
-is_sound_at alignment width height buckets number = field_at (is_sound alignment width height) false buckets number
+-- so is the record of this number
+abbrev pub is_filled_at : ℕ → ℕ → ℕ → List BucketRecord → ℕ → Bool
+is_filled_at alignment width height buckets number = field_at (is_filled alignment width height) false buckets number
 
 -- where a bucket this wide stands that is to end by there at most; none where it is not aligned or ends later
 abbrev pub stand_at : ℕ → ℕ → ℕ → BucketRecord → Option ℕ
@@ -88,9 +80,21 @@ last_stand alignment width buckets end (number ∷ numbers) =
     option_and_then (λ (place : ℕ). last_stand alignment width buckets place numbers)
     (stand_by alignment width buckets end number)
 
--- what was found is this place
-abbrev pub ends_at : ℕ → Option ℕ → Bool
-ends_at begin last = option_map_or (λ (place : ℕ). place == begin) last false
+-- a bucket this wide stands at the begin, and ends by there at most
+abbrev pub begins_at : ℕ → ℕ → ℕ → BucketRecord → Bool
+begins_at width begin end bucket = bucket.x == begin && nat_le (bucket.x + width) end
+
+-- the same for the record of this number
+abbrev pub begins_by : ℕ → ℕ → ℕ → List BucketRecord → ℕ → Bool
+begins_by width begin end buckets number = field_at (begins_at width begin end) false buckets number
+
+-- the records of these numbers stand one before the other, the last one at the begin
+abbrev pub stand_together : ℕ → ℕ → List BucketRecord → ℕ → ℕ → List ℕ → Bool
+stand_together alignment width buckets begin end [] = false
+stand_together alignment width buckets begin end (number ∷ []) = begins_by width begin end buckets number
+stand_together alignment width buckets begin end (number ∷ next ∷ numbers) =
+    option_map_or (λ (place : ℕ). stand_together alignment width buckets begin place (next ∷ numbers))
+    (stand_by alignment width buckets end number) false
 
 -- the records of these numbers are those of the buckets of a shelf
 abbrev pub has_buckets : Frame → List BucketRecord → BucketShelfRecord → List ℕ → Bool
@@ -98,8 +102,8 @@ has_buckets frame buckets shelf numbers =
     let alignment = alignment_along frame in
     let width = shelf.bucket_width in
     (width % alignment == 0 && (not (frame.columns == 1) || nat_le 1 width))
-    && (list_all (is_sound_at alignment width shelf.height buckets) numbers
-    && ends_at shelf.x (last_stand alignment width buckets (shelf.x + frame.column_width) numbers))
+    && (list_all (is_filled_at alignment width shelf.height buckets) numbers
+    && stand_together alignment width buckets shelf.x (shelf.x + frame.column_width) numbers)
 
 -- the shelf that a record spells with the buckets of these numbers
 abbrev pub row_shelf : Frame → List BucketRecord → BucketShelfRecord → List ℕ → BucketShelf
@@ -171,14 +175,13 @@ row_kept shelf buckets numbers =
 -- the buckets of these numbers are those of the shelf of a number, and this is what is kept of it
 pub record IsRow (frame : Frame) (buckets : List BucketRecord) (number : ℕ) (shelf : BucketShelfRecord) (numbers : List ℕ) (judged : Judged) : Type 0 where
   pub owned : Each (λ bucket. shelf_of buckets bucket ≡ number) numbers
-  pub spelled : IsShelf frame (row_shelf frame buckets shelf numbers)
-  pub free : Each (λ bucket. free_of buckets bucket ≤ shelf.bucket_width) numbers
+  pub has : AreBuckets frame buckets shelf numbers
+  pub generations : Each (λ bucket. generation_of buckets bucket < generations) numbers
   pub kept : judged.kept ≡ row_kept shelf buckets numbers
   pub space : judged.space ≡ used_width (row_shelf frame buckets shelf numbers).buckets * shelf.height
 
 -- the rule that a fault names is broken by them
 abbrev pub BreaksRow : Frame → List BucketRecord → ℕ → BucketShelfRecord → List ℕ → RestoreFault → Type 0
 BreaksRow frame buckets number shelf numbers Link = Each (λ bucket. shelf_of buckets bucket ≡ number) numbers → ⊥
-BreaksRow frame buckets number shelf numbers Runs =
-    IsShelf frame (row_shelf frame buckets shelf numbers) × Each (λ bucket. free_of buckets bucket ≤ shelf.bucket_width) numbers → ⊥
+BreaksRow frame buckets number shelf numbers Runs = AreBuckets frame buckets shelf numbers → ⊥
 BreaksRow frame buckets number shelf numbers fault = ⊥

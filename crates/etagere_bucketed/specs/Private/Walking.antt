@@ -1,5 +1,5 @@
 -- Following the lists of a snapshot's buckets: each is marked, and each list ends at none.
-use Rattle.std.specs.Prelude.{◌≡◌, ℕ, suc, ◌≤◌, ◌*◌, Bool, Option, List, [], ◌∷◌, ◌++◌, length, map}
+use Rattle.std.specs.Prelude.{◌≡◌, ℕ, suc, ◌<◌, ◌*◌, Bool, Option, List, [], ◌∷◌, ◌++◌, length, map}
 use Rattle.etagere_base.specs.declared.faults.RestoreFault.{RestoreFault}
 use Rattle.etagere_base.specs.declared.faults.RestoreFault.TheVariants.{Link, Runs, Sharing, Unused, Memory}
 use Rattle.etagere_base.specs.declared.frames.Frame.{Frame}
@@ -15,8 +15,8 @@ use Rattle.etagere_bucketed.specs.Private.Judging.{Judged, row_kept}
 use Rattle.etagere_bucketed.specs.Private.Restored.{LinkFits}
 use Rattle.etagere_bucketed.specs.Private.Store.{KeptShelf}
 use Rattle.etagere_bucketed.specs.Space.{space_in, used_width}
-use Rattle.etagere_bucketed.specs.StandsFor.{StopsInRange, free_of, live_of, shelf_of, walked_numbers}
-use Rattle.etagere_bucketed.specs.Valid.{IsShelf}
+use Rattle.etagere_bucketed.specs.StandsFor.{AreBuckets, StopsInRange, generation_of, live_of, shelf_of, walked_numbers}
+use Rattle.etagere_bucketed.specs.State.{generations}
 
 -- the links of bucket records, as bits
 abbrev pub links_of : List BucketRecord → List ℕ
@@ -35,8 +35,8 @@ pub record IsJudged (frame : Frame) (buckets : List BucketRecord) (number : ℕ)
   pub ends : (bucket_walk buckets shelf.first_bucket).end ≡ no_link
   pub fits : LinkFits shelf.first_bucket
   pub owned : Each (λ bucket. shelf_of buckets bucket ≡ number) (bucket_walk buckets shelf.first_bucket).met
-  pub spelled : IsShelf frame (spelled_shelf frame buckets shelf)
-  pub free : Each (λ bucket. free_of buckets bucket ≤ shelf.bucket_width) (bucket_walk buckets shelf.first_bucket).met
+  pub has : AreBuckets frame buckets shelf (bucket_walk buckets shelf.first_bucket).met
+  pub generations : Each (λ bucket. generation_of buckets bucket < generations) (bucket_walk buckets shelf.first_bucket).met
 
 -- so were shelves, of which the first has this number
 abbrev pub AreJudged : Frame → List BucketRecord → ℕ → List BucketShelfRecord → Type 0
@@ -68,8 +68,7 @@ BreaksShelf frame buckets marks number shelf Link =
     StopsInRange (length buckets) (bucket_walk buckets shelf.first_bucket)
     → Each (λ bucket. shelf_of buckets bucket ≡ number) (bucket_walk buckets shelf.first_bucket).met → ⊥
 BreaksShelf frame buckets marks number shelf Runs =
-    IsShelf frame (spelled_shelf frame buckets shelf)
-    → Each (λ bucket. free_of buckets bucket ≤ shelf.bucket_width) (bucket_walk buckets shelf.first_bucket).met → ⊥
+    AreBuckets frame buckets shelf (bucket_walk buckets shelf.first_bucket).met → ⊥
 BreaksShelf frame buckets marks number shelf Sharing =
     (bucket_walk buckets shelf.first_bucket).end ≡ no_link → (numbers : List ℕ) → IsMarkedBy marks numbers
     → HasTwice (numbers ++ (bucket_walk buckets shelf.first_bucket).met)

@@ -13,7 +13,7 @@ use Rattle.etagere_bucketed.specs.Private.Witnessed.{HasTotals}
 use Rattle.etagere_bucketed.specs.Restoring.{Keeps, snapshot_records, state_of}
 use Rattle.etagere_bucketed.specs.StandsFor.{HasCounts, HasShelves}
 use Rattle.etagere_bucketed.specs.Valid.{ends_idle}
-use Rattle.etagere_bucketed.proofs.Judged.Assembled.{assembled, columns-said, idle-kept, restored, same-lists, totals}
+use Rattle.etagere_bucketed.proofs.Judged.Assembled.{area-judged, assembled, columns-said, idle-kept, restored, same-lists, totals}
 use Rattle.etagere_bucketed.proofs.Judged.FrameTests.{frame-decided}
 use Rattle.etagere_bucketed.proofs.Judged.StackTests.{stacked-decided}
 use Rattle.etagere_bucketed.proofs.restoring.judged_snapshot.Goals as goal
@@ -25,18 +25,25 @@ pass atlas frame shelves result same_frame same_shelves is =
     sym (is ∙ ap (λ (f : Frame). is_stacked f shelves atlas.current_column atlas.available_height) same_frame
     ∙ ap (λ (ss : List BucketShelfRecord). is_stacked atlas.frame ss atlas.current_column atlas.available_height) same_shelves)
 
+-- a frame that passes keeps its rule
+framed : (atlas : BucketRecords) (frame : Frame) (result : Bool) → frame ≡ atlas.frame → result ≡ is_frame frame → result ≡ true → Keeps atlas faults.Frame
+framed atlas frame result same is passed =
+    granted (is_frame atlas.frame) (Keeps atlas faults.Frame) (frame-decided atlas.frame) (ap (λ (f : Frame). is_frame f) (sym same) ∙ sym is ∙ passed)
+
 pub returns-then-not-is_stacked-clause-fault : goal.returns-then-not-is_stacked-clause-fault
 returns-then-not-is_stacked-clause-fault c =
     let atlas : BucketRecords = snapshot_records c.args.snapshot.now in
+    let frame = framed atlas c.snapshot_frame-frame.result c.is_frame.result c.snapshot_frame-frame.ensures.value c.is_frame.ensures (grind (arith, c.if-not-is_frame.false)) in
     let none : c.is_stacked.result ≡ false = grind (arith, c.if-not-is_stacked.true) in
-    denied (is_stacked atlas.frame atlas.shelves atlas.current_column atlas.available_height) (HasShelves atlas (state_of atlas)) (stacked-decided atlas)
+    denied (is_stacked atlas.frame atlas.shelves atlas.current_column atlas.available_height) (HasShelves atlas (state_of atlas)) (stacked-decided atlas frame.column_width)
     (pass atlas c.snapshot_frame-frame.result c.deref.result.now c.is_stacked.result c.snapshot_frame-frame.ensures.value c.deref.ensures.value c.is_stacked.ensures ∙ none)
 
 pub judged_lists-requires-clause-along : goal.judged_lists-requires-clause-along
 judged_lists-requires-clause-along c =
     let atlas : BucketRecords = snapshot_records c.args.snapshot.now in
+    let frame = framed atlas c.snapshot_frame-frame.result c.is_frame.result c.snapshot_frame-frame.ensures.value c.is_frame.ensures (grind (arith, c.if-not-is_frame.false)) in
     let all : c.is_stacked.result ≡ true = grind (arith, c.if-not-is_stacked.false) in
-    let has = granted (is_stacked atlas.frame atlas.shelves atlas.current_column atlas.available_height) (HasShelves atlas (state_of atlas)) (stacked-decided atlas)
+    let has = granted (is_stacked atlas.frame atlas.shelves atlas.current_column atlas.available_height) (HasShelves atlas (state_of atlas)) (stacked-decided atlas frame.column_width)
     (pass atlas c.snapshot_frame-frame.result c.deref.result.now c.is_stacked.result c.snapshot_frame-frame.ensures.value c.deref.ensures.value c.is_stacked.ensures ∙ all) in
     subst (λ (f : Frame). Each (λ (shelf : BucketShelfRecord). shelf.x % f.column_width ≡ 0) c.deref-3.result.now) (sym c.snapshot_frame-frame.ensures.value)
     (subst (λ (ss : List BucketShelfRecord). Each (λ (shelf : BucketShelfRecord). shelf.x % atlas.frame.column_width ≡ 0) ss) (sym c.deref-3.ensures.value) has.along)
@@ -44,8 +51,9 @@ judged_lists-requires-clause-along c =
 pub judged_lists-requires-clause-columns : goal.judged_lists-requires-clause-columns
 judged_lists-requires-clause-columns c =
     let atlas : BucketRecords = snapshot_records c.args.snapshot.now in
+    let frame = framed atlas c.snapshot_frame-frame.result c.is_frame.result c.snapshot_frame-frame.ensures.value c.is_frame.ensures (grind (arith, c.if-not-is_frame.false)) in
     let all : c.is_stacked.result ≡ true = grind (arith, c.if-not-is_stacked.false) in
-    let has = granted (is_stacked atlas.frame atlas.shelves atlas.current_column atlas.available_height) (HasShelves atlas (state_of atlas)) (stacked-decided atlas)
+    let has = granted (is_stacked atlas.frame atlas.shelves atlas.current_column atlas.available_height) (HasShelves atlas (state_of atlas)) (stacked-decided atlas frame.column_width)
     (pass atlas c.snapshot_frame-frame.result c.deref.result.now c.is_stacked.result c.snapshot_frame-frame.ensures.value c.deref.ensures.value c.is_stacked.ensures ∙ all) in
     subst (λ (f : Frame). Each (λ (shelf : BucketShelfRecord). shelf.x / f.column_width < f.columns) c.deref-3.result.now) (sym c.snapshot_frame-frame.ensures.value)
     (subst (λ (ss : List BucketShelfRecord). Each (λ (shelf : BucketShelfRecord). shelf.x / atlas.frame.column_width < atlas.frame.columns) ss) (sym c.deref-3.ensures.value)
@@ -65,16 +73,24 @@ returns-then-ends_idle-clause-fault c =
     c.ends_idle.ensures ∙ ap (λ (ks : List KeptShelf). judging.ends_idle ks) (c.deref-4.ensures.value ∙ lists.kept) ∙ idle-kept atlas.frame atlas.buckets atlas.shelves in
     λ (keeps : ends_idle (state_of atlas).shelves ≡ false). let none : c.ends_idle.result ≡ false = said ∙ keeps in absurd (cc)
 
+pub returns-in_default-clause-fault : goal.returns-in_default-clause-fault
+returns-in_default-clause-fault c =
+    let atlas : BucketRecords = snapshot_records c.args.snapshot.now in
+    let kept : List KeptShelf = c.in_ok-lists.lists.kept.shelves.items in
+    let used : ℕ = c.in_ok-lists.lists.in_use in
+    let area : ℕ = c.in_ok-lists.lists.kept.space in
+    let lists = same-lists atlas c.snapshot_frame-frame.result c.deref-2.result.now c.deref-3.result.now kept used area
+    c.snapshot_frame-frame.ensures.value c.deref-2.ensures.value c.deref-3.ensures.value c.in_ok-lists.ensures.ok in
+    λ said. c.in_default.ensures.none (said ∙ sym (area-judged atlas kept used area lists))
+
 pub returns-clause-ok : goal.returns-clause-ok
 returns-clause-ok c =
     let atlas : BucketRecords = snapshot_records c.args.snapshot.now in
+    let frame = framed atlas c.snapshot_frame-frame.result c.is_frame.result c.snapshot_frame-frame.ensures.value c.is_frame.ensures (grind (arith, c.if-not-is_frame.false)) in
     let all : c.is_stacked.result ≡ true = grind (arith, c.if-not-is_stacked.false) in
     let shelves : HasShelves atlas (state_of atlas) =
-    granted (is_stacked atlas.frame atlas.shelves atlas.current_column atlas.available_height) (HasShelves atlas (state_of atlas)) (stacked-decided atlas)
+    granted (is_stacked atlas.frame atlas.shelves atlas.current_column atlas.available_height) (HasShelves atlas (state_of atlas)) (stacked-decided atlas frame.column_width)
     (pass atlas c.snapshot_frame-frame.result c.deref.result.now c.is_stacked.result c.snapshot_frame-frame.ensures.value c.deref.ensures.value c.is_stacked.ensures ∙ all) in
-    let framed : c.is_frame.result ≡ true = grind (arith, c.if-not-is_frame.false) in
-    let frame : Keeps atlas faults.Frame =
-    granted (is_frame atlas.frame) (Keeps atlas faults.Frame) (frame-decided atlas.frame) (ap (λ (f : Frame). is_frame f) (sym c.snapshot_frame-frame.ensures.value) ∙ sym c.is_frame.ensures ∙ framed) in
     let counts : HasCounts atlas = record { shelves = omega arith; buckets = omega arith } in
     let kept : List KeptShelf = c.in_ok-lists.lists.kept.shelves.items in
     let used : ℕ = c.in_ok-lists.lists.in_use in

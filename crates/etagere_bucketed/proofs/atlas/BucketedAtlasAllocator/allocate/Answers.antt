@@ -6,7 +6,7 @@ use Rattle.etagere_base.specs.declared.frames.Frame.{Frame}
 use Rattle.etagere_base.specs.declared.geometry.Size.{Size}
 use Rattle.etagere_base.specs.declared.sides.Sides.{Sides}
 use Rattle.etagere_base.specs.Frames.{asked}
-use Rattle.etagere_base.specs.Rectangles.{IsAligned, IsLarge}
+use Rattle.etagere_base.specs.Rectangles.{IsAligned, IsInside, IsLarge}
 use Rattle.etagere_bucketed.specs.declared.atlas.BucketedAtlasAllocator.TheInside.{Inside}
 use Rattle.etagere_bucketed.specs.declared.placing.Place as code
 use Rattle.etagere_bucketed.specs.Adding.{Left, left_to}
@@ -19,7 +19,7 @@ use Rattle.etagere_bucketed.specs.Private.StoreEdits.{CanGive, IsShort, end_of, 
 use Rattle.etagere_bucketed.specs.Private.StoreEdits as store
 use Rattle.etagere_bucketed.specs.Private.Witnessed.{HasTotals, Witnessed}
 use Rattle.etagere_bucketed.specs.State.{BucketedState, available_height, current_column, most_buckets}
-use Rattle.etagere_bucketed.proofs.Allocating.{allocates-aligned, allocates-large, allocates-valid}
+use Rattle.etagere_bucketed.proofs.Allocating.{allocates-aligned, allocates-inside, allocates-large, allocates-valid}
 use Rattle.etagere_bucketed.proofs.Promises.{valid-promises}
 use Rattle.etagere_bucketed.proofs.Shelving.Added.{current-below}
 use Rattle.etagere_bucketed.proofs.Spelling.AllocatedRecords.{IsAllocation, Makes, allocation-is, makes, needed-few, needs-shelf, refused}
@@ -194,6 +194,11 @@ allocates c =
 pub returns-clause-placed : goal.returns-clause-placed
 returns-clause-placed c =
     subst (λ (state : BucketedState). Allocates state c.args.size c.allocation-allocation.result (stored_state c.self.inside.frame c.take-area.new.self)) c.self.view_is (allocates c)
+
+pub returns-clause-inside : goal.returns-clause-inside
+returns-clause-inside c =
+    subst (λ (state : BucketedState). IsInside state.frame c.allocation-allocation.result.rectangle) c.self.view_is
+    (allocates-inside (state_in c.self.inside) c.args.size c.allocation-allocation.result (stored_state c.self.inside.frame c.take-area.new.self) c.self.invariant.witnessed.valid (allocates c))
 
 pub returns-clause-large : goal.returns-clause-large
 returns-clause-large c =
