@@ -12,3 +12,4 @@ pub mod ItemBound
 pub mod ItemIds
 pub mod ListedOnce
 pub mod RecordNumbers
+pub mod SeenById

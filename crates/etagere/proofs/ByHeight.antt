@@ -1,12 +1,16 @@
 -- The shelves in use by height: how the list is searched and changed.
 pub mod BestByHeight
 pub mod CollectedShelves
+pub mod EarliestChosen
+pub mod EarliestShelves
 pub mod Edited
+pub mod EmptyShelves
 pub mod FreedBounds
 pub mod FreedRanks
 pub mod KeptRanks
 pub mod LeastOffers
 pub mod MergedRanks
+pub mod MetShelves
 pub mod NewlyRanked
 pub mod NumberedBounds
 pub mod PairedShelves

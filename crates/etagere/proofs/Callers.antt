@@ -1,15 +1,21 @@
 -- For callers: what they were given is found under its id, lies where and as what is allocated does, and stays so
--- through each allocation and return; and each call can be answered. A caller's proofs cite this file alone of these.
-use Rattle.std.proofs.Common.{◌≡◌, ℕ, ◌+◌, ◌≤◌, Bool, true, false, cond, ◌||◌, ◌==◌, not, Option, Some, List, [], ◌∷◌, ◌++◌, length, map, filter, refl, ap, sym, ◌∙◌, subst, arith}
+-- through each allocation and return; the promises are kept; and each call can be answered. A caller's proofs cite this
+-- file alone of these.
+use Rattle.std.proofs.Common.{◌≡◌, ℕ, ◌+◌, ◌^◌, ◌<◌, ◌≤◌, Bool, true, false, cond, ◌||◌, ◌==◌, not, Option, Some, List, [], ◌∷◌, ◌++◌, length, map, filter, refl, ap, sym, ◌∙◌, subst, arith}
 use Rattle.std.specs.Prelude.{None, is_some, option_map}
 use Rattle.std.specs.List.{find, list_any}
 use Rattle.std.proofs.lemmas.Bool.{or_parts}
 use Rattle.std.proofs.lemmas.Bool.Decides.{nat_tests}
 use Rattle.std.proofs.lemmas.List.{length-map, map-append}
+use Rattle.etagere_base.specs.declared.geometry.Rectangle.{Rectangle}
 use Rattle.etagere_base.specs.declared.geometry.Size.{Size}
 use Rattle.etagere_base.specs.declared.ids.Allocation.{Allocation}
+use Rattle.etagere_base.specs.declared.options.AllocatorOptions.{AllocatorOptions}
+use Rattle.etagere_base.specs.Frames.{IsAccepted, atlas_frame, longest_side}
 use Rattle.etagere_base.specs.Lists.{Each, times}
 use Rattle.etagere_base.specs.Rectangles.{AreApart, SharesNone}
+use Rattle.etagere_base.specs.Sides.{side}
+use Rattle.etagere_base.proofs.AcceptedFrames.{accepted-frame}
 use Rattle.etagere_base.proofs.FirstFound.{is_some-find}
 use Rattle.etagere_base.proofs.EachLemmas.{Each-append, Each-back, Each-both, Each-front, Each-remove_place, Each-weaken}
 use Rattle.etagere_base.proofs.TimesLemmas.{times-append}
@@ -21,15 +27,17 @@ pub use Rattle.etagere.proofs.Returned.ReturnedAllocated.{returned-allocated}
 use Rattle.etagere.proofs.Grown.GrownFrames.{frame-grows, growth-fits}
 use Rattle.etagere.proofs.Grown.GrownValid.{grown-allocated, grown-valid}
 use Rattle.etagere.proofs.Places.FreshLemmas.{fresh-valid}
-use Rattle.etagere.proofs.Promises.{promises}
+pub use Rattle.etagere.proofs.Promises.{promises}
 use Rattle.etagere.proofs.Returned.ReturnedValid.{returned-valid}
-use Rattle.etagere.specs.Atlas.{Adds, KeepsPromises, without_id}
+use Rattle.etagere.proofs.Taken.TakenAllocated.{taken-allocations}
+use Rattle.etagere.specs.Atlas.{Adds, Allocates, KeepsPromises, without_id}
 use Rattle.etagere.specs.Callers.{AreTied, IsFound}
 use Rattle.etagere.specs.Places.{allocations, is_allocated, rectangle_of}
 use Rattle.etagere.specs.Fresh.{fresh}
 use Rattle.etagere.specs.Growing.{atlas_grown, grow_fault, grown_frame}
 use Rattle.etagere.specs.Returning.{returned}
 use Rattle.etagere.specs.State.{AtlasState}
+use Rattle.etagere.specs.Taking.{taken}
 use Rattle.etagere.specs.Valid.{IsValid}
 
 -- an allocation has this id
@@ -67,7 +75,7 @@ list_any-found test (x ∷ xs) y found = passes (test x) found (list_any-found t
     passes false found later = later found
 
 -- an element that fails the test hides nothing
-find-inserted_other : {X : Type 0} (test : X → Bool) (front : List X) (x : X) (back : List X) → test x ≡ false
+pub find-inserted_other : {X : Type 0} (test : X → Bool) (front : List X) (x : X) (back : List X) → test x ≡ false
     → find test (front ++ x ∷ back) ≡ find test (front ++ back)
 find-inserted_other test [] x back fails = rw fails refl
 find-inserted_other test (y ∷ front) x back fails = ap (cond (test y) (Some y)) (find-inserted_other test front x back fails)
@@ -89,7 +97,7 @@ keeps_here false true x xs test o is keeps later = rw is later
 keeps_here false false x xs test o is keeps later = later
 
 -- a filter that keeps what passes a test keeps what is found by it
-find-filter : {X : Type 0} (test keep : X → Bool) (xs : List X) → ((x : X) → test x ≡ true → keep x ≡ true)
+pub find-filter : {X : Type 0} (test keep : X → Bool) (xs : List X) → ((x : X) → test x ≡ true → keep x ≡ true)
     → find test (filter keep xs) ≡ find test xs
 find-filter test keep [] keeps = refl
 find-filter test keep (x ∷ xs) keeps =
@@ -349,6 +357,23 @@ tied-empty (a ∷ all) tied = absurd (some (a.id == a.id) (times a.id (ids_of al
   where
     some : (b : Bool) (k : ℕ) → b ≡ true → cond b 1 0 + k ≡ 0 → ⊥
     some b k is none = grind arith
+
+-- an allocation adds just what it gave to what is allocated
+pub allocates-adds : (old : AtlasState) (size : Size) (allocation : Allocation) (new : AtlasState) → IsValid old
+    → Allocates old size allocation new → Adds (allocations old) allocation (allocations new)
+allocates-adds old size allocation new valid h =
+    let after : List Allocation = allocations (taken old h.placement allocation.id) in
+    subst (λ (state : AtlasState). Adds (allocations old) allocation (allocations state)) (sym h.after)
+    (subst (λ (r : Rectangle). Adds (allocations old) (record { id = allocation.id; rectangle = r }) after) h.rectangle
+    (taken-allocations old size h.placement allocation.id valid h.placed))
+
+-- a new atlas of a size and options without a fault keeps the promises
+pub promises-new : (size : Size) (options : AllocatorOptions) → IsAccepted longest_side size options
+    → side options.alignment.width < 2 ^ 31 → side options.alignment.height < 2 ^ 31
+    → KeepsPromises (fresh (atlas_frame size options))
+promises-new size options accepted short_width short_height =
+    promises (fresh (atlas_frame size options))
+    (fresh-valid (atlas_frame size options) (accepted-frame longest_side size options accepted short_width short_height) refl)
 
 -- promises are kept when an id is returned, and when all is
 pub promises-returned : (state : AtlasState) (id : ℕ) → IsValid state → KeepsPromises (returned state id)

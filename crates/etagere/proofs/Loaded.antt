@@ -6,3 +6,4 @@ pub mod RulesJudged
 pub mod WalksFit
 pub mod WalksStand
 pub mod WalksRestore
+pub mod LinksFollowed

@@ -1,6 +1,7 @@
 pub mod Atlas
 pub mod AtlasRecords
 pub mod Bounds
+pub mod ById
 pub mod Callers
 pub mod Choice
 pub mod Faults
@@ -12,6 +13,7 @@ pub mod Listing
 pub mod Merging
 pub mod Places
 pub mod Private
+pub mod RestoringSteps
 pub mod Returning
 pub mod Snapshots
 pub mod Space

@@ -4,7 +4,7 @@
 //! fields keep. The clauses stay as they are: callers prove by them. Fields may change, with `state_in`
 //! and `IsConsistent`.
 
-ghost use Rattle.std.specs.Prelude.{◌≡◌, ◌↔◌, ◌*◌, ◌-◌, ◌+ℤ◌, [], Err, None, Some, false, ◌≤◌, pos, IfOk, IfErr, IfSome, IfNone, OnOk, OnErr, IsErr, IsTrue, map, option_map};
+ghost use Rattle.std.specs.Prelude.{◌≡◌, ◌↔◌, ◌*◌, ◌-◌, ◌+ℤ◌, [], Err, None, Some, false, ◌≤◌, pos, IfOk, IfErr, IfSome, IfNone, OnOk, OnErr, IsErr, IsTrue, is_some, map, option_map};
 ghost use Rattle.std.specs.Io.KnownBytes.{Appends};
 ghost use Rattle.etagere_base.specs.Frames as frames;
 ghost use Rattle.etagere_base.specs.Frames.{IsAccepted, longest_side, options_fault};
@@ -12,8 +12,9 @@ ghost use Rattle.etagere_base.specs.Options.{default_options};
 ghost use Rattle.etagere_base.specs.declared.faults.OptionsFault.TheVariants as faults;
 ghost use Rattle.etagere_base.specs.Sending.{AppendsBeginning};
 ghost use Rattle.etagere.specs.Atlas.{Adds, Allocates, KeepsPromises, NeedsSplit, Restores, without_id};
+ghost use Rattle.etagere.specs.ById.{IsClear, KeepsRectangles, TakesAway, Undoes};
 ghost use Rattle.etagere.specs.Callers.{AreTied};
-ghost use Rattle.etagere.specs.Choice.{IsRefused};
+ghost use Rattle.etagere.specs.Choice.{IsRefused, placement_of};
 ghost use Rattle.etagere.specs.Fresh.{fresh};
 ghost use Rattle.etagere.specs.Growing.{atlas_grown, grow_fault, records_needed};
 ghost use Rattle.etagere.specs.declared.faults.AtlasGrowFault.TheVariants as grow_faults;
@@ -31,7 +32,7 @@ ghost use Rattle.etagere.specs.State as state;
 ghost use Rattle.etagere.specs.Svg.{svg, svg_into};
 
 use crate::faults::AtlasGrowFault;
-use crate::linked::choosing::{MOST_ITEMS, placement_of};
+use crate::linked::choosing::{MOST_ITEMS, fits_when_empty, placement_of};
 use crate::linked::drawing::{send_document, send_part, send_picture};
 use crate::linked::growing::counting::needed_for;
 use crate::linked::growing::framing::{grown_frame, size_fault};
@@ -57,7 +58,8 @@ use std::marker::Model;
 /// Places rectangles on the shelves of one atlas, and takes them back in any order.
 ///
 /// Each shelf is a strip across a column of the atlas, split into items side by side. A size goes to the shortest
-/// shelf that is tall enough and not much too tall; where there is none, to the first that is tall enough.
+/// shelf that is tall enough and either empty or not much too tall; where there is none, to the first that is tall
+/// enough. An empty shelf that is much too tall is split.
 /// Neighbours that are free become one again.
 ///
 /// ```text
@@ -184,7 +186,8 @@ impl AtlasAllocator {
 
     /// The size of the atlas in pixels, as it was made or has grown. Takes constant time.
     pub fn size(&self) -> Size
-        ensures { result
+        ensures promises { KeepsPromises self.now }
+        ensures size { result
             ≡ record { width = pos self.now.frame.width; height = pos self.now.frame.height } }
     {
         Size {
@@ -214,6 +217,9 @@ impl AtlasAllocator {
             (λ answer. IfSome answer
             (λ allocation. places.rectangle_of self.new allocation.id
             ≡ Some allocation.rectangle)) }
+        ensures kept { KeepsRectangles self.old self.new }
+        ensures clear { IfOk result
+            (λ answer. IfSome answer (λ allocation. IsClear self.old allocation.rectangle)) }
         ensures large { IfOk result
             (λ answer. IfSome answer
             (λ allocation. IsLarge self.old.frame size allocation.rectangle)) }
@@ -242,6 +248,15 @@ impl AtlasAllocator {
         Ok(Some(Allocation { id, rectangle }))
     }
 
+    /// Whether the atlas would have a place for the size, in pixels, if it were empty, as it was made or has grown.
+    ///
+    /// Takes no memory, and constant time.
+    pub fn fits_when_empty(&self, size: Size) -> bool
+        ensures { result ≡ is_some (placement_of (fresh self.now.frame) size) }
+    {
+        fits_when_empty(&self.frame, size)
+    }
+
     /// Takes back the rectangle that is allocated under an id, and merges what is free with its neighbours.
     ///
     /// `Err` comes exactly where nothing is allocated under the id; then nothing changes. Takes no memory. It looks at
@@ -253,6 +268,8 @@ impl AtlasAllocator {
         ensures err { OnErr result (self.new ≡ self.old) }
         ensures allocated { OnOk result
             (allocations self.new ≡ without_id id (allocations self.old)) }
+        ensures away { OnOk result (TakesAway self.old id self.new) }
+        ensures undoes { OnOk result (Undoes self.old id self.new) }
         ensures restores { OnOk result (Restores self.old id self.new) }
         ensures promises { KeepsPromises self.new }
     {
@@ -302,6 +319,7 @@ impl AtlasAllocator {
         ensures each { AreTied result (allocations self.now) }
         ensures rising { RiseFrom 0
             (map (λ allocation. places.record_number allocation.id) result) }
+        ensures promises { KeepsPromises self.now }
     {
         Iter::new(&self.frame, &self.records)
     }
@@ -384,6 +402,7 @@ impl AtlasAllocator {
             (self.now.frame.width * self.now.frame.height - space.allocated_space self.now) }
         ensures sum { result +ℤ pos (space.allocated_space self.now) ≡ pos
             (self.now.frame.width * self.now.frame.height) }
+        ensures promises { KeepsPromises self.now }
     {
         (self.frame.width * self.frame.height - self.allocated_space) as i32
     }

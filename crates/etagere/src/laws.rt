@@ -1,6 +1,38 @@
-//! What the laws of restoring are stated of: the counted form of `restore`, and the walks by which it follows links.
-//! Public, and not meant for users.
+//! What the laws of restoring are stated of: the counted form of `restore`, the walks by which it follows links, and
+//! saving and restoring as one. Public, and not meant for users.
 
+ghost use Rattle.std.specs.Prelude.{◌≡◌, IfErr, IfOk};
+ghost use Rattle.etagere_base.specs.declared.faults.RestoreFault.TheVariants as faults;
+ghost use Rattle.etagere.specs.Laws.{BrokenStandsForNone, StandsForOne};
+
+use crate::atlas::AtlasAllocator;
 pub use crate::restoring::restored::restore_atlas;
+use etagere_base::RestoreFault;
 pub use etagere_bucketed::laws::restore_bucketed;
 pub use etagere_links::{Walk, walk};
+use std::alloc::Global;
+
+/// Records stand for one state at most, and those of which a rule is broken for none. It is a law, and does nothing.
+pub fn records_stand_for_one_state()
+    ensures one { StandsForOne }
+    ensures none { BrokenStandsForNone }
+{}
+
+/// Saves an atlas and restores what was saved: the other atlas is in the same state. It is a law, and not meant for
+/// users.
+///
+/// The error is `Memory`, and comes only where there was no memory. Takes memory for all records, some for each record
+/// while it runs, and for a place by height for each shelf record, used or not. The time is linear in the number of
+/// records, but for a sort of the shelves in use.
+pub fn saved_and_restored(
+    alloc: Global,
+    atlas: &AtlasAllocator,
+) -> Result<AtlasAllocator, RestoreFault>
+    ensures ok { IfOk result (λ other. other ≡ atlas.now) }
+    ensures memory { IfErr result (λ fault. fault ≡ faults.Memory) }
+{
+    let Ok(snapshot) = atlas.snapshot() else {
+        return Err(RestoreFault::Memory);
+    };
+    AtlasAllocator::restore(alloc, snapshot)
+}

@@ -4,7 +4,7 @@
 //! `faults`, what is saved in `snapshots`, and the iterator in `listing`. All else is private: `linked` has what calls
 //! do to the records, `placements` what was found out of a place, `restoring` follows the links of a snapshot, `judging`
 //! has the passes that judge its rules, and `model_laws` the laws of the model. The bucketed atlas of
-//! `etagere_bucketed` is given on under its own name.
+//! `etagere_bucketed` is re-exported.
 #![tactic(auto)]
 
 mod atlas;

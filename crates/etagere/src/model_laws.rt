@@ -1,9 +1,9 @@
 //! Laws of the ordered model, each the contract of a function that does nothing.
 //!
-//! Definitions: `Laws`. A law stands here where no clause of a call states it. The functions have
-//! no callers: they make the check prove the laws.
+//! Definitions: `Laws`. A law stands here where no clause of a call states it, and in `laws` if other crates are to
+//! cite it. The functions have no callers: they make the check prove the laws.
 
-ghost use Rattle.etagere.specs.Laws.{BrokenStandsForNone, ChoosesAny, ChoosesByRule, FindsAny, FindsFirstLeast, GrowthKeepsSpace, GrowthUses, MergesAll, MergesOnce, MergingKeepsAllocated, ReturnRestores, StandsForOne};
+ghost use Rattle.etagere.specs.Laws.{ChoosesAny, ChoosesByRule, FindsAny, FindsFirstLeast, GrowthKeepsSpace, GrowthUses, MergesAll, MergesOnce, MergingKeepsAllocated, ReturnRestores};
 
 /// The shelf that is chosen is the first of least rank, and there is one wherever any fits.
 pub(crate) fn the_first_least_is_chosen()
@@ -30,16 +30,6 @@ pub(crate) fn merging_is_a_normal_form()
 /// Taking a place and at once returning it gives back the layout.
 pub(crate) fn a_return_restores_the_layout()
     ensures { ReturnRestores }
-{}
-
-/// Records stand for one state at most.
-pub(crate) fn records_stand_for_one_state()
-    ensures { StandsForOne }
-{}
-
-/// A snapshot that is refused by a rule stands for no state.
-pub(crate) fn what_breaks_a_rule_stands_for_nothing()
-    ensures { BrokenStandsForNone }
 {}
 
 /// A growth keeps the allocated space, and puts just the items to use for which it needs records.

@@ -28,7 +28,7 @@ digits-halved size less probes digits half some has = by_left has.left has.sum h
         record { left = left; sum = omega (arith, sum); small = omega (arith, small, half, double) }
 
 -- the order of a shelf that is read is no lower than where those rise from
-rise-read : (shelves : List ShelfRecord) (from n : ℕ) (ranked : List RankedShelf) (other : RankedShelf) → n < length ranked
+pub rise-read : (shelves : List ShelfRecord) (from n : ℕ) (ranked : List RankedShelf) (other : RankedShelf) → n < length ranked
     → RiseFrom from (map (order_of shelves) (ranked_numbers ranked)) → from ≤ order_of shelves (get_or ranked n other).shelf
 rise-read shelves from n [] other within rise = absurd (omega arith)
 rise-read shelves from zero (one ∷ others) other within rise = rise.0

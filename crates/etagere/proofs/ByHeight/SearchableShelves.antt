@@ -1,5 +1,5 @@
 -- Ranked shelves of kept records can be searched, and stay ranked where a search lets their bounds fall.
-use Rattle.std.proofs.Common.{◌≡◌, ℕ, ◌<◌, ◌≤◌, Bool, true, false, Option, Some, option_map, List, [], ◌∷◌, ap, arith, filter, length, map, not, refl, sym, ◌∙◌, subst}
+use Rattle.std.proofs.Common.{◌≡◌, ℕ, ◌+◌, ◌-◌, ◌<◌, ◌≤◌, Bool, true, false, Option, Some, option_map, List, [], ◌∷◌, ap, arith, filter, length, map, not, refl, sym, ◌∙◌, subst}
 use Rattle.etagere_base.specs.declared.frames.Frame.{Frame}
 use Rattle.etagere_base.specs.declared.sides.Sides.{Sides}
 use Rattle.etagere_base.specs.Lists.{Each, times}
@@ -7,14 +7,15 @@ use Rattle.etagere_base.proofs.EachLemmas.{Each-all, Each-weaken}
 use Rattle.etagere_links.specs.declared.records.ItemRecord.{ItemRecord}
 use Rattle.etagere_links.specs.RecordLists.{Entry, Records, shelf_walk, walked_entry}
 use Rattle.etagere_links.proofs.AllLists.LinkedWalks.{walked-numbers}
-use Rattle.etagere.specs.AtlasRecords.{is_allocated_at, item_at, spelled_shelf}
+use Rattle.etagere.specs.AtlasRecords.{is_allocated_at, is_empty_at, item_at, spelled_shelf}
 use Rattle.etagere.specs.Choice.{shelf_height}
 use Rattle.etagere.specs.Listing.{RiseFrom}
 use Rattle.etagere.specs.Private.ByHeight.{AreBounds, AreRanked, IsBound, order_of, ranked_numbers}
-use Rattle.etagere.specs.Private.Kept.{AreKept, IsPlaced, atlas_of, bare}
-use Rattle.etagere.specs.Private.Opening.{AreSearchable, IsSearchable}
+use Rattle.etagere.specs.Private.Kept.{AreKept, HasFlag, IsPlaced, atlas_of, bare}
+use Rattle.etagere.specs.Private.Opening.{AreSearchable, AreWhole, IsSearchable}
 use Rattle.etagere.specs.Private.Searching.{best_candidate, chosen_at, first_by_height, placement_at}
-use Rattle.etagere.specs.State.{Item, is_free}
+use Rattle.etagere.specs.State.{Item, is_free, is_one_free, total_width}
+use Rattle.etagere.specs.Valid.{IsItem, IsShelf}
 use Rattle.etagere.specs.declared.linked.choosing.Candidate.{Candidate}
 use Rattle.etagere.specs.declared.linked.ranked.RankedShelf.{RankedShelf}
 use Rattle.etagere.proofs.ByHeight.BestByHeight.{best-by-height}
@@ -60,6 +61,25 @@ module _ (items : List ItemRecord) (members free : List ℕ) (lists : (item : �
       (Each-times (λ item. is_free (item_at items item) ≡ true → (item_at items item).width ≤ widest) members
       (λ k stands is. Each-member (λ item. (item_at items item).width ≤ widest) free k bound (free-listed k stands is)))
 
+-- one free item is as wide as all items; of more than one, none is
+one_free-bound : (items : List Item) (bound : ℕ) → is_one_free items ≡ true → Each (λ (item : Item). is_free item ≡ true → item.width ≤ bound) items → total_width items ≤ bound
+one_free-bound [] bound free each = absurd (cc)
+one_free-bound (item ∷ []) bound free each = omega (arith, each.0 free)
+one_free-bound (item ∷ next ∷ items) bound free each = absurd (cc)
+
+each-total : (items : List Item) → Each (λ (item : Item). item.width ≤ total_width items) items
+each-total [] = tt
+each-total (item ∷ items) =
+    (omega arith, Each-weaken (λ (it : Item). it.width ≤ total_width items) (λ (it : Item). it.width ≤ total_width (item ∷ items)) items (λ it low. omega (arith, low)) (each-total items))
+
+part-bound : (items : List Item) → is_one_free items ≡ false → Each (λ (item : Item). 1 ≤ item.width) items → Each (λ (item : Item). is_free item ≡ true → item.width + 1 ≤ total_width items) items
+part-bound [] more wide = tt
+part-bound (item ∷ []) more wide = (λ free. absurd (cc), tt)
+part-bound (item ∷ next ∷ items) more wide = (
+  λ free. omega (arith, wide.1.0),
+  Each-weaken (λ (it : Item). it.width ≤ total_width (next ∷ items)) (λ (it : Item). is_free it ≡ true → it.width + 1 ≤ total_width (item ∷ next ∷ items)) (next ∷ items) (λ it low free. omega (arith, low, wide.0)) (each-total (next ∷ items)),
+)
+
 module _ (frame : Frame) (records : Records) (kept : AreKept frame records) where
   -- the shelves in use
   abbrev in_use : List ℕ
@@ -83,6 +103,7 @@ module _ (frame : Frame) (records : Records) (kept : AreKept frame records) wher
       record {
         stands = stands;
         within = shelf-within records one.shelf kept.linked stands;
+        low = lies.low;
         place = omega (arith, lies.along, lies.across);
         bound = bound-listed records.items entry.items entry.free_list (listed one.shelf stands) one.widest bound;
       }
@@ -97,6 +118,29 @@ module _ (frame : Frame) (records : Records) (kept : AreKept frame records) wher
       Each-map (λ (entry : Entry). entry.number ≡ one.shelf → IsBound one.widest (spelled_shelf (bare frame records) entry)) (walked_entry records) in_use
       (Each-all (λ n. n ≡ one.shelf → IsBound one.widest (spelled_shelf (bare frame records) (walked_entry records n)))
       (λ n is. subst (λ k. IsBound one.widest (spelled_shelf (bare frame records) (walked_entry records k))) (sym is) bound) in_use)
+
+  -- a shelf in use is empty where its one item is as wide as the column
+  pub kept-whole : AreWhole records frame.column_width
+  kept-whole shelf stands =
+      let entry : Entry = walked_entry records shelf in
+      let own : List Item = map (item_at records.items) entry.items in
+      let flag : is_empty_at records.shelves shelf ≡ is_one_free own =
+      Each-member (λ n. HasFlag (atlas_of frame records) (walked_entry records n)) in_use shelf (Each-unmap (HasFlag (atlas_of frame records)) (walked_entry records) in_use kept.flags) stands in
+      let valid : IsShelf frame (spelled_shelf (bare frame records) entry) =
+      Each-member (λ n. IsShelf frame (spelled_shelf (bare frame records) (walked_entry records n))) in_use shelf
+      (Each-unmap (λ (e : Entry). IsShelf frame (spelled_shelf (bare frame records) e)) (walked_entry records) in_use
+      (Each-unmap (IsShelf frame) (spelled_shelf (bare frame records)) (map (walked_entry records) in_use) kept.valid.shelves)) stands in
+      record {
+        empty = λ is bound each.
+            omega (arith, valid.width, one_free-bound own bound (sym flag ∙ is) (listed-bound records.items entry.items entry.free_list (listed shelf stands) bound each));
+        other = λ is.
+            Each-weaken (λ item. (item_at records.items item).width ≤ frame.column_width - 1) (λ item. (item_at records.items item).width < frame.column_width) entry.free_list
+            (λ item low. omega (arith, low, kept.valid.frame.column_width))
+            (bound-listed records.items entry.items entry.free_list (listed shelf stands) (frame.column_width - 1)
+            (Each-weaken (λ (item : Item). is_free item ≡ true → item.width + 1 ≤ total_width own) (λ (item : Item). is_free item ≡ true → item.width ≤ frame.column_width - 1) own
+            (λ item part free. omega (arith, part free, valid.width))
+            (part-bound own (sym flag ∙ is) (Each-weaken (IsItem frame) (λ (item : Item). 1 ≤ item.width) own (λ item is. is.width) valid.items))));
+      }
 
   -- the ranked shelves of kept records can be searched
   pub ranked-searchable : (ranked : List RankedShelf) → AreRanked frame records ranked → AreSearchable records ranked

@@ -74,6 +74,7 @@ fallen records width widest one searchable found =
     record {
       stands = searchable.stands;
       within = searchable.within;
+      low = searchable.low;
       place = searchable.place;
       bound = bounds-widest records.items (free_walk records one.shelf).met widest (by_first (first_wide records width one.shelf) found);
     }

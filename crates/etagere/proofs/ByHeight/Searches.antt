@@ -1,16 +1,15 @@
 -- Where a search of the ranked shelves has come to, from shelf to shelf.
-use Rattle.std.proofs.Common.{◌≡◌, ℕ, zero, suc, ◌+◌, ◌<◌, ◌≤◌, Bool, true, false, cond, Option, None, Some, List, [], ◌∷◌, ◌++◌, add-one, drop, get_or, length, map, set, take, refl, ap, arith, sym, ◌∙◌, subst}
+use Rattle.std.proofs.Common.{◌≡◌, ℕ, zero, suc, ◌+◌, ◌<◌, ◌≤◌, Option, None, Some, List, [], ◌∷◌, ◌++◌, add-one, drop, get_or, length, map, set, take, refl, ap, arith, sym, ◌∙◌, subst}
 use Rattle.std.proofs.Math.Seq.{map-set_same}
 use Rattle.std.proofs.lemmas.List.{drop-map, length-map, map-append, take-append-drop, take-map}
-use Rattle.std.proofs.lemmas.Bool.Decides.{nat_tests}
 use Rattle.std.specs.Option.{option_map_or}
-use Rattle.std.specs.Prelude.{IfSome, nat_lt}
 use Rattle.etagere_base.specs.Lists.{Each}
 use Rattle.etagere_base.proofs.EachLemmas.{Each-back}
 use Rattle.etagere_links.specs.RecordLists.{Records}
 use Rattle.etagere_links.specs.declared.records.ShelfRecord.{ShelfRecord}
 use Rattle.etagere.specs.AtlasRecords.{height_of}
-use Rattle.etagere.specs.Private.ByHeight.{IsFirstAsWide, IsStart, order_at, order_of, place_number, ranked_numbers, ranked_at}
+use Rattle.etagere.specs.Listing.{RiseFrom}
+use Rattle.etagere.specs.Private.ByHeight.{AreInOrder, IsFirstAsWide, IsStart, order_at, order_of, ranked_numbers, ranked_at}
 use Rattle.etagere.specs.Private.Opening.{AreSearchable, AreTall, IsSearchable}
 use Rattle.etagere.specs.Private.Searching.{earlier, earliest, first_by_height, first_offer, good_offer, offered}
 use Rattle.etagere.specs.declared.linked.choosing.Candidate.{Candidate}
@@ -54,7 +53,7 @@ between (x ∷ xs) (suc from) zero d after within = absurd (omega arith)
 between (x ∷ xs) (suc from) (suc index) d after within = between xs from index d (omega arith) (omega arith)
 
 -- shelves that offer nothing are passed
-passed-first : (offers : ℕ → Option Candidate) (shelves others : List ℕ) → Each (λ shelf. offers shelf ≡ None) shelves → first_offer offers (shelves ++ others) ≡ first_offer offers others
+pub passed-first : (offers : ℕ → Option Candidate) (shelves others : List ℕ) → Each (λ shelf. offers shelf ≡ None) shelves → first_offer offers (shelves ++ others) ≡ first_offer offers others
 passed-first offers [] others vain = refl
 passed-first offers (n ∷ ns) others vain =
     ap (λ o. option_map_or Some o (first_offer offers (ns ++ others))) vain.0 ∙ passed-first offers ns others vain.1
@@ -64,49 +63,9 @@ passed-earliest records offers [] others vain = refl
 passed-earliest records offers (n ∷ ns) others vain =
     ap (λ o. earlier records o (earliest records (map offers (ns ++ others)))) vain.0 ∙ passed-earliest records offers ns others vain.1
 
-good-vain : (records : Records) (width height : ℕ) (shelves : List ℕ) → Each (λ shelf. offered records width height shelf ≡ None) shelves → Each (λ shelf. good_offer records width height shelf ≡ None) shelves
+pub good-vain : (records : Records) (width height : ℕ) (shelves : List ℕ) → Each (λ shelf. offered records width height shelf ≡ None) shelves → Each (λ shelf. good_offer records width height shelf ≡ None) shelves
 good-vain records width height [] vain = tt
 good-vain records width height (n ∷ ns) vain = (good-none records width height n vain.0, good-vain records width height ns vain.1)
-
--- the earlier of three, either way round
-earlier-three : (shelves : List ShelfRecord) (a b c : Candidate) → earlier shelves (Some a) (earlier shelves (Some b) (Some c)) ≡ earlier shelves (earlier shelves (Some a) (Some b)) (Some c)
-earlier-three shelves a b c = by_tests (nat_lt (place_number shelves a.shelf) (place_number shelves b.shelf)) (nat_lt (place_number shelves b.shelf) (place_number shelves c.shelf)) (nat_lt (place_number shelves a.shelf) (place_number shelves c.shelf)) refl refl refl
-  where
-    by_tests : (p q r : Bool) → nat_lt (place_number shelves a.shelf) (place_number shelves b.shelf) ≡ p → nat_lt (place_number shelves b.shelf) (place_number shelves c.shelf) ≡ q → nat_lt (place_number shelves a.shelf) (place_number shelves c.shelf) ≡ r
-        → earlier shelves (Some a) (cond q (Some b) (Some c)) ≡ earlier shelves (cond p (Some a) (Some b)) (Some c)
-    by_tests true true true e f g = rw (e, g) refl
-    by_tests true true false e f g = absurd (grind (arith, nat_tests))
-    by_tests true false r e f g = refl
-    by_tests false true r e f g = rw (e, f) refl
-    by_tests false false true e f g = absurd (grind (arith, nat_tests))
-    by_tests false false false e f g = rw (f, g) refl
-
--- what was found before stands against the next, and then against the rest
-pub earlier-assoc : (shelves : List ShelfRecord) (a b c : Option Candidate) → earlier shelves a (earlier shelves b c) ≡ earlier shelves (earlier shelves a b) c
-earlier-assoc shelves None b c = refl
-earlier-assoc shelves (Some a) None c = refl
-earlier-assoc shelves (Some a) (Some b) None = by_test (nat_lt (place_number shelves a.shelf) (place_number shelves b.shelf))
-  where
-    by_test : (p : Bool) → cond p (Some a) (Some b) ≡ earlier shelves (cond p (Some a) (Some b)) None
-    by_test true = refl
-    by_test false = refl
-earlier-assoc shelves (Some a) (Some b) (Some c) = earlier-three shelves a b c
-
--- nothing comes after the last
-pub earlier-none : (shelves : List ShelfRecord) (a : Option Candidate) → earlier shelves a None ≡ a
-earlier-none shelves None = refl
-earlier-none shelves (Some a) = refl
-
--- the earlier of two is of a record where they are
-pub earlier-within : (shelves : List ShelfRecord) (a b : Option Candidate) → IfSome a (λ (candidate : Candidate). candidate.shelf < length shelves) → IfSome b (λ (candidate : Candidate). candidate.shelf < length shelves)
-    → IfSome (earlier shelves a b) (λ (candidate : Candidate). candidate.shelf < length shelves)
-earlier-within shelves None b one other = other
-earlier-within shelves (Some a) None one other = one
-earlier-within shelves (Some a) (Some b) one other = by_test (nat_lt (place_number shelves a.shelf) (place_number shelves b.shelf))
-  where
-    by_test : (p : Bool) → IfSome (cond p (Some a) (Some b)) (λ (candidate : Candidate). candidate.shelf < length shelves)
-    by_test true = one
-    by_test false = other
 
 -- where a search has come to: the shelves are those of these numbers, and from here on each is tall enough
 pub record SearchesFrom (records : Records) (height from : ℕ) (numbers : List ℕ) (ranked : List RankedShelf) : Type 0 where
@@ -136,6 +95,28 @@ searchable-at records ranked index within searchable = Each-at (IsSearchable rec
 pub same-size : (ranked new : List RankedShelf) → ranked_numbers new ≡ ranked_numbers ranked → length new ≡ length ranked
 same-size ranked new same = sym (length-map new (λ (x : RankedShelf). x.shelf)) ∙ ap length same ∙ length-map ranked (λ (x : RankedShelf). x.shelf)
 
+-- shelves of the same numbers stand in the same order
+pub in-order : (shelves : List ShelfRecord) (ranked new : List RankedShelf) → ranked_numbers new ≡ ranked_numbers ranked → AreInOrder shelves ranked → AreInOrder shelves new
+in-order shelves ranked new same order =
+    record {
+      within = subst (Each (λ shelf. shelf < length shelves)) (sym same) order.within;
+      rising = subst (λ (ns : List ℕ). RiseFrom 0 (map (order_of shelves) ns)) (sym same) order.rising;
+    }
+
+-- the numbers from a position on: those of the shelves before another, that one's, and those behind it
+pub parted : (from index : ℕ) (numbers : List ℕ) (ranked : List RankedShelf) → ranked_numbers ranked ≡ numbers → from ≤ index → index < length ranked
+    → drop from numbers ≡ ranked_numbers (drop from (take index ranked)) ++ (ranked_at ranked index).shelf ∷ drop (index + 1) numbers
+parted from index numbers ranked same after within =
+    let front : List RankedShelf = drop from (take index ranked) in
+    let one : RankedShelf = ranked_at ranked index in
+    let parts : drop from ranked ≡ front ++ one ∷ drop (index + 1) ranked =
+    between ranked from index (record { widest = 0; shelf = 0 }) after within ∙ ap (λ n. front ++ one ∷ drop n ranked) (sym (add-one index)) in
+    ap (drop from) (sym same)
+    ∙ drop-map (λ (x : RankedShelf). x.shelf) from ranked
+    ∙ ap ranked_numbers parts
+    ∙ map-append (λ (x : RankedShelf). x.shelf) front (one ∷ drop (index + 1) ranked)
+    ∙ ap (λ (ns : List ℕ). ranked_numbers front ++ one.shelf ∷ ns) (sym (drop-map (λ (x : RankedShelf). x.shelf) (index + 1) ranked) ∙ ap (drop (index + 1)) same)
+
 -- the shelf to open next: those before it offer nothing
 pub record IsReached (records : Records) (width height from index : ℕ) (numbers : List ℕ) (one : RankedShelf) : Type 0 where
   pub skipped : List ℕ
@@ -148,17 +129,9 @@ pub record IsReached (records : Records) (width height from index : ℕ) (number
 pub reached : (records : Records) (width height from index : ℕ) (numbers : List ℕ) (ranked : List RankedShelf) → SearchesFrom records height from numbers ranked → IsFirstAsWide from width ranked (Some index)
     → IsReached records width height from index numbers (ranked_at ranked index)
 reached records width height from index numbers ranked search first =
-    let none : RankedShelf = record { widest = 0; shelf = 0 } in
     let front : List RankedShelf = drop from (take index ranked) in
     let one : RankedShelf = ranked_at ranked index in
-    let parts : drop from ranked ≡ front ++ one ∷ drop (index + 1) ranked =
-    between ranked from index none first.0 first.1 ∙ ap (λ n. front ++ one ∷ drop n ranked) (sym (add-one index)) in
-    let whole : drop from numbers ≡ ranked_numbers front ++ one.shelf ∷ drop (index + 1) numbers =
-    ap (drop from) (sym search.same)
-    ∙ drop-map (λ (x : RankedShelf). x.shelf) from ranked
-    ∙ ap ranked_numbers parts
-    ∙ map-append (λ (x : RankedShelf). x.shelf) front (one ∷ drop (index + 1) ranked)
-    ∙ ap (λ (ns : List ℕ). ranked_numbers front ++ one.shelf ∷ ns) (sym (drop-map (λ (x : RankedShelf). x.shelf) (index + 1) ranked) ∙ ap (drop (index + 1)) search.same) in
+    let whole : drop from numbers ≡ ranked_numbers front ++ one.shelf ∷ drop (index + 1) numbers = parted from index numbers ranked search.same first.0 first.1 in
     let tall : AreTall records.shelves height (ranked_numbers front ++ one.shelf ∷ drop (index + 1) numbers) =
     subst (AreTall records.shelves height) whole search.tall in
     let after = Each-back (λ shelf. height ≤ height_of records.shelves shelf) (ranked_numbers front) (one.shelf ∷ drop (index + 1) numbers) tall in
@@ -189,13 +162,6 @@ pub good-reached : (records : Records) (width height from index : ℕ) (numbers 
 good-reached records width height from index numbers one here =
     ap (first_offer (good_offer records width height)) here.whole
     ∙ passed-first (good_offer records width height) here.skipped (one.shelf ∷ drop (index + 1) numbers) (good-vain records width height here.skipped here.vain)
-
-pub placed-reached : (records : Records) (width height from index : ℕ) (numbers : List ℕ) (one : RankedShelf) → IsReached records width height from index numbers one
-    → earliest records.shelves (map (offered records width height) (drop from numbers))
-    ≡ earlier records.shelves (offered records width height one.shelf) (earliest records.shelves (map (offered records width height) (drop (index + 1) numbers)))
-placed-reached records width height from index numbers one here =
-    ap (λ (ns : List ℕ). earliest records.shelves (map (offered records width height) ns)) here.whole
-    ∙ passed-earliest records.shelves (offered records width height) here.skipped (one.shelf ∷ drop (index + 1) numbers) here.vain
 
 -- where no bound is as wide, nothing is offered from here on
 pub none_left : (records : Records) (width height from : ℕ) (numbers : List ℕ) (ranked : List RankedShelf) → SearchesFrom records height from numbers ranked → IsFirstAsWide from width ranked None

@@ -70,16 +70,21 @@ first_offer offers [] = None
 first_offer offers (shelf ∷ shelves) =
     option_map_or Some (offers shelf) (first_offer offers shelves)
 
--- what a search for a good fit comes to from a position on: the first one; where there is none, a position
--- before which no shelf offers a place
+-- each of these shelves is too tall for a good fit, unless it is empty
+abbrev pub AreTooTall : List ShelfRecord → ℕ → List ℕ → Type 0
+AreTooTall shelves height numbers =
+    Each (λ shelf. height + height / 2 + 1 ≤ height_of shelves shelf) numbers
+
+-- what a search for a good fit comes to from a position on: the first one; else a position before which no shelf
+-- offers a place, and from which on each is too tall for a good fit that isn't empty
 abbrev pub IsFirstGood : Records → ℕ → ℕ → ℕ → List ℕ → FirstGood → Type 0
 IsFirstGood records width height start shelves (Found candidate) =
     first_offer (good_offer records width height) (drop start shelves) ≡ Some candidate
 IsFirstGood records width height start shelves (Rest rest) =
-    (first_offer (good_offer records width height) (drop start shelves) ≡ None)
-    × (start ≤ rest)
+    (start ≤ rest)
     × (rest ≤ length shelves)
     × Each (λ shelf. offered records width height shelf ≡ None) (drop start (take rest shelves))
+    × AreTooTall records.shelves height (drop rest shelves)
 
 -- of two candidates the one whose shelf has the earlier place
 abbrev pub earlier : List ShelfRecord → Option Candidate → Option Candidate → Option Candidate

@@ -1,25 +1,26 @@
 //! Which shelf and which item a size gets, and all that is found out of the place.
 //!
 //! Definitions: `Choice`, `Searching` for the same by records, and `ByHeight` for the order. A search starts
-//! at the first shelf that is tall enough, and takes the first good fit; only where there is none, it looks for the
-//! first bad one by place, from the first bad fit on that it met. It goes through the free list of a shelf only where
-//! the bound on its free items is wide enough, and lowers the bound to the widest of them where none fits. Nothing here
-//! changes the records.
+//! at the first shelf that is tall enough, and takes the first good fit. The first shelf that is too tall for one ends
+//! that: from there on only empty shelves are good fits, and their bounds tell them. Where there is none either, the
+//! shelf in the first place is taken. A free list is gone through only where the bound on its items is wide enough,
+//! and the bound is lowered to the widest of them where none fits. Nothing here changes the records.
 
-ghost use Rattle.std.specs.Prelude.{◌≡◌, ◌≤◌, ◌<◌, ◌^◌, None, Some, IfSome, drop, length, map, nat_lt};
+ghost use Rattle.std.specs.Prelude.{◌≡◌, ◌+◌, ◌*◌, ◌/◌, ◌≤◌, ◌<◌, ◌^◌, None, Some, IfSome, drop, is_some, length, map, nat_lt, set};
 ghost use Rattle.etagere_base.specs.Frames.{IsFrame, longest_side};
 ghost use Rattle.etagere_base.specs.Lists.{times};
 ghost use Rattle.etagere_links.specs.RecordLists.{IsLinked, shelf_walk, walked_lists};
-ghost use Rattle.etagere.specs.AtlasRecords.{height_of};
+ghost use Rattle.etagere.specs.AtlasRecords.{height_of, is_empty_at};
 ghost use Rattle.etagere.specs.Choice as choice;
 ghost use Rattle.etagere.specs.Choice.{bad_fit_rank};
+ghost use Rattle.etagere.specs.Fresh.{fresh};
 ghost use Rattle.etagere.specs.Private.ByHeight as heights;
 ghost use Rattle.etagere.specs.Private.ByHeight.{AreInOrder, AreRanked, ranked_at, ranked_numbers};
 ghost use Rattle.etagere.specs.Private.Kept.{AreKept, state_of};
 ghost use Rattle.etagere.specs.Private.Opening as opening;
-ghost use Rattle.etagere.specs.Private.Opening.{AreSearchable, AreTall, IsSearchable};
+ghost use Rattle.etagere.specs.Private.Opening.{ArePlaced, AreSearchable, AreTall, AreWhole, IsBehind, IsEarliest, IsSearchable, earlier_position, looked_into};
 ghost use Rattle.etagere.specs.Private.Searching as searching;
-ghost use Rattle.etagere.specs.Private.Searching.{Finds, IsFirstGood};
+ghost use Rattle.etagere.specs.Private.Searching.{AreTooTall, Finds, IsFirstGood};
 ghost use Rattle.etagere.specs.State as state;
 
 use crate::linked::heights::{first_from, place_number};
@@ -88,6 +89,20 @@ pub(crate) fn placement_of(
     }
 }
 
+/// Whether a new atlas of a frame has a place for the size. Its columns are alike, each one empty shelf, so the first one
+/// tells.
+pub(crate) fn fits_when_empty(frame: &Frame, size: Size) -> bool
+    requires { IsFrame longest_side frame.now }
+    ensures { result ≡ is_some (choice.placement_of (fresh frame.now) size) }
+{
+    let Some(sides) = asked(frame, size) else {
+        return false;
+    };
+    let splits_shelf = shelf_height(frame, sides.across) + SHELF_SLACK < frame.across_side();
+    let splits_item = sides.along + ITEM_SLACK < frame.column_width;
+    frame.columns + u32::from(splits_shelf) + u32::from(splits_item) <= MOST_ITEMS
+}
+
 /// The place in the shelf of least rank.
 fn chosen(
     frame: &Frame,
@@ -98,11 +113,12 @@ fn chosen(
     requires kept { AreKept frame.now records.now }
     requires ranked { AreRanked frame.now records.now ranked.old.items }
     requires short { (sides.along ≤ longest_side) × (sides.across ≤ longest_side) }
+    requires wide { 1 ≤ sides.along }
     ensures value { result ≡ searching.chosen_at frame.now records.now sides }
     ensures ranked { AreRanked frame.now records.now ranked.new.items }
 {
     let height = shelf_height(frame, sides.across);
-    let candidate = best_candidate(records, ranked, sides.along, height)?;
+    let candidate = best_candidate(records, ranked, frame.column_width, sides.along, height)?;
     Some(placement_at(records, sides.along, height, candidate))
 }
 
@@ -125,12 +141,16 @@ fn shelf_height(frame: &Frame, height: u32) -> u32
 fn best_candidate(
     records: &Records,
     ranked: &mut RankedShelves,
+    column_width: u32,
     width: u32,
     height: u32,
 ) -> Option<Candidate>
     requires linked { IsLinked records.now (walked_lists records.now) }
     requires order { AreInOrder records.now.shelves ranked.old.items }
     requires ranked { AreSearchable records.now ranked.old.items }
+    requires whole { AreWhole records.now column_width }
+    requires column { (1 ≤ column_width) × (column_width ≤ longest_side) }
+    requires wide { 1 ≤ width }
     requires short { height ≤ longest_side }
     ensures value { result
         ≡ searching.first_by_height records.now width height (ranked_numbers ranked.old.items) }
@@ -140,14 +160,46 @@ fn best_candidate(
     let start = first_from(records.shelves(), ranked, height, 0).index;
     match first_good(records, ranked, start, width, height) {
         FirstGood::Found(candidate) => Some(candidate),
-        FirstGood::Rest(rest) => first_placed(records, ranked, rest, width, height),
+        FirstGood::Rest(rest) => first_of_rest(records, ranked, rest, column_width, width, height),
     }
 }
 
-/// The first good fit from this position on, where all shelves are tall enough. Where there is none, the answer is the
-/// position from which a bad fit is to be looked for: that of the first shelf that is too tall for a good fit and whose
-/// bound is wide enough, or the end. No shelf before it has a free item that is wide enough: their bounds were too
-/// small, or their free lists were searched.
+/// The first good fit from this position on, where each shelf that isn't empty is too tall for one; where there is none,
+/// the fit in the first place.
+fn first_of_rest(
+    records: &Records,
+    ranked: &mut RankedShelves,
+    rest: usize,
+    column_width: u32,
+    width: u32,
+    height: u32,
+) -> Option<Candidate>
+    requires linked { IsLinked records.now (walked_lists records.now) }
+    requires order { AreInOrder records.now.shelves ranked.old.items }
+    requires rest { rest ≤ length ranked.old.items }
+    requires few { length ranked.old.items < 2 ^ 64 }
+    requires ranked { AreSearchable records.now ranked.old.items }
+    requires whole { AreWhole records.now column_width }
+    requires column { (1 ≤ column_width) × (column_width ≤ longest_side) }
+    requires tall { AreTooTall records.now.shelves height (drop rest (ranked_numbers ranked.old.items)) }
+    requires wide { 1 ≤ width }
+    requires short { height ≤ longest_side }
+    ensures value { result
+        ≡ searching.first_by_height records.now width height
+        (drop rest (ranked_numbers ranked.old.items)) }
+    ensures numbers { ranked_numbers ranked.new.items ≡ ranked_numbers ranked.old.items }
+    ensures ranked { AreSearchable records.now ranked.new.items }
+{
+    let empty = first_empty(records, ranked, rest, column_width, width, height);
+    if empty.is_some() {
+        return empty;
+    }
+    first_placed(records, ranked, rest, width, height)
+}
+
+/// The first good fit from this position on, where all shelves are tall enough. Where there is none before the first shelf
+/// that is too tall for one and isn't empty, the answer is its position, or the end where there is no such shelf. No
+/// shelf before it has a free item that is wide enough: their bounds were too small, or their free lists were searched.
 fn first_good(
     records: &Records,
     ranked: &mut RankedShelves,
@@ -156,6 +208,7 @@ fn first_good(
     height: u32,
 ) -> FirstGood
     requires linked { IsLinked records.now (walked_lists records.now) }
+    requires order { AreInOrder records.now.shelves ranked.old.items }
     requires start { start ≤ length ranked.old.items }
     requires few { length ranked.old.items < 2 ^ 64 }
     requires ranked { AreSearchable records.now ranked.old.items }
@@ -165,22 +218,87 @@ fn first_good(
     ensures numbers { ranked_numbers ranked.new.items ≡ ranked_numbers ranked.old.items }
     ensures ranked { AreSearchable records.now ranked.new.items }
 {
-    let mut bad = None;
     let mut from = start;
     while let Some(index) = ranked.first_as_wide(from, width) {
-        if is_good(records, height, ranked.shelf(index)) {
-            if let Some(candidate) = fit_at(records, ranked, index, width, height) {
-                return FirstGood::Found(candidate);
-            }
-        } else if bad.is_none() {
-            bad = Some(index);
+        if !is_good(records, height, ranked.shelf(index)) {
+            return FirstGood::Rest(index);
+        }
+        if let Some(candidate) = fit_at(records, ranked, index, width, height) {
+            return FirstGood::Found(candidate);
         }
         from = index + 1;
     }
-    FirstGood::Rest(bad.unwrap_or(ranked.len()))
+    FirstGood::Rest(ranked.len())
 }
 
-/// The fit in the first place from this position on, where all shelves are tall enough.
+/// The first empty shelf from this position on that is wide enough, where each other one is too tall for a good fit. An
+/// empty shelf has one item, as wide as the column, so its bound is at least that; where another's is, it falls.
+fn first_empty(
+    records: &Records,
+    ranked: &mut RankedShelves,
+    start: usize,
+    column_width: u32,
+    width: u32,
+    height: u32,
+) -> Option<Candidate>
+    requires linked { IsLinked records.now (walked_lists records.now) }
+    requires start { start ≤ length ranked.old.items }
+    requires few { length ranked.old.items < 2 ^ 64 }
+    requires ranked { AreSearchable records.now ranked.old.items }
+    requires whole { AreWhole records.now column_width }
+    requires column { (1 ≤ column_width) × (column_width ≤ longest_side) }
+    requires tall { AreTooTall records.now.shelves height (drop start (ranked_numbers ranked.old.items)) }
+    requires short { height ≤ longest_side }
+    ensures value { result
+        ≡ searching.first_offer (searching.good_offer records.now width height)
+        (drop start (ranked_numbers ranked.old.items)) }
+    ensures numbers { ranked_numbers ranked.new.items ≡ ranked_numbers ranked.old.items }
+    ensures ranked { AreSearchable records.now ranked.new.items }
+{
+    let mut from = start;
+    while let Some(index) = ranked.first_as_wide(from, column_width) {
+        let found = empty_at(records, ranked, index, column_width, width, height);
+        if found.is_some() {
+            return found;
+        }
+        from = index + 1;
+    }
+    None
+}
+
+/// What the shelf at this position offers where it is empty. Where it isn't, its bound falls below the width of a column.
+fn empty_at(
+    records: &Records,
+    ranked: &mut RankedShelves,
+    index: usize,
+    column_width: u32,
+    width: u32,
+    height: u32,
+) -> Option<Candidate>
+    requires linked { IsLinked records.now (walked_lists records.now) }
+    requires index { index < length ranked.old.items }
+    requires ranked { AreSearchable records.now ranked.old.items }
+    requires whole { AreWhole records.now column_width }
+    requires column { (1 ≤ column_width) × (column_width ≤ longest_side) }
+    requires tall { height + height / 2 + 1
+        ≤ height_of records.now.shelves (ranked_at ranked.old.items index).shelf }
+    requires short { height ≤ longest_side }
+    ensures value { result
+        ≡ searching.good_offer records.now width height (ranked_at ranked.old.items index).shelf }
+    ensures numbers { ranked_numbers ranked.new.items ≡ ranked_numbers ranked.old.items }
+    ensures ranked { AreSearchable records.now ranked.new.items }
+{
+    if is_empty(records, ranked.shelf(index)) {
+        return fit_at(records, ranked, index, width, height);
+    }
+    let mut one = ranked.get(index);
+    one.widest = (column_width - 1) as u16;
+    ranked.set(index, one);
+    None
+}
+
+/// The fit in the first place from this position on, where all shelves are tall enough. Only the free list of the shelf in
+/// the first place is gone through, and only where none of its items fits, and its bound falls, the next one's.
 fn first_placed(
     records: &Records,
     ranked: &mut RankedShelves,
@@ -189,10 +307,12 @@ fn first_placed(
     height: u32,
 ) -> Option<Candidate>
     requires linked { IsLinked records.now (walked_lists records.now) }
+    requires order { AreInOrder records.now.shelves ranked.old.items }
     requires start { start ≤ length ranked.old.items }
     requires few { length ranked.old.items < 2 ^ 64 }
     requires ranked { AreSearchable records.now ranked.old.items }
     requires tall { AreTall records.now.shelves height (drop start (ranked_numbers ranked.old.items)) }
+    requires wide { 1 ≤ width }
     requires short { height ≤ longest_side }
     ensures value { result
         ≡ searching.earliest records.now.shelves
@@ -200,53 +320,107 @@ fn first_placed(
     ensures numbers { ranked_numbers ranked.new.items ≡ ranked_numbers ranked.old.items }
     ensures ranked { AreSearchable records.now ranked.new.items }
 {
+    while let Some(index) = earliest_wide(records.shelves(), ranked, start, width) {
+        let found = fit_at(records, ranked, index, width, height);
+        if found.is_some() {
+            return found;
+        }
+    }
+    None
+}
+
+/// The position of the shelf in the first place from this one on whose bound is not below this width. Shelves of one height
+/// stand in the order of their places, so only the first such one of each height is looked at.
+fn earliest_wide(
+    shelves: &[ShelfRecord],
+    ranked: &mut RankedShelves,
+    start: usize,
+    width: u32,
+) -> Option<usize>
+    requires order { AreInOrder shelves.now ranked.old.items }
+    requires places { ArePlaced shelves.now ranked.old.items }
+    requires few { length ranked.old.items < 2 ^ 64 }
+    requires start { start ≤ length ranked.old.items }
+    ensures value { IsEarliest shelves.now ranked.old.items start (length ranked.old.items) width result }
+    ensures items { ranked.new.items ≡ ranked.old.items }
+{
     let mut first = None;
     let mut from = start;
     while let Some(index) = ranked.first_as_wide(from, width) {
-        let found = fit_at(records, ranked, index, width, height);
-        first = earlier(records.shelves(), first, found);
-        from = index + 1;
+        first = Some(earlier(shelves, ranked, first, index));
+        from = behind_height(shelves, ranked, index);
     }
     first
 }
 
-/// Of two candidates the one whose shelf has the earlier place.
+/// Of two positions the one whose shelf has the earlier place.
 fn earlier(
     shelves: &[ShelfRecord],
-    one: Option<Candidate>,
-    other: Option<Candidate>,
-) -> Option<Candidate>
-    requires one { IfSome one (λ candidate. candidate.shelf < length shelves.now) }
-    requires other { IfSome other (λ candidate. candidate.shelf < length shelves.now) }
-    ensures { result ≡ searching.earlier shelves.now one other }
+    ranked: &RankedShelves,
+    one: Option<usize>,
+    other: usize,
+) -> usize
+    requires order { AreInOrder shelves.now ranked.now.items }
+    requires one { IfSome one (λ index. index < length ranked.now.items) }
+    requires other { other < length ranked.now.items }
+    ensures { result ≡ earlier_position shelves.now ranked.now.items one other }
 {
-    match (one, other) {
-        (Some(one), Some(other)) => Some(earlier_of(shelves, one, other)),
-        (one, None) => one,
-        (None, other) => other,
+    match one {
+        Some(one) if place_at(shelves, ranked, one) < place_at(shelves, ranked, other) => one,
+        _ => other,
     }
 }
 
-/// Of two candidates the one whose shelf has the earlier place.
-fn earlier_of(shelves: &[ShelfRecord], one: Candidate, other: Candidate) -> Candidate
-    requires one { one.shelf < length shelves.now }
-    requires other { other.shelf < length shelves.now }
-    ensures { Some result ≡ searching.earlier shelves.now (Some one) (Some other) }
+/// Where the shelf at this position begins, as one number.
+fn place_at(shelves: &[ShelfRecord], ranked: &RankedShelves, index: usize) -> u32
+    requires order { AreInOrder shelves.now ranked.now.items }
+    requires index { index < length ranked.now.items }
+    ensures { result ≡ opening.place_at shelves.now ranked.now.items index }
 {
-    if place_of(shelves, &one) < place_of(shelves, &other) {
-        one
-    } else {
-        other
-    }
+    place_of(shelves, ranked.shelf(index))
 }
 
-/// Where the shelf of a candidate begins, as one number.
-fn place_of(shelves: &[ShelfRecord], candidate: &Candidate) -> u32
-    requires { candidate.now.shelf < length shelves.now }
-    ensures { result ≡ heights.place_number shelves.now candidate.now.shelf }
+/// A position behind this one, up to which all shelves have its height, and so a later place. Where the next shelf has its
+/// height, it is that behind all shelves of it.
+fn behind_height(shelves: &[ShelfRecord], ranked: &RankedShelves, index: usize) -> usize
+    requires order { AreInOrder shelves.now ranked.now.items }
+    requires places { ArePlaced shelves.now ranked.now.items }
+    requires few { length ranked.now.items < 2 ^ 64 }
+    requires index { index < length ranked.now.items }
+    ensures { IsBehind shelves.now ranked.now.items index result }
 {
-    let record = &shelves[candidate.shelf];
+    let height = own_height(shelves, ranked.shelf(index));
+    let next = index + 1;
+    if next == ranked.len() || own_height(shelves, ranked.shelf(next)) != height {
+        return next;
+    }
+    first_from(shelves, ranked, height + 1, 0).index
+}
+
+/// Where a shelf begins, as one number.
+fn place_of(shelves: &[ShelfRecord], shelf: usize) -> u32
+    requires { shelf < length shelves.now }
+    ensures { result ≡ heights.place_number shelves.now shelf }
+{
+    let record = &shelves[shelf];
     place_number(record.x, record.y)
+}
+
+/// How tall a shelf is.
+fn own_height(shelves: &[ShelfRecord], shelf: usize) -> u32
+    requires { shelf < length shelves.now }
+    ensures value { result ≡ height_of shelves.now shelf }
+    ensures short { result ≤ longest_side }
+{
+    u32::from(shelves[shelf].height)
+}
+
+/// Whether a shelf is one free item.
+fn is_empty(records: &Records, shelf: usize) -> bool
+    requires { shelf < length records.now.shelves }
+    ensures { result ≡ is_empty_at records.now.shelves shelf }
+{
+    records.shelves()[shelf].is_empty
 }
 
 /// Whether a shelf that fits is a good fit.
@@ -273,6 +447,9 @@ fn fit_at(
     requires short { height ≤ longest_side }
     ensures value { result
         ≡ searching.offered records.now width height (ranked_at ranked.old.items index).shelf }
+    ensures items { ranked.new.items
+        ≡ set ranked.old.items index
+        (looked_into records.now width (ranked_at ranked.old.items index)) }
     ensures numbers { ranked_numbers ranked.new.items ≡ ranked_numbers ranked.old.items }
     ensures ranked { AreSearchable records.now ranked.new.items }
 {
@@ -289,6 +466,7 @@ fn fit(records: &Records, ranked: &mut RankedShelf, width: u32, height: u32) -> 
     requires tall { height ≤ height_of records.now.shelves ranked.old.shelf }
     requires short { height ≤ longest_side }
     ensures value { result ≡ searching.offered records.now width height ranked.old.shelf }
+    ensures new { ranked.new ≡ looked_into records.now width ranked.old }
     ensures shelf { ranked.new.shelf ≡ ranked.old.shelf }
     ensures ranked { IsSearchable records.now ranked.new }
 {
@@ -307,6 +485,7 @@ fn fitting_item(records: &Records, ranked: &mut RankedShelf, width: u32) -> Opti
     requires linked { IsLinked records.now (walked_lists records.now) }
     requires ranked { IsSearchable records.now ranked.old }
     ensures value { result ≡ searching.first_wide records.now width ranked.old.shelf }
+    ensures new { ranked.new ≡ looked_into records.now width ranked.old }
     ensures shelf { ranked.new.shelf ≡ ranked.old.shelf }
     ensures ranked { IsSearchable records.now ranked.new }
 {

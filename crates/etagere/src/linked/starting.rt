@@ -1,5 +1,5 @@
 //! The records of a new atlas, and of one that was cleared, with their shelves ranked; and the shelves of records
-//! that were restored, ranked.
+//! that have grown, ranked.
 //!
 //! Definitions: `FreshRecords`, and `ByHeight` for the shelves. A clear uses the memory of the records that are
 //! there, of which there is a shelf and an item for each column at least, and that of the ranked shelves.
@@ -72,20 +72,6 @@ fn rank_columns(frame: &Frame, ranked: &mut RankedShelves)
     }
 }
 
-/// The shelves in use of records, ranked.
-pub(crate) fn ranked_shelves(
-    alloc: Global,
-    frame: &Frame,
-    records: &Records,
-) -> Result<RankedShelves, AllocError>
-    requires { AreKept frame.now records.now }
-    ensures { IfOk result (λ ranked. AreRanked frame.now records.now ranked.items) }
-{
-    let mut ranked = RankedShelves::with_room(alloc, records.shelves().len())?;
-    rank_shelves(frame, records, &mut ranked);
-    Ok(ranked)
-}
-
 /// Ranks the shelves in use of records, in the memory that the list has.
 pub(crate) fn rank_shelves(frame: &Frame, records: &Records, ranked: &mut RankedShelves)
     requires kept { AreKept frame.now records.now }
@@ -117,7 +103,7 @@ fn collect_shelves(frame: &Frame, records: &Records, ranked: &mut RankedShelves)
 }
 
 /// A shelf of this number, with the width of its column for a bound.
-fn newly_ranked(frame: &Frame, shelf: usize) -> RankedShelf
+pub(crate) fn newly_ranked(frame: &Frame, shelf: usize) -> RankedShelf
     requires frame { IsFrame longest_side frame.now }
     requires shelf { shelf < no_link }
     ensures { result ≡ heights.newly_ranked frame.now shelf }

@@ -2,14 +2,16 @@
 //!
 //! Definitions: `Restoring`.
 
-ghost use Rattle.std.specs.Prelude.{◌≡◌, ◌+◌, ◌*◌, ◌^◌, ◌<◌, ◌≤◌, ◌++◌, [], IfOk, IfErr, OnOk, length, map};
+ghost use Rattle.std.specs.Prelude.{◌≡◌, ◌+◌, ◌*◌, ◌^◌, ◌<◌, ◌≤◌, ◌++◌, ℕ, [], IfOk, IfErr, OnOk, length, map};
 ghost use Rattle.etagere_base.specs.Lists.{Each};
 ghost use Rattle.etagere_links.specs.Edits.{AreFitting};
 ghost use Rattle.etagere_links.specs.Links.{no_link, bits_of};
+ghost use Rattle.etagere_links.specs.LinksRead.{links_in, links_until};
 ghost use Rattle.etagere_links.specs.Marks.{IsMarkedBy};
-ghost use Rattle.etagere_links.specs.RecordLists.{item_numbers, shelf_walk, unused_item_walk};
+ghost use Rattle.etagere_links.specs.RecordLists.{item_numbers, item_walk, shelf_walk, unused_item_walk};
 ghost use Rattle.etagere_links.specs.Records.{item_chain};
 ghost use Rattle.etagere.specs.Private.Restoring.{HasChain, HasItemLists, chain_entry};
+ghost use Rattle.etagere.specs.RestoringSteps.{StopsAfter, item_walks};
 ghost use Rattle.etagere.specs.Snapshots.{IsBroken};
 
 use crate::judging::WalkedShelf;
@@ -40,6 +42,10 @@ pub(crate) fn walk_items(
     requires steps { steps.old < 2 ^ 30 }
     ensures ok { IfOk result (λ walked. HasItemLists atlas.now walked.shelves.items walked.unused.items) }
     ensures fault { IfErr result (IsBroken atlas.now) }
+    ensures all { OnOk result (steps.new ≡ steps.old + links_in (item_walks atlas.now.lists)) }
+    ensures until { IfErr result (λ fault. (more : ℕ) → StopsAfter
+        (steps.old + links_until (length atlas.now.lists.items) more [] (item_walks atlas.now.lists))
+        steps.new fault) }
     ensures bound { steps.new ≤ steps.old + 2 * length atlas.now.lists.items }
     ensures each { IfOk result
         (λ walked. steps.old + length (item_numbers walked.shelves.items) ≤ steps.new) }
@@ -77,6 +83,10 @@ fn follow_items(
     requires steps { steps.old < 2 ^ 30 }
     ensures ok { IfOk result (λ walked. HasItemLists atlas.now walked.shelves.items walked.unused.items) }
     ensures fault { IfErr result (IsBroken atlas.now) }
+    ensures all { OnOk result (steps.new ≡ steps.old + links_in (item_walks atlas.now.lists)) }
+    ensures until { IfErr result (λ fault. (more : ℕ) → StopsAfter
+        (steps.old + links_until (length atlas.now.lists.items) more [] (item_walks atlas.now.lists))
+        steps.new fault) }
     ensures bound { steps.new ≤ steps.old + 2 * length atlas.now.lists.items }
     ensures each { IfOk result
         (λ walked. steps.old + length (item_numbers walked.shelves.items) ≤ steps.new) }
@@ -119,6 +129,10 @@ fn walk_chains(
     ensures fault { IfErr result (IsBroken atlas.now) }
     ensures steps { IfOk result (λ shelves.
         steps.new ≡ steps.old + length (item_numbers shelves.items)) }
+    ensures until { IfErr result (λ fault. (more : ℕ) → StopsAfter
+        (steps.old + links_until (length atlas.now.lists.items) more (unused_item_walk atlas.now.lists).met
+        (map (item_walk atlas.now.lists) numbers.now))
+        steps.new fault) }
     ensures bound { steps.new + length (unused_item_walk atlas.now.lists).met
         ≤ steps.old + 2 * length atlas.now.lists.items }
 {

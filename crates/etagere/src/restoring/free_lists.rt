@@ -6,12 +6,14 @@ ghost use Rattle.std.specs.Prelude.{◌≡◌, ◌+◌, ◌*◌, ◌^◌, ◌<�
 ghost use Rattle.etagere_base.specs.Lists.{Each};
 ghost use Rattle.etagere_links.specs.Edits.{AreFitting};
 ghost use Rattle.etagere_links.specs.Links.{no_link, bits_of};
+ghost use Rattle.etagere_links.specs.LinksRead.{links_in, links_until};
 ghost use Rattle.etagere_links.specs.Marks.{IsMarkedBy};
 ghost use Rattle.etagere_links.specs.RecordLists.{HasEachOnce, item_numbers, shelf_walk, unused_item_walk};
 ghost use Rattle.etagere_links.specs.Records.{free_list};
 ghost use Rattle.etagere.specs.AtlasRecords.{walked_entries};
 ghost use Rattle.etagere.specs.Private.Restoring as spec;
 ghost use Rattle.etagere.specs.Private.Restoring.{HasFree, chain_entry};
+ghost use Rattle.etagere.specs.RestoringSteps.{StopsAfter, free_walks};
 ghost use Rattle.etagere.specs.Snapshots.{IsBroken};
 
 use crate::judging::WalkedShelf;
@@ -39,6 +41,11 @@ pub(crate) fn walk_free_lists(
     ensures free { OnOk result (Each (HasFree atlas.now.lists) (shelf_walk atlas.now.lists).met) }
     ensures fit { OnOk result (AreFitting free_list.next atlas.now.lists.items) }
     ensures fault { IfErr result (IsBroken atlas.now) }
+    ensures all { OnOk result (steps.new ≡ steps.old + links_in (free_walks atlas.now.lists)) }
+    ensures own { OnOk result
+        (links_until 0 0 [] (free_walks atlas.now.lists) ≡ links_in (free_walks atlas.now.lists)) }
+    ensures until { IfErr result (StopsAfter
+        (steps.old + links_until 0 0 [] (free_walks atlas.now.lists)) steps.new) }
     ensures bound { steps.new ≤ steps.old + 2 * length atlas.now.lists.items }
     ensures more { OnOk result (steps.old ≤ steps.new) }
 {
@@ -78,6 +85,11 @@ fn with_free_lists(
     ensures ok { IfOk result (λ entries. entries.items ≡ walked_entries atlas.now) }
     ensures free { OnOk result (Each (HasFree atlas.now.lists) (shelf_walk atlas.now.lists).met) }
     ensures fault { IfErr result (IsBroken atlas.now) }
+    ensures all { OnOk result (steps.new ≡ steps.old + links_in (free_walks atlas.now.lists)) }
+    ensures own { OnOk result
+        (links_until 0 0 [] (free_walks atlas.now.lists) ≡ links_in (free_walks atlas.now.lists)) }
+    ensures until { IfErr result (StopsAfter
+        (steps.old + links_until 0 0 [] (free_walks atlas.now.lists)) steps.new) }
     ensures bound { steps.new ≤ steps.old + 2 * length atlas.now.lists.items }
     ensures more { OnOk result (steps.old ≤ steps.new) }
 {

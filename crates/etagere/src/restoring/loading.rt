@@ -2,7 +2,8 @@
 //!
 //! Definitions: `Snapshots`.
 
-ghost use Rattle.std.specs.Prelude.{◌≡◌, ◌≤◌, IfErr, IfOk, OnOk};
+ghost use Rattle.std.specs.Prelude.{◌≡◌, ◌≤◌, ◌⊎◌, IfErr, IfOk, OnOk};
+ghost use Rattle.etagere_base.specs.declared.faults.RestoreFault.TheVariants as faults;
 ghost use Rattle.etagere_base.specs.Frames.{IsFrame, longest_side};
 ghost use Rattle.etagere.specs.Snapshots as spec;
 ghost use Rattle.etagere.specs.Snapshots.{IsBroken, snapshot_records};
@@ -22,6 +23,7 @@ impl LoadedAtlas {
         ensures frame { OnOk result (IsFrame longest_side (snapshot_records snapshot).frame) }
         ensures counts { OnOk result (HasCounts (snapshot_records snapshot)) }
         ensures fault { IfErr result (IsBroken (snapshot_records snapshot)) }
+        ensures early { IfErr result (λ fault. (fault ≡ faults.Frame) ⊎ (fault ≡ faults.Counts)) }
     {
         let frame = snapshot_frame(&snapshot)?;
         if !has_counts(&frame, &snapshot.shelves, &snapshot.items) {
@@ -47,6 +49,7 @@ fn snapshot_frame(snapshot: &AtlasSnapshot) -> Result<Frame, RestoreFault>
     ensures ok { IfOk result (λ frame. frame ≡ spec.snapshot_frame snapshot.now) }
     ensures frame { OnOk result (IsFrame longest_side (spec.snapshot_frame snapshot.now)) }
     ensures fault { IfErr result (IsBroken (snapshot_records snapshot.now)) }
+    ensures early { IfErr result (λ fault. fault ≡ faults.Frame) }
 {
     let column_width = u32::from(snapshot.shelf_width);
     if column_width == 0 {

@@ -5,22 +5,26 @@
 
 ghost use Rattle.std.specs.Prelude.{◌≡◌, ◌+◌, ◌*◌, ◌<◌, ◌≤◌, ◌^◌, IfErr, IfOk, OnOk, length};
 ghost use Rattle.etagere_base.specs.Frames.{HasAllColumns, IsFrame, longest_side};
-ghost use Rattle.etagere_links.specs.RecordLists.{item_numbers};
+ghost use Rattle.etagere_links.specs.RecordLists.{item_numbers, shelf_numbers, shelf_walk};
 ghost use Rattle.etagere.specs.Atlas.{KeepsPromises};
+ghost use Rattle.etagere.specs.Private.ByHeight.{AreRanked};
 ghost use Rattle.etagere.specs.Private.Kept.{AreKept};
+ghost use Rattle.etagere.specs.RestoringSteps.{IsFollowed, StopsAfter, links_followed, links_of_all};
 ghost use Rattle.etagere.specs.Snapshots.{IsBroken, snapshot_records, state_spelled};
 ghost use Rattle.etagere.specs.StandsFor.{HasCounts, StandsFor};
 ghost use Rattle.etagere.specs.State.{items_in_use};
 
 use crate::atlas::AtlasAllocator;
 use crate::judging::WalkedShelf;
-use crate::linked::starting::ranked_shelves;
+use crate::linked::ranked::RankedShelves;
+use crate::linked::starting::newly_ranked;
 use crate::restoring::LoadedAtlas;
 use crate::restoring::rules::judge_rules;
 use crate::restoring::walking::walk_records;
 use crate::snapshots::AtlasSnapshot;
-use etagere_base::RestoreFault;
-use std::alloc::Global;
+use etagere_base::{Frame, RestoreFault};
+use etagere_links::Records;
+use std::alloc::{AllocError, Global};
 
 /// How many items these shelves have.
 fn count_items(shelves: &[WalkedShelf]) -> u32
@@ -34,20 +38,48 @@ fn count_items(shelves: &[WalkedShelf]) -> u32
     count
 }
 
-/// Follows all links of an atlas and judges its rules; returns how many items are in use.
-fn judge_atlas(alloc: Global, atlas: &LoadedAtlas, steps: &mut u64) -> Result<u32, RestoreFault>
+/// The shelves in use of records, ranked, where walks have met these.
+fn ranked_shelves(
+    alloc: Global,
+    frame: &Frame,
+    records: &Records,
+    shelves: &[WalkedShelf],
+) -> Result<RankedShelves, AllocError>
+    requires kept { AreKept frame.now records.now }
+    requires met { shelf_numbers shelves.now ≡ (shelf_walk records.now).met }
+    ensures { IfOk result (λ ranked. AreRanked frame.now records.now ranked.items) }
+{
+    let mut ranked = RankedShelves::with_room(alloc, records.shelves().len())?;
+    for shelf in shelves {
+        ranked.push(newly_ranked(frame, usize::from(shelf.number)));
+    }
+    ranked.sort(records.shelves());
+    Ok(ranked)
+}
+
+/// Follows all links of an atlas and judges its rules; returns the shelves in use that walks have met.
+fn judge_atlas(
+    alloc: Global,
+    atlas: &LoadedAtlas,
+    steps: &mut u64,
+) -> Result<Vec<WalkedShelf>, RestoreFault>
     requires frame { IsFrame longest_side atlas.now.frame }
     requires columns { HasAllColumns atlas.now.frame }
     requires counts { HasCounts atlas.now }
     requires steps { steps.old ≡ 0 }
     ensures ok { OnOk result (StandsFor atlas.now (state_spelled atlas.now)) }
     ensures kept { OnOk result (AreKept atlas.now.frame atlas.now.lists) }
-    ensures items { IfOk result (λ count. count ≡ items_in_use (state_spelled atlas.now).shelves) }
+    ensures met { IfOk result (λ shelves. shelf_numbers shelves.items ≡ (shelf_walk atlas.now.lists).met) }
+    ensures items { IfOk result
+        (λ shelves. length (item_numbers shelves.items) ≡ items_in_use (state_spelled atlas.now).shelves) }
     ensures fault { IfErr result (IsBroken atlas.now) }
+    ensures all { OnOk result (steps.new ≡ links_of_all atlas.now.lists) }
+    ensures end { OnOk result (links_followed atlas.now.lists ≡ links_of_all atlas.now.lists) }
+    ensures until { IfErr result (StopsAfter (links_followed atlas.now.lists) steps.new) }
     ensures bound { steps.new
         ≤ 4 * (length atlas.now.lists.shelves + length atlas.now.lists.items) }
-    ensures each { IfOk result
-        (λ count. length (state_spelled atlas.now).shelves + count ≤ steps.new) }
+    ensures each { OnOk result
+        (length (state_spelled atlas.now).shelves + items_in_use (state_spelled atlas.now).shelves ≤ steps.new) }
 {
     let walked = walk_records(alloc, atlas, steps)?;
     let shelves = atlas.records.shelves();
@@ -60,7 +92,7 @@ fn judge_atlas(alloc: Global, atlas: &LoadedAtlas, steps: &mut u64) -> Result<u3
         &walked,
         atlas.allocated_space,
     )?;
-    Ok(count_items(&walked.shelves))
+    Ok(walked.shelves)
 }
 
 /// Makes an atlas from a snapshot, as `AtlasAllocator::restore` does, and counts the links that it follows. It is
@@ -81,14 +113,16 @@ pub fn restore_atlas(
     ensures promises { IfOk result KeepsPromises }
     ensures steps { IfOk result
         (λ atlas. length atlas.shelves + items_in_use atlas.shelves ≤ steps.new) }
+    ensures all { OnOk result (steps.new ≡ links_of_all (snapshot_records snapshot).lists) }
+    ensures until { IfErr result (IsFollowed (snapshot_records snapshot).lists steps.new) }
     ensures bound { steps.new
         ≤ 4 * (length snapshot.shelves.items + length snapshot.items.items) }
 {
     *steps = 0;
     let atlas = LoadedAtlas::of_snapshot(snapshot)?;
-    let items_in_use = judge_atlas(alloc, &atlas, steps)?;
-    let Ok(ranked) = ranked_shelves(alloc, &atlas.frame, &atlas.records) else {
+    let shelves = judge_atlas(alloc, &atlas, steps)?;
+    let Ok(ranked) = ranked_shelves(alloc, &atlas.frame, &atlas.records, &shelves) else {
         return Err(RestoreFault::Memory);
     };
-    Ok(AtlasAllocator::of_judged(atlas, ranked, items_in_use))
+    Ok(AtlasAllocator::of_judged(atlas, ranked, count_items(&shelves)))
 }

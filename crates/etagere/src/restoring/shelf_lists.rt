@@ -2,13 +2,15 @@
 //!
 //! Definitions: `Restoring`.
 
-ghost use Rattle.std.specs.Prelude.{◌≡◌, ◌*◌, ◌≤◌, [], IfOk, IfErr, length, map};
+ghost use Rattle.std.specs.Prelude.{◌≡◌, ◌*◌, ◌≤◌, ℕ, [], IfOk, IfErr, OnOk, length, map};
 ghost use Rattle.etagere_links.specs.Edits.{AreFitting};
 ghost use Rattle.etagere_links.specs.Links.{bits_of, no_link};
+ghost use Rattle.etagere_links.specs.LinksRead.{links_in, links_until};
 ghost use Rattle.etagere_links.specs.Marks.{IsMarkedBy};
 ghost use Rattle.etagere_links.specs.Records.{shelf_chain};
 ghost use Rattle.etagere.specs.Private.Restoring as spec;
 ghost use Rattle.etagere.specs.Private.Restoring.{HasShelfLists};
+ghost use Rattle.etagere.specs.RestoringSteps.{StopsAfter, shelf_walks};
 ghost use Rattle.etagere.specs.Snapshots.{IsBroken};
 
 use crate::restoring::LoadedAtlas;
@@ -28,6 +30,9 @@ pub(crate) fn walk_shelves(
     requires steps { steps.old ≡ 0 }
     ensures ok { IfOk result (λ numbers. HasShelfLists atlas.now numbers.items) }
     ensures fault { IfErr result (IsBroken atlas.now) }
+    ensures all { OnOk result (steps.new ≡ links_in (shelf_walks atlas.now.lists)) }
+    ensures until { IfErr result (λ fault. (more : ℕ) → StopsAfter
+        (links_until (length atlas.now.lists.shelves) more [] (shelf_walks atlas.now.lists)) steps.new fault) }
     ensures bound { steps.new ≤ 2 * length atlas.now.lists.shelves }
     ensures each { IfOk result (λ numbers. length numbers.items ≤ steps.new) }
 {
@@ -62,6 +67,9 @@ fn follow_shelves(
     requires steps { steps.old ≡ 0 }
     ensures ok { IfOk result (λ numbers. HasShelfLists atlas.now numbers.items) }
     ensures fault { IfErr result (IsBroken atlas.now) }
+    ensures all { OnOk result (steps.new ≡ links_in (shelf_walks atlas.now.lists)) }
+    ensures until { IfErr result (λ fault. (more : ℕ) → StopsAfter
+        (links_until (length atlas.now.lists.shelves) more [] (shelf_walks atlas.now.lists)) steps.new fault) }
     ensures bound { steps.new ≤ 2 * length atlas.now.lists.shelves }
     ensures each { IfOk result (λ numbers. length numbers.items ≤ steps.new) }
 {

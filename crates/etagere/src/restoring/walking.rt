@@ -3,10 +3,11 @@
 //!
 //! Definitions: `Restoring`.
 
-ghost use Rattle.std.specs.Prelude.{◌≡◌, ◌+◌, ◌*◌, ◌≤◌, IfOk, IfErr, length};
+ghost use Rattle.std.specs.Prelude.{◌≡◌, ◌+◌, ◌*◌, ◌≤◌, IfOk, IfErr, OnOk, length};
 ghost use Rattle.etagere_links.specs.Links.{no_link};
 ghost use Rattle.etagere_links.specs.RecordLists.{item_numbers};
 ghost use Rattle.etagere.specs.Private.Restoring.{IsWalked};
+ghost use Rattle.etagere.specs.RestoringSteps.{StopsAfter, links_followed, links_of_all};
 ghost use Rattle.etagere.specs.Snapshots.{IsBroken};
 
 use crate::judging::linking::links_back;
@@ -30,16 +31,19 @@ pub(crate) fn walk_records(
     requires steps { steps.old ≡ 0 }
     ensures ok { IfOk result (λ walked. IsWalked atlas.now walked.shelves.items walked.unused.items) }
     ensures fault { IfErr result (IsBroken atlas.now) }
+    ensures all { OnOk result (steps.new ≡ links_of_all atlas.now.lists) }
+    ensures end { OnOk result (links_followed atlas.now.lists ≡ links_of_all atlas.now.lists) }
+    ensures until { IfErr result (StopsAfter (links_followed atlas.now.lists) steps.new) }
     ensures bound { steps.new
         ≤ 4 * (length atlas.now.lists.shelves + length atlas.now.lists.items) }
     ensures each { IfOk result
         (λ walked. length walked.shelves.items + length (item_numbers walked.shelves.items) ≤ steps.new) }
 {
     let numbers = walk_shelves(alloc, atlas, steps)?;
+    let WalkedItems { shelves, unused } = walk_items(alloc, atlas, &numbers, steps)?;
+    let shelves = walk_free_lists(alloc, atlas, shelves, steps)?;
     if !links_back::<Chain, ShelfRecord>(atlas.records.shelves(), &numbers) {
         return Err(RestoreFault::Link);
     }
-    let WalkedItems { shelves, unused } = walk_items(alloc, atlas, &numbers, steps)?;
-    let shelves = walk_free_lists(alloc, atlas, shelves, steps)?;
     Ok(WalkedItems { shelves, unused })
 }

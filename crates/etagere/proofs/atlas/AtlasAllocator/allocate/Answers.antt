@@ -3,6 +3,7 @@ use Rattle.std.proofs.Common.{List, sym, subst, arith}
 use Rattle.etagere_base.specs.Rectangles.{IsLarge}
 use Rattle.etagere_links.specs.RecordLists.{Records}
 use Rattle.etagere.specs.Atlas.{Adds, Allocates, KeepsPromises, NeedsSplit}
+use Rattle.etagere.specs.ById.{IsClear, KeepsRectangles}
 use Rattle.etagere.specs.Places.{allocations}
 use Rattle.etagere.specs.Private.Consistent.{state_in}
 use Rattle.etagere.specs.Private.ByHeight.{AreRanked}
@@ -10,6 +11,7 @@ use Rattle.etagere.specs.Private.Kept.{state_of}
 use Rattle.etagere.specs.Private.PlacementTaken.{ranked_taken}
 use Rattle.etagere.specs.State.{AtlasState}
 use Rattle.etagere.specs.declared.linked.ranked.RankedShelf.{RankedShelf}
+use Rattle.etagere.proofs.Allocations.SeenById.{added-clear, keeps-rectangles}
 use Rattle.etagere.proofs.ByHeight.TakenRanked.{Ranks}
 use Rattle.etagere.proofs.Promises.{promises}
 use Rattle.etagere.proofs.Recorded.RecordedTaking.{AfterTaking, after-taking, found-as_placed, found-ranked}
@@ -109,3 +111,15 @@ returns-clause-large c = subst (λ (state : AtlasState). IsLarge state.frame c.a
 
 pub returns-clause-promises : goal.returns-clause-promises
 returns-clause-promises c = (after c).allocated.promises_after
+
+pub returns-clause-kept : goal.returns-clause-kept
+returns-clause-kept c =
+    let new = state_of c.self.inside.frame c.take_placement.new.records in
+    subst (λ (state : AtlasState). KeepsRectangles state new) c.self.view_is
+    (keeps-rectangles (state_in c.self.inside) (record { id = c.in_ok-id.id; rectangle = c.rectangle-rectangle.result }) new (after c).allocated.adds (after c).allocated.allocates.fresh_id)
+
+pub returns-clause-clear : goal.returns-clause-clear
+returns-clause-clear c =
+    let new = state_of c.self.inside.frame c.take_placement.new.records in
+    subst (λ (state : AtlasState). IsClear state c.rectangle-rectangle.result) c.self.view_is
+    (added-clear (state_in c.self.inside) (record { id = c.in_ok-id.id; rectangle = c.rectangle-rectangle.result }) new (after c).allocated.adds (after c).allocated.promises_after.apart)

@@ -2,11 +2,13 @@ use Rattle.std.proofs.Common.{◌≡◌, true, false, refl, ap, sym, ◌∙◌, 
 use Rattle.std.specs.Prelude.{is_some}
 use Rattle.etagere.specs.Atlas.{KeepsPromises, Restores, without_id}
 use Rattle.etagere.specs.AtlasRecords.{is_allocated_at}
+use Rattle.etagere.specs.ById.{TakesAway, Undoes}
 use Rattle.etagere.specs.Places.{allocations, is_allocated}
 use Rattle.etagere.specs.Private.Consistent.{state_in}
 use Rattle.etagere.specs.Private.Kept.{state_of}
 use Rattle.etagere.specs.Returning.{returned}
 use Rattle.etagere.specs.State.{AtlasState}
+use Rattle.etagere.proofs.Allocations.SeenById.{takes-away, undoes}
 use Rattle.etagere.proofs.Promises.{promises}
 use Rattle.etagere.proofs.Recorded.RecordedArea.{kept-area}
 use Rattle.etagere.proofs.Recorded.RecordedReturn.{AfterReturn, after-return, can-return, ranked-after}
@@ -91,3 +93,15 @@ returns-clause-restores c =
 
 pub returns-clause-promises : goal.returns-clause-promises
 returns-clause-promises c = (after (goal.at.returns-clause-promises c).After-return_item).promises_after
+
+pub returns-clause-away : goal.returns-clause-away
+returns-clause-away c =
+    let new = state_of c.self.inside.frame c.return_item.new.records in
+    subst (λ (state : AtlasState). TakesAway state c.args.id new) c.self.view_is
+    (takes-away (state_in c.self.inside) c.args.id new (after (goal.at.returns-clause-away c).After-return_item).allocated)
+
+pub returns-clause-undoes : goal.returns-clause-undoes
+returns-clause-undoes c =
+    let new = state_of c.self.inside.frame c.return_item.new.records in
+    subst (λ (state : AtlasState). Undoes state c.args.id new) c.self.view_is
+    (undoes (state_in c.self.inside) c.args.id new (after (goal.at.returns-clause-undoes c).After-return_item).allocated)

@@ -5,6 +5,8 @@ use Rattle.etagere.specs.Private.Consistent.{state_in}
 use Rattle.etagere.specs.Space.{allocated_space}
 use Rattle.etagere.specs.State.{AtlasState}
 use Rattle.etagere.proofs.Spaces.SpaceBounds.{space-le-area}
+use Rattle.etagere.specs.Atlas.{KeepsPromises}
+use Rattle.etagere.proofs.Promises.{promises}
 use Rattle.etagere.proofs.atlas.AtlasAllocator.free_space.Goals as goal
 
 pub overflow_sub-result : goal.overflow_sub-result
@@ -18,3 +20,6 @@ returns-clause-sum c =
     let small : free < 2 ^ 31 = omega (arith, c.self.invariant.kept.valid.frame.area) in
     subst (λ (s : AtlasState). to_z w32 free +ℤ pos (allocated_space s) ≡ pos (s.frame.width * s.frame.height)) c.self.view_is
     (rw (to_z_pos w32 free small) (ap pos (omega (arith, space-le-area old c.self.invariant.kept.valid, c.self.invariant.space))))
+
+pub returns-clause-promises : goal.returns-clause-promises
+returns-clause-promises c = subst KeepsPromises c.self.view_is (promises (state_in c.self.inside) c.self.invariant.kept.valid)

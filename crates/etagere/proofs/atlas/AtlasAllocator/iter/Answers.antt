@@ -6,6 +6,9 @@ use Rattle.etagere.specs.Places.{allocations, record_number}
 use Rattle.etagere.specs.Private.Kept.{state_of}
 use Rattle.etagere.specs.State.{AtlasState}
 use Rattle.etagere.proofs.Allocations.ListedOnce.{listed-rise, listed-tied}
+use Rattle.etagere.specs.Atlas.{KeepsPromises}
+use Rattle.etagere.specs.Private.Consistent.{state_in}
+use Rattle.etagere.proofs.Promises.{promises}
 use Rattle.etagere.proofs.atlas.AtlasAllocator.iter.Goals as goal
 
 pub returns-clause-each : goal.returns-clause-each
@@ -19,3 +22,6 @@ returns-clause-rising c =
     let state : AtlasState = state_of c.self.inside.frame c.self.inside.records in
     subst (λ (l : List Allocation). RiseFrom 0 (map (λ allocation. record_number allocation.id) l)) (sym c.new.ensures)
     (listed-rise state c.self.invariant.kept.valid)
+
+pub returns-clause-promises : goal.returns-clause-promises
+returns-clause-promises c = subst KeepsPromises c.self.view_is (promises (state_in c.self.inside) c.self.invariant.kept.valid)

@@ -1,6 +1,7 @@
-use Rattle.std.proofs.Common.{None, Some, ap, ◌∙◌}
+use Rattle.std.proofs.Common.{None, Some, ap, arith, ◌∙◌}
+use Rattle.etagere_base.proofs.FrameSides.{column_width-le, sides_low}
 use Rattle.etagere.proofs.ByHeight.Edited.{ranked-in_order}
-use Rattle.etagere.proofs.ByHeight.SearchableShelves.{chosen-found, found-within, ranked-searchable, searchable-ranked}
+use Rattle.etagere.proofs.ByHeight.SearchableShelves.{chosen-found, found-within, kept-whole, ranked-searchable, searchable-ranked}
 use Rattle.etagere.proofs.linked.choosing.chosen.Goals as goal
 
 pub best_candidate-requires-clause-order : goal.best_candidate-requires-clause-order
@@ -8,6 +9,14 @@ best_candidate-requires-clause-order c = ranked-in_order c.args.frame.now c.args
 
 pub best_candidate-requires-clause-ranked : goal.best_candidate-requires-clause-ranked
 best_candidate-requires-clause-ranked c = ranked-searchable c.args.frame.now c.args.records.now c.requires.kept c.args.ranked.now.items c.requires.ranked
+
+pub best_candidate-requires-clause-whole : goal.best_candidate-requires-clause-whole
+best_candidate-requires-clause-whole c = kept-whole c.args.frame.now c.args.records.now c.requires.kept
+
+pub best_candidate-requires-clause-column : goal.best_candidate-requires-clause-column
+best_candidate-requires-clause-column c =
+    let frame = c.args.frame.now in
+    (c.requires.kept.valid.frame.column_width, omega (arith, column_width-le 65535 frame c.requires.kept.valid.frame, (sides_low 65535 frame c.requires.kept.valid.frame).0))
 
 pub placement_at-requires-clause-shelf : goal.placement_at-requires-clause-shelf
 placement_at-requires-clause-shelf c =

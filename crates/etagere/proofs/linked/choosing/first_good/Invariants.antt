@@ -5,11 +5,11 @@ use Rattle.etagere.proofs.ByHeight.PassedShelves.{HasPassed}
 use Rattle.etagere.proofs.ByHeight.Searches.{SearchesFrom}
 use Rattle.etagere.proofs.linked.choosing.first_good.Given as goal
 
--- the first good fit from here on is that from the start on, and no shelf before the rest has a place
+-- the first good fit from here on is that from the start on, and no shelf up to here has a place
 abbrev pub invariant-loop-index : goal.invariant-loop-index
 invariant-loop-index l = record {
   search : SearchesFrom l.records l.height l.from (ranked_numbers l.fn.ranked.items) l.ranked.items;
-  passed : HasPassed l.records l.width l.height l.start l.from l.bad (ranked_numbers l.fn.ranked.items);
+  passed : HasPassed l.records l.width l.height l.start l.from (ranked_numbers l.fn.ranked.items);
   answer :
       first_offer (good_offer l.records l.width l.height) (drop l.from (ranked_numbers l.fn.ranked.items))
       ≡ first_offer (good_offer l.records l.width l.height) (drop l.start (ranked_numbers l.fn.ranked.items));

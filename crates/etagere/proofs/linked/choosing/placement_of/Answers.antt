@@ -1,10 +1,14 @@
 use Rattle.std.proofs.Common.{sym, arith}
+use Rattle.etagere_base.proofs.AskedSides.{asked-sides}
 use Rattle.etagere.proofs.Chosen.PlacedSizes.{asked-short}
 use Rattle.etagere.proofs.Searched.FoundPlacements.{none-chosen, some-chosen}
 use Rattle.etagere.proofs.linked.choosing.placement_of.Goals as goal
 
 pub chosen-requires-clause-short : goal.chosen-requires-clause-short
 chosen-requires-clause-short c = asked-short c.args.frame.now c.args.size c.in_ok-sides.sides c.requires.kept.valid.frame (sym c.in_ok-sides.ensures)
+
+pub chosen-requires-clause-wide : goal.chosen-requires-clause-wide
+chosen-requires-clause-wide c = (asked-sides 65535 c.args.frame.now c.args.size c.in_ok-sides.sides c.requires.kept.valid.frame (sym c.in_ok-sides.ensures)).along
 
 pub returns-in_err-placement-clause-none : goal.returns-in_err-placement-clause-none
 returns-in_err-placement-clause-none c =

@@ -1,4 +1,4 @@
-use Rattle.std.proofs.Common.{◌≡◌, ℕ, List, length, get_or, subst, sym, ap, refl, arith, ◌∙◌, [], ◌∷◌, ◌++◌, map, take}
+use Rattle.std.proofs.Common.{◌≡◌, ℕ, ◌+◌, List, length, get_or, subst, sym, ap, refl, arith, ◌∙◌, [], ◌∷◌, ◌++◌, map, take}
 use Rattle.std.proofs.lemmas.List.{length-append}
 use Rattle.etagere_links.specs.Links.{bits_of, link_of}
 use Rattle.etagere_links.specs.Marks.{IsMarkedBy}
@@ -11,6 +11,10 @@ use Rattle.etagere.specs.Snapshots.{IsBroken}
 use Rattle.etagere.proofs.Loaded.ChainsWalked.{both-length, each-next, images-next, items-next, marks-next}
 use Rattle.etagere.proofs.Loaded.WalksBroken.{chain-broken}
 use Rattle.etagere.proofs.Loaded.WalksBy.{breaks-by, links-length, walks-by}
+use Rattle.etagere_links.specs.LinksRead.{links_until}
+use Rattle.etagere_links.specs.WalkFaults.{links_by}
+use Rattle.etagere.specs.RestoringSteps.{StopsAfter}
+use Rattle.etagere.proofs.Loaded.LinksFollowed.{chain-refused, chain-wanting}
 use Rattle.etagere.proofs.restoring.chains.walk_chains.Goals as goal
 
 pub walk_marking-requires-clause-steps : goal.walk_marking-requires-clause-steps
@@ -84,3 +88,31 @@ returns-clause-bound c =
     let kept = c.loop-number.invariant in
     let items : List ℕ = item_numbers (map (chain_entry lists) (take c.loop-number.number-index c.args.numbers.now)) in
     omega (arith, kept.steps, both-length c.loop-number.marks (unused_item_walk lists).met items kept.marked, c.loop-number.auto.marks, c.requires.marks, links-length item_chain.next lists.items c.args.links.now c.requires.links)
+
+pub returns-in-Err-clause-until : goal.returns-in-Err-clause-until
+returns-in-Err-clause-until c =
+    let atlas = c.args.atlas.now in
+    let kept = c.loop-number.invariant in
+    let number : ℕ = get_or c.args.numbers.now c.loop-number.number-index 0 in
+    let start : c.bits-first.result ≡ bits_of (first_item_of atlas.lists.shelves number) =
+    c.bits-first.ensures.value ∙ ap bits_of (c.first_item_link.ensures ∙ ap (λ ss. first_item_of ss c.from.result) (c.shelves.ensures ∙ ap (λ (a : AtlasRecords). a.lists.shelves) c.atlas.view_is) ∙ ap (first_item_of atlas.lists.shelves) c.from.ensures) in
+    let walks = walks-by item_chain.next atlas.lists.items (first_item_of atlas.lists.shelves number) c.args.links.now c.bits-first.result c.requires.links start in
+    let steps = c.walk_marking.new.steps in
+    let counted : steps ≡ c.loop-number.steps + links_by (item_walk atlas.lists number) c.in-Err.fault =
+    subst (λ (w : Walked). steps ≡ c.loop-number.steps + links_by w c.in-Err.fault) walks c.in-Err.ensures.read in
+    λ more. subst (StopsAfter (c.args.steps.now + links_until (length atlas.lists.items) more (unused_item_walk atlas.lists).met (map (item_walk atlas.lists) c.args.numbers.now)) steps) (sym c.chain_fault.ensures)
+    (chain-refused atlas.lists c.args.numbers.now (unused_item_walk atlas.lists).met c.loop-number.number-index more c.args.steps.now c.loop-number.steps steps c.loop-number.marks c.in-Err.fault c.loop-number-test.true c.requires.few kept.chains kept.marked
+    (breaks-by item_chain.next atlas.lists.items (first_item_of atlas.lists.shelves number) c.args.links.now c.bits-first.result c.loop-number.marks c.in-Err.fault c.requires.links start c.in-Err.ensures.fault)
+    kept.steps counted)
+
+pub returns-in_default-clause-until : goal.returns-in_default-clause-until
+returns-in_default-clause-until c =
+    let atlas = c.args.atlas.now in
+    let kept = c.loop-number.invariant in
+    let number : ℕ = get_or c.args.numbers.now c.loop-number.number-index 0 in
+    let start : c.bits-first.result ≡ bits_of (first_item_of atlas.lists.shelves number) =
+    c.bits-first.ensures.value ∙ ap bits_of (c.first_item_link.ensures ∙ ap (λ ss. first_item_of ss c.from.result) (c.shelves.ensures ∙ ap (λ (a : AtlasRecords). a.lists.shelves) c.atlas.view_is) ∙ ap (first_item_of atlas.lists.shelves) c.from.ensures) in
+    let walks = walks-by item_chain.next atlas.lists.items (first_item_of atlas.lists.shelves number) c.args.links.now c.bits-first.result c.requires.links start in
+    let steps = c.walk_marking.new.steps in
+    λ more. chain-wanting atlas.lists c.args.numbers.now (unused_item_walk atlas.lists).met c.loop-number.number-index more c.args.steps.now c.loop-number.steps steps c.loop-number.marks c.loop-number-test.true kept.chains kept.marked kept.steps
+    (subst (λ (w : Walked). steps ≡ c.loop-number.steps + length w.met) walks c.in-Ok.ensures.steps)

@@ -1,7 +1,8 @@
 use Rattle.std.proofs.Common.{◌≡◌, ℕ, ◌+◌, ◌<◌, List, length, get_or, subst, sym, ap, refl, arith, rules, ◌∙◌, [], ◌∷◌, ◌++◌, map, take}
-use Rattle.std.proofs.lemmas.List.{length-append}
-use Rattle.std.proofs.lemmas.Iterator.Consumers.{YieldsList-turn}
+use Rattle.std.proofs.lemmas.List.{length-append, length-map, take_all}
+use Rattle.std.proofs.lemmas.Iterator.Consumers.{YieldsList-end, YieldsList-turn}
 use Rattle.std.proofs.lemmas.Iterator.Adapters.{YieldsList-from_vec}
+use Rattle.etagere_base.specs.Lists.{Each}
 use Rattle.etagere_links.specs.Links.{bits_of, link_of}
 use Rattle.etagere_links.specs.Marks.{IsMarkedBy}
 use Rattle.etagere_links.specs.RecordLists.{Entry, first_free_of, free_walk, shelf_walk, walked_entry}
@@ -9,12 +10,17 @@ use Rattle.etagere_links.specs.Records.{free_list}
 use Rattle.etagere_links.specs.Walks.{Walked, walk}
 use Rattle.etagere_links.proofs.MarkLemmas.{marked-length}
 use Rattle.etagere.specs.AtlasRecords.{AtlasRecords}
-use Rattle.etagere.specs.Private.Restoring.{HasFree, free_numbers}
+use Rattle.etagere.specs.Private.Restoring.{HasFree, chain_entry, free_numbers}
 use Rattle.etagere.specs.Snapshots.{IsBroken}
 use Rattle.etagere.proofs.Loaded.ChainsWalked.{each-next, free-next, image-at, images-next}
 use Rattle.etagere.proofs.Loaded.WalksBroken.{free-broken}
 use Rattle.etagere.proofs.Loaded.WalksBy.{breaks-by, links-length, walks-by}
+use Rattle.etagere_links.specs.LinksRead.{links_in, links_until}
+use Rattle.etagere_links.specs.WalkFaults.{links_by}
+use Rattle.etagere.specs.RestoringSteps.{StopsAfter, free_walks}
+use Rattle.etagere.proofs.Loaded.LinksFollowed.{free-refused, free-wanting, frees-counted, frees-go}
 use Rattle.etagere.proofs.restoring.free_lists.with_free_lists.Goals as goal
+use Rattle.etagere.proofs.restoring.free_lists.with_free_lists.Goals.{After-drop-shelf-iterator-2}
 
 pub walk_marking-requires-clause-steps : goal.walk_marking-requires-clause-steps
 walk_marking-requires-clause-steps c =
@@ -107,3 +113,65 @@ loop-shelf-preserved c =
       steps = rw count
           (omega (arith, kept.steps, c.in-Ok.ensures.steps, ap (λ (w : Walked). length w.met) walks, ap length (free-next atlas.lists numbers i number place.0 refl), length-append free (free_walk atlas.lists number).met));
     }
+
+pub returns-in-Err-clause-until : goal.returns-in-Err-clause-until
+returns-in-Err-clause-until c =
+    let atlas = c.args.atlas.now in
+    let kept = c.loop-shelf.invariant in
+    let numbers : List ℕ = (shelf_walk atlas.lists).met in
+    let i = length c.loop-shelf.yielded in
+    let shelf : Entry = c.in-Some.shelf in
+    let turn = YieldsList-turn (YieldsList-from_vec {s = c.into_iter-shelf-iterator.result} c.args.shelves.items (search rules) (search rules))
+    c.loop-shelf.yielded c.loop-shelf.shelf-iterator c.loop-shelf.yielded_by c.next.result c.next.new.self shelf c.in-Some.is c.next.ensures.steps in
+    let place = image-at atlas.lists numbers i shelf (subst (λ (es : List Entry). i < length es) c.requires.shelves turn.0) (subst (λ (es : List Entry). shelf ≡ get_or es i shelf) c.requires.shelves turn.1) in
+    let number : ℕ = get_or numbers i 0 in
+    let named : c.from.result ≡ number = c.from.ensures ∙ ap (λ (e : Entry). e.number) c.shelf.view_is ∙ ap (λ (e : Entry). e.number) place.1 in
+    let link : c.first_free_link.result ≡ first_free_of atlas.lists.shelves number =
+    c.first_free_link.ensures ∙ ap (λ ss. first_free_of ss c.from.result) (c.shelves.ensures ∙ ap (λ (a : AtlasRecords). a.lists.shelves) c.atlas.view_is) ∙ ap (first_free_of atlas.lists.shelves) named in
+    let start : c.bits-first.result ≡ bits_of (first_free_of atlas.lists.shelves number) = c.bits-first.ensures.value ∙ ap bits_of link in
+    let walks = walks-by free_list.next atlas.lists.items (first_free_of atlas.lists.shelves number) c.args.links.now c.bits-first.result c.requires.links start in
+    let steps = c.walk_marking.new.steps in
+    subst (StopsAfter (c.args.steps.now + links_until 0 0 [] (free_walks atlas.lists)) steps) (sym c.free_fault.ensures)
+    (free-refused atlas.lists numbers i c.args.steps.now c.loop-shelf.steps steps c.loop-shelf.marks c.in-Err.fault place.0 c.requires.few kept.free kept.marked
+    (breaks-by free_list.next atlas.lists.items (first_free_of atlas.lists.shelves number) c.args.links.now c.bits-first.result c.loop-shelf.marks c.in-Err.fault c.requires.links start c.in-Err.ensures.fault)
+    kept.steps (subst (λ (w : Walked). steps ≡ c.loop-shelf.steps + links_by w c.in-Err.fault) walks c.in-Err.ensures.read))
+
+pub returns-in_default-clause-until : goal.returns-in_default-clause-until
+returns-in_default-clause-until c =
+    let atlas = c.args.atlas.now in
+    let kept = c.loop-shelf.invariant in
+    let numbers : List ℕ = (shelf_walk atlas.lists).met in
+    let i = length c.loop-shelf.yielded in
+    let shelf : Entry = c.in-Some.shelf in
+    let turn = YieldsList-turn (YieldsList-from_vec {s = c.into_iter-shelf-iterator.result} c.args.shelves.items (search rules) (search rules))
+    c.loop-shelf.yielded c.loop-shelf.shelf-iterator c.loop-shelf.yielded_by c.next.result c.next.new.self shelf c.in-Some.is c.next.ensures.steps in
+    let place = image-at atlas.lists numbers i shelf (subst (λ (es : List Entry). i < length es) c.requires.shelves turn.0) (subst (λ (es : List Entry). shelf ≡ get_or es i shelf) c.requires.shelves turn.1) in
+    let number : ℕ = get_or numbers i 0 in
+    let named : c.from.result ≡ number = c.from.ensures ∙ ap (λ (e : Entry). e.number) c.shelf.view_is ∙ ap (λ (e : Entry). e.number) place.1 in
+    let link : c.first_free_link.result ≡ first_free_of atlas.lists.shelves number =
+    c.first_free_link.ensures ∙ ap (λ ss. first_free_of ss c.from.result) (c.shelves.ensures ∙ ap (λ (a : AtlasRecords). a.lists.shelves) c.atlas.view_is) ∙ ap (first_free_of atlas.lists.shelves) named in
+    let start : c.bits-first.result ≡ bits_of (first_free_of atlas.lists.shelves number) = c.bits-first.ensures.value ∙ ap bits_of link in
+    let walks = walks-by free_list.next atlas.lists.items (first_free_of atlas.lists.shelves number) c.args.links.now c.bits-first.result c.requires.links start in
+    let steps = c.walk_marking.new.steps in
+    free-wanting atlas.lists numbers i c.args.steps.now c.loop-shelf.steps steps c.loop-shelf.marks place.0 kept.free kept.marked kept.steps
+    (subst (λ (w : Walked). steps ≡ c.loop-shelf.steps + length w.met) walks c.in-Ok.ensures.steps)
+
+-- at the end the free list of each shelf was walked
+walked-all : (c : After-drop-shelf-iterator-2) → take (length c.loop-shelf.yielded) (shelf_walk c.args.atlas.now.lists).met ≡ (shelf_walk c.args.atlas.now.lists).met
+walked-all c =
+    let numbers : List ℕ = (shelf_walk c.args.atlas.now.lists).met in
+    let ended = YieldsList-end (YieldsList-from_vec {s = c.into_iter-shelf-iterator.result} c.args.shelves.items (search rules) (search rules))
+    c.loop-shelf.yielded c.loop-shelf.shelf-iterator c.loop-shelf.yielded_by c.next.result c.next.new.self c.in-None.is c.next.ensures.steps in
+    take_all (length c.loop-shelf.yielded) numbers (omega (arith, ended.1, ap length c.requires.shelves, length-map numbers (chain_entry c.args.atlas.now.lists)))
+
+pub returns-clause-all : goal.returns-clause-all
+returns-clause-all c =
+    let lists = c.args.atlas.now.lists in
+    frees-counted lists (shelf_walk lists).met c.args.steps.now c.loop-shelf.steps
+    (subst (λ (ns : List ℕ). c.loop-shelf.steps ≡ c.args.steps.now + length (free_numbers (map (walked_entry lists) ns))) (walked-all c) c.loop-shelf.invariant.steps)
+
+pub returns-clause-own : goal.returns-clause-own
+returns-clause-own c =
+    let lists = c.args.atlas.now.lists in
+    frees-go lists (shelf_walk lists).met c.loop-shelf.marks (subst (Each (HasFree lists)) (walked-all c) c.loop-shelf.invariant.free)
+    (subst (λ (ns : List ℕ). IsMarkedBy c.loop-shelf.marks (free_numbers (map (walked_entry lists) ns))) (walked-all c) c.loop-shelf.invariant.marked)

@@ -1,12 +1,13 @@
 use Rattle.std.specs.Prelude.{ℤ}
-use Rattle.std.proofs.Common.{◌≡◌, ℕ, List, ◌++◌, length, ap, rules, subst, sym, SFits, w32, ◌∙◌}
+use Rattle.std.proofs.Common.{◌≡◌, ℕ, List, ◌++◌, length, ap, arith, rules, subst, sym, SFits, w32, ◌∙◌}
 use Rattle.std.proofs.lemmas.Int.{to_z-of_z}
 use Rattle.std.proofs.lemmas.List.{length-map}
 use Rattle.std.proofs.lemmas.Result.{err_from_is_err_and}
 use Rattle.etagere_base.specs.declared.frames.Frame.{Frame}
 use Rattle.etagere_links.specs.declared.records.ItemRecord.{ItemRecord}
 use Rattle.etagere_links.specs.declared.records.ShelfRecord.{ShelfRecord}
-use Rattle.etagere_links.specs.RecordLists.{Entry, HasEachOnce, item_numbers}
+use Rattle.etagere_links.specs.RecordLists.{Entry, HasEachOnce, item_numbers, shelf_numbers, shelf_walk}
+use Rattle.etagere_links.proofs.AllLists.LinkedWalks.{walked-numbers}
 use Rattle.etagere.specs.AtlasRecords.{AtlasRecords, spelled_shelf, walked_entries}
 use Rattle.etagere.specs.Private.Rules.{BreaksRule, KeepsRules}
 use Rattle.etagere.specs.Snapshots.{state_spelled}
@@ -77,8 +78,20 @@ returns-clause-kept c =
 
 pub returns-clause-items : goal.returns-clause-items
 returns-clause-items c =
-    c.count_items.ensures ∙ ap (λ (es : List Entry). length (item_numbers es)) c.deref.ensures.value
-    ∙ walked-count c.args.atlas.now c.in_ok-walked.walked.shelves.items c.in_ok-walked.ensures.ok.entries_met
+    walked-count c.args.atlas.now c.in_ok-walked.walked.shelves.items c.in_ok-walked.ensures.ok.entries_met
+
+pub returns-clause-met : goal.returns-clause-met
+returns-clause-met c =
+    ap shelf_numbers c.in_ok-walked.ensures.ok.entries_met ∙ walked-numbers c.args.atlas.now.lists (shelf_walk c.args.atlas.now.lists).met
+
+pub returns-clause-each : goal.returns-clause-each
+returns-clause-each c =
+    omega (
+      arith,
+      c.in_ok-walked.ensures.each,
+      walked-count c.args.atlas.now c.in_ok-walked.walked.shelves.items c.in_ok-walked.ensures.ok.entries_met,
+      shelves-count c.args.atlas.now c.in_ok-walked.walked.shelves.items c.in_ok-walked.ensures.ok.entries_met,
+    )
 
 pub returns-in_err-judge_rules-clause-fault : goal.returns-in_err-judge_rules-clause-fault
 returns-in_err-judge_rules-clause-fault c =

@@ -1,0 +1,8 @@
+use Rattle.std.proofs.Common.{subst}
+use Rattle.etagere.specs.Atlas.{KeepsPromises}
+use Rattle.etagere.specs.Private.Consistent.{state_in}
+use Rattle.etagere.proofs.Promises.{promises}
+use Rattle.etagere.proofs.atlas.AtlasAllocator.size.Goals as goal
+
+pub returns-clause-promises : goal.returns-clause-promises
+returns-clause-promises c = subst KeepsPromises c.self.view_is (promises (state_in c.self.inside) c.self.invariant.kept.valid)
