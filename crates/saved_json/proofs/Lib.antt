@@ -1,0 +1,6 @@
+pub mod ItemCounts
+pub mod FieldsFound
+pub mod HeldSnapshots
+pub mod KeptMembers
+pub mod PassedItems
+pub mod PassedMembers
