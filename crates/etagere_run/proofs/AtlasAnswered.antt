@@ -1,5 +1,5 @@
 -- On a shelf atlas every command has an answer, whatever is live.
-use Rattle.std.proofs.Common.{◌≡◌, ℕ, ◌%◌, Option, None, Some, List, [], ◌∷◌, ◌++◌, refl, ap, sym}
+use Rattle.std.proofs.Common.{◌≡◌, ℕ, ◌%◌, Option, None, Some, List, [], ◌∷◌, ◌++◌, refl}
 use Rattle.etagere_base.specs.declared.geometry.Size.{Size}
 use Rattle.etagere_base.specs.declared.ids.Allocation.{Allocation}
 use Rattle.etagere_base.specs.Ids.{index_modulus}
@@ -17,10 +17,11 @@ use Rattle.etagere_run.specs.declared.commands.Reply.{Reply}
 use Rattle.etagere_run.specs.declared.commands.Reply.TheVariants.{Placed, Refused, Returned, At, NotLive, Cleared, Grown, GrowRefused}
 use Rattle.etagere_run.specs.AtlasRuns.{AtlasStep, atlas_effect, shelf_atlas}
 use Rattle.etagere_run.specs.Live as effects
-use Rattle.etagere_run.specs.Live.{Effect, Entry, allocation_at, without}
+use Rattle.etagere_run.specs.Live.{Entry, allocation_at, without}
 use Rattle.etagere_run.specs.Private.Tied.{HasAnswer, IsTied, SuitsRuns}
 use Rattle.etagere_run.proofs.BoundedRecords.{bounded-fresh, bounded-more}
-use Rattle.etagere_run.proofs.AtlasAnswers.{AtlasStep-adds, cleared, gone_back, grown, live-promises, looked, placed}
+use Rattle.etagere_run.proofs.KeptSteps.{kept}
+use Rattle.etagere_run.proofs.AtlasAnswers.{AtlasStep-adds, atlas-steps, cleared, gone_back, grown, live-promises, looked, placed}
 
 -- an answer of a shelf atlas
 abbrev Answers : ℕ → AtlasCommand → List Entry → AtlasState → Type 0
@@ -35,12 +36,7 @@ unchanged position command reply entries state tied step keeps =
       reply = reply;
       later = entries;
       new = state;
-      answer = record {
-        step = step;
-        live_is = ap (λ (effect : Effect). effects.live_after position effect entries) (sym keeps);
-        alignments = record { width = refl; height = refl; direction = refl };
-        tied = tied;
-      };
+      answer = kept shelf_atlas IsTied position command reply entries state state tied step keeps refl;
     }
 
 -- a size has an answer
@@ -128,6 +124,7 @@ atlas-suits =
     record {
       promises = live-promises;
       answers = atlas-answers;
+      steps = atlas-steps;
       asked = AtlasStep-adds;
       bounded_fresh = bounded-fresh;
       bounded_more = bounded-more;

@@ -1,8 +1,7 @@
 -- On a shelf atlas each reply that is given is an answer to its command, and each answer keeps the promises of a run.
-use Rattle.std.proofs.Common.{◌≡◌, ℕ, ◌%◌, ◌≤◌, true, None, Some, List, [], ◌∷◌, ◌++◌, refl, ap, sym, subst}
+use Rattle.std.proofs.Common.{◌≡◌, ℕ, ◌%◌, ◌≤◌, true, None, Some, List, [], ◌∷◌, ◌++◌, refl, ap, sym, ◌∙◌, subst}
 use Rattle.etagere_base.specs.declared.geometry.Rectangle.{Rectangle}
 use Rattle.etagere_base.specs.declared.geometry.Size.{Size}
-use Rattle.etagere_base.specs.declared.frames.Frame.{Frame}
 use Rattle.etagere_base.specs.Ids.{index_modulus}
 use Rattle.etagere_base.specs.declared.ids.Allocation.{Allocation}
 use Rattle.etagere_base.specs.Lists.{Each}
@@ -15,15 +14,16 @@ use Rattle.etagere.specs.Growing.{atlas_grown, grow_fault}
 use Rattle.etagere.specs.Places.{allocations, is_allocated, rectangle_of}
 use Rattle.etagere.specs.Returning.{returned}
 use Rattle.etagere.specs.State.{AtlasState}
-use Rattle.etagere.proofs.Callers.{columns-grown, found-allocated, found-new, found-rectangle, not_allocated-any, tied-added, tied-apart, tied-each, tied-empty, tied-ids, tied-none, tied-returned}
+use Rattle.etagere.proofs.Callers.{allocated-grown, allocates-adds, columns-grown, fresh-allocated, found-allocated, found-new, found-rectangle, not_allocated-any, promises, promises-cleared, promises-returned, returned-allocated, tied-added, tied-apart, tied-each, tied-empty, tied-ids, tied-none, tied-returned}
 use Rattle.etagere_run.specs.declared.commands.AtlasCommand.{AtlasCommand}
 use Rattle.etagere_run.specs.declared.commands.AtlasCommand.TheVariants.{Allocate, Return, Look, Grow, Clear}
 use Rattle.etagere_run.specs.declared.commands.Reply.{Reply}
-use Rattle.etagere_run.specs.declared.commands.Reply.TheVariants.{Placed, Returned, At, Cleared, Grown}
+use Rattle.etagere_run.specs.declared.commands.Reply.TheVariants.{Placed, Refused, Returned, At, NotLive, Cleared, Grown, GrowRefused, NoMemory}
 use Rattle.etagere_run.specs.AtlasRuns.{AtlasStep, LiveKeepsPromises, atlas_effect, shelf_atlas}
 use Rattle.etagere_run.specs.Live as effects
-use Rattle.etagere_run.specs.Live.{Entry, allocation_at, live_allocations, without}
+use Rattle.etagere_run.specs.Live.{Entry, allocation_at, live_after, live_allocations, without}
 use Rattle.etagere_run.specs.Private.Tied.{IsAnswer, IsAsked, IsTied, SameAlignments}
+use Rattle.etagere_run.proofs.KeptSteps.{alignments-same, kept}
 use Rattle.etagere_run.proofs.LiveEntries.{last-adds, without-adds}
 
 -- what is live at a position is found under its id
@@ -51,14 +51,11 @@ rectangle-at entries state position allocation tied is =
 pub tied-cleared : (state : AtlasState) → allocations state ≡ [] → KeepsPromises state → IsTied [] state
 tied-cleared state none promises = record { promises = promises; allocated = tied-none (allocations state) none }
 
--- an equal frame has the same alignments
-pub alignments-same : (old new : Frame) → new ≡ old → SameAlignments old new
-alignments-same old new is =
-    record {
-      width = ap (λ (f : Frame). f.alignment_width) is;
-      height = ap (λ (f : Frame). f.alignment_height) is;
-      direction = ap (λ (f : Frame). f.vertical) is;
-    }
+-- nothing changed
+unchanged : (position : ℕ) (command : AtlasCommand) (reply : Reply) (entries : List Entry) (old new : AtlasState)
+    → IsTied entries old → AtlasStep entries old command reply new → atlas_effect command reply ≡ effects.Keeps → new ≡ old
+    → IsAnswer position command reply entries entries old new
+unchanged = kept shelf_atlas IsTied
 
 -- the size was placed
 pub placed : (position : ℕ) (size : Size) (allocation : Allocation) (entries later : List Entry) (old new : AtlasState)
@@ -159,7 +156,38 @@ cleared position entries later old new new_is none promises later_is =
       tied = rw later_is (tied-cleared new none promises);
     }
 
--- A step that adds an allocation has placed a size. This is all that proofs ask of the table of steps.
+-- each step is an answer
+pub atlas-steps : (position : ℕ) (entries : List Entry) (old new : AtlasState) (command : AtlasCommand) (reply : Reply)
+    → IsTied entries old → AtlasStep entries old command reply new
+    → IsAnswer position command reply entries (live_after position (atlas_effect command reply) entries) old new
+atlas-steps position entries old new (Allocate size) (Placed allocation) tied step =
+    placed position size allocation entries (entries ++ record { position = position; allocation = allocation } ∷ []) old new tied
+    step.allocates (allocates-adds old size allocation new tied.promises.valid step.allocates) step.large (promises new step.valid) refl
+atlas-steps position entries old new (Allocate size) Refused tied step = unchanged position (Allocate size) Refused entries old new tied step refl step.1
+atlas-steps position entries old new (Allocate size) NoMemory tied step = unchanged position (Allocate size) NoMemory entries old new tied step refl step.1
+atlas-steps position entries old new (Return other) Returned tied step =
+    let valid = tied.promises.valid in
+    let id = step.allocation.id in
+    gone_back position other step.allocation entries (without other entries) old new tied step.live_is step.after
+    (ap allocations step.after ∙ returned-allocated old id valid)
+    (subst KeepsPromises (sym step.after) (promises-returned old id valid)) refl
+atlas-steps position entries old new (Return other) NotLive tied step = unchanged position (Return other) NotLive entries old new tied step refl step.1
+atlas-steps position entries old new (Look other) (At rectangle index) tied step =
+    unchanged position (Look other) (At rectangle index) entries old new tied step refl step.1
+atlas-steps position entries old new (Look other) NotLive tied step = unchanged position (Look other) NotLive entries old new tied step refl step.1
+atlas-steps position entries old new (Grow size) Grown tied step =
+    let valid = tied.promises.valid in
+    grown position size entries old new tied step.fits step.after
+    (ap allocations step.after ∙ allocated-grown old size valid step.fits) (promises new step.valid)
+atlas-steps position entries old new (Grow size) (GrowRefused number) tied step =
+    unchanged position (Grow size) (GrowRefused number) entries old new tied step refl step.1
+atlas-steps position entries old new (Grow size) NoMemory tied step = unchanged position (Grow size) NoMemory entries old new tied step refl step.1
+atlas-steps position entries old new Clear Cleared tied step =
+    cleared position entries [] old new step (ap allocations step ∙ fresh-allocated old.frame)
+    (subst KeepsPromises (sym step) (promises-cleared old tied.promises.valid)) refl
+atlas-steps position entries old new command reply tied step = absurd step
+
+-- a step that adds an allocation has placed a size
 pub AtlasStep-adds : (entries : List Entry) (old new : AtlasState) (command : AtlasCommand) (reply : Reply)
     → AtlasStep entries old command reply new
     → (allocation : Allocation) → atlas_effect command reply ≡ effects.Adds allocation

@@ -1,5 +1,5 @@
 -- On a bucketed atlas every command has an answer, whatever is live.
-use Rattle.std.proofs.Common.{◌≡◌, ℕ, ◌<◌, ◌≤◌, Option, None, Some, List, [], ◌∷◌, ◌++◌, refl, ap, sym, ⊎_elim, arith}
+use Rattle.std.proofs.Common.{◌≡◌, ℕ, ◌<◌, ◌≤◌, Option, None, Some, List, [], ◌∷◌, ◌++◌, refl, ap, ⊎_elim, arith}
 use Rattle.std.proofs.lemmas.Bool.{cases_lt}
 use Rattle.etagere_base.specs.declared.geometry.Size.{Size}
 use Rattle.etagere_base.specs.declared.ids.Allocation.{Allocation}
@@ -17,9 +17,10 @@ use Rattle.etagere_run.specs.declared.commands.Reply.{Reply}
 use Rattle.etagere_run.specs.declared.commands.Reply.TheVariants.{Placed, Refused, Returned, NotLive, Cleared, Grown, GrowRefused, NoMemory}
 use Rattle.etagere_run.specs.BucketedRuns.{BucketedStep, bucketed_atlas, bucketed_effect}
 use Rattle.etagere_run.specs.Live as effects
-use Rattle.etagere_run.specs.Live.{Effect, Entry, allocation_at, without}
+use Rattle.etagere_run.specs.Live.{Entry, allocation_at, without}
 use Rattle.etagere_run.specs.Private.Tied.{HasAnswer, IsInBuckets, SuitsRuns}
-use Rattle.etagere_run.proofs.BucketedAnswers.{BucketedStep-adds, cleared, gone_back, grown as has_grown, live-promises, placed}
+use Rattle.etagere_run.proofs.KeptSteps.{kept}
+use Rattle.etagere_run.proofs.BucketedAnswers.{BucketedStep-adds, bucketed-steps, cleared, gone_back, grown as has_grown, live-promises, placed}
 
 -- an answer of a bucketed atlas
 abbrev Answers : ℕ → BucketedCommand → List Entry → BucketedState → Type 0
@@ -34,12 +35,7 @@ unchanged position command reply entries state tied step keeps =
       reply = reply;
       later = entries;
       new = state;
-      answer = record {
-        step = step;
-        live_is = ap (λ (effect : Effect). effects.live_after position effect entries) (sym keeps);
-        alignments = record { width = refl; height = refl; direction = refl };
-        tied = tied;
-      };
+      answer = kept bucketed_atlas IsInBuckets position command reply entries state state tied step keeps refl;
     }
 
 -- a place that needs no new buckets is an answer to a size
@@ -133,6 +129,7 @@ bucketed-suits =
     record {
       promises = live-promises;
       answers = bucketed-answers;
+      steps = bucketed-steps;
       asked = BucketedStep-adds;
       bounded_fresh = λ frame. omega arith;
       bounded_more = λ position entries later old new command reply most last answer before. answer.tied.tied.valid.shelves.few;

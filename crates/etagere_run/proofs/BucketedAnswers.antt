@@ -19,12 +19,12 @@ use Rattle.etagere_bucketed.proofs.Callers.{allocates-aligned, allocates-large, 
 use Rattle.etagere_run.specs.declared.commands.BucketedCommand.{BucketedCommand}
 use Rattle.etagere_run.specs.declared.commands.BucketedCommand.TheVariants.{Allocate, Return, Grow, Clear}
 use Rattle.etagere_run.specs.declared.commands.Reply.{Reply}
-use Rattle.etagere_run.specs.declared.commands.Reply.TheVariants.{Placed, Returned, Cleared, Grown}
+use Rattle.etagere_run.specs.declared.commands.Reply.TheVariants.{Placed, Refused, Returned, NotLive, Cleared, Grown, GrowRefused, NoMemory}
 use Rattle.etagere_run.specs.BucketedRuns.{BucketedLiveKeepsPromises, BucketedStep, bucketed_atlas, bucketed_effect}
 use Rattle.etagere_run.specs.Live as effects
-use Rattle.etagere_run.specs.Live.{Entry, allocation_at, live_allocations, without}
+use Rattle.etagere_run.specs.Live.{Entry, allocation_at, live_after, live_allocations, without}
 use Rattle.etagere_run.specs.Private.Tied.{IsAsked, IsBucketedAnswer, IsInBuckets, SameAlignments}
-use Rattle.etagere_run.proofs.AtlasAnswers.{alignments-same}
+use Rattle.etagere_run.proofs.KeptSteps.{alignments-same, kept}
 use Rattle.etagere_run.proofs.LiveEntries.{without-adds}
 
 -- an allocation is aligned in a frame
@@ -64,9 +64,15 @@ known-at entries state position allocation tied is =
     (subst (Each (λ (a : Allocation). is_known state a.id ≡ true)) adds.after safe.known)
 
 -- nothing is live in a new or cleared atlas
-in_buckets-fresh : (frame : Frame) (state : BucketedState) → IsBucketedFrame frame → state ≡ fresh frame → IsInBuckets [] state
+pub in_buckets-fresh : (frame : Frame) (state : BucketedState) → IsBucketedFrame frame → state ≡ fresh frame → IsInBuckets [] state
 in_buckets-fresh frame state is_frame is =
     record { tied = subst (AreTied []) (sym is) (tied-fresh frame is_frame); aligned = tt }
+
+-- nothing changed
+unchanged : (position : ℕ) (command : BucketedCommand) (reply : Reply) (entries : List Entry) (old new : BucketedState)
+    → IsInBuckets entries old → BucketedStep entries old command reply new → bucketed_effect command reply ≡ effects.Keeps → new ≡ old
+    → IsBucketedAnswer position command reply entries entries old new
+unchanged = kept bucketed_atlas IsInBuckets
 
 -- the size was placed
 pub placed : (position : ℕ) (size : Size) (allocation : Allocation) (entries later : List Entry) (old new : BucketedState)
@@ -149,7 +155,30 @@ cleared position entries later old new tied new_is later_is =
       tied = rw later_is (in_buckets-fresh old.frame new tied.tied.valid.frame new_is);
     }
 
--- A step that adds an allocation has placed a size. This is all that proofs ask of the table of steps.
+-- each step is an answer
+pub bucketed-steps : (position : ℕ) (entries : List Entry) (old new : BucketedState) (command : BucketedCommand) (reply : Reply)
+    → IsInBuckets entries old → BucketedStep entries old command reply new
+    → IsBucketedAnswer position command reply entries (live_after position (bucketed_effect command reply) entries) old new
+bucketed-steps position entries old new (Allocate size) (Placed allocation) tied step =
+    placed position size allocation entries (entries ++ record { position = position; allocation = allocation } ∷ []) old new tied
+    step.allocates refl
+bucketed-steps position entries old new (Allocate size) Refused tied step =
+    unchanged position (Allocate size) Refused entries old new tied step refl step.1
+bucketed-steps position entries old new (Allocate size) NoMemory tied step =
+    unchanged position (Allocate size) NoMemory entries old new tied step refl step.1
+bucketed-steps position entries old new (Return other) Returned tied step =
+    gone_back position other step.allocation entries (without other entries) old new tied step.live_is step.after refl
+bucketed-steps position entries old new (Return other) NotLive tied step =
+    unchanged position (Return other) NotLive entries old new tied step refl step.1
+bucketed-steps position entries old new (Grow size) Grown tied step = grown position size entries old new tied step
+bucketed-steps position entries old new (Grow size) (GrowRefused number) tied step =
+    unchanged position (Grow size) (GrowRefused number) entries old new tied step refl step.1
+bucketed-steps position entries old new (Grow size) NoMemory tied step =
+    unchanged position (Grow size) NoMemory entries old new tied step refl step.1
+bucketed-steps position entries old new Clear Cleared tied step = cleared position entries [] old new tied step refl
+bucketed-steps position entries old new command reply tied step = absurd step
+
+-- a step that adds an allocation has placed a size
 pub BucketedStep-adds : (entries : List Entry) (old new : BucketedState) (command : BucketedCommand) (reply : Reply)
     → BucketedStep entries old command reply new
     → (allocation : Allocation) → bucketed_effect command reply ≡ effects.Adds allocation

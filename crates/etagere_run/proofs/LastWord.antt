@@ -81,7 +81,7 @@ direction-lacks bytes v h =
     ]
 
 -- where a chain gives something, its first step does, and so does the rest of it
-bound : {A B : Type 0} (o : Option A) (f : A → Option B) (z : B) → (o >>= f) ≡ Some z → (x : A) × (o ≡ Some x) × (f x ≡ Some z)
+pub bound : {A B : Type 0} (o : Option A) (f : A → Option B) (z : B) → (o >>= f) ≡ Some z → (x : A) × (o ≡ Some x) × (f x ≡ Some z)
 bound None f z h = cc
 bound (Some x) f z h = (x, refl, h)
 
@@ -98,18 +98,21 @@ none-spaced bytes None lacks space = refl
 none-spaced bytes (Some x) lacks space = absurd (space (lacks x refl))
 
 -- a function of words is one of the last bytes, if they stand for nothing where there is a space
-last-word : {A : Type 0} (f : List (List ℕ) → Option A) (bytes : List ℕ) → ((first second : List ℕ) (rest : List (List ℕ)) → f (first ∷ second ∷ rest) ≡ None) → ((x : A) → f (bytes ∷ []) ≡ Some x → Lacks 32 bytes) → Shape bytes → f (words_of bytes) ≡ f (bytes ∷ [])
-last-word f bytes none lacks (One one) = ap f one
-last-word f bytes none lacks (More first second rest more space) =
-    ap f more ∙ none first second rest ∙ sym (none-spaced bytes (f (bytes ∷ [])) lacks space)
+pub last-word : {A : Type 0} (f : List (List ℕ) → Option A) (bytes : List ℕ) → ((first second : List ℕ) (rest : List (List ℕ)) → f (first ∷ second ∷ rest) ≡ None) → ((x : A) → f (bytes ∷ []) ≡ Some x → Lacks 32 bytes) → f (words_of bytes) ≡ f (bytes ∷ [])
+last-word f bytes none lacks = by_shape (shape bytes)
+  where
+    by_shape : Shape bytes → f (words_of bytes) ≡ f (bytes ∷ [])
+    by_shape (One one) = ap f one
+    by_shape (More first second rest more space) =
+        ap f more ∙ none first second rest ∙ sym (none-spaced bytes (f (bytes ∷ [])) lacks space)
 
 -- a position is the last bytes, if they stand for one
 pub position_in-words : (bytes : List ℕ) → position_in (words_of bytes) ≡ position_of bytes
-position_in-words bytes = last-word position_in bytes (λ first second rest. refl) (λ n h. natural-lacks 32 refl _ n bytes h) (shape bytes)
+position_in-words bytes = last-word position_in bytes (λ first second rest. refl) (λ n h. natural-lacks 32 refl _ n bytes h)
 
 -- the height of a size is the last bytes
 pub size_in-words : (width height : List ℕ) → size_in (width ∷ words_of height) ≡ size_of width height
-size_in-words width height = last-word (λ words. size_in (width ∷ words)) height (λ first second rest. refl) (λ size h. size-lacks width height size h) (shape height)
+size_in-words width height = last-word (λ words. size_in (width ∷ words)) height (λ first second rest. refl) (λ size h. size-lacks width height size h)
 
 -- the direction of an atlas has no space
 atlas-lacks : (kind : AtlasKind) (width height alignment_width alignment_height columns direction : List ℕ) (header : Header) → atlas_of kind width height alignment_width alignment_height columns direction ≡ Some header → Lacks 32 direction
@@ -123,7 +126,7 @@ atlas-lacks kind width height alignment_width alignment_height columns direction
 pub atlas_in-words : (kind : AtlasKind) (width height alignment_width alignment_height columns direction : List ℕ) → atlas_in kind (width ∷ height ∷ alignment_width ∷ alignment_height ∷ columns ∷ words_of direction) ≡ atlas_of kind width height alignment_width alignment_height columns direction
 atlas_in-words kind width height alignment_width alignment_height columns direction =
     last-word (λ words. atlas_in kind (width ∷ height ∷ alignment_width ∷ alignment_height ∷ columns ∷ words)) direction (λ first second rest. refl)
-    (λ header h. atlas-lacks kind width height alignment_width alignment_height columns direction header h) (shape direction)
+    (λ header h. atlas-lacks kind width height alignment_width alignment_height columns direction header h)
 
 -- bytes with a name before them are several words
 several-words : {C : Type 0} (clear : C) (named : List ℕ → List (List ℕ) → Option C) (name words : List ℕ) → Shape words → command_of clear named (name ∷ words_of words) ≡ named name (words_of words)

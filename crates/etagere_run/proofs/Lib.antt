@@ -1,3 +1,4 @@
+pub mod AllAnswered
 pub mod AtlasAnswered
 pub mod AtlasAnswers
 pub mod BoundedRecords
@@ -6,7 +7,9 @@ pub mod BucketedAnswers
 pub mod CommandLines
 pub mod Digits
 pub mod DigitsLack
+pub mod EveryRun
 pub mod HeaderLine
+pub mod KeptSteps
 pub mod LastWord
 pub mod LineLengths
 pub mod LiveEntries

@@ -39,6 +39,7 @@ streamed-replays input size options (OfShelves commands) old new done spelled ac
       spelled = spelled;
       accepted = accepted;
       runs = (last, run.run);
+      promises = run.promises;
       text_is = run.text_is;
     },
   ),
@@ -55,6 +56,7 @@ streamed-replays input size options (OfBuckets commands) old new done spelled ac
       spelled = spelled;
       accepted = accepted;
       runs = (last, run.run);
+      promises = run.promises;
       text_is = run.text_is;
     },
   ),
@@ -80,6 +82,7 @@ begun-replays T input size options (OfShelves commands) old new spelled accepted
       spelled = spelled;
       accepted = accepted;
       runs = (last, run.run);
+      promises = run.promises;
       text_is = run.text_is;
     },
   ),
@@ -97,6 +100,7 @@ begun-replays T input size options (OfBuckets commands) old new spelled accepted
       spelled = spelled;
       accepted = accepted;
       runs = (last, run.run);
+      promises = run.promises;
       text_is = run.text_is;
     },
   ),

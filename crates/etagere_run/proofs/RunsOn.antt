@@ -14,7 +14,7 @@ use Rattle.etagere_base.proofs.ReplacedLists.{slice_get-append}
 use Rattle.etagere_run.specs.declared.commands.Reply.{Reply}
 use Rattle.etagere_run.specs.declared.commands.Reply.TheVariants.{Placed}
 use Rattle.etagere_run.specs.Live.{Effect, Entry, live_after, live_allocations, live_from, peak, peak_after}
-use Rattle.etagere_run.specs.Runs.{IsGiven, Kind, Runs, RunKeepsPromises, RunKeepsPromisesThroughout, Throughout, effects, live_in}
+use Rattle.etagere_run.specs.Runs.{IsGiven, KeepsPromisesIn, Kind, Runs, RunKeepsPromises, RunKeepsPromisesThroughout, Throughout, effects, live_in}
 use Rattle.etagere_run.specs.Private.Tied.{IsAnswerOf, IsAsked, SameAlignments, SuitsRuns}
 use Rattle.etagere_run.proofs.LiveEntries.{Each-after, live_from-more, peak_from-more}
 
@@ -193,20 +193,38 @@ module _ {S C : Type 0} (kind : Kind S C) (Tied : List Entry → S → Type 0) w
             (last_or None replies) answer way.bounded);
       }
 
-  -- a run that is under way keeps its promises
-  run-promises : SuitsRuns kind Tied → (frame : Frame) (commands : List C) (replies : List Reply) (entries : List Entry) (state : S)
-      → IsUnderWay frame commands replies entries state → RunKeepsPromises kind frame commands replies
-  run-promises suits frame commands replies entries state way =
+  -- a run that is under way keeps its promises in its state
+  pub way-promises : SuitsRuns kind Tied → (frame : Frame) (commands : List C) (replies : List Reply) (entries : List Entry) (state : S)
+      → IsUnderWay frame commands replies entries state → KeepsPromisesIn kind frame commands replies state
+  way-promises suits frame commands replies entries state way =
       record {
-        state = state;
-        run = way.run;
         given = rw way.live_is at way.given;
         live = subst (λ (l : List Entry). kind.LiveKeepsPromises state (live_allocations l)) way.live_is
             (suits.promises entries state way.tied);
         bounded = rw way.live_is at way.bounded;
       }
 
-  -- the run, and its promises, after the command at a position was answered
+  run-promises : SuitsRuns kind Tied → (frame : Frame) (commands : List C) (replies : List Reply) (entries : List Entry) (state : S)
+      → IsUnderWay frame commands replies entries state → RunKeepsPromises kind frame commands replies
+  run-promises suits frame commands replies entries state way =
+      record { state = state; run = way.run; kept = way-promises suits frame commands replies entries state way }
+
+  -- the run, and its promises, after one more command was answered
+  pub goes_further : SuitsRuns kind Tied → (frame : Frame) (commands : List C) (command : C) (replies : List Reply) (reply : Reply)
+      (entries later : List Entry) (old new : S)
+      → IsUnderWay frame commands replies entries old
+      → RunKeepsPromisesThroughout kind frame commands replies
+      → IsAnswerOf kind Tied (length commands) command reply entries later old new
+      → IsUnderWay frame (commands ++ command ∷ []) (replies ++ reply ∷ []) later new
+      × RunKeepsPromisesThroughout kind frame (commands ++ command ∷ []) (replies ++ reply ∷ [])
+  goes_further suits frame commands command replies reply entries later old new way so_far answer =
+      let further = IsUnderWay-more suits frame commands replies entries later old new command reply way answer in (
+        further,
+        Throughout-more (RunKeepsPromises kind frame) commands replies command reply way.lengths so_far
+            (run-promises suits frame (commands ++ command ∷ []) (replies ++ reply ∷ []) later new further),
+      )
+
+  -- the same after the command at a position
   pub goes_on : SuitsRuns kind Tied → (frame : Frame) (commands : List C) (position : ℕ) (command : C)
       (replies longer : List Reply) (reply : Reply) (entries later : List Entry) (old new : S)
       → position < length commands
@@ -222,14 +240,9 @@ module _ {S C : Type 0} (kind : Kind S C) (Tied : List Entry → S → Type 0) w
       let here = length-take-le position commands (omega arith) in
       let more : take (position + 1) commands ≡ front ++ command ∷ [] =
       take_more commands position command within ∙ ap (λ c. front ++ c ∷ []) (sym is) in
-      let further : IsUnderWay frame (front ++ command ∷ []) (replies ++ reply ∷ []) later new =
-      IsUnderWay-more suits frame front replies entries later old new command reply way
+      let further = goes_further suits frame front command replies reply entries later old new way so_far
       (subst (λ n. IsAnswerOf kind Tied n command reply entries later old new) (sym here) answer) in
-      rw (more, longer_is) (
-        further,
-        Throughout-more (RunKeepsPromises kind frame) front replies command reply way.lengths so_far
-            (run-promises suits frame (front ++ command ∷ []) (replies ++ reply ∷ []) later new further),
-      )
+      rw (more, longer_is) further
 
   -- the run before the first command
   pub starts : SuitsRuns kind Tied → (frame : Frame) (state : S)
@@ -284,10 +297,8 @@ module _ {S C : Type 0} (kind : Kind S C) (Tied : List Entry → S → Type 0) w
       }
   can_go_on suits frame front (command ∷ rest) replies entries state way so_far =
       let next = suits.answers (length front) command entries state way.tied in
-      let further = IsUnderWay-more suits frame front replies entries next.later state next.new command next.reply way next.answer in
-      let kept = Throughout-more (RunKeepsPromises kind frame) front replies command next.reply way.lengths so_far
-      (run-promises suits frame (front ++ command ∷ []) (replies ++ next.reply ∷ []) next.later next.new further) in
-      let end = can_go_on suits frame (front ++ command ∷ []) rest (replies ++ next.reply ∷ []) next.later next.new further kept in
+      let further = goes_further suits frame front command replies next.reply entries next.later state next.new way so_far next.answer in
+      let end = can_go_on suits frame (front ++ command ∷ []) rest (replies ++ next.reply ∷ []) next.later next.new further.0 further.1 in
       let commands : (front ++ command ∷ []) ++ rest ≡ front ++ command ∷ rest = append_assoc front (command ∷ []) rest in
       let all : (replies ++ next.reply ∷ []) ++ end.others ≡ replies ++ next.reply ∷ end.others = append_assoc replies (next.reply ∷ []) end.others in
       record {

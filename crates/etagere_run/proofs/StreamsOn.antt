@@ -1,17 +1,17 @@
 -- The lines of a run's replies that go out one by one: at each moment they are those of the commands so far, and where
 -- the writer fails what went out is a beginning of those of a run of all commands.
-use Rattle.std.proofs.Common.{◌≡◌, ℕ, ◌+◌, ◌<◌, ◌≤◌, Option, List, [], ◌∷◌, ◌++◌, length, get_or, take, drop, refl, ap, sym, ◌∙◌, subst, append_assoc}
+use Rattle.std.proofs.Common.{◌≡◌, ℕ, ◌+◌, ◌<◌, ◌≤◌, false, Option, Result, Ok, Err, List, [], ◌∷◌, ◌++◌, length, get_or, take, drop, refl, ap, sym, ◌∙◌, subst, append_assoc}
+use Rattle.std.specs.Prelude.{OnErr, is_ok}
 use Rattle.std.specs.Io.KnownBytes.{Appends}
 use Rattle.std.proofs.lemmas.List.{append-nil, take-append-drop}
 use Rattle.etagere_base.specs.declared.frames.Frame.{Frame}
-use Rattle.etagere_base.specs.Gathering.{GathersMore, IsGathered, SendsBeginning, SendsWhole}
-use Rattle.etagere_base.specs.Sending.{AppendsBeginning}
-use Rattle.etagere_base.proofs.GatheringLemmas.{appends-nothing, begins-more}
+use Rattle.etagere_base.specs.Sending.{AppendsBeginning, AppendsPart}
+use Rattle.etagere_base.proofs.GatheringLemmas.{appends-both, appends-nothing, begins-behind, begins-first}
 use Rattle.etagere_run.specs.declared.commands.Reply.{Reply}
 use Rattle.etagere_run.specs.Live.{Entry}
 use Rattle.etagere_run.specs.ReplyText.{line_of, replies_text}
 use Rattle.etagere_run.specs.Runs.{Kind, RunKeepsPromisesThroughout}
-use Rattle.etagere_run.specs.Streaming.{IsTextOfRun, StreamsBeginning}
+use Rattle.etagere_run.specs.Streaming.{IsTextOfRun, StopsAt, StreamsBeginning}
 use Rattle.etagere_run.specs.Private.Tied.{IsAnswerOf, SameAlignments, SuitsRuns}
 use Rattle.etagere_run.proofs.RunsOn.{GoesOn, IsUnderWay, can_go_on, ends, goes_on, starts}
 
@@ -35,37 +35,36 @@ text-goes_on replies others reply =
     ∙ ap (λ (l : List ℕ). l ++ replies_text others) (text-more replies reply)
     ∙ sym (text-append (replies ++ reply ∷ []) others)
 
+-- what holds where there is an error holds where a result isn't well
+pub on_err-failed : {T E P : Type 0} (result : Result T E) → is_ok result ≡ false → OnErr result P → P
+on_err-failed (Ok value) failed holds = absurd (cc)
+on_err-failed (Err error) failed holds = holds
+
 module _ {S C : Type 0} (kind : Kind S C) (Tied : List Entry → S → Type 0) where
-  -- a stream so far: the text of a run's replies was given to the gathered text and its writer
-  pub record IsStreaming (frame : Frame) (commands : List C) (entries : List Entry) (state : S)
-      (start now : Option (List ℕ)) (gathered : List ℕ) : Type 0 where
+  -- a stream so far: the lines of a run's replies went out
+  pub record IsStreaming (frame : Frame) (commands : List C) (entries : List Entry) (state : S) (start now : Option (List ℕ)) : Type 0 where
     pub replies : List Reply
     pub way : IsUnderWay kind Tied frame commands replies entries state
     pub throughout : RunKeepsPromisesThroughout kind frame commands replies
-    pub given : IsGathered start now gathered (replies_text replies)
+    pub out : Appends start now (replies_text replies)
 
   -- before the first command
   pub stream-starts : SuitsRuns kind Tied → (frame : Frame) (state : S) (start : Option (List ℕ))
       → state ≡ kind.fresh frame → SameAlignments frame (kind.frame state) → Tied [] state
-      → IsStreaming frame [] [] state start start []
+      → IsStreaming frame [] [] state start start
   stream-starts suits frame state start is alignments tied =
       let first = starts kind Tied suits frame state is alignments tied in
-      record {
-        replies = [];
-        way = first.0;
-        throughout = first.1;
-        given = record { sent = []; out = appends-nothing start; whole = refl };
-      }
+      record { replies = []; way = first.0; throughout = first.1; out = appends-nothing start }
 
   module _ (suits : SuitsRuns kind Tied) (frame : Frame) (commands : List C) (position : ℕ) (command : C) (reply : Reply)
-      (entries later : List Entry) (old new : S) (start now next : Option (List ℕ)) (gathered : List ℕ) where
+      (entries later : List Entry) (old new : S) (start now next : Option (List ℕ)) where
     -- one command later
-    pub stream-goes_on : (more : List ℕ) → position < length commands → command ≡ get_or commands position command
-        → IsStreaming frame (take position commands) entries old start now gathered
+    pub stream-goes_on : position < length commands → command ≡ get_or commands position command
+        → IsStreaming frame (take position commands) entries old start now
         → IsAnswerOf kind Tied position command reply entries later old new
-        → GathersMore now gathered next more (line_of reply)
-        → IsStreaming frame (take (position + 1) commands) later new start next more
-    stream-goes_on more within is so_far answer gathers =
+        → Appends now next (line_of reply)
+        → IsStreaming frame (take (position + 1) commands) later new start next
+    stream-goes_on within is so_far answer out =
         let replies = so_far.replies in
         let further = goes_on kind Tied suits frame commands position command replies (replies ++ reply ∷ []) reply entries later old new
         within is so_far.way so_far.throughout answer refl in
@@ -73,62 +72,65 @@ module _ {S C : Type 0} (kind : Kind S C) (Tied : List Entry → S → Type 0) w
           replies = replies ++ reply ∷ [];
           way = further.0;
           throughout = further.1;
-          given = subst (IsGathered start next more) (text-more replies reply) (gathers start (replies_text replies) so_far.given);
+          out = subst (Appends start next) (text-more replies reply)
+              (appends-both start now next (replies_text replies) (line_of reply) so_far.out out);
         }
 
     -- where the writer fails at the line of a reply, the run could go on
     pub stream-stops : position < length commands → command ≡ get_or commands position command
-        → IsStreaming frame (take position commands) entries old start now gathered
+        → IsStreaming frame (take position commands) entries old start now
         → IsAnswerOf kind Tied position command reply entries later old new
-        → SendsBeginning now gathered next (line_of reply)
+        → AppendsBeginning now next (line_of reply)
         → StreamsBeginning kind frame commands start next
-    stream-stops within is so_far answer sends =
+    stream-stops within is so_far answer out =
         let replies = so_far.replies in
         let further = goes_on kind Tied suits frame commands position command replies (replies ++ reply ∷ []) reply entries later old new
         within is so_far.way so_far.throughout answer refl in
         let end = subst (λ (l : List C). GoesOn kind Tied frame l (replies ++ reply ∷ [])) (take-append-drop (position + 1) commands)
         (can_go_on kind Tied suits frame (take (position + 1) commands) (drop (position + 1) commands) (replies ++ reply ∷ [])
         later new further.0 further.1) in
-        let all = (replies ++ reply ∷ []) ++ end.others in (
+        let all = (replies ++ reply ∷ []) ++ end.others in
+        let rest = replies_text end.others in (
           end.last,
           replies_text all,
           record { replies = all; run = end.run; promises = end.promises; text_is = refl },
           subst (AppendsBeginning start next) (text-goes_on replies end.others reply)
-              (begins-more now next gathered (line_of reply) (replies_text end.others) sends start (replies_text replies) so_far.given),
+              (begins-behind start now next (replies_text replies) (line_of reply ++ rest) so_far.out
+              (begins-first now next (line_of reply) rest out)),
         )
 
-  -- after the last command the text is that of a run, of which all goes out or a beginning
-  pub stream-text : (frame : Frame) (commands : List C) (position : ℕ) (entries : List Entry) (state : S)
-      (start now : Option (List ℕ)) (gathered : List ℕ)
-      → length commands ≤ position
-      → (so_far : IsStreaming frame (take position commands) entries state start now gathered)
-      → IsTextOfRun kind frame commands state (replies_text so_far.replies)
-  stream-text frame commands position entries state start now gathered all so_far =
-      let end = ends kind Tied frame commands position so_far.replies entries state all so_far.way so_far.throughout in
-      record { replies = so_far.replies; run = end.0; promises = end.1; text_is = refl }
+    -- it then stands at this line
+    pub stream-stops_at : position < length commands → command ≡ get_or commands position command
+        → IsStreaming frame (take position commands) entries old start now
+        → IsAnswerOf kind Tied position command reply entries later old new
+        → AppendsPart now next (line_of reply)
+        → StopsAt kind frame commands new start next
+    stream-stops_at within is so_far answer (sent, short, out) =
+        let replies = so_far.replies in
+        let further = goes_on kind Tied suits frame commands position command replies (replies ++ reply ∷ []) reply entries later old new
+        within is so_far.way so_far.throughout answer refl in
+        let way = further.0 in
+        record {
+          position = position;
+          within = within;
+          replies = replies;
+          reply = reply;
+          run = way.run;
+          promises = further.1;
+          sent = sent;
+          short = short;
+          out = appends-both start now next (replies_text replies) (take sent (line_of reply)) so_far.out out;
+        }
 
+  -- after the last command all lines of a run went out
   pub stream-ends : (frame : Frame) (commands : List C) (position : ℕ) (entries : List Entry) (state : S)
-      (start now new : Option (List ℕ)) (gathered : List ℕ)
+      (start now : Option (List ℕ))
       → length commands ≤ position
-      → IsStreaming frame (take position commands) entries state start now gathered
-      → SendsWhole now gathered new
-      → (text : List ℕ) × IsTextOfRun kind frame commands state text × Appends start new text
-  stream-ends frame commands position entries state start now new gathered all so_far sends = (
-    replies_text so_far.replies,
-    stream-text frame commands position entries state start now gathered all so_far,
-    sends start (replies_text so_far.replies) so_far.given,
-  )
-
-  pub stream-fails : (frame : Frame) (commands : List C) (position : ℕ) (entries : List Entry) (state : S)
-      (start now new : Option (List ℕ)) (gathered : List ℕ)
-      → length commands ≤ position
-      → IsStreaming frame (take position commands) entries state start now gathered
-      → SendsBeginning now gathered new []
-      → StreamsBeginning kind frame commands start new
-  stream-fails frame commands position entries state start now new gathered all so_far sends = (
-    state,
-    replies_text so_far.replies,
-    stream-text frame commands position entries state start now gathered all so_far,
-    subst (AppendsBeginning start new) (append-nil (replies_text so_far.replies))
-        (sends start (replies_text so_far.replies) so_far.given),
-  )
+      → IsStreaming frame (take position commands) entries state start now
+      → (text : List ℕ) × IsTextOfRun kind frame commands state text × Appends start now text
+  stream-ends frame commands position entries state start now all so_far =
+      let end = ends kind Tied frame commands position so_far.replies entries state all so_far.way so_far.throughout in (
+        replies_text so_far.replies,
+        record { replies = so_far.replies; run = end.0; promises = end.1; text_is = refl },
+        so_far.out,
+      )

@@ -1,5 +1,5 @@
 -- What drawing writes: the picture of what is there at a script's end, or of what a snapshot stands for.
-use Rattle.std.specs.Prelude.{◌≡◌, ◌==◌, ◌⊎◌, ℕ, Bool, true, false, List, [], ◌∷◌, Option, Result, Ok, Err, IfSome, IsUtf8}
+use Rattle.std.specs.Prelude.{◌≡◌, ◌≢◌, ◌==◌, ◌⊎◌, ℕ, All, Bool, true, false, List, [], ◌∷◌, Option, Result, Ok, Err, IfSome}
 use Rattle.std.specs.Io.KnownBytes.{Appends, Keeps}
 use Rattle.etagere_base.specs.declared.frames.Frame.{Frame}
 use Rattle.etagere_base.specs.declared.geometry.Size.{Size}
@@ -10,6 +10,7 @@ use Rattle.etagere_bucketed.specs.Frames.{bucketed_frame}
 use Rattle.etagere_bucketed.specs.Svg as buckets
 use Rattle.etagere.specs.Svg as shelves
 use Rattle.etagere_run.specs.declared.commands.Reply.{Reply}
+use Rattle.etagere_run.specs.declared.commands.Reply.TheVariants.{NoMemory}
 use Rattle.etagere_run.specs.declared.faults.Checked.{Checked}
 use Rattle.etagere_run.specs.declared.faults.Checked.TheVariants.{Fine}
 use Rattle.etagere_run.specs.declared.faults.Drawing.{Drawing}
@@ -18,17 +19,26 @@ use Rattle.etagere_run.specs.declared.faults.Outcome.{Outcome}
 use Rattle.etagere_run.specs.declared.faults.Outcome.TheVariants.{Done, BadLine, Options}
 use Rattle.etagere_run.specs.declared.faults.ReplayFault.{ReplayFault}
 use Rattle.etagere_run.specs.declared.faults.ReplayFault.TheVariants.{Read, Write, Memory}
-use Rattle.etagere_run.specs.declared.saved.Saved.{Saved}
 use Rattle.etagere_run.specs.AtlasRuns.{shelf_atlas}
 use Rattle.etagere_run.specs.BucketedRuns.{bucketed_atlas}
 use Rattle.etagere_run.specs.Replaying.{HasFault, longest_asked, options_text}
-use Rattle.etagere_run.specs.Runs.{Kind, Runs}
+use Rattle.etagere_run.specs.Runs.{Kind, Runs, RunKeepsPromisesThroughout}
 use Rattle.etagere_run.specs.Saved.{MayAnswer, ShowsSaved}
 use Rattle.etagere_run.specs.Script.{Commands, OfBuckets, OfShelves, Request, script_of}
+use Rattle.saved_json.specs.declared.saved.Saved.{Saved}
+use Rattle.saved_json.specs.Snapshots.{Spells}
 
--- with some replies, the commands may lead a new state of this frame to this one
-abbrev pub LeadsTo : {S C : Type 0} → Kind S C → Frame → List C → S → Type 0
-LeadsTo kind frame commands last = (replies : List Reply) × Runs kind 0 [] (kind.fresh frame) commands replies last
+-- memory was there for the command that has this reply
+abbrev pub HasMemory : Reply → Type 0
+HasMemory reply = reply ≢ NoMemory
+
+-- The commands may lead a new state of this frame to this one: with some replies, none of which is that memory was
+-- wanting, in a run that keeps its promises at each moment.
+pub record LeadsTo {S C : Type 0} (kind : Kind S C) (frame : Frame) (commands : List C) (last : S) : Type 0 where
+  pub replies : List Reply
+  pub run : Runs kind 0 [] (kind.fresh frame) commands replies last
+  pub memory : All HasMemory replies
+  pub promises : RunKeepsPromisesThroughout kind frame commands replies
 
 -- the text is the picture of a state to which the commands may lead a new one of this frame
 pub record ShowsLast {S C : Type 0} (kind : Kind S C) (picture : S → List ℕ) (frame : Frame) (commands : List C)
@@ -58,9 +68,9 @@ pub record IsDrawingOf (input text : List ℕ) : Type 0 where
   pub spelled : script_of input ≡ Ok request
   pub picture : IsPictureOf request text
 
--- the input is UTF-8 text, and the other text the picture of a state for which a snapshot stands
+-- the text is the picture of a state for which the snapshot stands that the input spells
 abbrev pub IsSavedDrawingOf : List ℕ → List ℕ → Type 0
-IsSavedDrawingOf input text = IsUtf8 input × (saved : Saved) × ShowsSaved saved text
+IsSavedDrawingOf input text = (saved : Saved) × Spells input saved × ShowsSaved saved text
 
 -- what drawing a script did to what its writer contained where it ended so: a picture went out, or nothing
 abbrev pub EndsScript : List ℕ → Option (List ℕ) → Option (List ℕ) → Outcome → Type 0

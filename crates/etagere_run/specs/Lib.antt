@@ -3,6 +3,7 @@ pub mod BucketedRuns
 pub mod Checking
 pub mod Drawing
 pub mod Faults
+pub mod Laws
 pub mod Lines
 pub mod Live
 pub mod Numbers
@@ -12,5 +13,6 @@ pub mod ReplyText
 pub mod Runs
 pub mod Saved
 pub mod Script
+pub mod ScriptReading
 pub mod Streaming
 pub mod Words

@@ -5,7 +5,6 @@ pub mod Given
 pub mod Judged
 pub mod PlainLines
 pub mod Rooms
-pub mod ScriptReading
 pub mod ScriptStreaming
 pub mod Tables
 pub mod Tied

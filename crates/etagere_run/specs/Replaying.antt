@@ -18,7 +18,7 @@ use Rattle.etagere_run.specs.BucketedRuns.{bucketed_atlas}
 use Rattle.etagere_run.specs.Faults.{outcome_words}
 use Rattle.etagere_run.specs.Lines.{line_feed}
 use Rattle.etagere_run.specs.ReplyText.{replies_text}
-use Rattle.etagere_run.specs.Runs.{RunsTo}
+use Rattle.etagere_run.specs.Runs.{RunKeepsPromisesThroughout, RunsTo}
 use Rattle.etagere_run.specs.Script.{Commands, OfBuckets, OfShelves, Request, script_of}
 
 -- the line on the first bad line, and the one on a fault of the options, each with its line feed
@@ -39,13 +39,22 @@ RepliesTo size options (OfShelves commands) = RunsTo shelf_atlas (atlas_frame si
 RepliesTo size options (OfBuckets commands) =
     RunsTo bucketed_atlas (bucketed_frame size options) commands
 
--- the input spells a request that is accepted and was run, and the text is that of its replies
+-- in such a run an atlas of this size and options keeps its promises at each moment
+abbrev pub RepliesKeepPromises : Size → AllocatorOptions → Commands → List Reply → Type 0
+RepliesKeepPromises size options (OfShelves commands) =
+    RunKeepsPromisesThroughout shelf_atlas (atlas_frame size options) commands
+RepliesKeepPromises size options (OfBuckets commands) =
+    RunKeepsPromisesThroughout bucketed_atlas (bucketed_frame size options) commands
+
+-- the input spells a request that is accepted and was run, which kept its promises at each moment,
+-- and the text is that of its replies
 pub record IsRunOf (input text : List ℕ) : Type 0 where
   pub request : Request
   pub replies : List Reply
   pub spelled : script_of input ≡ Ok request
   pub accepted : IsAccepted (longest_asked request.commands) request.size request.options
   pub runs : RepliesTo request.size request.options request.commands replies
+  pub promises : RepliesKeepPromises request.size request.options request.commands replies
   pub text_is : text ≡ replies_text replies
 
 -- the input spells a request whose options have the fault of this number

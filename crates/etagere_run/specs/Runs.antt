@@ -85,18 +85,23 @@ pub record AreLaidOut (frame : Frame) (live : List Allocation) : Type 0 where
 abbrev pub Throughout : {C : Type 0} → (List C → List Reply → Type 0) → List C → List Reply → Type 0
 Throughout P commands replies = (n : ℕ) → n ≤ length commands → P (take n commands) (take n replies)
 
--- what holds after each run of a new atlas: what is live is large enough, and the present atlas
--- keeps its promises of it, and stays within its bound for the most that was live
-pub record RunKeepsPromises {S C : Type 0} (kind : Kind S C) (frame : Frame) (commands : List C)
-    (replies : List Reply) : Type 0 where
-  pub state : S
-  pub run : Runs kind 0 [] (kind.fresh frame) commands replies state
+-- what holds where a run of a new atlas has led to this state: what is live is large enough, and the
+-- atlas keeps its promises of it, and stays within its bound for the most that was live
+pub record KeepsPromisesIn {S C : Type 0} (kind : Kind S C) (frame : Frame) (commands : List C)
+    (replies : List Reply) (state : S) : Type 0 where
   pub given : Each (IsGiven kind frame commands replies) (live_in kind commands replies)
   pub live : kind.LiveKeepsPromises state (live_allocations (live_in kind commands replies))
   pub bounded :
       kind.StaysWithin (peak (effects kind commands replies)) state
       (live_allocations (live_in kind commands replies))
       (last_or None replies)
+
+-- what holds after each run of a new atlas: the promises are kept in a state to which it leads
+pub record RunKeepsPromises {S C : Type 0} (kind : Kind S C) (frame : Frame) (commands : List C)
+    (replies : List Reply) : Type 0 where
+  pub state : S
+  pub run : Runs kind 0 [] (kind.fresh frame) commands replies state
+  pub kept : KeepsPromisesIn kind frame commands replies state
 
 -- that holds at each moment: of each front of the commands and their replies
 abbrev pub RunKeepsPromisesThroughout : {S C : Type 0} → Kind S C → Frame → List C → List Reply

@@ -1,5 +1,5 @@
--- What an answer says of a saved atlas. Which JSON texts are read as one is not said here.
-use Rattle.std.specs.Prelude.{◌≡◌, ℕ, ◌≤◌, List, IsUtf8}
+-- What an answer says of a saved atlas, and of the text that spells it.
+use Rattle.std.specs.Prelude.{◌≡◌, ℕ, ◌≤◌, List}
 use Rattle.etagere_base.specs.declared.faults.RestoreFault.{RestoreFault}
 use Rattle.etagere_base.specs.RestoreFaults.{restore_fault_number}
 use Rattle.etagere_bucketed.specs.Restoring as buckets
@@ -12,8 +12,9 @@ use Rattle.etagere.specs.State.{AtlasState}
 use Rattle.etagere.specs.Svg as shelf_pictures
 use Rattle.etagere_run.specs.declared.faults.Checked.{Checked}
 use Rattle.etagere_run.specs.declared.faults.Checked.TheVariants.{Fine, Broken, Unreadable}
-use Rattle.etagere_run.specs.declared.saved.Saved.{Saved}
-use Rattle.etagere_run.specs.declared.saved.Saved.TheVariants.{Atlas, Bucketed}
+use Rattle.saved_json.specs.declared.saved.Saved.{Saved}
+use Rattle.saved_json.specs.declared.saved.Saved.TheVariants.{Atlas, Bucketed}
+use Rattle.saved_json.specs.Snapshots.{Spells}
 
 -- a snapshot stands for a state
 abbrev pub StandsForOne : Saved → Type 0
@@ -50,8 +51,7 @@ IsRightOf Fine saved = StandsForOne saved
 IsRightOf (Broken number) saved = IsBrokenRule saved number
 IsRightOf Unreadable saved = ⊥
 
--- an input may be answered so: where it is readable, it is UTF-8 text, and the answer is right of
--- a snapshot
+-- an input may be answered so: where it isn't called unreadable, the answer is right of the saved atlas that it spells
 abbrev pub MayAnswer : Checked → List ℕ → Type 0
 MayAnswer Unreadable input = Unit {0}
-MayAnswer checked input = IsUtf8 input × (saved : Saved) × IsRightOf checked saved
+MayAnswer checked input = (saved : Saved) × Spells input saved × IsRightOf checked saved

@@ -21,11 +21,11 @@ use std::alloc::Global;
 
 /// Runs the commands in order on a new atlas of this size in pixels, and gives a reply to each.
 ///
-/// `Options` tells the first fault of the size and options, and that memory ran out for the atlas
-/// only where they have none; `Memory` comes where there is no room for the replies or for what is
-/// live, which is taken first. After an error nothing was run. Takes memory for a reply and a
-/// place in the ledger for each command, beside what the atlas takes. Each command costs what its call
-/// of the atlas does, and one step to find a position.
+/// `Options` has the first fault of the size and options; only where they have none may it be that memory ran out
+/// for the atlas. `Memory` comes where it is missing for the replies or for the ledger of what is live; room for both
+/// is taken first. After an error nothing was run. Takes memory for a reply and a place in the ledger for each
+/// command, beside what the atlas takes. Each command costs what its call of the atlas does, and one step to find a
+/// position.
 pub fn run_atlas(
     alloc: Global,
     size: Size,

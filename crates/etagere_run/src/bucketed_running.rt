@@ -22,11 +22,11 @@ use std::alloc::Global;
 
 /// Runs the commands in order on a new bucketed atlas of this size in pixels, and gives a reply to each.
 ///
-/// `Options` tells the first fault of the size and options; `Memory` comes where there is no room for the
-/// replies or for what is live, which is taken first. After an error nothing was run. Takes memory for a
-/// reply and a place in the ledger for each command, beside what the atlas takes. Each command costs what its
-/// call of the atlas does, and one step to find a position. A position that was returned answers `NotLive`, and
-/// the atlas isn't asked.
+/// `Options` has the first fault of the size and options; `Memory` comes where it is missing for the replies or for
+/// the ledger of what is live; room for both is taken first. After an error nothing was run. Takes memory for a reply
+/// and a place in the ledger for each command, beside what the atlas takes. Each command costs what its call of the
+/// atlas does, and one step to find a position. A position that was returned answers `NotLive`, and the atlas isn't
+/// asked.
 pub fn run_bucketed(
     alloc: Global,
     size: Size,

@@ -9,9 +9,10 @@ ghost use Rattle.etagere_run.specs.Saved.{IsRightOf, MayAnswer};
 
 use crate::faults::{Checked, ReplayFault};
 use crate::reading::read_all;
-use crate::saved::{Saved, refusal};
+use crate::saved::refusal;
 use etagere::{AtlasAllocator, BucketedAtlasAllocator};
 use etagere_base::send;
+use saved_json::{ReadFault, Saved, read_saved};
 use std::alloc::Global;
 use std::io::{Read, Write};
 
@@ -19,8 +20,8 @@ use std::io::{Read, Write};
 /// number of a rule that is broken, from 1 to 10, or `unreadable`.
 ///
 /// The text is an object with one key, `atlas` or `bucketed`, whose value is the `AtlasSnapshot` or
-/// `BucketedSnapshot`. An input that isn't, bytes that aren't UTF-8 and missing memory for the
-/// snapshot are all `Unreadable`; other missing memory is `Memory`. After `Read` and `Memory`
+/// `BucketedSnapshot`, and what is written is of that snapshot. `Unreadable` is an input that is no such text, one that
+/// isn't UTF-8, and one for whose snapshot memory was missing; other missing memory is `Memory`. After `Read` and `Memory`
 /// nothing was written, after `Write` a beginning of the line. The reader is at its end unless it
 /// failed or memory ran out. Takes memory for the input, its snapshot, what `restore` takes, and
 /// the line, and time linear in the bytes and records.
@@ -45,9 +46,10 @@ fn judge(alloc: Global, bytes: &[u8]) -> Result<Checked, ReplayFault>
     ensures answer { IfOk result (λ checked. MayAnswer checked bytes.now) }
     ensures fault { IfErr result (λ fault. fault ≡ ReplayFault.Memory) }
 {
-    match serde_json::from_slice(alloc, bytes) {
+    match read_saved(alloc, bytes) {
         Ok(saved) => judge_saved(alloc, saved),
-        Err(_) => Ok(Checked::Unreadable),
+        Err(ReadFault::Unreadable) => Ok(Checked::Unreadable),
+        Err(ReadFault::Memory) => Err(ReplayFault::Memory),
     }
 }
 

@@ -35,7 +35,7 @@ pub enum BucketedCommand {
 /// What a run answers to a command.
 #[derive(Clone, Copy, Debug, PartialEq)]
 pub enum Reply {
-    /// The size has this place.
+    /// The size was given this allocation.
     Placed(Allocation),
     /// The atlas has no place for the size.
     Refused,
@@ -46,9 +46,9 @@ pub enum Reply {
     At(Rectangle, u32),
     /// The position names nothing that is allocated now.
     NotLive,
-    /// The atlas is empty.
+    /// Everything was given back.
     Cleared,
-    /// The atlas has the size that was asked for.
+    /// The atlas now has the size that was asked for.
     Grown,
     /// The atlas can't grow to the size, for the fault of this number: 1 where a side of the size is out of range, 2
     /// where one is below the present one, 3 where the area is too large, and 4 where a shelf atlas would have more

@@ -1,39 +1,41 @@
-//! Draws a script or a snapshot, which its first byte tells: reads all of it, judges it, runs or
-//! restores it, and only then writes the picture of what is there.
+//! Draws a script or a snapshot; the first byte tells which. Reads all of it, judges it, runs or restores it, and only
+//! then writes the picture of what is there.
 //!
 //! Definition: `Drawing`, over `Script`, `Runs` and `Saved`. What a picture shows is decided by each atlas.
 
-ghost use Rattle.std.specs.Prelude.{◌≡◌, ℕ, List, Ok, Err, IfErr, IfOk, OnErr, OnOk};
+ghost use Rattle.std.specs.Prelude.{◌≡◌, ◌↔◌, ℕ, All, List, Ok, Err, IfErr, IfOk, IsTrue, OnErr, OnOk};
 ghost use Rattle.std.specs.Io.KnownBytes.{IsAtEnd};
 ghost use Rattle.etagere_base.specs.Frames.{IsAccepted, atlas_frame, longest_side};
 ghost use Rattle.etagere_bucketed.specs.Frames.{bucketed_frame, longest_bucketed_side};
 ghost use Rattle.etagere_run.specs.AtlasRuns.{shelf_atlas};
 ghost use Rattle.etagere_run.specs.BucketedRuns.{bucketed_atlas};
-ghost use Rattle.etagere_run.specs.Drawing.{Draws, LeadsTo, is_snapshot};
+ghost use Rattle.etagere_run.specs.Drawing.{Draws, HasMemory, LeadsTo, is_snapshot};
 ghost use Rattle.etagere_run.specs.Private.Drawn.{DrawsEnd, DrawsInput, DrawsSaved, DrawsScript, DrawsSnapshot};
 ghost use Rattle.etagere_run.specs.Runs.{RefusesRun};
 ghost use Rattle.etagere_run.specs.Script.{script_of};
 
-use crate::commands::{AtlasCommand, BucketedCommand};
+use crate::commands::{AtlasCommand, BucketedCommand, Reply};
 use crate::faults::{Checked, Drawing, Outcome, ReplayFault, RunFault};
 use crate::reading::read_all;
 use crate::running::{Room, answer_all};
-use crate::saved::{Saved, refusal};
+use crate::saved::refusal;
 use crate::script::{Commands, Script, ScriptFault, read_script};
 use etagere::{AllocatorOptions, AtlasAllocator, OptionsFault, Size};
 use etagere_bucketed::BucketedAtlasAllocator;
+use saved_json::{ReadFault, Saved, read_saved};
 use std::alloc::Global;
 use std::io::{self, Read, Write};
 
-/// Reads a whole script, runs it, and writes the SVG text of what is there at its end, as `dump_svg`
+/// Reads a whole script, runs it, and writes the SVG text of the atlas that it leaves, as `dump_svg`
 /// does. An input that begins with `{` is read as a snapshot, as by `check`, and the atlas for which
 /// it stands is drawn.
 ///
 /// Where a line isn't good, the options have a fault, or the snapshot is unreadable or breaks a rule,
-/// the drawing tells it, and nothing is run or written. After `Read` and `Memory` nothing was written,
-/// after `Write` a beginning of the text. The reader is at its end unless it failed or memory ran out.
-/// Takes memory for the input and its commands or snapshot, and what `run_atlas`, `run_bucketed` or
-/// `restore` takes, and none for the text.
+/// the result says so, and nothing is run or written. `Memory` comes where memory was missing, even for
+/// one command; only a snapshot that lacks it while its text is read is `Unreadable`. After `Read` and
+/// `Memory` nothing was written, after `Write` a beginning of the text. The reader is at its end unless
+/// it failed or memory ran out. Takes memory for the input and its commands or snapshot, and what
+/// `run_atlas`, `run_bucketed` or `restore` takes, and none for the text.
 pub fn draw<R: Read, W: Write>(
     alloc: Global,
     reader: &mut R,
@@ -72,9 +74,10 @@ fn draw_snapshot<W: Write>(
 ) -> Result<Checked, ReplayFault>
     ensures { DrawsSnapshot bytes.now (W.contents writer.old) (W.contents writer.new) result }
 {
-    match serde_json::from_slice(alloc, bytes) {
+    match read_saved(alloc, bytes) {
         Ok(saved) => draw_saved(alloc, saved, writer),
-        Err(_) => Ok(Checked::Unreadable),
+        Err(ReadFault::Unreadable) => Ok(Checked::Unreadable),
+        Err(ReadFault::Memory) => Err(ReplayFault::Memory),
     }
 }
 
@@ -196,8 +199,8 @@ fn atlas_after(
         return Err(RunFault::Memory);
     };
     let mut atlas = AtlasAllocator::with_options(alloc, size, options).map_err(RunFault::Options)?;
-    answer_all(&mut atlas, room, commands);
-    Ok(atlas)
+    let replies = answer_all(&mut atlas, room, commands);
+    with_all_answered(atlas, replies.as_slice())
 }
 
 /// A new bucketed atlas after the commands.
@@ -216,6 +219,26 @@ fn buckets_after(
     let mut atlas = BucketedAtlasAllocator::with_options(alloc, size, options).map_err(
         RunFault::Options,
     )?;
-    answer_all(&mut atlas, room, commands);
-    Ok(atlas)
+    let replies = answer_all(&mut atlas, room, commands);
+    with_all_answered(atlas, replies.as_slice())
+}
+
+/// The atlas, if memory was there for every command that has these replies.
+fn with_all_answered<A: Drop>(atlas: A, replies: &[Reply]) -> Result<A, RunFault>
+    ensures same { IfOk result (λ after. after ≡ atlas) }
+    ensures all { OnOk result (All HasMemory replies.now) }
+    ensures memory { IfErr result (λ fault. fault ≡ RunFault.Memory) }
+{
+    if replies.iter().all(|reply| had_memory(reply)) {
+        Ok(atlas)
+    } else {
+        Err(RunFault::Memory)
+    }
+}
+
+/// Whether memory was there for the command that has this reply.
+fn had_memory(reply: &Reply) -> bool
+    ensures { IsTrue result ↔ HasMemory reply.now }
+{
+    !matches!(reply, Reply::NoMemory)
 }

@@ -1,4 +1,4 @@
-//! How runs, replays, drawings and checks end: faults with their numbers, outcomes, exit statuses
+//! How runs, streams, replays, drawings and checks end: faults with their numbers, outcomes, exit statuses
 //! and words.
 //!
 //! Definition: `Faults`. A new fault or outcome goes here and there; what goes to standard output
@@ -61,7 +61,7 @@ impl StreamFault {
     }
 }
 
-/// How a replay, or the drawing of a script, ended that wrote what it had to.
+/// How a replay, or the drawing of a script, ended that met no `ReplayFault`.
 #[derive(Clone, Copy, Debug, PartialEq, Eq)]
 pub enum Outcome {
     /// The script was run.
@@ -101,7 +101,7 @@ impl Display for Outcome {
     }
 }
 
-/// How a check ended that wrote its line, or the drawing of a snapshot that wrote what it had to.
+/// How a check, or the drawing of a snapshot, ended that met no `ReplayFault`.
 #[derive(Clone, Copy, Debug, PartialEq, Eq)]
 pub enum Checked {
     /// The snapshot stands for an atlas, which was restored.
@@ -177,7 +177,7 @@ impl Display for Drawing {
     }
 }
 
-/// Why a replay, a drawing or a check didn't write its text, or only a beginning of it.
+/// Why a replay, a drawing or a check wrote nothing, or only a beginning of its text.
 #[derive(Clone, Copy, Debug, PartialEq, Eq, Error)]
 pub enum ReplayFault {
     /// The reader failed. Nothing was written.

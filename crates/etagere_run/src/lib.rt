@@ -1,6 +1,7 @@
-//! Runs of commands on an atlas of either kind, streams of their replies, scripts that spell such
-//! runs, and checks of saved atlases. `atlas_running`, `bucketed_running`, `streaming`, `replaying`,
-//! `drawing` and `checking` have the public calls; the others serve them.
+//! Runs of commands on an atlas of either kind, streams of their replies, scripts that spell such runs, drawings of
+//! what they leave, and checks of saved atlases. `atlas_running`, `bucketed_running`, `streaming`, `replaying`,
+//! `drawing` and `checking` have the public calls, and `laws` what holds of every run; `parts` hands on what replays of
+//! another kind need. The others serve them.
 #![tactic(auto)]
 
 mod atlas_running;
@@ -9,9 +10,11 @@ mod checking;
 mod commands;
 mod drawing;
 mod faults;
+pub mod laws;
 mod ledger;
 mod lines;
 mod numbers;
+pub mod parts;
 mod plain_lines;
 mod reading;
 mod replaying;

@@ -1,6 +1,6 @@
 //! The numbers that words spell: an `i32` with a sign or none, and a position.
 //!
-//! Definition: `Numbers`. A word that spells none, or one out of range, is none.
+//! Definition: `Numbers`. A word that spells no number, or one out of range, has none.
 
 ghost use Rattle.std.specs.Prelude.{◌≡◌, ◌-◌, ◌^◌};
 ghost use Rattle.etagere_run.specs.Numbers as spec;

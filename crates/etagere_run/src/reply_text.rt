@@ -14,7 +14,7 @@ use etagere_base::ShortText;
 use std::marker::Model;
 
 /// How many bytes a line has at most: `placed`, an id of 10 digits, and four places of 11 characters.
-const LINE_CAPACITY: usize = 66;
+pub const LINE_CAPACITY: usize = 66;
 
 /// A line, with its line feed once it is whole.
 #[derive(Drop)]
@@ -41,14 +41,14 @@ impl Line {
     }
 
     /// The line as text.
-    fn as_str(&self) -> &str
+    pub fn as_str(&self) -> &str
         ensures { result.now ≡ self.now }
     {
         self.text.as_str()
     }
 
     /// Begins anew with a word.
-    fn begin(&mut self, word: &str)
+    pub fn begin(&mut self, word: &str)
         requires { length word.now ≤ LINE_CAPACITY }
         ensures { self.new ≡ word.now }
     {
@@ -56,7 +56,7 @@ impl Line {
     }
 
     /// Adds a word.
-    fn push(&mut self, word: &str)
+    pub fn push(&mut self, word: &str)
         requires { length self.old + length word.now ≤ LINE_CAPACITY }
         ensures { self.new ≡ self.old ++ word.now }
     {
@@ -102,7 +102,7 @@ impl Line {
 
     /// Adds the corners of a rectangle. Always inlined: each line with a rectangle has them.
     #[inline(always)]
-    fn push_corners(&mut self, rectangle: &Rectangle)
+    pub fn push_corners(&mut self, rectangle: &Rectangle)
         requires { length self.old + 47 ≤ LINE_CAPACITY }
         ensures text { self.new ≡ self.old ++ corners_text rectangle.now }
         ensures length { length self.new ≤ length self.old + 47 }

@@ -1,23 +1,12 @@
-//! A saved atlas as `check` and `draw` read it.
+//! What is answered of a saved atlas.
 //!
-//! Definition: `Saved`. The rules of a snapshot are those of each atlas, and its JSON text is read by serde: a new kind
-//! of atlas goes here.
+//! Definition: `Saved`. The rules of a snapshot are those of each atlas, and its JSON text is read by `saved_json`.
 
 ghost use Rattle.std.specs.Prelude.{◌≡◌};
 ghost use Rattle.etagere_run.specs.Private.Judged.{refusal};
 
 use crate::faults::{Checked, ReplayFault};
-use etagere::{AtlasSnapshot, BucketedSnapshot, RestoreFault};
-use serde::Deserialize;
-
-/// What a JSON text may hold, under its one key.
-#[derive(Drop, Deserialize)]
-pub enum Saved {
-    #[serde(rename = "atlas")]
-    Atlas(AtlasSnapshot),
-    #[serde(rename = "bucketed")]
-    Bucketed(BucketedSnapshot),
-}
+use etagere::RestoreFault;
 
 /// The answer where a snapshot isn't restored.
 pub fn refusal(fault: RestoreFault) -> Result<Checked, ReplayFault>

@@ -1,14 +1,14 @@
 //! Reads a script: a header, then a command on each line with bytes, or the number of the first
 //! line that isn't good.
 //!
-//! Definitions: `Script`, over `Lines` and `Words`; what private functions answer is `ScriptReading`. A new kind of
-//! line goes into `Words`.
+//! Definitions: `Script`, over `Lines` and `Words`; what reading answers is `ScriptReading`. A new kind of line goes into
+//! `Words`.
 
 ghost use Rattle.std.specs.Prelude.{◌≡◌, ◌<◌, ◌+◌, ◌^◌, length};
 ghost use Rattle.etagere_run.specs.Lines.{filled_from, lines_of};
 ghost use Rattle.etagere_run.specs.Script as spec;
 ghost use Rattle.etagere_run.specs.Script.{script_of};
-ghost use Rattle.etagere_run.specs.Private.ScriptReading.{Gives, commands_in};
+ghost use Rattle.etagere_run.specs.ScriptReading.{Gives, commands_in};
 ghost use Rattle.etagere_run.specs.Words as words;
 ghost use Rattle.etagere_run.specs.declared.script.ScriptFault.TheVariants.{Memory};
 
@@ -30,7 +30,7 @@ pub struct Script {
 
 impl Model for Script {
     ghost use Rattle.etagere_run.specs.Script.{Request};
-    ghost use Rattle.etagere_run.specs.Private.ScriptReading.{commands_in};
+    ghost use Rattle.etagere_run.specs.ScriptReading.{commands_in};
 
     ghost Value = { Request };
 
@@ -101,8 +101,12 @@ fn commands_to(
     })
 }
 
-/// The commands of the lines after line number `before`.
-fn commands_of<C: Spelled>(alloc: Global, before: u64, bytes: &[u8]) -> Result<Vec<C>, ScriptFault>
+/// The commands of the lines after line number `before`. Takes memory for them, and one pass over the bytes.
+pub fn commands_of<C: Spelled>(
+    alloc: Global,
+    before: u64,
+    bytes: &[u8],
+) -> Result<Vec<C>, ScriptFault>
     requires { before + length bytes.now < 2 ^ 64 }
     ensures { Gives (λ commands. commands.items) result
         (spec.commands_of (words.command_of C.cleared C.meaning)

@@ -1,15 +1,17 @@
-//! Runs whose replies go out one by one: each reply's line is made before the next command runs, and goes to a writer
-//! through a buffer of fixed size. No list of replies and no text is kept.
+//! Runs whose replies go out one by one: each reply's line is made and written before the next command runs, by one
+//! call of `write` where the writer takes all of it. Nothing is gathered here: for fewer writes hand in a writer that
+//! gathers, and flush it. No list of replies and no text is kept.
 //!
-//! Definition: `Streaming`, over `Runs` and `ReplyText`. A kind of run that is to be streamed gets a call like these two.
+//! Definition: `Streaming`, over `Runs` and `ReplyText`. A kind of run that is to be streamed gets a call like these
+//! two.
 
-ghost use Rattle.std.specs.Prelude.{ℕ, List, length, IfErr, OnErr, OnOk};
+ghost use Rattle.std.specs.Prelude.{◌≡◌, ℕ, List, Err, length, IfErr, OnErr, OnOk};
 ghost use Rattle.std.specs.Io.KnownBytes.{Appends};
 ghost use Rattle.etagere_base.specs.Frames.{IsAccepted, atlas_frame, longest_side};
 ghost use Rattle.etagere_bucketed.specs.Frames.{bucketed_frame, longest_bucketed_side};
 ghost use Rattle.etagere_run.specs.AtlasRuns.{shelf_atlas};
 ghost use Rattle.etagere_run.specs.BucketedRuns.{bucketed_atlas};
-ghost use Rattle.etagere_run.specs.Streaming.{IsTextOfRun, RefusesStream, Streams, StreamsBeginning};
+ghost use Rattle.etagere_run.specs.Streaming.{IsTextOfRun, RefusesStream, Stops, StopsAt, Streams, StreamsBeginning};
 ghost use Rattle.etagere_run.specs.Private.Rooms.{IsEmptyLedger};
 ghost use Rattle.etagere_run.specs.Private.Tied.{IsNew, SuitsRuns};
 
@@ -19,19 +21,19 @@ use crate::ledger::Ledger;
 use crate::reply_text::{Line, line_of};
 use crate::running::{Answering, answer_next};
 use etagere::{AllocatorOptions, AtlasAllocator, Size};
-use etagere_base::GatheredText;
+use etagere_base::send;
 use etagere_bucketed::BucketedAtlasAllocator;
 use std::alloc::Global;
 use std::io::{self, Write};
 
 /// Runs the commands in order on a new atlas of this size in pixels, and writes a line for each reply.
 ///
-/// Each command is answered, and its line made, before the next one runs; lines go out 4096 bytes at a time, and at
-/// the end. `Options` tells the first fault of the size and options, and that memory ran out for the atlas only where
-/// they have none; `Memory` comes where there is no room for the ledger, which is taken first. After both nothing was
-/// written. After `Write`, which comes where the writer failed or accepted no byte, a beginning of the lines was
-/// written, and no further command runs. Takes memory for a place in the ledger for each command, beside what the
-/// atlas takes.
+/// Each command is answered, and its line written, before the next one runs: by one call of `write`, or by more where
+/// the writer takes less. The writer isn't flushed. `Options` has the first fault of the size and options; only where
+/// they have none may it be that memory ran out for the atlas. `Memory` comes where it is missing for the ledger; room
+/// for that is taken first. After both nothing was written. After `Write`, which comes where the writer failed or
+/// accepted no byte, the lines before the one at which it failed were written, and a beginning of this one, not all of
+/// it; no further command runs. Takes memory for a place in the ledger for each command, beside what the atlas takes.
 pub fn stream_atlas<W: Write>(
     alloc: Global,
     size: Size,
@@ -41,6 +43,8 @@ pub fn stream_atlas<W: Write>(
 ) -> Result<(), StreamFault>
     ensures written { Streams shelf_atlas (atlas_frame size options.now) commands.now
         (W.contents writer.old) (W.contents writer.new) result }
+    ensures stopped { result ≡ Err StreamFault.Write → Stops shelf_atlas (atlas_frame size options.now)
+        commands.now (W.contents writer.old) (W.contents writer.new) }
     ensures accepted { OnOk result (IsAccepted longest_side size options.now) }
     ensures err { IfErr result (RefusesStream longest_side size options.now) }
 {
@@ -63,17 +67,20 @@ pub fn stream_bucketed<W: Write>(
 ) -> Result<(), StreamFault>
     ensures written { Streams bucketed_atlas (bucketed_frame size options.now) commands.now
         (W.contents writer.old) (W.contents writer.new) result }
+    ensures stopped { result ≡ Err StreamFault.Write → Stops bucketed_atlas (bucketed_frame size options.now)
+        commands.now (W.contents writer.old) (W.contents writer.new) }
     ensures accepted { OnOk result (IsAccepted longest_bucketed_side size options.now) }
     ensures err { IfErr result (RefusesStream longest_bucketed_side size options.now) }
 {
     let ledger = Ledger::with_capacity(alloc, commands.len()).map_err(|_| StreamFault::Memory)?;
-    let mut atlas = BucketedAtlasAllocator::with_options(alloc, size, options).map_err(
+    let mut buckets = BucketedAtlasAllocator::with_options(alloc, size, options).map_err(
         StreamFault::Options,
     )?;
-    stream_all(&mut atlas, ledger, commands, writer).map_err(|_| StreamFault::Write)
+    stream_all(&mut buckets, ledger, commands, writer).map_err(|_| StreamFault::Write)
 }
 
-/// Writes the lines of the replies of an atlas to the commands, one after another.
+/// Writes the lines of the replies of an atlas to the commands, one after another. Where the writer fails, the atlas is
+/// as the command left it whose line was being written.
 pub fn stream_all<A: Answering, W: Write>(
     atlas: &mut A,
     ledger: Ledger,
@@ -88,13 +95,14 @@ pub fn stream_all<A: Answering, W: Write>(
         × Appends (W.contents writer.old) (W.contents writer.new) text) }
     ensures beginning { OnErr result (StreamsBeginning A.kind (A.kind.frame atlas.old)
         commands.now (W.contents writer.old) (W.contents writer.new)) }
+    ensures stopped { OnErr result (StopsAt A.kind (A.kind.frame atlas.old)
+        commands.now atlas.new (W.contents writer.old) (W.contents writer.new)) }
 {
     let mut ledger = ledger;
-    let mut text = GatheredText::new();
     let mut line = Line::new();
     for position in 0..commands.len() {
         let reply = answer_next(atlas, &mut ledger, commands[position]);
-        text.push(line_of(&reply, &mut line), writer)?;
+        send(line_of(&reply, &mut line).as_bytes(), writer)?;
     }
-    text.finish(writer)
+    Ok(())
 }

@@ -69,7 +69,8 @@ fn atlas_in(kind: AtlasKind, words: &[u8]) -> Option<Header>
     })
 }
 
-fn direction_of(direction: &[u8]) -> Option<bool>
+/// Whether shelves are vertical, as a word tells: `v` for vertical ones, `h` for horizontal ones.
+pub fn direction_of(direction: &[u8]) -> Option<bool>
     ensures { result ≡ spec.direction_of direction.now }
 {
     match direction {
@@ -201,14 +202,15 @@ fn position_in(words: &[u8]) -> Option<usize>
 
 /// The size that two words spell.
 #[tactic(auto, using(crate::proofs::LastWord::last_words))]
-fn size_in(words: &[u8]) -> Option<Size>
+pub fn size_in(words: &[u8]) -> Option<Size>
     ensures { result ≡ spec.size_in (words_of words.now) }
 {
     let (width, height) = split_word(words)?;
     size_of(width, height)
 }
 
-fn size_of(width: &[u8], height: &[u8]) -> Option<Size>
+/// The size that a word for the width and one for the height spell.
+pub fn size_of(width: &[u8], height: &[u8]) -> Option<Size>
     ensures { result ≡ spec.size_of width.now height.now }
 {
     Some(Size {

@@ -3,6 +3,7 @@
 #![tactic(auto)]
 
 use etagere_run::{ReplayFault, check, replay};
+use std::io::{BufWriter, Write};
 use std::process::ExitCode;
 use std::rt::Env;
 use std::{env, io};
@@ -36,9 +37,20 @@ fn asked(rt: &(impl Env + AllocGlobal)) -> io::Result<Option<Task>> {
     Ok(is_check.then_some(Task::Check))
 }
 
-/// The status of a replay that wrote its text.
+/// The status of a replay that wrote its text. The library writes line by line, and here lines are gathered.
 fn replay_input(rt: &(impl Input + Print + AllocGlobal)) -> Result<u8, ReplayFault> {
-    let outcome = replay(rt.alloc(), &mut rt.reader(), &mut io::writer(rt))?;
+    let gathering = BufWriter::new(rt.alloc(), io::writer(rt));
+    let mut writer = gathering.map_err(|_| ReplayFault::Memory)?;
+    let ended = replay_to(rt, &mut writer);
+    // Dropped as it is, it would try once more to write what a failed write left.
+    let _ = writer.into_parts();
+    ended
+}
+
+/// The status of a replay that wrote its text to this writer, which was then flushed.
+fn replay_to(rt: &(impl Input + AllocGlobal), writer: &mut impl Write) -> Result<u8, ReplayFault> {
+    let outcome = replay(rt.alloc(), &mut rt.reader(), writer)?;
+    writer.flush().map_err(|_| ReplayFault::Write)?;
     Ok(outcome.status())
 }
 

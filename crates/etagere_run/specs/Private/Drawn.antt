@@ -10,12 +10,12 @@ use Rattle.etagere_run.specs.declared.faults.Drawing.{Drawing}
 use Rattle.etagere_run.specs.declared.faults.Outcome.{Outcome}
 use Rattle.etagere_run.specs.declared.faults.ReplayFault.{ReplayFault}
 use Rattle.etagere_run.specs.declared.faults.ReplayFault.TheVariants.{Read, Write, Memory}
-use Rattle.etagere_run.specs.declared.saved.Saved.{Saved}
 use Rattle.etagere_run.specs.Drawing.{BeginsDrawing, BeginsScript, BeginsSnapshot, EndsDrawing, EndsScript, EndsSnapshot, IsPictureOf}
 use Rattle.etagere_run.specs.Replaying.{longest_asked}
 use Rattle.etagere_run.specs.Runs.{RefusesRun}
 use Rattle.etagere_run.specs.Saved.{IsRightOf, ShowsSaved}
 use Rattle.etagere_run.specs.Script.{Request}
+use Rattle.saved_json.specs.declared.saved.Saved.{Saved}
 
 -- drawing an input that was read
 abbrev pub DrawsInput : List ℕ → Option (List ℕ) → Option (List ℕ) → Result Drawing ReplayFault → Type 0

@@ -72,13 +72,18 @@ pub record HasAnswer {S C : Type 0} (kind : Kind S C) (Tied : List Entry → S �
   pub answer : IsAnswerOf kind Tied position command reply entries later state new
 
 -- what runs need of a kind and of what ties its ledgers: what is tied keeps the promises and has an
--- answer to every command, what is added was asked for, and each answer stays within the bound
+-- answer to every command, each step is an answer, what is added was asked for, and each answer stays
+-- within the bound
 pub record SuitsRuns {S C : Type 0} (kind : Kind S C) (Tied : List Entry → S → Type 0)
     : Type 0 where
   pub promises : (entries : List Entry) (state : S) → Tied entries state
       → kind.LiveKeepsPromises state (live_allocations entries)
   pub answers : (position : ℕ) (command : C) (entries : List Entry) (state : S) → Tied entries state
       → HasAnswer kind Tied position command entries state
+  pub steps : (position : ℕ) (entries : List Entry) (old new : S) (command : C) (reply : Reply)
+      → Tied entries old → kind.Step entries old command reply new
+      → IsAnswerOf kind Tied position command reply entries
+      (live_after position (kind.effect command reply) entries) old new
   pub asked : (entries : List Entry) (old new : S) (command : C) (reply : Reply)
       → kind.Step entries old command reply new
       → (allocation : Allocation) → kind.effect command reply ≡ Adds allocation

@@ -1,5 +1,25 @@
+use Rattle.std.proofs.Common.{◌≡◌, IfOk, ap, rules, subst}
+use Rattle.etagere_base.specs.declared.frames.Frame.{Frame}
+use Rattle.etagere_bucketed.specs.Frames.{bucketed_frame}
+use Rattle.etagere_bucketed.specs.State.{BucketedState}
+use Rattle.etagere_run.specs.BucketedRuns.{bucketed_atlas}
+use Rattle.etagere_run.specs.Drawing.{LeadsTo}
+use Rattle.etagere_run.proofs.AllAnswered.{all-answered}
 use Rattle.etagere_run.proofs.BucketedAnswered.{bucketed-suits}
 use Rattle.etagere_run.proofs.drawing.buckets_after.Goals as goal
 
-pub answer_all-requires-clause-suits : goal.answer_all-requires-clause-suits
-answer_all-requires-clause-suits c = bucketed-suits
+pub answer_all-replies-requires-clause-suits : goal.answer_all-replies-requires-clause-suits
+answer_all-replies-requires-clause-suits c = bucketed-suits
+
+pub returns-clause-led : goal.returns-clause-led
+returns-clause-led c =
+    let frame = bucketed_frame c.args.size c.args.options.now in
+    let is : c.in_ok-atlas.atlas ≡ bucketed_atlas.fresh frame = search rules in
+    let run = c.answer_all-replies in
+    let answer = c.with_all_answered in
+    let led : IfOk answer.result (LeadsTo bucketed_atlas c.in_ok-atlas.atlas.frame c.args.commands.now) =
+    all-answered bucketed_atlas c.in_ok-atlas.atlas.frame c.args.commands.now run.result.items c.as_slice.result.now
+    run.new.atlas answer.result c.as_slice.ensures.value run.ensures.last run.ensures.promises answer.ensures.same
+    answer.ensures.all in
+    subst (λ (f : Frame). IfOk answer.result (LeadsTo bucketed_atlas f c.args.commands.now))
+    (ap (λ (s : BucketedState). s.frame) is) led

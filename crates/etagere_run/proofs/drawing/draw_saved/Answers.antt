@@ -1,9 +1,9 @@
 use Rattle.std.proofs.Common.{◌≡◌, refl, rules}
 use Rattle.etagere.specs.Svg as shelves
 use Rattle.etagere_bucketed.specs.Svg as buckets
-use Rattle.etagere_run.specs.declared.saved.Saved.TheVariants.{Atlas, Bucketed}
 use Rattle.etagere_run.proofs.SavedDrawings.{sent-draws}
 use Rattle.etagere_run.proofs.drawing.draw_saved.Goals as goal
+use Rattle.saved_json.specs.declared.saved.Saved.TheVariants.{Atlas, Bucketed}
 
 pub returns-in-Ok : goal.returns-in-Ok
 returns-in-Ok g c =

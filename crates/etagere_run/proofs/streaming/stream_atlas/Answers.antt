@@ -1,11 +1,13 @@
-use Rattle.std.proofs.Common.{◌≡◌, ap, rules, subst}
+use Rattle.std.proofs.Common.{◌≡◌, false, ap, rules, subst, sym, ◌∙◌}
+use Rattle.std.specs.Prelude.{is_ok}
 use Rattle.etagere_base.specs.declared.frames.Frame.{Frame}
 use Rattle.etagere_base.specs.Frames.{atlas_frame}
 use Rattle.etagere.specs.Fresh.{fresh}
 use Rattle.etagere.specs.State.{AtlasState}
 use Rattle.etagere_run.specs.AtlasRuns.{shelf_atlas}
-use Rattle.etagere_run.specs.Streaming.{Streams}
+use Rattle.etagere_run.specs.Streaming.{Stops, Streams}
 use Rattle.etagere_run.proofs.AtlasAnswered.{atlas-suits}
+use Rattle.etagere_run.proofs.StreamsOn.{on_err-failed}
 use Rattle.etagere_run.proofs.streaming.stream_atlas.Goals as goal
 
 pub stream_all-requires-clause-suits : goal.stream_all-requires-clause-suits
@@ -16,3 +18,11 @@ returns-clause-written g c =
     let is : c.in_ok-atlas.atlas ≡ fresh (atlas_frame c.args.size c.args.options.now) = search rules in
     subst (λ (f : Frame). Streams shelf_atlas f c.args.commands.now (g.W.Write.contents c.args.writer.now) (g.W.Write.contents c.stream_all.new.writer) c.map_err-3.result)
     (ap (λ (s : AtlasState). s.frame) is) (search rules)
+
+pub returns-clause-stopped : goal.returns-clause-stopped
+returns-clause-stopped g c fails =
+    let is : c.in_ok-atlas.atlas ≡ fresh (atlas_frame c.args.size c.args.options.now) = search rules in
+    let failed : is_ok c.stream_all.result ≡ false = sym c.map_err-3.ensures.variant ∙ ap is_ok fails in
+    subst (λ (f : Frame). Stops shelf_atlas f c.args.commands.now (g.W.Write.contents c.args.writer.now) (g.W.Write.contents c.stream_all.new.writer))
+    (ap (λ (s : AtlasState). s.frame) is)
+    (c.stream_all.new.atlas, on_err-failed c.stream_all.result failed c.stream_all.ensures.stopped)

@@ -1,4 +1,4 @@
--- What reading a script gives, of which the contracts of private functions speak.
+-- What reading a script gives: what the definition says, unless memory ran out.
 use Rattle.std.specs.Prelude.{◌≡◌, ℕ, Result, Ok, Err, ⊤}
 use Rattle.etagere_run.specs.Script as meaning
 use Rattle.etagere_run.specs.declared.script.Commands.{Commands}
