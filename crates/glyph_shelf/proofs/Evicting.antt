@@ -4,7 +4,7 @@ use Rattle.std.specs.Map.{keys_of, lookup, values_of}
 use Rattle.std.specs.Option.{option_map_or}
 use Rattle.std.specs.Prelude.{is_some, nat_eq, nat_lt, option_map}
 use Rattle.std.proofs.lemmas.Bool.Decides.{nat_tests}
-use Rattle.std.proofs.lemmas.List.{length-append, length-take, map-append, reverse-append}
+use Rattle.std.proofs.lemmas.List.{length-append, map-append, reverse-append}
 use Rattle.std.proofs.Math.Seq.{take-append_seam}
 use Rattle.lru.specs.LruCache.{last_entry}
 use Rattle.etagere.proofs.Callers.{tied-empty}
@@ -21,6 +21,7 @@ use Rattle.etagere_base.specs.declared.ids.Allocation.{Allocation}
 use Rattle.glyph_shelf.specs.Cache.{CacheState, after_dropping, dropped_keys, without_last}
 use Rattle.glyph_shelf.specs.Placing.{Enters, IsEvictionCount, Places, RanOut, SameLayout, has_room}
 use Rattle.glyph_shelf.specs.Promises.{KeepsCachePromises}
+use Rattle.glyph_shelf.proofs.Callers.{frame-after_dropping, frame-without_last, length-after_dropping, length-without_last}
 use Rattle.glyph_shelf.proofs.EntryLemmas.{last-none, last-split, unknown-take}
 use Rattle.glyph_shelf.proofs.Keeping.{keeps-without_last}
 
@@ -150,33 +151,6 @@ least-passing test (suc n) passes = by_first (test 0) refl (least-passing (λ k.
 keeps-after_dropping : (state : CacheState) (n : ℕ) → KeepsCachePromises state → KeepsCachePromises (after_dropping state n)
 keeps-after_dropping state zero promises = promises
 keeps-after_dropping state (suc n) promises = keeps-without_last (after_dropping state n) (keeps-after_dropping state n promises)
-
--- a cache without its last entry has the same frame, and one entry less
-frame-without_last : (state : CacheState) → (without_last state).atlas.frame ≡ state.atlas.frame
-frame-without_last state = by_last (last_entry state.entries)
-  where
-    by_last : (o : Option (ℕ × Allocation))
-        → (option_map_or (λ entry. record { entries = take (length state.entries - 1) state.entries; capacity = state.capacity; atlas = returned state.atlas entry.1.id }) o state).atlas.frame
-        ≡ state.atlas.frame
-    by_last None = refl
-    by_last (Some e) = refl
-
-length-without_last : (state : CacheState) → length (without_last state).entries ≡ length state.entries - 1
-length-without_last state = by_last (last_entry state.entries) refl
-  where
-    by_last : (o : Option (ℕ × Allocation)) → last_entry state.entries ≡ o
-        → length (option_map_or (λ entry. record { entries = take (length state.entries - 1) state.entries; capacity = state.capacity; atlas = returned state.atlas entry.1.id }) o state).entries
-        ≡ length state.entries - 1
-    by_last None last = rw (last-none state.entries last) refl
-    by_last (Some e) last = omega (arith, length-take (length state.entries - 1) state.entries)
-
-frame-after_dropping : (state : CacheState) (n : ℕ) → (after_dropping state n).atlas.frame ≡ state.atlas.frame
-frame-after_dropping state zero = refl
-frame-after_dropping state (suc n) = frame-without_last (after_dropping state n) ∙ frame-after_dropping state n
-
-length-after_dropping : (state : CacheState) (n : ℕ) → length (after_dropping state n).entries ≡ length state.entries - n
-length-after_dropping state zero = omega arith
-length-after_dropping state (suc n) = omega (arith, length-without_last (after_dropping state n), length-after_dropping state n)
 
 -- a list of no length
 nothing_long : (es : List (ℕ × Allocation)) → length es ≡ 0 → es ≡ []

@@ -1,7 +1,7 @@
+pub mod Callers
 mod EntryLemmas
 mod Evicting
 mod Keeping
 mod KeyCounts
-mod Trying
 mod Tying
 mod WorkedRows

@@ -1,4 +1,2 @@
 -- What contracts of private functions and the invariants of private fields cite; no public clause does.
-pub mod Consistent
 pub mod Kept
-pub mod Trials

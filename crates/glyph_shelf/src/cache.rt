@@ -1,7 +1,7 @@
 //! The public calls of a cache.
 //!
 //! Definitions: `Cache` for what the clauses see, `Placing` for what becomes of it, `Promises` for what every cache
-//! keeps, `Private.Consistent` for what the fields keep. The clauses stay as they are: callers prove by them.
+//! keeps. The clauses stay as they are: callers prove by them.
 
 ghost use Rattle.std.specs.Prelude.{◌≡◌, ◌↔◌, [], Err, Some, IfOk, IfErr, IfSome, IsOkAnd, IsErrOf, OnOk, IsTrue, length};
 ghost use Rattle.std.specs.NonZero.{non_zero_usize_get};
@@ -14,7 +14,6 @@ ghost use Rattle.glyph_shelf.specs.Placing.{IsLeft, IsNew, IsTooLarge, Places};
 ghost use Rattle.glyph_shelf.specs.Promises.{KeepsCachePromises};
 
 use crate::faults::GlyphFault;
-use crate::giving_back::fits_empty;
 use crate::kept::Kept;
 use etagere::{AllocatorOptions, AtlasAllocator, OptionsFault, Rectangle, Size};
 use std::alloc::Global;
@@ -40,7 +39,6 @@ pub struct Placed {
 #[derive(Drop)]
 pub struct GlyphCache {
     kept: Kept,
-    trial: AtlasAllocator,
     alloc: Global,
 }
 
@@ -49,18 +47,14 @@ impl Model for GlyphCache {
 
     ghost Value = { CacheState };
 
-    ghost use Rattle.glyph_shelf.specs.Private.Consistent.{IsConsistent, cache_state};
-
-    ghost view = { cache_state };
-
-    ghost invariant = { IsConsistent };
+    ghost view = { λ cache. cache.kept };
 }
 
 impl GlyphCache {
     /// An empty cache of at most `capacity` keys, over an atlas of this size in pixels.
     ///
     /// Returns the first fault of the size and options; `Memory` only where there is no other and no memory. Takes
-    /// memory for two atlases, and none for keys that aren't there yet. Goes through the columns.
+    /// memory for the atlas, and none for keys that aren't there yet. Goes through the columns.
     pub fn new(
         alloc: Global,
         size: Size,
@@ -77,8 +71,7 @@ impl GlyphCache {
             (λ fault. IsAccepted longest_side size options.now → fault ≡ faults.Memory) }
     {
         let kept = Kept::new(alloc, size, options, capacity)?;
-        let trial = AtlasAllocator::with_options(alloc, size, options)?;
-        Ok(GlyphCache { kept, trial, alloc })
+        Ok(GlyphCache { kept, alloc })
     }
 
     /// Gives the rectangle of a key. A key that is there moves to the front of the order of use; its size isn't
@@ -89,9 +82,8 @@ impl GlyphCache {
     ///
     /// `TooLarge` comes exactly where the key is new and an empty atlas has no place for the size; then nothing
     /// changes. `Memory` comes only for a new key, with the keys that were evicted before memory ran out: these are
-    /// gone, and the others stand. Takes memory for the entry, for what the allocation splits, here and in the empty
-    /// atlas on which the size is tried, and, where keys are evicted, for as many keys as there are. Asks that atlas
-    /// once, and its own once and once more for each key that is evicted.
+    /// gone, and the others stand. Takes memory for the entry, for what the allocation splits, and, where keys are
+    /// evicted, for as many keys as there are. Asks the atlas once, and once more for each key that is evicted.
     pub fn place(&mut self, key: u64, size: Size) -> Result<Placed, GlyphFault>
         ensures found { IfSome (rectangle_at self.old key)
             (λ rectangle. IsOkAnd result
@@ -110,10 +102,7 @@ impl GlyphCache {
         if let Some(rectangle) = self.kept.look(key) {
             return Ok(Placed { rectangle, evicted });
         }
-        let Ok(fits) = fits_empty(&mut self.trial, size) else {
-            return Err(GlyphFault::Memory(evicted));
-        };
-        if !fits {
+        if !self.kept.atlas().fits_when_empty(size) {
             return Err(GlyphFault::TooLarge);
         }
         let Ok(rectangle) = self.kept.place_new(key, size, &mut evicted) else {

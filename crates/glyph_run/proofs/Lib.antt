@@ -1,0 +1,9 @@
+mod EntriesTold
+mod HeaderLine
+mod LastWord
+mod PartsSent
+mod ReplayAnswers
+mod RunsOn
+mod ScriptRows
+mod StepsTold
+mod StreamsOn

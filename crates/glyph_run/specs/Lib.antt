@@ -1,0 +1,7 @@
+pub mod Replaying
+pub mod ReplyText
+pub mod Runs
+pub mod Script
+pub mod Setups
+pub mod Streaming
+pub mod Words

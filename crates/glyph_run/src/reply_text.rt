@@ -1,0 +1,112 @@
+//! The text of a reply: one line, of which the keys go out one by one. Nothing here takes memory.
+//!
+//! Definition: `ReplyText`. A new reply needs its words there and here.
+
+ghost use Rattle.std.specs.Prelude.{◌≡◌, ◌≤◌, ◌++◌, ◌∷◌, [], OnOk, OnErr, length};
+ghost use Rattle.std.specs.Io.KnownBytes.{Appends};
+ghost use Rattle.etagere_base.specs.Sending.{AppendsPart};
+ghost use Rattle.etagere_run.specs.Lines.{line_feed};
+ghost use Rattle.etagere_run.specs.ReplyText.{corners_text};
+ghost use Rattle.glyph_run.specs.ReplyText as spec;
+ghost use Rattle.glyph_run.specs.ReplyText.{evicted_text, key_text, keys_text};
+
+use crate::commands::GlyphReply;
+use etagere::Rectangle;
+use etagere_base::send;
+use etagere_run::parts::Line;
+use itoa::Buffer;
+use std::io::{self, Write};
+
+/// Writes the line of a reply. What is of a short length is made in `line`.
+pub fn send_line<W: Write>(reply: &GlyphReply, line: &mut Line, writer: &mut W) -> io::Result<()>
+    ensures whole { OnOk result (Appends (W.contents writer.old) (W.contents writer.new) (spec.line_of reply.now)) }
+    ensures part { OnErr result
+        (AppendsPart (W.contents writer.old) (W.contents writer.new) (spec.line_of reply.now)) }
+{
+    send(words_of(reply, line).as_bytes(), writer)?;
+    send_end(evicted_by(reply), writer)
+}
+
+/// What a reply says, before the keys that were evicted. It is made in `line`, where it isn't always the same.
+fn words_of<'a>(reply: &GlyphReply, line: &'a mut Line) -> &'a str
+    ensures { result.now ≡ spec.words_of reply.now }
+{
+    match reply {
+        GlyphReply::Placed(placed) => with_corners("placed ", &placed.rectangle, line),
+        GlyphReply::TooLarge => "too large",
+        GlyphReply::NoMemory(_) => "no memory",
+        GlyphReply::At(rectangle) => with_corners("at ", rectangle, line),
+        GlyphReply::Removed(rectangle) => with_corners("removed ", rectangle, line),
+        GlyphReply::NotThere => "none",
+        GlyphReply::Cleared => "cleared",
+    }
+}
+
+/// A word and the corners of a rectangle, made in `line`.
+fn with_corners<'a>(word: &str, rectangle: &Rectangle, line: &'a mut Line) -> &'a str
+    requires { length word.now ≤ 8 }
+    ensures { result.now ≡ word.now ++ corners_text rectangle.now }
+{
+    line.begin(word);
+    line.push_corners(rectangle);
+    line.as_str()
+}
+
+/// The keys that a reply names as evicted.
+fn evicted_by(reply: &GlyphReply) -> &[u64]
+    ensures { result.now ≡ spec.evicted_by reply.now }
+{
+    match reply {
+        GlyphReply::Placed(placed) => placed.evicted.as_slice(),
+        GlyphReply::NoMemory(evicted) => evicted.as_slice(),
+        _ => &[],
+    }
+}
+
+/// Writes which keys were evicted, if any, and the line feed.
+fn send_end<W: Write>(evicted: &[u64], writer: &mut W) -> io::Result<()>
+    ensures whole { OnOk result (Appends (W.contents writer.old) (W.contents writer.new)
+        (evicted_text evicted.now ++ line_feed ∷ [])) }
+    ensures part { OnErr result (AppendsPart (W.contents writer.old) (W.contents writer.new)
+        (evicted_text evicted.now ++ line_feed ∷ [])) }
+{
+    send_evicted(evicted, writer)?;
+    send(b"\n", writer)
+}
+
+/// Writes which keys were evicted, if any.
+fn send_evicted<W: Write>(evicted: &[u64], writer: &mut W) -> io::Result<()>
+    ensures whole { OnOk result (Appends (W.contents writer.old) (W.contents writer.new)
+        (evicted_text evicted.now)) }
+    ensures part { OnErr result (AppendsPart (W.contents writer.old) (W.contents writer.new)
+        (evicted_text evicted.now)) }
+{
+    if evicted.is_empty() {
+        return Ok(());
+    }
+    send(b" evicted", writer)?;
+    send_keys(evicted, writer)
+}
+
+/// Writes keys, a space before each.
+fn send_keys<W: Write>(keys: &[u64], writer: &mut W) -> io::Result<()>
+    ensures whole { OnOk result (Appends (W.contents writer.old) (W.contents writer.new) (keys_text keys.now)) }
+    ensures part { OnErr result (AppendsPart (W.contents writer.old) (W.contents writer.new) (keys_text keys.now)) }
+{
+    for index in 0..keys.len() {
+        send_key(keys[index], writer)?;
+    }
+    Ok(())
+}
+
+/// Writes a space and a key.
+fn send_key<W: Write>(key: u64, writer: &mut W) -> io::Result<()>
+    ensures whole { OnOk result (Appends (W.contents writer.old) (W.contents writer.new) (key_text key)) }
+    ensures part { OnErr result (AppendsPart (W.contents writer.old) (W.contents writer.new) (key_text key)) }
+{
+    let mut digits = Buffer::new();
+    let mut line = Line::new();
+    line.begin(" ");
+    line.push(digits.format(key));
+    send(line.as_str().as_bytes(), writer)
+}
