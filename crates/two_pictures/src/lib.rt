@@ -1,14 +1,14 @@
 //! A caller of `etagere`: places two pictures in an atlas, and shows that they lie apart.
 //!
-//! Its proof cites the public clauses of the atlas alone: `placed`, `allocated`, `promises`, `none`
-//! and `err` of `allocate`, `allocated`, `unknown` and `err` of `deallocate`.
+//! The public clauses of the atlas are enough, with no lemma of its own; only `inside` has an answer
+//! that is written out, by `allocated` and `promises` of `allocate`.
 #![tactic(auto)]
 
 #[cfg(test)]
 mod tests;
 
 ghost use Rattle.std.specs.Prelude.{◌≡◌, true, IfOk, IfNone, IfSome, OnErr};
-ghost use Rattle.etagere.specs.Atlas.{without_id};
+ghost use Rattle.etagere.specs.ById.{Undoes};
 ghost use Rattle.etagere.specs.Places.{allocations, is_allocated};
 ghost use Rattle.etagere_base.specs.Rectangles.{IsInside, SharesNone};
 
@@ -53,7 +53,7 @@ pub fn place_two(
 /// Gives back what has this id.
 fn give_back(atlas: &mut AtlasAllocator, id: AllocId)
     requires { is_allocated atlas.old id ≡ true }
-    ensures { allocations atlas.new ≡ without_id id (allocations atlas.old) }
+    ensures { Undoes atlas.old id atlas.new }
 {
     match atlas.deallocate(id) {
         Ok(()) => {}

@@ -1,32 +1,23 @@
-use Rattle.std.proofs.Common.{ap, ◌∙◌}
-use Rattle.etagere.specs.Atlas.{without_id}
+use Rattle.std.proofs.Common.{subst, sym}
+use Rattle.etagere_base.proofs.EachLemmas.{Each-middle, Each-remove_place}
+use Rattle.etagere_base.specs.declared.ids.Allocation.{Allocation}
+use Rattle.etagere_base.specs.Lists.{Each}
+use Rattle.etagere_base.specs.Rectangles.{IsInside}
+use Rattle.etagere.specs.Atlas.{Adds}
 use Rattle.etagere.specs.Places.{allocations}
-use Rattle.etagere.specs.State.{AtlasState}
-use Rattle.two_pictures.proofs.Added.{both-added, without_id-added}
 use Rattle.two_pictures.proofs.place_two.Goals as goal
-
-pub returns-in-Ok-Some-clause-apart : goal.returns-in-Ok-Some-clause-apart
-returns-in-Ok-Some-clause-apart c =
-    let both = both-added (allocations c.args.atlas.now) (allocations c.allocate.new.self) c.in-Some.one c.in-Ok-Some.other c.allocate-2.new.self
-    (rw c.in-Some.is at c.in_ok-one.ensures.allocated) (rw c.in-Ok-Some.field-0-is at c.in-Ok-Some.ensures.allocated) c.in-Ok-Some.ensures.promises in
-    both.0
 
 pub returns-in-Ok-Some-clause-inside : goal.returns-in-Ok-Some-clause-inside
 returns-in-Ok-Some-clause-inside c =
-    let both = both-added (allocations c.args.atlas.now) (allocations c.allocate.new.self) c.in-Some.one c.in-Ok-Some.other c.allocate-2.new.self
-    (rw c.in-Some.is at c.in_ok-one.ensures.allocated) (rw c.in-Ok-Some.field-0-is at c.in-Ok-Some.ensures.allocated) c.in-Ok-Some.ensures.promises in
-    both.1
-
-pub returns-in-Ok-None-clause-none : goal.returns-in-Ok-None-clause-none
-returns-in-Ok-None-clause-none c =
-    c.give_back.ensures
-    ∙ ap (λ (state : AtlasState). without_id c.in-Some.one.id (allocations state)) (rw c.in-Ok-None.field-0-is at c.in-Ok-None.ensures.none)
-    ∙ without_id-added c.args.atlas.now c.in-Some.one (allocations c.allocate.new.self)
-    (rw c.in-Some.is at c.in_ok-one.ensures.allocated) (rw c.in-Some.is at c.in_ok-one.ensures.placed).fresh_id
-
-pub returns-in-Err-clause-err : goal.returns-in-Err-clause-err
-returns-in-Err-clause-err c =
-    c.give_back-in-Err.ensures
-    ∙ ap (λ (state : AtlasState). without_id c.in-Some.one.id (allocations state)) c.in-Err.ensures.err
-    ∙ without_id-added c.args.atlas.now c.in-Some.one (allocations c.allocate.new.self)
-    (rw c.in-Some.is at c.in_ok-one.ensures.allocated) (rw c.in-Some.is at c.in_ok-one.ensures.placed).fresh_id
+    let P : Allocation → Type 0 = λ a. IsInside c.allocate-2.new.self.frame a.rectangle in
+    let one = c.in-Some.one in
+    let other = c.in-Ok-Some.other in
+    let first : Adds (allocations c.args.atlas.now) one (allocations c.allocate.new.self) =
+        rw c.in-Some.is at c.in_ok-one.ensures.allocated in
+    let second : Adds (allocations c.allocate.new.self) other (allocations c.allocate-2.new.self) =
+        rw c.in-Ok-Some.field-0-is at c.in-Ok-Some.ensures.allocated in
+    let all = subst (Each P) second.after c.in-Ok-Some.ensures.promises.inside in
+    let older = subst (Each P) (sym second.before) (Each-remove_place P second.front other second.back all) in (
+      Each-middle P first.front one first.back (subst (Each P) first.after older),
+      Each-middle P second.front other second.back all,
+    )

@@ -1,0 +1,18 @@
+//! Places three rectangles in an atlas, gives the first back in between, and prints where the last one lies.
+#![tactic(auto)]
+
+use anyhow::{Context, Result};
+use etagere::{AtlasAllocator, size2};
+
+fn main(rt: HostRuntime) -> Result<()> {
+    let mut atlas = AtlasAllocator::new(rt.alloc(), size2(1000, 1000))?;
+
+    let first = atlas.allocate(size2(100, 100))?.context("no room")?;
+    atlas.allocate(size2(900, 200))?.context("no room")?;
+    atlas.deallocate(first.id)?;
+    let last = atlas.allocate(size2(300, 200))?.context("no room")?;
+
+    let corner = last.rectangle.min;
+    println!(rt; "{} {}", corner.x, corner.y)?;
+    Ok(())
+}
