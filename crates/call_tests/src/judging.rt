@@ -1,7 +1,7 @@
 //! What a test judges, as calls that promise nothing. A test is proved safe before it runs, in a fraction of the time
 //! where it calls these than where it asserts by itself. A failure names the line of the test.
 
-use etagere::{Allocation, AtlasAllocator, size2};
+use etagere::{Allocation, size2};
 use std::fmt::Debug;
 use std::process::Abort;
 use std::test::Fail;
@@ -50,35 +50,4 @@ pub fn is_refused(
         &(width, height),
     );
     Ok(())
-}
-
-/// Two atlases give the same to a size.
-pub fn answer_alike<T: Atlas>(
-    rt: &impl Abort,
-    first: &mut T,
-    second: &mut T,
-    (width, height): (i32, i32),
-) -> Result<(), Fail> {
-    let size = size2(width, height);
-    equal_at(rt, &first.ask(size)?, &second.ask(size)?, &size);
-    Ok(())
-}
-
-/// Two atlases have the same records.
-pub fn are_saved_alike(
-    rt: &impl Abort,
-    first: &AtlasAllocator,
-    second: &AtlasAllocator,
-) -> Result<(), Fail> {
-    holds(rt, first.snapshot()? == second.snapshot()?);
-    Ok(())
-}
-
-/// Nothing is allocated, and no space is counted as allocated.
-pub fn ends_clean(rt: &impl Abort, atlas: &impl Atlas) {
-    holds(rt, atlas.is_clean());
-}
-
-pub fn has_spaces(rt: &impl Abort, atlas: &impl Atlas, allocated: i32, free: i32) {
-    equal(rt, &atlas.spaces(), &(allocated, free));
 }

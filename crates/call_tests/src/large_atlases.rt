@@ -1,11 +1,11 @@
 //! Large atlases with ample memory: no call answers that it is out of memory, and each answer is the one
 //! of the rules.
 
-use crate::judging::{ends_clean, equal, holds, is_at, is_refused};
-use etagere::{Allocation, AllocatorOptions, AtlasAllocator, DEFAULT_OPTIONS, Size};
+use crate::judging::{equal, holds, is_at, is_refused};
+use etagere::{Allocation, AtlasAllocator, Size};
 use std::process::Abort;
 use std::test::Fail;
-use test_support::calls::{atlas_with, placed, return_all};
+use test_support::calls::{placed, return_all};
 use test_support::squares::{Grid, MANY_SHELVES, SQUARE, VERTICAL_COLUMNS, comes_again};
 
 const SIDES: (i32, i32) = (SQUARE.width, SQUARE.height);
@@ -85,30 +85,4 @@ fn is_emptied(
         return_all(atlas, &[allocation.id])?;
     }
     is_as_new(rt, grid, atlas)
-}
-
-/// A clone of an atlas with a column for each pixel.
-fn columns_are_made(
-    rt: &(impl AllocGlobal + Abort),
-    size: (i32, i32),
-    vertical_shelves: bool,
-) -> Result<(), Fail> {
-    let options = AllocatorOptions {
-        vertical_shelves,
-        num_columns: 65535,
-        ..DEFAULT_OPTIONS
-    };
-    let mut atlas = atlas_with(rt.alloc(), size, &options)?.clone()?;
-    is_refused(rt, &mut atlas, (2, 2))?;
-    let given = placed(&mut atlas, (1, 1))?;
-    equal(rt, &atlas.allocated_space(), &9);
-    return_all(&mut atlas, &[given.id])?;
-    ends_clean(rt, &atlas);
-    Ok(())
-}
-
-#[test]
-fn sixty_thousand_columns_are_made(rt: HostRuntime) -> Result<(), Fail> {
-    columns_are_made(&rt, (65535, 9), false)?;
-    columns_are_made(&rt, (9, 65535), true)
 }

@@ -1,28 +1,14 @@
-//! Tests of single calls of an atlas and of sequences of them, and of the plain types, of what no clause
-//! says.
+//! Tests of calls that no row of `call_rows` can say: pictures over writers that fail, large atlases, the plain types,
+//! and the end of an iterator.
 #![tactic(auto)]
 
 #[cfg(test)]
-mod bucketed_sequences;
-#[cfg(test)]
-mod clones;
-#[cfg(test)]
 mod dumps;
-#[cfg(test)]
-mod glyphs;
-#[cfg(test)]
-mod growing;
-#[cfg(test)]
-mod ids;
 #[cfg(test)]
 mod judging;
 #[cfg(test)]
 mod large_atlases;
 #[cfg(test)]
-mod places;
+mod listing;
 #[cfg(test)]
 mod plain_types;
-#[cfg(test)]
-mod range_ends;
-#[cfg(test)]
-mod sequences;

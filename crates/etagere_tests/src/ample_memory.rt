@@ -4,12 +4,16 @@
 use crate::judging::{equal, holds};
 use crate::runs::{Shape, replies};
 use crate::scripts::replayed;
-use etagere_run::{AtlasCommand, Outcome, replay};
+use etagere::{DEFAULT_OPTIONS, size2};
+use etagere_run::{AtlasCommand, BucketedCommand, Outcome, Reply, replay, run_atlas, run_bucketed};
 use std::alloc::{AllocError, Global};
 use std::fmt::Write;
 use std::io::{self, Read};
 use std::test::Fail;
 use test_support::squares::{Grid, MANY_SHELVES, SQUARE, VERTICAL_COLUMNS, comes_again};
+
+/// How many commands the longest runs have.
+const MANY: usize = 1_100_000;
 
 /// Commands, and what the rules answer to each.
 type Table = Vec<(AtlasCommand, Shape)>;
@@ -121,6 +125,27 @@ fn without_ids(alloc: Global, text: &str) -> Result<String, AllocError> {
         kept.push('\n')?;
     }
     Ok(kept)
+}
+
+#[test]
+fn more_than_a_million_commands_are_run(rt: HostRuntime) -> Result<(), Fail> {
+    let mut commands = Vec::new(rt.alloc());
+    let mut bucketed = Vec::new(rt.alloc());
+    for _ in 0..MANY {
+        commands.push(AtlasCommand::Clear)?;
+        bucketed.push(BucketedCommand::Clear)?;
+    }
+    let size = size2(64, 64);
+    let replies = run_atlas(rt.alloc(), size, &DEFAULT_OPTIONS, commands.as_slice())?;
+    holds(&rt, are_all_cleared(replies.as_slice()));
+    let replies = run_bucketed(rt.alloc(), size, &DEFAULT_OPTIONS, bucketed.as_slice())?;
+    holds(&rt, are_all_cleared(replies.as_slice()));
+    Ok(())
+}
+
+/// Whether these are as many replies to clears as there are commands.
+fn are_all_cleared(replies: &[Reply]) -> bool {
+    replies.len() == MANY && replies.iter().all(|reply| *reply == Reply::Cleared)
 }
 
 #[test]

@@ -8,7 +8,7 @@ use std::test::Fail;
 use test_support::fake_streams::{End, FakeReader, FakeWriter};
 
 /// A new atlas of 10x10.
-const NEW_ATLAS: &str =
+pub const NEW_ATLAS: &str =
     r#"{"atlas":{"width":10,"height":10,"alignment_width":1,"alignment_height":1,"vertical_shelves":false,"shelf_width":10,"first_shelf":0,"free_items":65535,"free_shelves":65535,"allocated_space":0,"shelves":[{"x":0,"y":0,"height":10,"prev":65535,"next":65535,"first_item":0,"first_unallocated":0,"is_empty":true}],"items":[{"x":0,"width":10,"prev":65535,"next":65535,"prev_unallocated":65535,"next_unallocated":65535,"shelf":0,"allocated":false,"generation":1}]}}"#;
 
 /// An atlas of 20x8 that has given (8, 8): its item 0 is allocated and 8 long, its item 1 is free and 12 long.
@@ -21,17 +21,17 @@ const EXAMPLE: &str =
     r#"{"atlas":{"width":1000,"height":1000,"alignment_width":1,"alignment_height":1,"vertical_shelves":false,"shelf_width":1000,"first_shelf":0,"free_items":65535,"free_shelves":65535,"allocated_space":268800,"shelves":[{"x":0,"y":0,"height":112,"prev":65535,"next":1,"first_item":0,"first_unallocated":0,"is_empty":true},{"x":0,"y":112,"height":224,"prev":0,"next":2,"first_item":1,"first_unallocated":4,"is_empty":false},{"x":0,"y":336,"height":224,"prev":1,"next":3,"first_item":3,"first_unallocated":5,"is_empty":false},{"x":0,"y":560,"height":440,"prev":2,"next":65535,"first_item":2,"first_unallocated":2,"is_empty":true}],"items":[{"x":0,"width":1000,"prev":65535,"next":65535,"prev_unallocated":65535,"next_unallocated":65535,"shelf":0,"allocated":false,"generation":1},{"x":0,"width":900,"prev":65535,"next":4,"prev_unallocated":65535,"next_unallocated":65535,"shelf":1,"allocated":true,"generation":1},{"x":0,"width":1000,"prev":65535,"next":65535,"prev_unallocated":65535,"next_unallocated":65535,"shelf":3,"allocated":false,"generation":2},{"x":0,"width":300,"prev":65535,"next":5,"prev_unallocated":65535,"next_unallocated":65535,"shelf":2,"allocated":true,"generation":1},{"x":900,"width":100,"prev":1,"next":65535,"prev_unallocated":65535,"next_unallocated":65535,"shelf":1,"allocated":false,"generation":1},{"x":300,"width":700,"prev":3,"next":65535,"prev_unallocated":65535,"next_unallocated":65535,"shelf":2,"allocated":false,"generation":1}]}}"#;
 
 /// A bucketed atlas of 16x16 that has given (16, 8) twice.
-const FILLED: &str =
+pub const FILLED: &str =
     r#"{"bucketed":{"width":16,"height":16,"alignment_width":1,"alignment_height":1,"vertical_shelves":false,"column_width":16,"num_columns":1,"current_column":0,"available_height":0,"first_unallocated_bucket":65535,"allocated_space":256,"shelves":[{"x":0,"y":0,"height":8,"bucket_width":16,"first_bucket":0},{"x":0,"y":8,"height":8,"bucket_width":16,"first_bucket":1}],"buckets":[{"x":0,"free_space":0,"next":65535,"refcount":1,"item_count":1,"shelf":0,"generation":0},{"x":0,"free_space":0,"next":65535,"refcount":1,"item_count":1,"shelf":1,"generation":0}]}}"#;
 
 /// A text with one part changed, which stands there once.
-fn changed(rt: &impl AllocGlobal, text: &str, old: &str, new: &str) -> Result<String, Fail> {
+pub fn changed(rt: &impl AllocGlobal, text: &str, old: &str, new: &str) -> Result<String, Fail> {
     let (before, after) = text.split_once(old).ok_or("isn't there")?;
     let text = format!(in rt.alloc(); "{before}{new}{after}")?;
     Ok(text)
 }
 
-fn writes(
+pub fn writes(
     rt: &(impl AllocGlobal + Abort),
     input: &[u8],
     checked: Checked,
@@ -58,7 +58,7 @@ fn is_broken(
     writes(rt, input.as_bytes(), Checked::Broken(rule), line.as_str())
 }
 
-fn is_unreadable(rt: &(impl AllocGlobal + Abort), input: &[u8]) -> Result<(), Fail> {
+pub fn is_unreadable(rt: &(impl AllocGlobal + Abort), input: &[u8]) -> Result<(), Fail> {
     writes(rt, input, Checked::Unreadable, "unreadable\n")
 }
 

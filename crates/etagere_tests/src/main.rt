@@ -21,6 +21,8 @@ mod judging;
 #[cfg(test)]
 mod options;
 #[cfg(test)]
+mod readings;
+#[cfg(test)]
 mod runs;
 #[cfg(test)]
 mod scripts;

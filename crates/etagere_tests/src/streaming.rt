@@ -1,11 +1,13 @@
-//! Streams of runs: the bytes that go out, to writers that take few bytes at once, and to writers that fail.
+//! Streams of runs: the bytes that go out, to writers that take few bytes at once, and to writers that fail. Each line
+//! goes out in one write, where the writer takes it whole, so a writer that fails at its k-th write has k-1 lines.
 //! The lines are those of the README's example.
 
 use crate::judging::{equal, equal_at, holds};
 use etagere::{DEFAULT_OPTIONS, OptionsFault, size2};
 use etagere_run::{AtlasCommand, BucketedCommand, StreamFault, stream_atlas, stream_bucketed};
+use std::io::Write;
 use std::test::Fail;
-use test_support::fake_streams::{End, FakeWriter};
+use test_support::fake_streams::{End, FakeWriter, FewWrites, first_lines};
 
 const TEXT: &[u8] = b"placed 65536 0 0 100 112\nplaced 65537 0 112 900 336\nreturned\n\
     placed 65539 0 336 300 560\nat 0 336 300 560 3\nnot live\n";
@@ -22,7 +24,7 @@ fn commands() -> [AtlasCommand; 6] {
 }
 
 /// Streams the commands of the example to a writer.
-fn stream_example(rt: &impl AllocGlobal, writer: &mut FakeWriter) -> Result<(), StreamFault> {
+fn stream_example(rt: &impl AllocGlobal, writer: &mut impl Write) -> Result<(), StreamFault> {
     let size = size2(1000, 1000);
     stream_atlas(rt.alloc(), size, &DEFAULT_OPTIONS, &commands(), writer)
 }
@@ -47,6 +49,20 @@ fn the_first_line_and_a_beginning_of_the_second_go_out(rt: HostRuntime) {
         &writer.written(),
         &b"placed 65536 0 0 100 112\nplace".as_slice(),
     );
+}
+
+#[test]
+fn each_line_goes_out_in_one_write(rt: HostRuntime) {
+    for count in 0..6 {
+        let mut writer = FewWrites::new(rt.alloc(), count);
+        let fault = stream_example(&rt, &mut writer);
+        equal_at(&rt, &fault, &Err(StreamFault::Write), &count);
+        equal(&rt, &writer.written(), &first_lines(TEXT, count));
+    }
+    let mut writer = FewWrites::new(rt.alloc(), 7);
+    equal(&rt, &stream_example(&rt, &mut writer), &Ok(()));
+    equal(&rt, &writer.written(), &TEXT);
+    equal(&rt, &writer.left(), &1);
 }
 
 #[test]
@@ -87,7 +103,7 @@ fn a_hundred_thousand_commands_are_streamed(rt: HostRuntime) -> Result<(), Fail>
 const BUCKETED_TEXT: &[u8] = b"not live\nrefused\ngrow refused 2\ngrown\ncleared\n";
 
 /// Streams commands to a bucketed atlas, one of each reply that has no place.
-fn stream_buckets(rt: &impl AllocGlobal, writer: &mut FakeWriter) -> Result<(), StreamFault> {
+fn stream_buckets(rt: &impl AllocGlobal, writer: &mut impl Write) -> Result<(), StreamFault> {
     let commands = [
         BucketedCommand::Return(0),
         BucketedCommand::Allocate(size2(9, 8)),
@@ -113,6 +129,20 @@ fn a_bucketed_run_is_streamed(rt: HostRuntime) -> Result<(), Fail> {
         }
     }
     Ok(())
+}
+
+#[test]
+fn each_line_of_a_bucketed_run_goes_out_in_one_write(rt: HostRuntime) {
+    for count in 0..5 {
+        let mut writer = FewWrites::new(rt.alloc(), count);
+        let fault = stream_buckets(&rt, &mut writer);
+        equal_at(&rt, &fault, &Err(StreamFault::Write), &count);
+        equal(&rt, &writer.written(), &first_lines(BUCKETED_TEXT, count));
+    }
+    let mut writer = FewWrites::new(rt.alloc(), 6);
+    equal(&rt, &stream_buckets(&rt, &mut writer), &Ok(()));
+    equal(&rt, &writer.written(), &BUCKETED_TEXT);
+    equal(&rt, &writer.left(), &1);
 }
 
 #[test]

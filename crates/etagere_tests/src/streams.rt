@@ -8,7 +8,7 @@ use etagere_run::{Outcome, ReplayFault, replay};
 use std::io::ErrorKind;
 use std::process::Abort;
 use std::test::Fail;
-use test_support::fake_streams::{End, FakeReader, FakeWriter};
+use test_support::fake_streams::{End, FakeReader, FakeWriter, FewWrites, first_lines};
 
 /// The script of the README's example.
 const SCRIPT: &[u8] = b"atlas 1000 1000 1 1 1 h\na 100 100\na 900 200\nr 0\na 300 200\nl 3\nr 2\n";
@@ -74,6 +74,30 @@ fn a_beginning_is_written_before_a_failed_write(rt: HostRuntime) -> Result<(), F
             }
         }
     }
+    Ok(())
+}
+
+#[test]
+fn a_replay_writes_each_line_at_once(rt: HostRuntime) -> Result<(), Fail> {
+    let text = whole_text(&rt)?;
+    for count in 0..6 {
+        let mut writer = FewWrites::new(rt.alloc(), count);
+        let fault = replay(
+            rt.alloc(),
+            &mut FakeReader::new(SCRIPT, 7, End::Nothing),
+            &mut writer,
+        );
+        equal_at(&rt, &fault, &Err(ReplayFault::Write), &count);
+        equal(&rt, &writer.written(), &first_lines(text.as_slice(), count));
+    }
+    let mut writer = FewWrites::new(rt.alloc(), 7);
+    let outcome = replay(
+        rt.alloc(),
+        &mut FakeReader::new(SCRIPT, 7, End::Nothing),
+        &mut writer,
+    )?;
+    equal(&rt, &outcome, &Outcome::Done);
+    equal(&rt, &writer.left(), &1);
     Ok(())
 }
 

@@ -169,3 +169,57 @@ impl Write for FakeWriter {
         Ok(())
     }
 }
+
+/// Takes all bytes in each of so many calls of `write`, and fails in every later one.
+#[derive(Drop)]
+pub struct FewWrites {
+    written: Vec<u8>,
+    left: usize,
+}
+
+impl FewWrites {
+    pub fn new(alloc: Global, count: usize) -> FewWrites {
+        FewWrites {
+            written: Vec::new(alloc),
+            left: count,
+        }
+    }
+
+    pub fn written(&self) -> &[u8] {
+        self.written.as_slice()
+    }
+
+    /// How many calls it would still take.
+    pub fn left(&self) -> usize {
+        self.left
+    }
+}
+
+impl Write for FewWrites {
+    fn write(&mut self, buf: &[u8]) -> io::Result<usize> {
+        if self.left == 0 {
+            return Err(ErrorKind::BrokenPipe.into());
+        }
+        self.left -= 1;
+        self.written.extend_from_slice(buf)?;
+        Ok(buf.len())
+    }
+
+    fn flush(&mut self) -> io::Result<()> {
+        Ok(())
+    }
+}
+
+/// The first lines of a text, so many of them, or all where it has fewer.
+pub fn first_lines(text: &[u8], count: usize) -> &[u8] {
+    let mut left = count;
+    for (place, byte) in text.iter().enumerate() {
+        if left == 0 {
+            return &text[..place];
+        }
+        if *byte == b'\n' {
+            left -= 1;
+        }
+    }
+    text
+}

@@ -1,10 +1,7 @@
-//! Tests of the glyph cache: worked calls, the calls beside placing, and a long text through a small cache, compared
-//! with a plain one.
+//! A long text through a small cache, compared with a plain one, and the numbers and names of faults.
 
 use crate::judging::{equal, holds};
-use etagere::{
-    Allocation, AllocatorOptions, AtlasAllocator, DEFAULT_OPTIONS, OptionsFault, Size, size2,
-};
+use etagere::{Allocation, AtlasAllocator, DEFAULT_OPTIONS, OptionsFault, Size, size2};
 use glyph_shelf::{GlyphCache, GlyphFault};
 use std::alloc::Global;
 use std::num::NonZeroUsize;
@@ -13,90 +10,13 @@ use std::test::Fail;
 use test_support::calls::{Atlas, new_atlas, return_all};
 use test_support::corners::corners;
 
-/// A key, its size, and what its placement answers: the corners of its rectangle, or that it is too large; and the keys
-/// that were evicted.
-type Row<'a> = (u64, (i32, i32), Option<[i32; 4]>, &'a [u64]);
-
 fn cache_of(
     alloc: Global,
     (width, height): (i32, i32),
-    num_columns: i32,
     capacity: usize,
 ) -> Result<GlyphCache, Fail> {
-    let options = AllocatorOptions {
-        num_columns,
-        ..DEFAULT_OPTIONS
-    };
     let capacity = NonZeroUsize::new(capacity).ok_or("no capacity")?;
-    Ok(GlyphCache::new(alloc, size2(width, height), &options, capacity)?)
-}
-
-/// Places keys one after the other, and compares each answer.
-fn try_rows(
-    rt: &(impl AllocGlobal + Abort),
-    cache: &mut GlyphCache,
-    rows: &[Row<'_>],
-) -> Result<(), Fail> {
-    for (key, (width, height), wanted, evicted) in rows {
-        let place = match cache.place(*key, size2(*width, *height)) {
-            Ok(placed) => {
-                equal(rt, &placed.evicted.as_slice(), evicted);
-                Some(corners(placed.rectangle))
-            }
-            Err(fault) => {
-                equal(rt, &fault.number(), &1);
-                None
-            }
-        };
-        equal(rt, &place, wanted);
-    }
-    Ok(())
-}
-
-#[test]
-fn the_least_recent_keys_go_first(rt: HostRuntime) -> Result<(), Fail> {
-    let mut cache = cache_of(rt.alloc(), (32, 32), 1, 3)?;
-    let rows: [Row<'_>; 8] = [
-        (1, (32, 8), Some([0, 0, 32, 8]), &[]),
-        (2, (32, 8), Some([0, 8, 32, 16]), &[]),
-        (3, (32, 8), Some([0, 16, 32, 32]), &[]),
-        (1, (1, 1), Some([0, 0, 32, 8]), &[]),
-        (4, (32, 8), Some([0, 8, 32, 16]), &[2]),
-        (5, (32, 32), Some([0, 0, 32, 32]), &[3, 1, 4]),
-        (6, (33, 1), None, &[]),
-        (5, (7, 7), Some([0, 0, 32, 32]), &[]),
-    ];
-    try_rows(&rt, &mut cache, &rows)
-}
-
-#[test]
-fn a_full_atlas_evicts_below_the_capacity(rt: HostRuntime) -> Result<(), Fail> {
-    let mut cache = cache_of(rt.alloc(), (16, 16), 1, 10)?;
-    let rows: [Row<'_>; 2] = [
-        (1, (16, 8), Some([0, 0, 16, 16]), &[]),
-        (2, (16, 8), Some([0, 0, 16, 16]), &[1]),
-    ];
-    try_rows(&rt, &mut cache, &rows)
-}
-
-#[test]
-fn a_full_cache_evicts_where_the_atlas_has_room(rt: HostRuntime) -> Result<(), Fail> {
-    let mut cache = cache_of(rt.alloc(), (64, 64), 1, 1)?;
-    let rows: [Row<'_>; 2] = [
-        (1, (8, 8), Some([0, 0, 8, 8]), &[]),
-        (2, (8, 8), Some([0, 0, 8, 8]), &[1]),
-    ];
-    try_rows(&rt, &mut cache, &rows)
-}
-
-#[test]
-fn a_size_that_lacks_records_for_its_splits_is_too_large(rt: HostRuntime) -> Result<(), Fail> {
-    let mut cache = cache_of(rt.alloc(), (65535, 100), 65535, 4)?;
-    let rows: [Row<'_>; 2] = [
-        (1, (1, 1), None, &[]),
-        (1, (1, 92), Some([0, 0, 1, 100]), &[]),
-    ];
-    try_rows(&rt, &mut cache, &rows)
+    Ok(GlyphCache::new(alloc, size2(width, height), &DEFAULT_OPTIONS, capacity)?)
 }
 
 #[test]
@@ -120,36 +40,6 @@ fn faults_have_numbers_and_names(rt: HostRuntime) -> Result<(), Fail> {
         &"TooLarge Memory",
     );
     Ok(())
-}
-
-#[test]
-fn keys_are_looked_up_and_taken_out(rt: HostRuntime) -> Result<(), Fail> {
-    let mut cache = cache_of(rt.alloc(), (32, 32), 1, 3)?;
-    equal(
-        &rt,
-        &(cache.len(), cache.is_empty(), cache.capacity().get()),
-        &(0, true, 3),
-    );
-    for key in [1, 2, 3] {
-        cache.place(key, size2(32, 8))?;
-    }
-    equal(&rt, &cache.get(1).map(corners), &Some([0, 0, 32, 8]));
-    equal(&rt, &cache.get(4), &None);
-    equal(&rt, &cache.atlas().allocated_space(), &(32 * 32));
-    equal(&rt, &cache.remove(3).map(corners), &Some([0, 16, 32, 32]));
-    equal(&rt, &(cache.remove(3), cache.len()), &(None, 2));
-    let rows: [Row<'_>; 2] = [
-        (4, (32, 9), Some([0, 16, 32, 32]), &[]),
-        (5, (32, 8), Some([0, 8, 32, 16]), &[2]),
-    ];
-    try_rows(&rt, &mut cache, &rows)?;
-    cache.clear();
-    equal(
-        &rt,
-        &(cache.len(), cache.get(5), cache.atlas().is_empty()),
-        &(0, None, true),
-    );
-    try_rows(&rt, &mut cache, &[(5, (32, 32), Some([0, 0, 32, 32]), &[])])
 }
 
 /// A text whose letters come as often as they do in English.
@@ -232,7 +122,7 @@ fn place_in_both(
 
 #[test]
 fn a_long_text_is_placed_as_a_plain_cache_places_it(rt: HostRuntime) -> Result<(), Fail> {
-    let mut cache = cache_of(rt.alloc(), (96, 96), 1, 60)?;
+    let mut cache = cache_of(rt.alloc(), (96, 96), 60)?;
     let mut plain = PlainCache {
         entries: Vec::new(rt.alloc()),
         atlas: new_atlas(rt.alloc(), (96, 96))?,
