@@ -1,9 +1,10 @@
 # What the scripts at the root share: each runs the program of one crate, and builds it first where it has to.
 #
-# A program is kept under a name with the sum of what it is made of: the toolchain, crates.txt, and the files of the
-# crate and of those below it. So what has the name is current, whatever the times of files say. With `-proved` behind
-# the sum it is the program that the gate or `rt run` proved; else an unproved build, which checks as it runs.
-# They are kept in out/, or in the user's cache where the checkout can't be written to.
+# A program is kept under the name CRATE-SOURCES-TOOLCHAIN: a sum of crates.txt and of the files of the crate and of those
+# below it, and one of the toolchain's version. So what has the name is current, whatever the times of files say. With
+# `-proved` behind it it is the program that the gate or `rt run` proved; else an unproved build, which checks as it runs.
+# They are kept in out/, or in the user's cache where the checkout can't be written to. Where `rt` isn't in the path, a
+# program that was kept of these sources is run, whichever toolchain made it.
 
 root=$(dirname -- "$(dirname -- "$(readlink -f -- "${BASH_SOURCE[0]}")")")
 cache=${XDG_CACHE_HOME:-${HOME:-}/.cache}/etagere
@@ -17,11 +18,17 @@ give_up() {
     exit 70
 }
 
-# Prints the toolchain's version, from its file where there is one: `rt` takes a third of a second.
-version() {
+has_toolchain() {
+    command -v rt > /dev/null
+}
+
+# Prints a sum of the toolchain's version, which stands in a file: `rt` takes a third of a second. Without a toolchain
+# that is a pattern for any.
+toolchain_sum() {
     local rt
+    has_toolchain || { echo '*' && return; }
     rt=$(readlink -f -- "$(command -v rt)")
-    cat -- "${rt%/bin/rt}/KIT-ID" 2> /dev/null || rt version
+    { cat -- "${rt%/bin/rt}/KIT-ID" 2> /dev/null || rt version; } | sha256sum | cut -c 1-8
 }
 
 # Prints the crate $1 and those of the repository below it.
@@ -34,23 +41,31 @@ with_those_below() {
 }
 
 # Prints a sum of what the program of the crate $1 is made of.
-content_of() {
-    local name paths=(crates.txt)
+sources_sum() {
+    local name folder paths=(crates.txt)
     for name in $(with_those_below "$1" | sort -u); do
-        paths+=("crates/$name/"{src,specs,proofs})
+        for folder in src specs proofs; do
+            [[ ! -d $root/crates/$name/$folder ]] || paths+=("crates/$name/$folder")
+        done
     done
     (
-        cd -- "$root"
-        version
+        cd -- "$root" || exit
         find "${paths[@]}" -type f -print0 | LC_ALL=C sort -z | xargs -0 sha256sum
     ) | sha256sum | cut -c 1-32
 }
 
-# Prints the path of the kept program of this name, if there is one.
+# Prints the name under which the program of the crate $1 is kept.
+name_of() {
+    echo "$1-$(sources_sum "$1")-$(toolchain_sum)"
+}
+
+# Prints the path of the kept program of this name, in which a pattern may stand, if there is one.
 kept() {
-    local folder
-    for folder in "$root/out" "$cache"; do
-        [[ ! -x $folder/$1 ]] || { echo "$folder/$1" && return; }
+    local file
+    # The name is left to be expanded, for its pattern.
+    # shellcheck disable=SC2231
+    for file in "$root/out"/$1 "$cache"/$1; do
+        [[ ! -x $file ]] || { echo "$file" && return; }
     done
 }
 
@@ -77,7 +92,7 @@ keep() {
 # sum of these, and that of the program.
 is_left_by_run() {
     local made=$root/crates/$1/out/$1 sum
-    [[ -x $made && -f $made.stamp ]] || return 1
+    [[ -x $made && -f $made.stamp ]] && has_toolchain || return 1
     sum=$(
         python3 -B - "$(dirname -- "$(rt doc)")/bin" "$root/crates/$1" "$root" 2> /dev/null << 'END'
 import sys
@@ -89,9 +104,11 @@ END
     [[ $(< "$made.stamp") == "$sum$(sha256sum < "$made" | cut -d ' ' -f 1)" ]]
 }
 
-# Makes a copy of the toolchain, by links, whose clang stops at the program's module and keeps it.
+# Makes a copy of the toolchain $1 by links in the folder $2/kit, but for its clang: `rt try` keeps no program, so this
+# one copies the module that it is asked to compile with checks to $2/module.bc, and stops. All else it leaves to the
+# toolchain's own clang.
 make_kit() {
-    local file
+    local kit=$1 room=$2 file
     mkdir -p -- "$room/kit/bin" "$room/kit/toolchain/bin"
     for file in "$kit"/* "$kit"/bin/* "$kit"/toolchain/* "$kit"/toolchain/bin/*; do
         [[ -e $room/kit/${file#"$kit/"} ]] || ln -s -- "$file" "$room/kit/${file#"$kit/"}"
@@ -108,86 +125,60 @@ END
     chmod +x -- "$room/kit/toolchain/bin/clang"
 }
 
-# Makes the file $1 by a command, and gives up with what this said where it doesn't.
+# Makes the file $2 in the folder $1 by the other arguments, and gives up with what these said where it doesn't.
 make_by() {
-    local file=$1
-    shift
+    local room=$1 file=$2
+    shift 2
     "$@" < /dev/null > "$room/said" 2>&1 &
-    child=$!
-    wait "$child" || true
-    child=
-    [[ -s $file ]] || { cat -- "$room/said" >&2 && give_up "the program can't be built"; }
+    trap 'kill $! 2> /dev/null; wait; exit 130' INT TERM HUP
+    wait $! || true
+    trap - INT TERM HUP
+    [[ -s $room/$file ]] || { cat -- "$room/said" >&2 && give_up "the program can't be built"; }
 }
 
-# Ends the script with the status $1, and first what it started.
-stop() {
-    trap '' INT TERM HUP
-    [[ -z $child ]] || { kill "$child" && wait "$child"; } 2> /dev/null || true
-    exit "$1"
-}
-
-# Builds the program of the crate $1 under the name $2, without proof.
-build() {
-    local folder
+# Builds the program of the crate $1 under the name $2, without proof. It is a shell of its own, so that its folder goes
+# with it.
+build() (
     kit=$(dirname -- "$(rt doc)")
-    folder=$(folder_to_keep_in)
-    child=
-    room=$(mktemp -d -- "$folder/build-XXXXXX")
+    room=$(mktemp -d -- "$(folder_to_keep_in)/build-XXXXXX")
     trap 'rm -rf -- "$room"' EXIT
-    trap 'stop 130' INT
-    trap 'stop 143' TERM
-    trap 'stop 129' HUP
-    say "builds the program from its sources, without proof, which takes about 20 seconds, once"
-    make_kit
-    make_by "$room/module.bc" env -C "$root/crates/$1" "$room/kit/bin/rt" try
-    make_by "$room/module.o" "$kit/toolchain/bin/clang" \
+    say "builds the program from its sources, without proof, which takes about half a minute, once"
+    make_kit "$kit" "$room"
+    make_by "$room" module.bc env -C "$root/crates/$1" "$room/kit/bin/rt" try
+    make_by "$room" module.o "$kit/toolchain/bin/clang" \
         --target=x86_64-unknown-linux-gnu --sysroot="$kit/toolchain" --no-default-config \
         -mllvm -no-trap-after-noreturn -mllvm -trap-unreachable \
         -c -x ir "$room/module.bc" -o "$room/module.o" -fPIE -O2
-    make_by "$room/program" "$kit/bin/rattle-link" \
+    make_by "$room" program "$kit/bin/rattle-link" \
         --target x86_64-unknown-linux-gnu --toolchain "$kit/toolchain" \
         -o "$room/program" "$room/module.o" "$kit/c/libos_c.a" "$kit/c/liblibc_c.a"
     keep "$room/program" "$2" "$1"
-    rm -rf -- "$room"
-    trap - EXIT INT TERM HUP
-}
+)
 
-# Ends the script with the usage $1 where there are further arguments.
-refuse_arguments() {
-    (($# == 1)) || { echo "usage: $1" >&2 && exit 2; }
-}
-
-# Prints the path of the kept program of the crate $1 under the name $2, if there is one: the proved one if it is there.
-program_kept() {
-    local program
-    program=$(kept "$2-proved")
-    if [[ -z $program ]] && is_left_by_run "$1"; then
-        keep "$root/crates/$1/out/$1" "$2-proved" "$1"
-        program=$(kept "$2-proved")
-    fi
-    echo "${program:-$(kept "$2")}"
-}
-
-# Prints the path of the program of the crate $1, and builds it first where it has to.
+# Prints the path of the program of the crate $1: the proved one if it is there, else an unproved one, which is built
+# where it has to be.
 program_of() {
-    local name program
-    name=$1-$(content_of "$1")
-    program=$(program_kept "$1" "$name")
-    [[ -n $program ]] || build "$1" "$name"
-    echo "${program:-$(kept "$name")}"
+    local crate=$1 name program
+    name=$(name_of "$crate")
+    program=$(kept "$name-proved")
+    if [[ -z $program ]] && is_left_by_run "$crate"; then
+        keep "$root/crates/$crate/out/$crate" "$name-proved" "$crate"
+        program=$(kept "$name-proved")
+    fi
+    program=${program:-$(kept "$name")}
+    if [[ -z $program ]]; then
+        has_toolchain || give_up "no program is kept of these sources, and the toolchain's command rt isn't in PATH"
+        build "$crate" "$name" || exit
+        program=$(kept "$name")
+    fi
+    echo "$program"
 }
 
 # Runs the program of the crate $1 with the other arguments, in place of this script.
 run_program() {
-    local crate=$1 name program
+    local crate=$1 program
     shift
-    command -v rt > /dev/null || give_up "the toolchain's command rt has to be in PATH"
-    name=$crate-$(content_of "$crate")
-    program=$(program_kept "$crate" "$name")
-    if [[ -z $program ]]; then
-        build "$crate" "$name"
-        program=$(kept "$name")
-    fi
-    [[ ! -t 0 ]] || say "reads standard input, up to its end"
+    program=$(program_of "$crate") || exit
+    [[ ! -t 0 || ($# != 0 && $* != check) ]] || say "reads standard input, up to its end"
     exec "$program" "$@"
 }
