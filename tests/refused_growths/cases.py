@@ -47,6 +47,10 @@ def long_scripts():
     return texts("tests/scripts/*.atlas")
 
 
+def cache_scripts():
+    return texts("tests/scripts/*.cache")
+
+
 def snapshots():
     return texts("tests/refused_growths/*.json")
 
