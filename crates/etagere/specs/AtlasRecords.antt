@@ -2,8 +2,8 @@
 use Rattle.std.specs.Prelude.{ℕ, ◌+◌, ◌*◌, ◌/◌, ℤ, Bool, false, None, Some, List, length, map, if◌then◌else◌}
 use Rattle.etagere_base.specs.Ids.{index_modulus}
 use Rattle.etagere_base.specs.declared.frames.Frame.{Frame}
-use Rattle.etagere_links.specs.declared.records.ItemRecord.{ItemRecord}
-use Rattle.etagere_links.specs.declared.records.ShelfRecord.{ShelfRecord}
+use Rattle.etagere_links.specs.declared.records.LinkedItem.{LinkedItem}
+use Rattle.etagere_links.specs.declared.records.LinkedShelf.{LinkedShelf}
 use Rattle.etagere_links.specs.RecordLists.{Records, Entry, field_at, shelf_walk, walked_entry}
 use Rattle.etagere.specs.State.{Item, Shelf, AtlasState}
 
@@ -14,35 +14,35 @@ pub record AtlasRecords : Type 0 where
   pub allocated_space : ℤ
 
 -- whether the item of this number is allocated
-abbrev pub is_allocated_at : List ItemRecord → ℕ → Bool
-is_allocated_at items number = field_at (λ (item : ItemRecord). item.allocated) false items number
+abbrev pub is_allocated_at : List LinkedItem → ℕ → Bool
+is_allocated_at items number = field_at (λ (item : LinkedItem). item.allocated) false items number
 
 -- where the item of this number begins
-abbrev pub place_of : List ItemRecord → ℕ → ℕ
-place_of items number = field_at (λ (item : ItemRecord). item.x) 0 items number
+abbrev pub place_of : List LinkedItem → ℕ → ℕ
+place_of items number = field_at (λ (item : LinkedItem). item.x) 0 items number
 
 -- the shelf that the item of this number names
-abbrev pub shelf_of : List ItemRecord → ℕ → ℕ
-shelf_of items number = field_at (λ (item : ItemRecord). item.shelf) 0 items number
+abbrev pub shelf_of : List LinkedItem → ℕ → ℕ
+shelf_of items number = field_at (λ (item : LinkedItem). item.shelf) 0 items number
 
 -- where the shelf of this number begins along
-abbrev pub along_of : List ShelfRecord → ℕ → ℕ
-along_of shelves number = field_at (λ (shelf : ShelfRecord). shelf.x) 0 shelves number
+abbrev pub along_of : List LinkedShelf → ℕ → ℕ
+along_of shelves number = field_at (λ (shelf : LinkedShelf). shelf.x) 0 shelves number
 
 -- where the shelf of this number begins across
-abbrev pub across_of : List ShelfRecord → ℕ → ℕ
-across_of shelves number = field_at (λ (shelf : ShelfRecord). shelf.y) 0 shelves number
+abbrev pub across_of : List LinkedShelf → ℕ → ℕ
+across_of shelves number = field_at (λ (shelf : LinkedShelf). shelf.y) 0 shelves number
 
 -- how tall the shelf of this number is
-abbrev pub height_of : List ShelfRecord → ℕ → ℕ
-height_of shelves number = field_at (λ (shelf : ShelfRecord). shelf.height) 0 shelves number
+abbrev pub height_of : List LinkedShelf → ℕ → ℕ
+height_of shelves number = field_at (λ (shelf : LinkedShelf). shelf.height) 0 shelves number
 
 -- whether the shelf of this number says that it is empty
-abbrev pub is_empty_at : List ShelfRecord → ℕ → Bool
-is_empty_at shelves number = field_at (λ (shelf : ShelfRecord). shelf.is_empty) false shelves number
+abbrev pub is_empty_at : List LinkedShelf → ℕ → Bool
+is_empty_at shelves number = field_at (λ (shelf : LinkedShelf). shelf.is_empty) false shelves number
 
 -- the item that a record spells: its id is its number plus 65536 times its generation
-abbrev pub spelled_item : ℕ → ItemRecord → Item
+abbrev pub spelled_item : ℕ → LinkedItem → Item
 spelled_item number item =
     record {
       width = item.width;
@@ -51,7 +51,7 @@ spelled_item number item =
     }
 
 -- the item of this number
-abbrev pub item_at : List ItemRecord → ℕ → Item
+abbrev pub item_at : List LinkedItem → ℕ → Item
 item_at items number = field_at (spelled_item number) (record { width = 0; id = None }) items number
 
 -- the shelf that these lists of records spell

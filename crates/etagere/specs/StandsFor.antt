@@ -2,8 +2,8 @@
 use Rattle.std.specs.Prelude.{◌≡◌, ℕ, ◌+◌, ◌/◌, ◌%◌, ◌<◌, ◌≤◌, pos, false, ◌||◌, None, List, [], ◌∷◌, ◌++◌, IsTrue, length, filter, not, nat_lt, ◌==◌, if◌then◌else◌}
 use Rattle.etagere_base.specs.Frames.{HasAllColumns, IsFrame, across_side, longest_side}
 use Rattle.etagere_base.specs.Lists.{Each, NoNeighbours, times}
-use Rattle.etagere_links.specs.declared.records.ItemRecord.{ItemRecord}
-use Rattle.etagere_links.specs.declared.records.ShelfRecord.{ShelfRecord}
+use Rattle.etagere_links.specs.declared.records.LinkedItem.{LinkedItem}
+use Rattle.etagere_links.specs.declared.records.LinkedShelf.{LinkedShelf}
 use Rattle.etagere_links.specs.Chains.{LeadsBack}
 use Rattle.etagere_links.specs.Edits.{link_at}
 use Rattle.etagere_links.specs.Links.{no_link}
@@ -43,14 +43,14 @@ pub record HasLinks (atlas : AtlasRecords) : Type 0 where
   pub each_shelf : Each (HasItemLinks atlas) (walked_entries atlas)
 
 -- the heights of the shelves of these numbers that stand in a column, added up
-abbrev pub height_before : List ShelfRecord → ℕ → ℕ → List ℕ → ℕ
+abbrev pub height_before : List LinkedShelf → ℕ → ℕ → List ℕ → ℕ
 height_before shelves column_width column [] = 0
 height_before shelves column_width column (number ∷ numbers) =
     (if along_of shelves number / column_width == column then height_of shelves number else 0)
     + height_before shelves column_width column numbers
 
 -- each shelf begins across where those before it in its column end
-abbrev pub AreStacked : List ShelfRecord → ℕ → List ℕ → List ℕ → Type 0
+abbrev pub AreStacked : List LinkedShelf → ℕ → List ℕ → List ℕ → Type 0
 AreStacked shelves column_width before [] = Unit {0}
 AreStacked shelves column_width before (number ∷ numbers) =
     (across_of shelves number
@@ -72,7 +72,7 @@ pub record HasShelves (atlas : AtlasRecords) (state : AtlasState) : Type 0 where
       → column_height column state.shelves ≡ across_side state.frame
 
 -- items lie side by side from a place on
-abbrev pub LieFrom : List ItemRecord → ℕ → List ℕ → Type 0
+abbrev pub LieFrom : List LinkedItem → ℕ → List ℕ → Type 0
 LieFrom items here [] = Unit {0}
 LieFrom items here (number ∷ numbers) =
     (place_of items number ≡ here) × LieFrom items (here + (item_at items number).width) numbers

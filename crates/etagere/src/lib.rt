@@ -24,9 +24,10 @@ pub use etagere_base::{
     RestoreFault, Size, UnknownId, point2, size2,
 };
 pub use etagere_bucketed::{
-    BucketRecord, BucketShelfRecord, BucketedAtlasAllocator, BucketedSnapshot, GrowFault,
+    BucketedAtlasAllocator, BucketedSnapshot, GrowFault, LinkedBucket as BucketRecord,
+    LinkedBucketShelf as BucketShelfRecord,
 };
-pub use etagere_links::{ItemRecord, Link, ShelfRecord};
+pub use etagere_links::{Link, LinkedItem as ItemRecord, LinkedShelf as ShelfRecord};
 pub use faults::AtlasGrowFault;
 pub use listing::Iter;
 pub use snapshots::AtlasSnapshot;

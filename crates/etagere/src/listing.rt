@@ -12,7 +12,7 @@ ghost use Rattle.etagere.specs.Private.Reading as reading;
 
 use crate::linked::looking::recorded_rectangle;
 use etagere_base::{AllocId, Allocation, Frame, INDEX_MODULUS};
-use etagere_links::{ItemRecord, Records};
+use etagere_links::{LinkedItem, Records};
 use std::alloc::AllocError;
 use std::iter::FusedIterator;
 use std::marker::Model;
@@ -91,7 +91,7 @@ impl<'a> Clone for Iter<'a> {
 }
 
 /// The first item from this number on that is allocated.
-fn next_allocated(items: &[ItemRecord], from: usize) -> Option<usize>
+fn next_allocated(items: &[LinkedItem], from: usize) -> Option<usize>
     ensures { result ≡ reading.next_allocated items.now from }
 {
     for number in from..items.len() {

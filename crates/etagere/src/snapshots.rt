@@ -7,7 +7,7 @@ ghost use Rattle.etagere_base.specs.Frames.{HasAllColumns, IsFrame, longest_side
 ghost use Rattle.etagere.specs.Snapshots.{snapshot_records};
 
 use etagere_base::Frame;
-use etagere_links::{ItemRecord, Link, Records, ShelfRecord};
+use etagere_links::{Link, LinkedItem, LinkedShelf, Records};
 use serde::{Deserialize, Serialize};
 use std::alloc::AllocError;
 
@@ -37,9 +37,9 @@ pub struct AtlasSnapshot {
     /// The areas of everything that is allocated, added up, in square pixels.
     pub allocated_space: i32,
     /// The shelf records, by number.
-    pub shelves: Vec<ShelfRecord>,
+    pub shelves: Vec<LinkedShelf>,
     /// The item records, by number.
-    pub items: Vec<ItemRecord>,
+    pub items: Vec<LinkedItem>,
 }
 
 /// What an atlas of this frame, these records and this allocated space is saved as.

@@ -4,31 +4,31 @@ use Rattle.etagere_base.specs.declared.frames.Frame.{Frame}
 use Rattle.etagere_links.specs.Edits.{link_at}
 use Rattle.etagere_links.specs.RecordLists.{field_at, walk_by}
 use Rattle.etagere_links.specs.Walks.{Walked}
-use Rattle.etagere_bucketed.specs.declared.records.BucketRecord.{BucketRecord}
-use Rattle.etagere_bucketed.specs.declared.records.BucketShelfRecord.{BucketShelfRecord}
+use Rattle.etagere_bucketed.specs.declared.records.LinkedBucket.{LinkedBucket}
+use Rattle.etagere_bucketed.specs.declared.records.LinkedBucketShelf.{LinkedBucketShelf}
 use Rattle.etagere_bucketed.specs.State.{Bucket, BucketShelf, BucketedState}
 
 -- a bucketed atlas: its frame, its records, where its unused buckets begin, and the totals that it
 -- says
 pub record BucketRecords : Type 0 where
   pub frame : Frame
-  pub shelves : List BucketShelfRecord
-  pub buckets : List BucketRecord
+  pub shelves : List LinkedBucketShelf
+  pub buckets : List LinkedBucket
   pub unused : Option ℕ
   pub current_column : ℕ
   pub available_height : ℕ
   pub allocated_space : ℤ
 
 -- the bucket that the record of this number links to
-abbrev pub next_of : List BucketRecord → ℕ → Option ℕ
-next_of buckets number = link_at (λ (bucket : BucketRecord). bucket.next) buckets number
+abbrev pub next_of : List LinkedBucket → ℕ → Option ℕ
+next_of buckets number = link_at (λ (bucket : LinkedBucket). bucket.next) buckets number
 
 -- the buckets that a walk meets from a link on
-abbrev pub bucket_walk : List BucketRecord → Option ℕ → Walked
-bucket_walk buckets first = walk_by (λ (bucket : BucketRecord). bucket.next) buckets first
+abbrev pub bucket_walk : List LinkedBucket → Option ℕ → Walked
+bucket_walk buckets first = walk_by (λ (bucket : LinkedBucket). bucket.next) buckets first
 
 -- the bucket that a record of this number spells, of a shelf whose buckets are this wide
-abbrev pub spelled_bucket : ℕ → ℕ → BucketRecord → Bucket
+abbrev pub spelled_bucket : ℕ → ℕ → LinkedBucket → Bucket
 spelled_bucket width number bucket =
     record {
       place = bucket.x;
@@ -39,7 +39,7 @@ spelled_bucket width number bucket =
     }
 
 -- the bucket of this number
-abbrev pub bucket_at : List BucketRecord → ℕ → ℕ → Bucket
+abbrev pub bucket_at : List LinkedBucket → ℕ → ℕ → Bucket
 bucket_at buckets width number =
     field_at (spelled_bucket width number)
     (record {
@@ -51,7 +51,7 @@ bucket_at buckets width number =
     }) buckets number
 
 -- the shelf that a record spells, with the buckets that a walk meets
-abbrev pub spelled_shelf : Frame → List BucketRecord → BucketShelfRecord → BucketShelf
+abbrev pub spelled_shelf : Frame → List LinkedBucket → LinkedBucketShelf → BucketShelf
 spelled_shelf frame buckets shelf =
     record {
       column = shelf.x / frame.column_width;
@@ -62,6 +62,6 @@ spelled_shelf frame buckets shelf =
     }
 
 -- the state that records spell
-abbrev pub spelled_state : Frame → List BucketShelfRecord → List BucketRecord → BucketedState
+abbrev pub spelled_state : Frame → List LinkedBucketShelf → List LinkedBucket → BucketedState
 spelled_state frame shelves buckets =
     record { frame = frame; shelves = map (spelled_shelf frame buckets) shelves }

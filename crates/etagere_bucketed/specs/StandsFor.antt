@@ -6,8 +6,8 @@ use Rattle.etagere_base.specs.Lists.{Each}
 use Rattle.etagere_links.specs.Links.{no_link}
 use Rattle.etagere_links.specs.RecordLists.{HasEachOnce, field_at}
 use Rattle.etagere_links.specs.Walks.{Walked}
-use Rattle.etagere_bucketed.specs.declared.records.BucketRecord.{BucketRecord}
-use Rattle.etagere_bucketed.specs.declared.records.BucketShelfRecord.{BucketShelfRecord}
+use Rattle.etagere_bucketed.specs.declared.records.LinkedBucket.{LinkedBucket}
+use Rattle.etagere_bucketed.specs.declared.records.LinkedBucketShelf.{LinkedBucketShelf}
 use Rattle.etagere_bucketed.specs.BucketRecords.{BucketRecords, bucket_walk, spelled_state}
 use Rattle.etagere_bucketed.specs.Frames.{IsBucketedFrame}
 use Rattle.etagere_bucketed.specs.State.{BucketShelf, BucketedState, available_height, column_height, current_column, generations, most_buckets, most_given}
@@ -23,29 +23,29 @@ abbrev pub StopsInRange : ℕ → Walked → Type 0
 StopsInRange count walked = IsTrue (walked.end == no_link || nat_lt walked.end count)
 
 -- the shelf that the bucket of this number names
-abbrev pub shelf_of : List BucketRecord → ℕ → ℕ
-shelf_of buckets number = field_at (λ (bucket : BucketRecord). bucket.shelf) 0 buckets number
+abbrev pub shelf_of : List LinkedBucket → ℕ → ℕ
+shelf_of buckets number = field_at (λ (bucket : LinkedBucket). bucket.shelf) 0 buckets number
 
 -- how much of the bucket of this number is live
-abbrev pub live_of : List BucketRecord → ℕ → ℕ
-live_of buckets number = field_at (λ (bucket : BucketRecord). bucket.refcount) 0 buckets number
+abbrev pub live_of : List LinkedBucket → ℕ → ℕ
+live_of buckets number = field_at (λ (bucket : LinkedBucket). bucket.refcount) 0 buckets number
 
 -- how much width the bucket of this number has left
-abbrev pub free_of : List BucketRecord → ℕ → ℕ
-free_of buckets number = field_at (λ (bucket : BucketRecord). bucket.free_space) 0 buckets number
+abbrev pub free_of : List LinkedBucket → ℕ → ℕ
+free_of buckets number = field_at (λ (bucket : LinkedBucket). bucket.free_space) 0 buckets number
 
 -- where the bucket of this number stands along
-abbrev pub place_of : List BucketRecord → ℕ → ℕ
-place_of buckets number = field_at (λ (bucket : BucketRecord). bucket.x) 0 buckets number
+abbrev pub place_of : List LinkedBucket → ℕ → ℕ
+place_of buckets number = field_at (λ (bucket : LinkedBucket). bucket.x) 0 buckets number
 
 -- how often the bucket of this number was emptied
-abbrev pub generation_of : List BucketRecord → ℕ → ℕ
+abbrev pub generation_of : List LinkedBucket → ℕ → ℕ
 generation_of buckets number =
-    field_at (λ (bucket : BucketRecord). bucket.generation) 0 buckets number
+    field_at (λ (bucket : LinkedBucket). bucket.generation) 0 buckets number
 
 -- the walks of shelves, of which the first has this number, stop in range, and their buckets name
 -- them
-abbrev pub AreLinked : List BucketRecord → ℕ → List BucketShelfRecord → Type 0
+abbrev pub AreLinked : List LinkedBucket → ℕ → List LinkedBucketShelf → Type 0
 AreLinked buckets number [] = Unit {0}
 AreLinked buckets number (shelf ∷ shelves) =
     StopsInRange (length buckets) (bucket_walk buckets shelf.first_bucket)
@@ -58,14 +58,14 @@ pub record HasLinks (atlas : BucketRecords) : Type 0 where
   pub unused : StopsInRange (length atlas.buckets) (bucket_walk atlas.buckets atlas.unused)
 
 -- the heights of the shelves of these records that stand in a column, added up
-abbrev pub height_before : ℕ → ℕ → List BucketShelfRecord → ℕ
+abbrev pub height_before : ℕ → ℕ → List LinkedBucketShelf → ℕ
 height_before column_width column [] = 0
 height_before column_width column (shelf ∷ shelves) =
     (if shelf.x / column_width == column then shelf.height else 0)
     + height_before column_width column shelves
 
 -- each shelf begins across where those before it in its column end
-abbrev pub AreStacked : ℕ → List BucketShelfRecord → List BucketShelfRecord → Type 0
+abbrev pub AreStacked : ℕ → List LinkedBucketShelf → List LinkedBucketShelf → Type 0
 AreStacked column_width before [] = Unit {0}
 AreStacked column_width before (shelf ∷ shelves) =
     (shelf.y ≡ height_before column_width (shelf.x / column_width) before)
@@ -77,7 +77,7 @@ pub record HasShelves (atlas : BucketRecords) (state : BucketedState) : Type 0 w
   pub wide : 1 ≤ length atlas.shelves → 1 ≤ atlas.frame.column_width
   pub columns : Each (λ (shelf : BucketShelf). shelf.column < state.frame.columns) state.shelves
   pub opened : OpenColumns 0 state.shelves
-  pub along : Each (λ (shelf : BucketShelfRecord). shelf.x % atlas.frame.column_width ≡ 0)
+  pub along : Each (λ (shelf : LinkedBucketShelf). shelf.x % atlas.frame.column_width ≡ 0)
       atlas.shelves
   pub across : AreStacked atlas.frame.column_width [] atlas.shelves
   pub heights : (column : ℕ) → column_height column state.shelves ≤ across_side state.frame
@@ -86,7 +86,7 @@ pub record HasShelves (atlas : BucketRecords) (state : BucketedState) : Type 0 w
 
 -- a bucket of a shelf this wide and tall: what it has used, aligned, is at least its items' least
 -- widths; with nothing live it is as new
-pub record IsFilled (alignment width height : ℕ) (bucket : BucketRecord) : Type 0 where
+pub record IsFilled (alignment width height : ℕ) (bucket : LinkedBucket) : Type 0 where
   pub free : bucket.free_space ≤ width
   pub aligned : (width - bucket.free_space) % alignment ≡ 0
   pub live : bucket.refcount ≤ bucket.item_count
@@ -105,7 +105,7 @@ StandDown alignment width begin end (place ∷ next ∷ places) =
     × StandDown alignment width begin place (next ∷ places)
 
 -- the buckets of these numbers stand side by side in a shelf, and none has given more than it has
-pub record AreBuckets (frame : Frame) (buckets : List BucketRecord) (shelf : BucketShelfRecord)
+pub record AreBuckets (frame : Frame) (buckets : List LinkedBucket) (shelf : LinkedBucketShelf)
     (numbers : List ℕ) : Type 0 where
   pub aligned : shelf.bucket_width % alignment_along frame ≡ 0
   pub width : frame.columns ≡ 1 → 1 ≤ shelf.bucket_width
@@ -116,23 +116,23 @@ pub record AreBuckets (frame : Frame) (buckets : List BucketRecord) (shelf : Buc
       (shelf.x + frame.column_width) (map (place_of buckets) numbers)
 
 -- the buckets of a shelf do so
-abbrev pub HasBuckets : BucketRecords → BucketShelfRecord → Type 0
+abbrev pub HasBuckets : BucketRecords → LinkedBucketShelf → Type 0
 HasBuckets atlas shelf =
     AreBuckets atlas.frame atlas.buckets shelf (bucket_walk atlas.buckets shelf.first_bucket).met
 
 -- what the bucket of this number has used of a width: below 0 where it has more left than that
-abbrev pub used_of : ℕ → List BucketRecord → ℕ → ℤ
+abbrev pub used_of : ℕ → List LinkedBucket → ℕ → ℤ
 used_of width buckets number =
-    field_at (λ (bucket : BucketRecord). pos width -ℤ pos bucket.free_space) (pos 0) buckets number
+    field_at (λ (bucket : LinkedBucket). pos width -ℤ pos bucket.free_space) (pos 0) buckets number
 
 -- what the buckets of these numbers have used of it, added up
-abbrev pub all_used : ℕ → List BucketRecord → List ℕ → ℤ
+abbrev pub all_used : ℕ → List LinkedBucket → List ℕ → ℤ
 all_used width buckets [] = pos 0
 all_used width buckets (number ∷ numbers) =
     used_of width buckets number +ℤ all_used width buckets numbers
 
 -- the areas that the buckets of shelves have used, added up
-abbrev pub used_area : List BucketRecord → List BucketShelfRecord → ℤ
+abbrev pub used_area : List LinkedBucket → List LinkedBucketShelf → ℤ
 used_area buckets [] = pos 0
 used_area buckets (shelf ∷ shelves) =
     (all_used shelf.bucket_width buckets (bucket_walk buckets shelf.first_bucket).met
@@ -140,13 +140,13 @@ used_area buckets (shelf ∷ shelves) =
     +ℤ used_area buckets shelves
 
 -- the generation of each bucket in use is one of 8 bits, as the type of records has it
-abbrev pub HasGenerations : BucketRecords → BucketShelfRecord → Type 0
+abbrev pub HasGenerations : BucketRecords → LinkedBucketShelf → Type 0
 HasGenerations atlas shelf =
     Each (λ bucket. generation_of atlas.buckets bucket < generations)
     (bucket_walk atlas.buckets shelf.first_bucket).met
 
 -- the numbers of the buckets of shelves
-abbrev pub walked_numbers : List BucketRecord → List BucketShelfRecord → List ℕ
+abbrev pub walked_numbers : List LinkedBucket → List LinkedBucketShelf → List ℕ
 walked_numbers buckets [] = []
 walked_numbers buckets (shelf ∷ shelves) =
     (bucket_walk buckets shelf.first_bucket).met ++ walked_numbers buckets shelves
@@ -157,7 +157,7 @@ pub record IsShared (atlas : BucketRecords) : Type 0 where
       HasEachOnce (length atlas.buckets)
       (walked_numbers atlas.buckets atlas.shelves ++ (bucket_walk atlas.buckets atlas.unused).met)
   pub ends : Each
-      (λ (shelf : BucketShelfRecord). (bucket_walk atlas.buckets shelf.first_bucket).end ≡ no_link)
+      (λ (shelf : LinkedBucketShelf). (bucket_walk atlas.buckets shelf.first_bucket).end ≡ no_link)
       atlas.shelves
   pub unused_end : (bucket_walk atlas.buckets atlas.unused).end ≡ no_link
 

@@ -17,7 +17,7 @@ ghost use Rattle.etagere_bucketed.specs.Private.DrawnRecords.{AreKept, FitAlong,
 ghost use Rattle.etagere_bucketed.specs.Private.Store.{stored_state};
 ghost use Rattle.etagere_bucketed.specs.Svg as svg;
 
-use crate::records::{BucketRecord, BucketShelfRecord};
+use crate::records::{LinkedBucket, LinkedBucketShelf};
 use crate::searching::MOST_BUCKETS;
 use crate::store::{KeptShelf, Store};
 use etagere_base::{
@@ -27,7 +27,7 @@ use etagere_base::{
 use std::io::{self, Write};
 
 /// The used part of a bucket of a shelf.
-fn used_part(frame: &Frame, shelf: &BucketShelfRecord, bucket: &BucketRecord) -> Drawn
+fn used_part(frame: &Frame, shelf: &LinkedBucketShelf, bucket: &LinkedBucket) -> Drawn
     requires { FitsIn shelf.now bucket.now }
     ensures { result ≡ recorded.recorded_used frame.now shelf.now bucket.now }
 {
@@ -43,7 +43,7 @@ fn used_part(frame: &Frame, shelf: &BucketShelfRecord, bucket: &BucketRecord) ->
 }
 
 /// The free part of a bucket of a shelf.
-fn free_part(frame: &Frame, shelf: &BucketShelfRecord, bucket: &BucketRecord) -> Drawn
+fn free_part(frame: &Frame, shelf: &LinkedBucketShelf, bucket: &LinkedBucket) -> Drawn
     requires { FitsIn shelf.now bucket.now }
     ensures { result ≡ recorded.recorded_free frame.now shelf.now bucket.now }
 {
@@ -63,8 +63,8 @@ fn free_part(frame: &Frame, shelf: &BucketShelfRecord, bucket: &BucketRecord) ->
 fn push_used<W: Write>(
     text: &mut GatheredText,
     frame: &Frame,
-    shelf: &BucketShelfRecord,
-    bucket: &BucketRecord,
+    shelf: &LinkedBucketShelf,
+    bucket: &LinkedBucket,
     writer: &mut W,
 ) -> io::Result<()>
     requires { FitsIn shelf.now bucket.now }
@@ -80,8 +80,8 @@ fn push_used<W: Write>(
 fn push_free<W: Write>(
     text: &mut GatheredText,
     frame: &Frame,
-    shelf: &BucketShelfRecord,
-    bucket: &BucketRecord,
+    shelf: &LinkedBucketShelf,
+    bucket: &LinkedBucket,
     writer: &mut W,
 ) -> io::Result<()>
     requires { FitsIn shelf.now bucket.now }
@@ -100,8 +100,8 @@ fn push_free<W: Write>(
 fn push_bucket<W: Write>(
     text: &mut GatheredText,
     frame: &Frame,
-    shelf: &BucketShelfRecord,
-    bucket: &BucketRecord,
+    shelf: &LinkedBucketShelf,
+    bucket: &LinkedBucket,
     writer: &mut W,
 ) -> io::Result<()>
     requires { FitsIn shelf.now bucket.now }
@@ -119,7 +119,7 @@ fn push_buckets<W: Write>(
     text: &mut GatheredText,
     frame: &Frame,
     kept: &KeptShelf,
-    buckets: &[BucketRecord],
+    buckets: &[LinkedBucket],
     writer: &mut W,
 ) -> io::Result<()>
     requires { FitAlong buckets.now kept.now }
@@ -148,7 +148,7 @@ fn push_shelves<W: Write>(
     text: &mut GatheredText,
     frame: &Frame,
     shelves: &[KeptShelf],
-    buckets: &[BucketRecord],
+    buckets: &[LinkedBucket],
     writer: &mut W,
 ) -> io::Result<()>
     requires { Each (FitAlong buckets.now) shelves.now }

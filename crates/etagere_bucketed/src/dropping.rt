@@ -9,7 +9,7 @@ ghost use Rattle.etagere_bucketed.specs.Picking.{or_else};
 ghost use Rattle.etagere_bucketed.specs.Private.Returns as spec;
 ghost use Rattle.etagere_bucketed.specs.State.{most_buckets};
 
-use crate::records::BucketRecord;
+use crate::records::LinkedBucket;
 use crate::store::KeptShelf;
 use etagere_links::Link;
 
@@ -21,7 +21,7 @@ pub(crate) struct RowEnd {
 }
 
 /// The link to the bucket after the one of this number; none where there is no such bucket.
-fn next_of(buckets: &[BucketRecord], number: usize) -> Link
+fn next_of(buckets: &[LinkedBucket], number: usize) -> Link
     ensures { result ≡ next_of buckets.now number }
 {
     if number < buckets.len() {
@@ -32,7 +32,7 @@ fn next_of(buckets: &[BucketRecord], number: usize) -> Link
 }
 
 /// Where the list of a bucket ends.
-fn row_end(buckets: &[BucketRecord], first: usize) -> RowEnd
+fn row_end(buckets: &[LinkedBucket], first: usize) -> RowEnd
     requires { length buckets.now ≤ most_buckets }
     ensures end { result ≡ spec.row_end buckets.now first }
     ensures small { result.count ≤ most_buckets + 1 }
@@ -54,7 +54,7 @@ fn row_end(buckets: &[BucketRecord], first: usize) -> RowEnd
 }
 
 /// Changes the link of a bucket.
-fn link_to(buckets: &mut [BucketRecord], number: usize, next: Link)
+fn link_to(buckets: &mut [LinkedBucket], number: usize, next: Link)
     ensures { buckets.new ≡ changed_by (Some number) (spec.linked_to next) buckets.old }
 {
     if number < buckets.len() {
@@ -64,7 +64,7 @@ fn link_to(buckets: &mut [BucketRecord], number: usize, next: Link)
 }
 
 /// Puts the list of a bucket in front of the unused ones, and answers how many stand in it.
-fn put_row_aside(buckets: &mut [BucketRecord], unused: &mut Link, first: Link) -> u32
+fn put_row_aside(buckets: &mut [LinkedBucket], unused: &mut Link, first: Link) -> u32
     requires { length buckets.old ≤ most_buckets }
     ensures buckets { buckets.new ≡ spec.row_aside first unused.old buckets.old }
     ensures unused { unused.new ≡ or_else first unused.old }
@@ -83,7 +83,7 @@ fn put_row_aside(buckets: &mut [BucketRecord], unused: &mut Link, first: Link) -
 /// Drops the shelves at the end that hold nothing live, and answers how many buckets that put aside.
 pub(crate) fn drop_idle_end(
     shelves: &mut Vec<KeptShelf>,
-    buckets: &mut [BucketRecord],
+    buckets: &mut [LinkedBucket],
     unused: &mut Link,
 ) -> u32
     requires shelves { vec_len shelves.old ≤ most_buckets }

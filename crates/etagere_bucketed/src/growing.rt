@@ -11,7 +11,7 @@ ghost use Rattle.etagere_bucketed.specs.Private.Returns.{width_of};
 ghost use Rattle.etagere_bucketed.specs.State.{most_buckets};
 
 use crate::making::{NewBuckets, make_buckets};
-use crate::records::{BucketRecord, BucketShelfRecord};
+use crate::records::{LinkedBucket, LinkedBucketShelf};
 use crate::store::KeptShelf;
 use etagere_links::Link;
 
@@ -41,7 +41,7 @@ fn widened_kept(kept: &KeptShelf, count: u32, first: Link) -> KeptShelf
     ensures { result ≡ spec.widened_kept count first kept.now }
 {
     KeptShelf {
-        shelf: BucketShelfRecord {
+        shelf: LinkedBucketShelf {
             first_bucket: first,
             ..kept.shelf
         },
@@ -82,7 +82,7 @@ fn first_of(shelves: &[KeptShelf], number: usize) -> Link
 /// Gives the shelf of a number so many buckets, side by side from a place on.
 fn widen_shelf(
     shelves: &mut [KeptShelf],
-    buckets: &mut Vec<BucketRecord>,
+    buckets: &mut Vec<LinkedBucket>,
     unused: &mut Link,
     number: usize,
     place: u32,
@@ -116,7 +116,7 @@ fn widen_shelf(
 /// Gives the shelves their buckets for a width that is added at a place, where so many are left.
 pub(crate) fn widen_shelves(
     shelves: &mut [KeptShelf],
-    buckets: &mut Vec<BucketRecord>,
+    buckets: &mut Vec<LinkedBucket>,
     unused: &mut Link,
     place: u32,
     added: u32,

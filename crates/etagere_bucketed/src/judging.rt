@@ -11,7 +11,7 @@ ghost use Rattle.etagere_bucketed.specs.State.{generations, most_buckets};
 
 use crate::adding::alignment_along;
 use crate::frames::LONGEST_BUCKETED_SIDE;
-use crate::records::{BucketRecord, BucketShelfRecord};
+use crate::records::{LinkedBucket, LinkedBucketShelf};
 use crate::searching::{MOST_GIVEN, record_room, wider};
 use crate::store::KeptShelf;
 use etagere_base::{Frame, RestoreFault};
@@ -86,7 +86,7 @@ pub(crate) fn is_frame(frame: &Frame) -> bool
 }
 
 /// Whether the bucket of this number is there and names this shelf.
-fn is_owned(buckets: &[BucketRecord], shelf: u16, number: u16) -> bool
+fn is_owned(buckets: &[LinkedBucket], shelf: u16, number: u16) -> bool
     ensures { result ≡ spec.is_owned buckets.now shelf number }
 {
     match buckets.get(usize::from(number)) {
@@ -96,7 +96,7 @@ fn is_owned(buckets: &[BucketRecord], shelf: u16, number: u16) -> bool
 }
 
 /// Whether the buckets of these numbers name this shelf.
-pub(crate) fn are_owned(buckets: &[BucketRecord], shelf: u16, numbers: &[u16]) -> bool
+pub(crate) fn are_owned(buckets: &[LinkedBucket], shelf: u16, numbers: &[u16]) -> bool
     ensures { result ≡ list_all (spec.is_owned buckets.now shelf) numbers.now }
 {
     for number in numbers {
@@ -108,7 +108,7 @@ pub(crate) fn are_owned(buckets: &[BucketRecord], shelf: u16, numbers: &[u16]) -
 }
 
 /// Whether the bucket of this number is there and nothing of it is live.
-fn is_unused(buckets: &[BucketRecord], number: u16) -> bool
+fn is_unused(buckets: &[LinkedBucket], number: u16) -> bool
     ensures { result ≡ spec.is_unused buckets.now number }
 {
     match buckets.get(usize::from(number)) {
@@ -118,7 +118,7 @@ fn is_unused(buckets: &[BucketRecord], number: u16) -> bool
 }
 
 /// Whether nothing of the buckets of these numbers is live.
-pub(crate) fn are_unused(buckets: &[BucketRecord], numbers: &[u16]) -> bool
+pub(crate) fn are_unused(buckets: &[LinkedBucket], numbers: &[u16]) -> bool
     ensures { result ≡ list_all (spec.is_unused buckets.now) numbers.now }
 {
     for number in numbers {
@@ -130,7 +130,7 @@ pub(crate) fn are_unused(buckets: &[BucketRecord], numbers: &[u16]) -> bool
 }
 
 /// Whether a bucket's used width, given count and live count agree, where its shelf has this bucket width and height.
-fn is_filled(alignment: u32, width: u16, height: u16, bucket: &BucketRecord) -> bool
+fn is_filled(alignment: u32, width: u16, height: u16, bucket: &LinkedBucket) -> bool
     requires { 1 ≤ alignment }
     ensures { result ≡ spec.is_filled alignment width height bucket.now }
 {
@@ -152,7 +152,7 @@ fn is_filled(alignment: u32, width: u16, height: u16, bucket: &BucketRecord) -> 
 }
 
 /// The same as `is_filled`, and reads the generation, which has 8 bits and so fits into an id.
-fn is_kept(alignment: u32, width: u16, height: u16, bucket: &BucketRecord) -> bool
+fn is_kept(alignment: u32, width: u16, height: u16, bucket: &LinkedBucket) -> bool
     requires { 1 ≤ alignment }
     ensures value { result ≡ spec.is_filled alignment width height bucket.now }
     ensures generation { bucket.now.generation < generations }
@@ -166,7 +166,7 @@ fn is_filled_at(
     alignment: u32,
     width: u16,
     height: u16,
-    buckets: &[BucketRecord],
+    buckets: &[LinkedBucket],
     number: u16,
 ) -> bool
     requires { 1 ≤ alignment }
@@ -184,7 +184,7 @@ pub(crate) fn are_filled(
     alignment: u32,
     width: u16,
     height: u16,
-    buckets: &[BucketRecord],
+    buckets: &[LinkedBucket],
     numbers: &[u16],
 ) -> bool
     requires { 1 ≤ alignment }
@@ -202,7 +202,7 @@ pub(crate) fn are_filled(
 }
 
 /// Where a bucket stands along, if that is aligned and the bucket ends at `end` at most.
-fn stand_at(alignment: u32, width: u16, end: u32, bucket: &BucketRecord) -> Option<u32>
+fn stand_at(alignment: u32, width: u16, end: u32, bucket: &LinkedBucket) -> Option<u32>
     requires { 1 ≤ alignment }
     ensures { result ≡ spec.stand_at alignment width end bucket.now }
 {
@@ -218,7 +218,7 @@ fn stand_at(alignment: u32, width: u16, end: u32, bucket: &BucketRecord) -> Opti
 fn stand_by(
     alignment: u32,
     width: u16,
-    buckets: &[BucketRecord],
+    buckets: &[LinkedBucket],
     end: u32,
     number: u16,
 ) -> Option<u32>
@@ -235,7 +235,7 @@ fn stand_by(
 pub(crate) fn last_stand(
     alignment: u32,
     width: u16,
-    buckets: &[BucketRecord],
+    buckets: &[LinkedBucket],
     end: u32,
     numbers: &[u16],
 ) -> Option<u32>
@@ -250,7 +250,7 @@ pub(crate) fn last_stand(
 }
 
 /// Whether a bucket stands at `begin`, and ends at `end` at most.
-fn begins_at(width: u16, begin: u32, end: u32, bucket: &BucketRecord) -> bool
+fn begins_at(width: u16, begin: u32, end: u32, bucket: &LinkedBucket) -> bool
     ensures { result ≡ spec.begins_at width begin end bucket.now }
 {
     let place = u32::from(bucket.x);
@@ -258,7 +258,7 @@ fn begins_at(width: u16, begin: u32, end: u32, bucket: &BucketRecord) -> bool
 }
 
 /// Whether the bucket of this number is there, stands at `begin`, and ends at `end` at most.
-fn begins_by(width: u16, buckets: &[BucketRecord], begin: u32, end: u32, number: u16) -> bool
+fn begins_by(width: u16, buckets: &[LinkedBucket], begin: u32, end: u32, number: u16) -> bool
     ensures { result ≡ spec.begins_by width begin end buckets.now number }
 {
     match buckets.get(usize::from(number)) {
@@ -272,7 +272,7 @@ fn begins_by(width: u16, buckets: &[BucketRecord], begin: u32, end: u32, number:
 fn stand_together(
     alignment: u32,
     width: u16,
-    buckets: &[BucketRecord],
+    buckets: &[LinkedBucket],
     begin: u32,
     end: u32,
     numbers: &[u16],
@@ -292,8 +292,8 @@ fn stand_together(
 /// Whether the buckets of a shelf, of these numbers, keep their rule.
 fn has_buckets(
     frame: &Frame,
-    buckets: &[BucketRecord],
-    shelf: &BucketShelfRecord,
+    buckets: &[LinkedBucket],
+    shelf: &LinkedBucketShelf,
     numbers: &[u16],
 ) -> bool
     requires alignment { 1 ≤ spec.alignment_along frame.now }
@@ -313,7 +313,7 @@ fn has_buckets(
 }
 
 /// How many items of the bucket of this number are live; 0 where it isn't there.
-fn live_at(buckets: &[BucketRecord], number: u16) -> u16
+fn live_at(buckets: &[LinkedBucket], number: u16) -> u16
     ensures { result ≡ spec.live_of buckets.now number }
 {
     match buckets.get(usize::from(number)) {
@@ -323,7 +323,7 @@ fn live_at(buckets: &[BucketRecord], number: u16) -> u16
 }
 
 /// How many items of the buckets of these numbers are live.
-pub(crate) fn live_items(buckets: &[BucketRecord], numbers: &[u16]) -> u32
+pub(crate) fn live_items(buckets: &[LinkedBucket], numbers: &[u16]) -> u32
     requires { length numbers.now < 2 ^ 16 }
     ensures { result ≡ spec.live_by buckets.now numbers.now }
 {
@@ -335,7 +335,7 @@ pub(crate) fn live_items(buckets: &[BucketRecord], numbers: &[u16]) -> u32
 }
 
 /// How much of its width the bucket of this number has used; 0 where it isn't there.
-fn used_at(width: u16, buckets: &[BucketRecord], number: u16) -> u16
+fn used_at(width: u16, buckets: &[LinkedBucket], number: u16) -> u16
     requires { spec.free_of buckets.now number ≤ width }
     ensures { result ≡ spec.used_at width buckets.now number }
 {
@@ -346,7 +346,7 @@ fn used_at(width: u16, buckets: &[BucketRecord], number: u16) -> u16
 }
 
 /// How much of their width the buckets of these numbers have used.
-pub(crate) fn used_width(width: u16, buckets: &[BucketRecord], numbers: &[u16]) -> u32
+pub(crate) fn used_width(width: u16, buckets: &[LinkedBucket], numbers: &[u16]) -> u32
     requires few { length numbers.now < 2 ^ 16 }
     requires free { Each (λ number. spec.free_of buckets.now number ≤ width) numbers.now }
     ensures value { result ≡ spec.used_by width buckets.now numbers.now }
@@ -360,7 +360,7 @@ pub(crate) fn used_width(width: u16, buckets: &[BucketRecord], numbers: &[u16]) 
 }
 
 /// The width that the bucket of this number can give; 0 where it isn't there.
-fn room_at(buckets: &[BucketRecord], number: u16) -> u16
+fn room_at(buckets: &[LinkedBucket], number: u16) -> u16
     ensures { result ≡ spec.room_at buckets.now number }
 {
     match buckets.get(usize::from(number)) {
@@ -370,7 +370,7 @@ fn room_at(buckets: &[BucketRecord], number: u16) -> u16
 }
 
 /// The greatest width that one of the buckets of these numbers can give.
-pub(crate) fn widest_room(buckets: &[BucketRecord], numbers: &[u16]) -> u16
+pub(crate) fn widest_room(buckets: &[LinkedBucket], numbers: &[u16]) -> u16
     ensures { result ≡ spec.widest_by buckets.now numbers.now }
 {
     let mut widest = 0;
@@ -383,8 +383,8 @@ pub(crate) fn widest_room(buckets: &[BucketRecord], numbers: &[u16]) -> u16
 /// Judges the shelf of a number with the buckets of these numbers, and tells what is kept of it.
 pub(crate) fn judged_row(
     frame: &Frame,
-    buckets: &[BucketRecord],
-    shelf: &BucketShelfRecord,
+    buckets: &[LinkedBucket],
+    shelf: &LinkedBucketShelf,
     number: u16,
     numbers: &[u16],
 ) -> Result<Judged, RestoreFault>
@@ -417,7 +417,7 @@ pub(crate) fn judged_row(
 }
 
 /// The stack with one shelf more, if that stands where it must: on the last one, or first in the next column.
-fn stacked_on(frame: &Frame, stack: &Stack, shelf: &BucketShelfRecord) -> Option<Stack>
+fn stacked_on(frame: &Frame, stack: &Stack, shelf: &LinkedBucketShelf) -> Option<Stack>
     requires frame { IsBucketedFrame frame.now }
     requires height { stack.now.height < 2 ^ 16 }
     ensures value { result ≡ spec.stacked_on frame.now stack.now shelf.now }
@@ -441,7 +441,7 @@ fn stacked_on(frame: &Frame, stack: &Stack, shelf: &BucketShelfRecord) -> Option
 }
 
 /// The stack of all shelves, if each stands where it must.
-fn stack_end(frame: &Frame, shelves: &[BucketShelfRecord]) -> Option<Stack>
+fn stack_end(frame: &Frame, shelves: &[LinkedBucketShelf]) -> Option<Stack>
     requires { IsBucketedFrame frame.now }
     ensures { result ≡ spec.stack_end frame.now (record { opened = 0; height = 0 }) shelves.now }
 {
@@ -458,7 +458,7 @@ fn stack_end(frame: &Frame, shelves: &[BucketShelfRecord]) -> Option<Stack>
 /// Whether the shelves stand in the columns as they must, and leave this height in this column.
 pub(crate) fn is_stacked(
     frame: &Frame,
-    shelves: &[BucketShelfRecord],
+    shelves: &[LinkedBucketShelf],
     column: u16,
     height: u16,
 ) -> bool

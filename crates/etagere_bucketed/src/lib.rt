@@ -33,5 +33,5 @@ mod walking;
 
 pub use atlas::BucketedAtlasAllocator;
 pub use faults::GrowFault;
-pub use records::{BucketRecord, BucketShelfRecord};
+pub use records::{LinkedBucket, LinkedBucketShelf};
 pub use snapshots::BucketedSnapshot;

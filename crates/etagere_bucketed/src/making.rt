@@ -6,7 +6,7 @@ ghost use Rattle.std.specs.Prelude.{◌≡◌, ◌+◌, ◌*◌, ◌<◌, ◌≤
 ghost use Rattle.etagere_links.specs.Links.{no_link};
 ghost use Rattle.etagere_bucketed.specs.Private.StoreEdits as spec;
 
-use crate::records::BucketRecord;
+use crate::records::LinkedBucket;
 use etagere_links::Link;
 use std::alloc::AllocError;
 
@@ -20,7 +20,7 @@ pub(crate) struct NewBuckets {
 
 /// Makes room for so many records in all. The error comes only where there are fewer and there was no
 /// memory.
-pub(crate) fn reserve_records(buckets: &mut Vec<BucketRecord>, count: u32) -> Result<(), AllocError>
+pub(crate) fn reserve_records(buckets: &mut Vec<LinkedBucket>, count: u32) -> Result<(), AllocError>
     ensures same { buckets.new.items ≡ buckets.old.items }
     ensures room { OnOk result (count ≤ vec_capacity buckets.new) }
     ensures within { vec_len buckets.new ≤ vec_capacity buckets.new }
@@ -33,10 +33,10 @@ pub(crate) fn reserve_records(buckets: &mut Vec<BucketRecord>, count: u32) -> Re
     Ok(())
 }
 
-fn new_record(new: &NewBuckets, next: Link, generation: u8) -> BucketRecord
+fn new_record(new: &NewBuckets, next: Link, generation: u8) -> LinkedBucket
     ensures { result ≡ spec.new_record new.now next generation }
 {
-    BucketRecord {
+    LinkedBucket {
         x: new.x,
         free_space: new.width,
         next,
@@ -49,7 +49,7 @@ fn new_record(new: &NewBuckets, next: Link, generation: u8) -> BucketRecord
 
 /// Makes a bucket in front of the first one of its shelf, and answers the link to it.
 fn make_bucket(
-    buckets: &mut Vec<BucketRecord>,
+    buckets: &mut Vec<LinkedBucket>,
     unused: &mut Link,
     first: Link,
     new: &NewBuckets,
@@ -86,7 +86,7 @@ fn make_bucket(
 
 /// Makes so many buckets from left to right, each in front of the one before, and answers the link to the last.
 pub(crate) fn make_buckets(
-    buckets: &mut Vec<BucketRecord>,
+    buckets: &mut Vec<LinkedBucket>,
     unused: &mut Link,
     first: Link,
     new: &NewBuckets,

@@ -7,7 +7,7 @@ use serde::{Deserialize, Serialize};
 
 /// A strip across a column. Lengths and places are in pixels.
 #[derive(Clone, Copy, Debug, PartialEq, Eq, Serialize, Deserialize)]
-pub struct BucketShelfRecord {
+pub struct LinkedBucketShelf {
     /// Where its column begins along the shelves.
     pub x: u16,
     /// Where the shelf begins across.
@@ -22,7 +22,7 @@ pub struct BucketShelfRecord {
 
 /// A bucket of a shelf, or a record put aside for one. Lengths and places are in pixels.
 #[derive(Clone, Copy, Debug, PartialEq, Eq, Serialize, Deserialize)]
-pub struct BucketRecord {
+pub struct LinkedBucket {
     /// Where the bucket begins along the shelf.
     pub x: u16,
     /// The width that it has left.

@@ -13,7 +13,7 @@ ghost use Rattle.etagere_bucketed.specs.StandsFor.{StandsFor};
 
 use crate::atlas::BucketedAtlasAllocator;
 use crate::judging::{is_frame, is_stacked};
-use crate::records::{BucketRecord, BucketShelfRecord};
+use crate::records::{LinkedBucket, LinkedBucketShelf};
 use crate::searching::MOST_BUCKETS;
 use crate::snapshots::BucketedSnapshot;
 use crate::store::{KeptShelf, Store};
@@ -150,14 +150,14 @@ pub fn restore_bucketed(
 }
 
 /// The records of shelves.
-fn shelf_records(alloc: Global, shelves: &[KeptShelf]) -> Result<Vec<BucketShelfRecord>, AllocError>
+fn shelf_records(alloc: Global, shelves: &[KeptShelf]) -> Result<Vec<LinkedBucketShelf>, AllocError>
     ensures { IfOk result (λ records. records.items ≡ map shelf_record shelves.now) }
 {
     shelves.iter().map(|kept| kept.shelf).collect(alloc)
 }
 
 /// The same records of buckets.
-fn bucket_records(alloc: Global, buckets: &[BucketRecord]) -> Result<Vec<BucketRecord>, AllocError>
+fn bucket_records(alloc: Global, buckets: &[LinkedBucket]) -> Result<Vec<LinkedBucket>, AllocError>
     ensures { IfOk result (λ records. records.items ≡ buckets.now) }
 {
     buckets.iter().copied().collect(alloc)
@@ -165,14 +165,14 @@ fn bucket_records(alloc: Global, buckets: &[BucketRecord]) -> Result<Vec<BucketR
 
 impl Store {
     /// The records of the shelves, to be saved.
-    pub(crate) fn shelf_records(&self) -> Result<Vec<BucketShelfRecord>, AllocError>
+    pub(crate) fn shelf_records(&self) -> Result<Vec<LinkedBucketShelf>, AllocError>
         ensures { IfOk result (λ records. records.items ≡ map shelf_record self.now.shelves) }
     {
         shelf_records(*self.shelves.allocator(), &self.shelves)
     }
 
     /// The records of the buckets, to be saved.
-    pub(crate) fn bucket_records(&self) -> Result<Vec<BucketRecord>, AllocError>
+    pub(crate) fn bucket_records(&self) -> Result<Vec<LinkedBucket>, AllocError>
         ensures { IfOk result (λ records. records.items ≡ self.now.buckets) }
     {
         bucket_records(*self.buckets.allocator(), &self.buckets)
@@ -199,8 +199,8 @@ pub(crate) fn snapshot_of(
     frame: &Frame,
     said: Said,
     unused: Link,
-    shelves: Vec<BucketShelfRecord>,
-    buckets: Vec<BucketRecord>,
+    shelves: Vec<LinkedBucketShelf>,
+    buckets: Vec<LinkedBucket>,
 ) -> BucketedSnapshot
     requires frame { IsBucketedFrame frame.now }
     requires column_width { frame.now.column_width < 2 ^ 16 }

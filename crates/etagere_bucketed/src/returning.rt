@@ -8,7 +8,7 @@ ghost use Rattle.etagere_bucketed.specs.Private.Returns as spec;
 ghost use Rattle.etagere_bucketed.specs.Returning as returning;
 ghost use Rattle.etagere_bucketed.specs.StandsFor.{free_of, live_of, shelf_of};
 
-use crate::records::BucketRecord;
+use crate::records::LinkedBucket;
 use crate::store::{GENERATION_UNIT, GIVEN_UNIT, KeptShelf};
 use etagere_base::AllocId;
 
@@ -20,7 +20,7 @@ pub(crate) fn bucket_number(id: AllocId) -> usize
 }
 
 /// Whether a bucket holds something live and has given the item of an id.
-fn gives_item(id: u32, bucket: &BucketRecord) -> bool
+fn gives_item(id: u32, bucket: &LinkedBucket) -> bool
     ensures { result ≡ spec.gives_item id bucket.now }
 {
     let given = id / GIVEN_UNIT % GIVEN_UNIT;
@@ -31,7 +31,7 @@ fn gives_item(id: u32, bucket: &BucketRecord) -> bool
 }
 
 /// Whether the bucket that an id names has given its item, and holds something live.
-pub(crate) fn is_known(buckets: &[BucketRecord], id: AllocId) -> bool
+pub(crate) fn is_known(buckets: &[LinkedBucket], id: AllocId) -> bool
     ensures { result ≡ spec.is_known_in buckets.now id }
 {
     let number = bucket_number(id);
@@ -39,7 +39,7 @@ pub(crate) fn is_known(buckets: &[BucketRecord], id: AllocId) -> bool
 }
 
 /// The area that a return to the bucket of this number gives back, in square pixels.
-pub(crate) fn returned_area(shelves: &[KeptShelf], buckets: &[BucketRecord], number: usize) -> u32
+pub(crate) fn returned_area(shelves: &[KeptShelf], buckets: &[LinkedBucket], number: usize) -> u32
     requires number { number < length buckets.now }
     requires shelf { shelf_of buckets.now number < length shelves.now }
     requires free { free_of buckets.now number
@@ -55,16 +55,16 @@ pub(crate) fn returned_area(shelves: &[KeptShelf], buckets: &[BucketRecord], num
 }
 
 /// A bucket after one of its items was returned, in a shelf whose buckets are this wide.
-fn returned_record(bucket: &BucketRecord, width: u16) -> BucketRecord
+fn returned_record(bucket: &LinkedBucket, width: u16) -> LinkedBucket
     ensures { result ≡ spec.returned_record width bucket.now }
 {
     if bucket.refcount > 1 {
-        return BucketRecord {
+        return LinkedBucket {
             refcount: bucket.refcount - 1,
             ..*bucket
         };
     }
-    BucketRecord {
+    LinkedBucket {
         free_space: width,
         refcount: 0,
         item_count: 0,
@@ -89,7 +89,7 @@ fn returned_kept(kept: &KeptShelf, empties: bool) -> KeptShelf
 }
 
 /// Returns an item to the bucket of this number.
-pub(crate) fn return_item(shelves: &mut [KeptShelf], buckets: &mut [BucketRecord], number: usize)
+pub(crate) fn return_item(shelves: &mut [KeptShelf], buckets: &mut [LinkedBucket], number: usize)
     requires number { number < length buckets.old }
     requires shelf { shelf_of buckets.old number < length shelves.old }
     ensures shelves { shelves.new

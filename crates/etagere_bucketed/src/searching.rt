@@ -10,7 +10,7 @@ ghost use Rattle.etagere_base.specs.Least as least;
 ghost use Rattle.etagere_bucketed.specs.Private.Searching as spec;
 ghost use Rattle.etagere_bucketed.specs.State.{most_buckets};
 
-use crate::records::BucketRecord;
+use crate::records::LinkedBucket;
 use crate::store::KeptShelf;
 use etagere_base::Sides;
 use etagere_links::Link;
@@ -55,7 +55,7 @@ impl Model for Least {
     ghost inverse = { λ least. record { number = least.number; rank = least.rank } };
 }
 
-fn is_wanted(wanted: Wanted, bucket: &BucketRecord) -> bool
+fn is_wanted(wanted: Wanted, bucket: &LinkedBucket) -> bool
     ensures { result ≡ spec.is_wanted wanted bucket.now }
 {
     let free = u32::from(bucket.free_space);
@@ -67,7 +67,7 @@ fn is_wanted(wanted: Wanted, bucket: &BucketRecord) -> bool
 }
 
 /// The number of the first bucket that is wanted, by the links from this one on.
-pub(crate) fn first_wanted(wanted: Wanted, buckets: &[BucketRecord], first: Link) -> Option<usize>
+pub(crate) fn first_wanted(wanted: Wanted, buckets: &[LinkedBucket], first: Link) -> Option<usize>
     ensures number { result ≡ spec.first_from most_buckets wanted buckets.now first }
     ensures within { IfSome result (λ number. number < length buckets.now) }
 {
@@ -89,7 +89,7 @@ pub(crate) fn first_wanted(wanted: Wanted, buckets: &[BucketRecord], first: Link
 }
 
 /// The greatest width that a bucket can give to one item, by the links from this one on.
-pub(crate) fn widest_room(buckets: &[BucketRecord], first: Link) -> u16
+pub(crate) fn widest_room(buckets: &[LinkedBucket], first: Link) -> u16
     ensures { result ≡ spec.widest_from most_buckets buckets.now first }
 {
     let mut widest = 0;
@@ -115,7 +115,7 @@ pub(crate) fn wider(one: u16, other: u16) -> u16
     one.max(other)
 }
 
-pub(crate) fn record_room(bucket: &BucketRecord) -> u16
+pub(crate) fn record_room(bucket: &LinkedBucket) -> u16
     ensures { result ≡ spec.record_room bucket.now }
 {
     if bucket.item_count < MOST_GIVEN {
@@ -170,7 +170,7 @@ fn better(best: Option<Least>, number: usize, waste: Option<u32>) -> Option<Leas
 fn exact_from(
     sides: &Sides,
     shelves: &[KeptShelf],
-    buckets: &[BucketRecord],
+    buckets: &[LinkedBucket],
     from: usize,
 ) -> Option<Found>
     requires { from ≤ length shelves.now }
@@ -188,7 +188,7 @@ fn exact_from(
 fn exact_in(
     sides: &Sides,
     kept: &KeptShelf,
-    buckets: &[BucketRecord],
+    buckets: &[LinkedBucket],
     number: usize,
 ) -> Option<Found>
     ensures { result ≡ spec.exact_in sides.now buckets.now number kept.now }
@@ -208,7 +208,7 @@ fn exact_in(
 fn exact_or_found(
     sides: &Sides,
     shelves: &[KeptShelf],
-    buckets: &[BucketRecord],
+    buckets: &[LinkedBucket],
     least: Least,
     bucket: usize,
 ) -> Found
@@ -231,7 +231,7 @@ pub(crate) fn pick(
     adds: bool,
     sides: &Sides,
     shelves: &[KeptShelf],
-    buckets: &[BucketRecord],
+    buckets: &[LinkedBucket],
 ) -> Option<Found>
     ensures { result ≡ spec.picked adds sides.now shelves.now buckets.now }
 {

@@ -2,7 +2,7 @@
 //!
 //! Definitions: `Restoring`. The fields, their names and their order are those of the format.
 
-use crate::records::{BucketRecord, BucketShelfRecord};
+use crate::records::{LinkedBucket, LinkedBucketShelf};
 use etagere_links::Link;
 use serde::{Deserialize, Serialize};
 
@@ -33,7 +33,7 @@ pub struct BucketedSnapshot {
     /// The areas that buckets have used, added up, in square pixels.
     pub allocated_space: i32,
     /// The shelf records, column after column, in each by their places across.
-    pub shelves: Vec<BucketShelfRecord>,
+    pub shelves: Vec<LinkedBucketShelf>,
     /// The bucket records, by number.
-    pub buckets: Vec<BucketRecord>,
+    pub buckets: Vec<LinkedBucket>,
 }

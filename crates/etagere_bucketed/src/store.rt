@@ -21,7 +21,7 @@ use crate::growing::{left_after, widen_shelves};
 use crate::making::{NewBuckets, make_buckets, reserve_records};
 use crate::merging::{Group, merge};
 use crate::placing::Place;
-use crate::records::{BucketRecord, BucketShelfRecord};
+use crate::records::{LinkedBucket, LinkedBucketShelf};
 use crate::returning::{is_known, return_item, returned_area};
 use crate::searching::{Found, MOST_BUCKETS, widest_room};
 use etagere_base::{AllocId, Allocation, Frame, Sides, rectangle_at};
@@ -39,7 +39,7 @@ pub(crate) const GENERATION_UNIT: u32 = 16777216;
 /// can give to an item.
 #[derive(Clone, Copy, Debug, PartialEq, Eq)]
 pub(crate) struct KeptShelf {
-    pub shelf: BucketShelfRecord,
+    pub shelf: LinkedBucketShelf,
     pub live_items: u32,
     pub widest_room: u16,
 }
@@ -57,7 +57,7 @@ impl KeptShelf {
 #[derive(Drop)]
 pub(crate) struct Store {
     pub(crate) shelves: Vec<KeptShelf>,
-    pub(crate) buckets: Vec<BucketRecord>,
+    pub(crate) buckets: Vec<LinkedBucket>,
     pub(crate) unused: Link,
 }
 
@@ -204,7 +204,7 @@ impl Store {
     /// What a bucket that was found gives next, if it is this wide.
     pub(crate) fn allocation(&self, frame: &Frame, found: &Found, width: u32) -> Allocation
         requires { spec.CanGive frame.now width found.now self.now }
-        ensures { (kept : spec.KeptShelf) (bucket : spec.BucketRecord)
+        ensures { (kept : spec.KeptShelf) (bucket : spec.LinkedBucket)
             → slice_get self.now.shelves found.now.shelf ≡ Some kept
             → slice_get self.now.buckets found.now.bucket ≡ Some bucket
             → result ≡ spec.kept_allocation frame.now width found.now kept bucket }
@@ -347,7 +347,7 @@ fn id_of(number: u32, given: u32, generation: u8) -> AllocId
 fn next_item(
     frame: &Frame,
     kept: &KeptShelf,
-    bucket: &BucketRecord,
+    bucket: &LinkedBucket,
     found: &Found,
     width: u32,
 ) -> Allocation
@@ -423,7 +423,7 @@ fn end_of(frame: &Frame, shelves: &[KeptShelf]) -> Sides
 fn add_shelf(
     frame: &Frame,
     shelves: &mut Vec<KeptShelf>,
-    buckets: &mut Vec<BucketRecord>,
+    buckets: &mut Vec<LinkedBucket>,
     unused: &mut Link,
     new: &NewShelf,
 )
@@ -476,7 +476,7 @@ fn add_shelf(
         x,
     };
     let first_bucket = make_buckets(buckets, unused, Link::none(), &row, new.count);
-    let shelf = BucketShelfRecord {
+    let shelf = LinkedBucketShelf {
         x,
         y,
         height: new.height as u16,
@@ -493,7 +493,7 @@ fn add_shelf(
 }
 
 /// Takes an item of this width from the bucket of a number.
-fn take_from(buckets: &mut [BucketRecord], number: usize, width: u32)
+fn take_from(buckets: &mut [LinkedBucket], number: usize, width: u32)
     requires { spec.CanTake number width buckets.old }
     ensures { buckets.new ≡ changed_by (Some number) (spec.taken_record width) buckets.old }
 {
@@ -504,7 +504,7 @@ fn take_from(buckets: &mut [BucketRecord], number: usize, width: u32)
 }
 
 /// Counts one more live item in a shelf, and keeps what its buckets can give now.
-fn give_from(shelves: &mut [KeptShelf], buckets: &[BucketRecord], number: usize)
+fn give_from(shelves: &mut [KeptShelf], buckets: &[LinkedBucket], number: usize)
     requires number { number < length shelves.old }
     requires few { spec.live_items_of shelves.old number + 1 < 2 ^ 32 }
     ensures { shelves.new ≡ spec.shelves_given number shelves.old buckets.now }

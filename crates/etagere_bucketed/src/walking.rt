@@ -18,14 +18,14 @@ ghost use Rattle.etagere_bucketed.specs.StandsFor.{live_of};
 ghost use Rattle.etagere_bucketed.specs.State.{most_buckets};
 
 use crate::judging::{Judged, are_unused, judged_row};
-use crate::records::{BucketRecord, BucketShelfRecord};
+use crate::records::{LinkedBucket, LinkedBucketShelf};
 use crate::store::KeptShelf;
 use etagere_base::{Frame, RestoreFault};
 use etagere_links::{Link, Walk, WalkRoom, all_marked, mark_all};
 use std::alloc::{AllocError, Global};
 
 /// The links of bucket records, in order of their numbers.
-pub(crate) fn links_of(alloc: Global, buckets: &[BucketRecord]) -> Result<Vec<u16>, AllocError>
+pub(crate) fn links_of(alloc: Global, buckets: &[LinkedBucket]) -> Result<Vec<u16>, AllocError>
     ensures links { IfOk result (λ links. links.items ≡ spec.links_of buckets.now) }
     ensures fit { OnOk result (Each (λ bucket. LinkFits bucket.next) buckets.now) }
 {
@@ -83,8 +83,8 @@ pub(crate) fn judged_shelf(
     marks: &mut [bool],
     steps: &mut u64,
     frame: &Frame,
-    buckets: &[BucketRecord],
-    shelf: &BucketShelfRecord,
+    buckets: &[LinkedBucket],
+    shelf: &LinkedBucketShelf,
     number: u16,
 ) -> Result<Judged, RestoreFault>
     requires links { links.now ≡ spec.links_of buckets.now }
@@ -130,8 +130,8 @@ pub(crate) fn judged_shelves(
     marks: &mut [bool],
     steps: &mut u64,
     frame: &Frame,
-    buckets: &[BucketRecord],
-    shelves: &[BucketShelfRecord],
+    buckets: &[LinkedBucket],
+    shelves: &[LinkedBucketShelf],
 ) -> Result<KeptShelves, RestoreFault>
     requires links { links.now ≡ spec.links_of buckets.now }
     requires buckets { length buckets.now ≤ most_buckets }
@@ -186,7 +186,7 @@ fn judge_unused(
     links: &[u16],
     marks: &mut [bool],
     steps: &mut u64,
-    buckets: &[BucketRecord],
+    buckets: &[LinkedBucket],
     unused: Link,
 ) -> Result<(), RestoreFault>
     requires links { links.now ≡ spec.links_of buckets.now }
@@ -232,8 +232,8 @@ fn judged_marking(
     marks: &mut [bool],
     steps: &mut u64,
     frame: &Frame,
-    buckets: &[BucketRecord],
-    shelves: &[BucketShelfRecord],
+    buckets: &[LinkedBucket],
+    shelves: &[LinkedBucketShelf],
     unused: Link,
 ) -> Result<JudgedLists, RestoreFault>
     requires links { links.now ≡ spec.links_of buckets.now }
@@ -268,8 +268,8 @@ pub(crate) fn judged_lists(
     alloc: Global,
     steps: &mut u64,
     frame: &Frame,
-    buckets: &[BucketRecord],
-    shelves: &[BucketShelfRecord],
+    buckets: &[LinkedBucket],
+    shelves: &[LinkedBucketShelf],
     unused: Link,
 ) -> Result<JudgedLists, RestoreFault>
     requires buckets { length buckets.now ≤ most_buckets }

@@ -2,7 +2,7 @@
 use Rattle.std.proofs.Common.{◌≡◌, ◌≢◌, ℕ, zero, suc, ◌<◌, Option, Some, List, [], ◌∷◌, length, map, refl, ap, arith, sym, ◌∙◌}
 use Rattle.std.specs.Prelude.{slice_get}
 use Rattle.std.specs.Option.{option_map_or}
-use Rattle.etagere_links.specs.declared.records.ShelfRecord.{ShelfRecord}
+use Rattle.etagere_links.specs.declared.records.LinkedShelf.{LinkedShelf}
 use Rattle.etagere_links.specs.Edits.{changed_by, link_at}
 use Rattle.etagere_links.specs.RecordEdits.{with_first_item, with_first_free}
 use Rattle.etagere_links.specs.RecordLists.{field_at}
@@ -28,25 +28,25 @@ pub field_at-other : {T X : Type 0} (field : T → X) (other : X) (change : T �
 field_at-other field other change xs link k stranger = ap (λ r. option_map_or field r other) (get-changed_by-other change xs link k stranger)
 
 -- the change of a shelf's first item
-abbrev pub to_first_item : Option ℕ → ShelfRecord → ShelfRecord
+abbrev pub to_first_item : Option ℕ → LinkedShelf → LinkedShelf
 to_first_item link shelf = record shelf { first_item = link }
 
 -- the change of the first of a shelf's free list
-abbrev pub to_first_free : Option ℕ → ShelfRecord → ShelfRecord
+abbrev pub to_first_free : Option ℕ → LinkedShelf → LinkedShelf
 to_first_free link shelf = record shelf { first_unallocated = link }
 
 -- shelves stay linked where one begins with another item
-pub shelf_next-item : (shelf : ℕ) (link : Option ℕ) (shelves : List ShelfRecord) (k : ℕ) → link_at shelf_chain.next (with_first_item shelf link shelves) k ≡ link_at shelf_chain.next shelves k
+pub shelf_next-item : (shelf : ℕ) (link : Option ℕ) (shelves : List LinkedShelf) (k : ℕ) → link_at shelf_chain.next (with_first_item shelf link shelves) k ≡ link_at shelf_chain.next shelves k
 shelf_next-item shelf link shelves k = link_at-same shelf_chain.next shelves (with_first_item shelf link shelves) k (map-changed_by shelf_chain.next (to_first_item link) shelves (Some shelf) (λ x. refl))
 
-pub shelf_previous-item : (shelf : ℕ) (link : Option ℕ) (shelves : List ShelfRecord) (k : ℕ) → link_at shelf_chain.previous (with_first_item shelf link shelves) k ≡ link_at shelf_chain.previous shelves k
+pub shelf_previous-item : (shelf : ℕ) (link : Option ℕ) (shelves : List LinkedShelf) (k : ℕ) → link_at shelf_chain.previous (with_first_item shelf link shelves) k ≡ link_at shelf_chain.previous shelves k
 shelf_previous-item shelf link shelves k = link_at-same shelf_chain.previous shelves (with_first_item shelf link shelves) k (map-changed_by shelf_chain.previous (to_first_item link) shelves (Some shelf) (λ x. refl))
 
 -- shelves stay linked where one's free list begins with another item
-pub shelf_next-free : (shelf : ℕ) (link : Option ℕ) (shelves : List ShelfRecord) (k : ℕ) → link_at shelf_chain.next (with_first_free shelf link shelves) k ≡ link_at shelf_chain.next shelves k
+pub shelf_next-free : (shelf : ℕ) (link : Option ℕ) (shelves : List LinkedShelf) (k : ℕ) → link_at shelf_chain.next (with_first_free shelf link shelves) k ≡ link_at shelf_chain.next shelves k
 shelf_next-free shelf link shelves k = link_at-same shelf_chain.next shelves (with_first_free shelf link shelves) k (map-changed_by shelf_chain.next (to_first_free link) shelves (Some shelf) (λ x. refl))
 
-pub shelf_previous-free : (shelf : ℕ) (link : Option ℕ) (shelves : List ShelfRecord) (k : ℕ) → link_at shelf_chain.previous (with_first_free shelf link shelves) k ≡ link_at shelf_chain.previous shelves k
+pub shelf_previous-free : (shelf : ℕ) (link : Option ℕ) (shelves : List LinkedShelf) (k : ℕ) → link_at shelf_chain.previous (with_first_free shelf link shelves) k ≡ link_at shelf_chain.previous shelves k
 shelf_previous-free shelf link shelves k = link_at-same shelf_chain.previous shelves (with_first_free shelf link shelves) k (map-changed_by shelf_chain.previous (to_first_free link) shelves (Some shelf) (λ x. refl))
 
 -- a field is read from the list of these fields

@@ -1,18 +1,18 @@
 -- Counts of records that are made or missing, one by one.
 use Rattle.std.proofs.Common.{◌≡◌, ℕ, zero, suc, Option, None, Some, List, [], ◌∷◌, ◌++◌, refl}
-use Rattle.etagere_links.specs.declared.records.ItemRecord.{ItemRecord}
-use Rattle.etagere_links.specs.declared.records.ShelfRecord.{ShelfRecord}
+use Rattle.etagere_links.specs.declared.records.LinkedItem.{LinkedItem}
+use Rattle.etagere_links.specs.declared.records.LinkedShelf.{LinkedShelf}
 use Rattle.etagere_links.specs.Edits.{link_at}
 use Rattle.etagere_links.specs.Families.{Family}
 use Rattle.etagere_links.specs.RecordMaking.{with_new_items, with_new_shelves}
 use Rattle.etagere_links.specs.RecordUses.{missing, new_item, new_shelf}
 
 -- the first of item records that are made
-pub items-next : (n m : ℕ) (items made : List ItemRecord) → n ≡ suc m → made ≡ items ++ new_item ∷ [] → with_new_items m made ≡ with_new_items n items
+pub items-next : (n m : ℕ) (items made : List LinkedItem) → n ≡ suc m → made ≡ items ++ new_item ∷ [] → with_new_items m made ≡ with_new_items n items
 items-next n m items made h is = rw (h, is) refl
 
 -- the first of shelf records that are made
-pub shelves-next : (n m : ℕ) (shelves made : List ShelfRecord) → n ≡ suc m → made ≡ shelves ++ new_shelf ∷ [] → with_new_shelves m made ≡ with_new_shelves n shelves
+pub shelves-next : (n m : ℕ) (shelves made : List LinkedShelf) → n ≡ suc m → made ≡ shelves ++ new_shelf ∷ [] → with_new_shelves m made ≡ with_new_shelves n shelves
 shelves-next n m shelves made h is = rw (h, is) refl
 
 -- where none was put aside all are missing

@@ -1,6 +1,6 @@
 -- A record and its neighbours in a list are there after a step that changes no link of that list.
 use Rattle.std.proofs.Common.{◌≡◌, ℕ, List, length, sym, ◌∙◌}
-use Rattle.etagere_links.specs.declared.records.ItemRecord.{ItemRecord}
+use Rattle.etagere_links.specs.declared.records.LinkedItem.{LinkedItem}
 use Rattle.etagere_links.specs.Edits.{unlinked}
 use Rattle.etagere_links.specs.Families.{Family, IsUnchanged}
 use Rattle.etagere_links.specs.Neighbours.{HasNeighbours}
@@ -21,5 +21,5 @@ neighbours-unlinked {T} family other next previous records at number has =
     }
 
 -- an item is taken out of the free list of its shelf
-pub items-free_unlinked : (items : List ItemRecord) (at number : ℕ) → HasNeighbours item_chain items number → HasNeighbours item_chain (unlinked free_list at items) number
+pub items-free_unlinked : (items : List LinkedItem) (at number : ℕ) → HasNeighbours item_chain items number → HasNeighbours item_chain (unlinked free_list at items) number
 items-free_unlinked = neighbours-unlinked item_chain free_list frees-keep_next frees-keep_previous

@@ -1,41 +1,41 @@
 -- What the steps of an allocation and of a return do to the records of a shelf atlas.
 use Rattle.std.specs.Prelude.{ℕ, Bool, Option, None, Some, option_and_then, List, [], ◌∷◌, ◌++◌, take}
-use Rattle.etagere_links.specs.declared.records.ItemRecord.{ItemRecord}
-use Rattle.etagere_links.specs.declared.records.ShelfRecord.{ShelfRecord}
+use Rattle.etagere_links.specs.declared.records.LinkedItem.{LinkedItem}
+use Rattle.etagere_links.specs.declared.records.LinkedShelf.{LinkedShelf}
 use Rattle.etagere_links.specs.Edits.{changed_by, link_at, unlinked, first_without, linked_between, put_aside}
 use Rattle.etagere_links.specs.RecordLists.{Records, first_item_of, first_free_of}
 use Rattle.etagere_links.specs.Records.{item_chain, free_list, shelf_chain}
 
 -- the shelves with another first item in the one of this number
-abbrev pub with_first_item : ℕ → Option ℕ → List ShelfRecord → List ShelfRecord
+abbrev pub with_first_item : ℕ → Option ℕ → List LinkedShelf → List LinkedShelf
 with_first_item shelf link shelves =
-    changed_by (Some shelf) (λ (here : ShelfRecord). record here { first_item = link }) shelves
+    changed_by (Some shelf) (λ (here : LinkedShelf). record here { first_item = link }) shelves
 
 -- the shelves with another first of the free list in the one of this number
-abbrev pub with_first_free : ℕ → Option ℕ → List ShelfRecord → List ShelfRecord
+abbrev pub with_first_free : ℕ → Option ℕ → List LinkedShelf → List LinkedShelf
 with_first_free shelf link shelves =
-    changed_by (Some shelf) (λ (here : ShelfRecord). record here { first_unallocated = link })
+    changed_by (Some shelf) (λ (here : LinkedShelf). record here { first_unallocated = link })
     shelves
 
 -- the shelves with another height of the one of this number
-abbrev pub with_height : ℕ → ℕ → List ShelfRecord → List ShelfRecord
+abbrev pub with_height : ℕ → ℕ → List LinkedShelf → List LinkedShelf
 with_height shelf height shelves =
-    changed_by (Some shelf) (λ (here : ShelfRecord). record here { height = height }) shelves
+    changed_by (Some shelf) (λ (here : LinkedShelf). record here { height = height }) shelves
 
 -- the shelves where the one of this number says whether it is empty
-abbrev pub with_empty : ℕ → Bool → List ShelfRecord → List ShelfRecord
+abbrev pub with_empty : ℕ → Bool → List LinkedShelf → List LinkedShelf
 with_empty shelf is_empty shelves =
-    changed_by (Some shelf) (λ (here : ShelfRecord). record here { is_empty = is_empty }) shelves
+    changed_by (Some shelf) (λ (here : LinkedShelf). record here { is_empty = is_empty }) shelves
 
 -- the items with another width of the one of this number
-abbrev pub with_width : ℕ → ℕ → List ItemRecord → List ItemRecord
+abbrev pub with_width : ℕ → ℕ → List LinkedItem → List LinkedItem
 with_width number width items =
-    changed_by (Some number) (λ (here : ItemRecord). record here { width = width }) items
+    changed_by (Some number) (λ (here : LinkedItem). record here { width = width }) items
 
 -- the items where the one of this number says whether it is allocated
-abbrev pub with_allocated : ℕ → Bool → List ItemRecord → List ItemRecord
+abbrev pub with_allocated : ℕ → Bool → List LinkedItem → List LinkedItem
 with_allocated number allocated items =
-    changed_by (Some number) (λ (here : ItemRecord). record here { allocated = allocated }) items
+    changed_by (Some number) (λ (here : LinkedItem). record here { allocated = allocated }) items
 
 -- an item taken out of its shelf
 abbrev pub item_unlinked : ℕ → ℕ → Records → Records
@@ -140,21 +140,21 @@ shelf_taken records =
     }
 
 -- an item record changed
-abbrev pub item_changed : ℕ → (ItemRecord → ItemRecord) → Records → Records
+abbrev pub item_changed : ℕ → (LinkedItem → LinkedItem) → Records → Records
 item_changed number change records =
     record records { items = changed_by (Some number) change records.items }
 
 -- a shelf record changed
-abbrev pub shelf_changed : ℕ → (ShelfRecord → ShelfRecord) → Records → Records
+abbrev pub shelf_changed : ℕ → (LinkedShelf → LinkedShelf) → Records → Records
 shelf_changed number change records =
     record records { shelves = changed_by (Some number) change records.shelves }
 
 -- an item record made
-abbrev pub item_made : ItemRecord → Records → Records
+abbrev pub item_made : LinkedItem → Records → Records
 item_made item records = record records { items = records.items ++ item ∷ [] }
 
 -- a shelf record made
-abbrev pub shelf_made : ShelfRecord → Records → Records
+abbrev pub shelf_made : LinkedShelf → Records → Records
 shelf_made shelf records = record records { shelves = records.shelves ++ shelf ∷ [] }
 
 -- so many records of each kind

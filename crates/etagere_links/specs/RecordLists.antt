@@ -2,8 +2,8 @@
 use Rattle.std.specs.Prelude.{◌≡◌, ℕ, ◌≤◌, Option, None, List, [], ◌∷◌, ◌++◌, length, map, slice_get, nat_lt, if◌then◌else◌}
 use Rattle.std.specs.Option.{option_map_or}
 use Rattle.etagere_base.specs.Lists.{Each, times}
-use Rattle.etagere_links.specs.declared.records.ItemRecord.{ItemRecord}
-use Rattle.etagere_links.specs.declared.records.ShelfRecord.{ShelfRecord}
+use Rattle.etagere_links.specs.declared.records.LinkedItem.{LinkedItem}
+use Rattle.etagere_links.specs.declared.records.LinkedShelf.{LinkedShelf}
 use Rattle.etagere_links.specs.Chains.{IsChainIn, IsPileIn}
 use Rattle.etagere_links.specs.Links.{bits_of}
 use Rattle.etagere_links.specs.Records.{item_chain, free_list, shelf_chain}
@@ -11,8 +11,8 @@ use Rattle.etagere_links.specs.Walks.{Walked, walk}
 
 -- the records of a shelf atlas, and the links to the first of its lists
 pub record Records : Type 0 where
-  pub shelves : List ShelfRecord
-  pub items : List ItemRecord
+  pub shelves : List LinkedShelf
+  pub items : List LinkedItem
   pub first_shelf : Option ℕ
   pub free_items : Option ℕ
   pub free_shelves : Option ℕ
@@ -22,14 +22,14 @@ abbrev pub field_at : {T X : Type 0} → (T → X) → X → List T → ℕ → 
 field_at field other records number = option_map_or field (slice_get records number) other
 
 -- the link to the first item of the shelf of this number
-abbrev pub first_item_of : List ShelfRecord → ℕ → Option ℕ
+abbrev pub first_item_of : List LinkedShelf → ℕ → Option ℕ
 first_item_of shelves number =
-    field_at (λ (shelf : ShelfRecord). shelf.first_item) None shelves number
+    field_at (λ (shelf : LinkedShelf). shelf.first_item) None shelves number
 
 -- the link to the first of the free list of the shelf of this number
-abbrev pub first_free_of : List ShelfRecord → ℕ → Option ℕ
+abbrev pub first_free_of : List LinkedShelf → ℕ → Option ℕ
 first_free_of shelves number =
-    field_at (λ (shelf : ShelfRecord). shelf.first_unallocated) None shelves number
+    field_at (λ (shelf : LinkedShelf). shelf.first_unallocated) None shelves number
 
 -- the walk through records by one of their links
 abbrev pub walk_by : {T : Type 0} → (T → Option ℕ) → List T → Option ℕ → Walked

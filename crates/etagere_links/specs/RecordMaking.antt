@@ -1,17 +1,17 @@
 -- Records that are made ahead, and records that begin anew.
 use Rattle.std.specs.Prelude.{ℕ, zero, suc, false, None, is_some, List, [], ◌∷◌, ◌++◌}
-use Rattle.etagere_links.specs.declared.records.ItemRecord.{ItemRecord}
-use Rattle.etagere_links.specs.declared.records.ShelfRecord.{ShelfRecord}
+use Rattle.etagere_links.specs.declared.records.LinkedItem.{LinkedItem}
+use Rattle.etagere_links.specs.declared.records.LinkedShelf.{LinkedShelf}
 use Rattle.etagere_links.specs.RecordLists.{Records}
 use Rattle.etagere_links.specs.RecordUses.{item_used, new_item, new_shelf, shelf_used}
 
 -- so many new item records after all others
-abbrev pub with_new_items : ℕ → List ItemRecord → List ItemRecord
+abbrev pub with_new_items : ℕ → List LinkedItem → List LinkedItem
 with_new_items zero items = items
 with_new_items (suc count) items = with_new_items count (items ++ new_item ∷ [])
 
 -- so many new shelf records after all others
-abbrev pub with_new_shelves : ℕ → List ShelfRecord → List ShelfRecord
+abbrev pub with_new_shelves : ℕ → List LinkedShelf → List LinkedShelf
 with_new_shelves zero shelves = shelves
 with_new_shelves (suc count) shelves = with_new_shelves count (shelves ++ new_shelf ∷ [])
 
@@ -32,7 +32,7 @@ abbrev pub shelf_used_again : Records → Records
 shelf_used_again records = shelf_used (is_some records.free_shelves) records
 
 -- an item record that begins anew: free, in no list, with this place, width and shelf
-abbrev pub started : ℕ → ℕ → ℕ → ItemRecord → ItemRecord
+abbrev pub started : ℕ → ℕ → ℕ → LinkedItem → LinkedItem
 started x width shelf item =
     record {
       x = x;

@@ -1,7 +1,7 @@
 -- What putting records to use does: the one put aside last, or a new one after all others.
 use Rattle.std.specs.Prelude.{ℕ, zero, suc, ◌+◌, ◌%◌, Bool, true, false, Option, None, Some, option_and_then, IfSome, ◌<◌, List, [], ◌∷◌, ◌++◌, length}
-use Rattle.etagere_links.specs.declared.records.ItemRecord.{ItemRecord}
-use Rattle.etagere_links.specs.declared.records.ShelfRecord.{ShelfRecord}
+use Rattle.etagere_links.specs.declared.records.LinkedItem.{LinkedItem}
+use Rattle.etagere_links.specs.declared.records.LinkedShelf.{LinkedShelf}
 use Rattle.etagere_links.specs.declared.uses.Rests.{Rests}
 use Rattle.etagere_links.specs.Edits.{changed_by, link_at}
 use Rattle.etagere_links.specs.Families.{Family}
@@ -28,7 +28,7 @@ unused_after family false unused records = unused
 unused_after family true unused records = option_and_then (link_at family.next records) unused
 
 -- a new item record
-abbrev pub new_item : ItemRecord
+abbrev pub new_item : LinkedItem
 new_item =
     record {
       x = 0;
@@ -43,7 +43,7 @@ new_item =
     }
 
 -- a new shelf record
-abbrev pub new_shelf : ShelfRecord
+abbrev pub new_shelf : LinkedShelf
 new_shelf =
     record {
       x = 0;
@@ -61,17 +61,17 @@ abbrev pub generation_modulus : ℕ
 generation_modulus = 65536
 
 -- an item record that is put to use again
-abbrev pub used_again : ItemRecord → ItemRecord
+abbrev pub used_again : LinkedItem → LinkedItem
 used_again item = record item { generation = (item.generation + 1) % generation_modulus }
 
 -- the item records once one was put to use, where one is wanted
-abbrev pub items_used : Bool → Option ℕ → List ItemRecord → List ItemRecord
+abbrev pub items_used : Bool → Option ℕ → List LinkedItem → List LinkedItem
 items_used false unused items = items
 items_used true None items = items ++ new_item ∷ []
 items_used true (Some number) items = changed_by (Some number) used_again items
 
 -- the shelf records once one was put to use, where one is wanted
-abbrev pub shelves_used : Bool → Option ℕ → List ShelfRecord → List ShelfRecord
+abbrev pub shelves_used : Bool → Option ℕ → List LinkedShelf → List LinkedShelf
 shelves_used false unused shelves = shelves
 shelves_used true None shelves = shelves ++ new_shelf ∷ []
 shelves_used true (Some number) shelves = shelves

@@ -1,10 +1,10 @@
 -- Which fields of the records of a shelf atlas are the links of which lists.
 use Rattle.etagere_links.specs.Families.{Family}
-use Rattle.etagere_links.specs.declared.records.ItemRecord.{ItemRecord}
-use Rattle.etagere_links.specs.declared.records.ShelfRecord.{ShelfRecord}
+use Rattle.etagere_links.specs.declared.records.LinkedItem.{LinkedItem}
+use Rattle.etagere_links.specs.declared.records.LinkedShelf.{LinkedShelf}
 
 -- the items of a shelf, as they lie side by side
-abbrev pub item_chain : Family ItemRecord
+abbrev pub item_chain : Family LinkedItem
 item_chain =
     record {
       next = λ item. item.next;
@@ -14,7 +14,7 @@ item_chain =
     }
 
 -- the free items of a shelf, in their order
-abbrev pub free_list : Family ItemRecord
+abbrev pub free_list : Family LinkedItem
 free_list =
     record {
       next = λ item. item.next_unallocated;
@@ -24,7 +24,7 @@ free_list =
     }
 
 -- the shelves of an atlas, column after column
-abbrev pub shelf_chain : Family ShelfRecord
+abbrev pub shelf_chain : Family LinkedShelf
 shelf_chain =
     record {
       next = λ shelf. shelf.next;

@@ -15,10 +15,10 @@ ghost use Rattle.etagere_links.specs.Records.{free_list, item_chain};
 use crate::chained::FreeList;
 use crate::links::Link;
 use crate::lists;
-use crate::records::{ItemRecord, ShelfRecord};
+use crate::records::{LinkedItem, LinkedShelf};
 
 /// The link to the first of the free list of the shelf of this number; none where there is no such shelf.
-pub fn first_free(shelves: &[ShelfRecord], shelf: usize) -> Link
+pub fn first_free(shelves: &[LinkedShelf], shelf: usize) -> Link
     ensures { result ≡ first_free_of shelves.now shelf }
 {
     if shelf < shelves.len() {
@@ -29,7 +29,7 @@ pub fn first_free(shelves: &[ShelfRecord], shelf: usize) -> Link
 }
 
 /// Changes the link to the first of the free list of a shelf.
-pub fn set_first_free(shelves: &mut [ShelfRecord], shelf: usize, first: Link)
+pub fn set_first_free(shelves: &mut [LinkedShelf], shelf: usize, first: Link)
     ensures { shelves.new ≡ edits.with_first_free shelf first shelves.old }
 {
     if shelf < shelves.len() {
@@ -39,7 +39,7 @@ pub fn set_first_free(shelves: &mut [ShelfRecord], shelf: usize, first: Link)
 }
 
 /// Changes the height of a shelf.
-pub fn set_height(shelves: &mut [ShelfRecord], shelf: usize, height: u16)
+pub fn set_height(shelves: &mut [LinkedShelf], shelf: usize, height: u16)
     ensures { shelves.new ≡ edits.with_height shelf height shelves.old }
 {
     if shelf < shelves.len() {
@@ -49,7 +49,7 @@ pub fn set_height(shelves: &mut [ShelfRecord], shelf: usize, height: u16)
 }
 
 /// Says whether a shelf is empty.
-pub fn set_empty(shelves: &mut [ShelfRecord], shelf: usize, is_empty: bool)
+pub fn set_empty(shelves: &mut [LinkedShelf], shelf: usize, is_empty: bool)
     ensures { shelves.new ≡ edits.with_empty shelf is_empty shelves.old }
 {
     if shelf < shelves.len() {
@@ -59,7 +59,7 @@ pub fn set_empty(shelves: &mut [ShelfRecord], shelf: usize, is_empty: bool)
 }
 
 /// Changes the width of an item.
-pub fn set_width(items: &mut [ItemRecord], number: usize, width: u16)
+pub fn set_width(items: &mut [LinkedItem], number: usize, width: u16)
     ensures { items.new ≡ edits.with_width number width items.old }
 {
     if number < items.len() {
@@ -69,7 +69,7 @@ pub fn set_width(items: &mut [ItemRecord], number: usize, width: u16)
 }
 
 /// Says whether an item is allocated.
-pub fn set_allocated(items: &mut [ItemRecord], number: usize, allocated: bool)
+pub fn set_allocated(items: &mut [LinkedItem], number: usize, allocated: bool)
     ensures { items.new ≡ edits.with_allocated number allocated items.old }
 {
     if number < items.len() {
@@ -79,7 +79,7 @@ pub fn set_allocated(items: &mut [ItemRecord], number: usize, allocated: bool)
 }
 
 /// Changes the width of an item that is there.
-pub fn set_width_among(items: &mut [ItemRecord], number: usize, width: u16)
+pub fn set_width_among(items: &mut [LinkedItem], number: usize, width: u16)
     requires { number < length items.old }
     ensures { items.new ≡ edits.with_width number width items.old }
 {
@@ -88,7 +88,7 @@ pub fn set_width_among(items: &mut [ItemRecord], number: usize, width: u16)
 }
 
 /// Says that an item that is there is free, and puts its record onto the pile whose top record `top` names.
-pub fn free_and_put_aside_among(items: &mut [ItemRecord], top: &mut Link, number: usize)
+pub fn free_and_put_aside_among(items: &mut [LinkedItem], top: &mut Link, number: usize)
     requires here { number < length items.old }
     requires small { number < no_link }
     ensures items { items.new
@@ -103,7 +103,7 @@ pub fn free_and_put_aside_among(items: &mut [ItemRecord], top: &mut Link, number
 
 /// Says that an item that is there is free, and puts it in front of the free list whose first item `first`
 /// names, which is there too.
-pub fn free_in_front_among(items: &mut [ItemRecord], first: &mut Link, number: usize)
+pub fn free_in_front_among(items: &mut [LinkedItem], first: &mut Link, number: usize)
     requires here { number < length items.old }
     requires small { number < no_link }
     requires first { NamesOneOf items.old first.old }
@@ -119,11 +119,11 @@ pub fn free_in_front_among(items: &mut [ItemRecord], first: &mut Link, number: u
     here.allocated = false;
     here.next_unallocated = second;
     here.prev_unallocated = Link::none();
-    lists::set_previous_among::<FreeList, ItemRecord>(items, second, link);
+    lists::set_previous_among::<FreeList, LinkedItem>(items, second, link);
 }
 
 /// Changes the width of an item, and says that it is allocated.
-pub fn set_given(items: &mut [ItemRecord], number: usize, width: u16)
+pub fn set_given(items: &mut [LinkedItem], number: usize, width: u16)
     ensures { items.new
         ≡ changed_by (Some number)
         (λ here. record here { width = width; allocated = true }) items.old }
@@ -136,10 +136,10 @@ pub fn set_given(items: &mut [ItemRecord], number: usize, width: u16)
 }
 
 /// The record of an item that begins anew, as that of a free one in no list. Its generation stays.
-fn started(item: &ItemRecord, x: u16, width: u16, shelf: u16) -> ItemRecord
+fn started(item: &LinkedItem, x: u16, width: u16, shelf: u16) -> LinkedItem
     ensures { result ≡ making.started x width shelf item.now }
 {
-    ItemRecord {
+    LinkedItem {
         x,
         width,
         prev: Link::none(),
@@ -153,7 +153,7 @@ fn started(item: &ItemRecord, x: u16, width: u16, shelf: u16) -> ItemRecord
 }
 
 /// Begins the record of an item anew, as that of a free one in no list. Its generation stays.
-pub fn start_item(items: &mut [ItemRecord], number: usize, x: u16, width: u16, shelf: u16)
+pub fn start_item(items: &mut [LinkedItem], number: usize, x: u16, width: u16, shelf: u16)
     ensures { items.new ≡ changed_by (Some number) (making.started x width shelf) items.old }
 {
     if number < items.len() {
@@ -163,7 +163,7 @@ pub fn start_item(items: &mut [ItemRecord], number: usize, x: u16, width: u16, s
 }
 
 /// Writes the record of an item anew.
-pub fn write_item(items: &mut [ItemRecord], number: usize, item: ItemRecord)
+pub fn write_item(items: &mut [LinkedItem], number: usize, item: LinkedItem)
     ensures { items.new ≡ changed_by (Some number) (λ _. item) items.old }
 {
     if number < items.len() {
@@ -172,7 +172,7 @@ pub fn write_item(items: &mut [ItemRecord], number: usize, item: ItemRecord)
 }
 
 /// Writes the record of a shelf anew.
-pub fn write_shelf(shelves: &mut [ShelfRecord], number: usize, shelf: ShelfRecord)
+pub fn write_shelf(shelves: &mut [LinkedShelf], number: usize, shelf: LinkedShelf)
     ensures { shelves.new ≡ changed_by (Some number) (λ _. shelf) shelves.old }
 {
     if number < shelves.len() {

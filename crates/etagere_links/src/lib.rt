@@ -25,7 +25,7 @@ pub use lists::{
     insert_after, insert_front, next_bits, next_of, previous_of, put_aside, take, unlink,
 };
 pub use marking::{WalkFault, all_marked, mark_all, unmarked, walk_marking};
-pub use records::{ItemRecord, ShelfRecord};
+pub use records::{LinkedItem, LinkedShelf};
 pub use store::Records;
 pub use uses::Rests;
 pub use walking::walks::Walk;

@@ -10,7 +10,7 @@ use serde::{Deserialize, Serialize};
 
 /// A stretch of a shelf, or a record put aside for one. Lengths and places are in pixels.
 #[derive(Clone, Copy, Debug, PartialEq, Eq, Serialize, Deserialize)]
-pub struct ItemRecord {
+pub struct LinkedItem {
     /// Where the item begins along the shelf.
     pub x: u16,
     /// How long it is along the shelf.
@@ -33,7 +33,7 @@ pub struct ItemRecord {
 
 /// A strip across a column, or a record put aside for one. Lengths and places are in pixels.
 #[derive(Clone, Copy, Debug, PartialEq, Eq, Serialize, Deserialize)]
-pub struct ShelfRecord {
+pub struct LinkedShelf {
     /// Where its column begins along the shelves.
     pub x: u16,
     /// Where the shelf begins across.
@@ -52,7 +52,7 @@ pub struct ShelfRecord {
     pub is_empty: bool,
 }
 
-impl Linked<Chain> for ItemRecord {
+impl Linked<Chain> for LinkedItem {
     ghost family = { item_chain };
 
     fn next(&self) -> Link {
@@ -72,7 +72,7 @@ impl Linked<Chain> for ItemRecord {
     }
 }
 
-impl Linked<FreeList> for ItemRecord {
+impl Linked<FreeList> for LinkedItem {
     ghost family = { free_list };
 
     fn next(&self) -> Link {
@@ -92,7 +92,7 @@ impl Linked<FreeList> for ItemRecord {
     }
 }
 
-impl Linked<Chain> for ShelfRecord {
+impl Linked<Chain> for LinkedShelf {
     ghost family = { shelf_chain };
 
     fn next(&self) -> Link {

@@ -9,7 +9,7 @@ ghost use Rattle.etagere_links.specs.Links.{no_link};
 
 use crate::chained::{Chain, FreeList};
 use crate::links::Link;
-use crate::records::{ItemRecord, ShelfRecord};
+use crate::records::{LinkedItem, LinkedShelf};
 use crate::uses::Rests;
 use crate::{fields, lists, uses};
 use std::alloc::{AllocError, Global};
@@ -20,8 +20,8 @@ use std::marker::Model;
 /// A step changes just what it says. One that names a record past the last changes nothing there.
 #[derive(Drop)]
 pub struct Records {
-    shelf_records: Vec<ShelfRecord>,
-    item_records: Vec<ItemRecord>,
+    shelf_records: Vec<LinkedShelf>,
+    item_records: Vec<LinkedItem>,
     first: Link,
     unused_items: Link,
     unused_shelves: Link,
@@ -73,8 +73,8 @@ impl Records {
 
     /// These records, by number, where the lists of them begin at these links. Takes no memory.
     pub fn of_lists(
-        shelves: Vec<ShelfRecord>,
-        items: Vec<ItemRecord>,
+        shelves: Vec<LinkedShelf>,
+        items: Vec<LinkedItem>,
         first_shelf: Link,
         free_items: Link,
         free_shelves: Link,
@@ -125,14 +125,14 @@ impl Records {
     }
 
     /// The item records, by number.
-    pub fn items(&self) -> &[ItemRecord]
+    pub fn items(&self) -> &[LinkedItem]
         ensures { result.now ≡ self.now.items }
     {
         &self.item_records
     }
 
     /// The shelf records, by number.
-    pub fn shelves(&self) -> &[ShelfRecord]
+    pub fn shelves(&self) -> &[LinkedShelf]
         ensures { result.now ≡ self.now.shelves }
     {
         &self.shelf_records
@@ -160,14 +160,14 @@ impl Records {
     }
 
     /// A copy of the item records. Takes memory for all of them.
-    pub fn copied_items(&self) -> Result<Vec<ItemRecord>, AllocError>
+    pub fn copied_items(&self) -> Result<Vec<LinkedItem>, AllocError>
         ensures { IfOk result (λ items. items.items ≡ self.now.items) }
     {
         self.item_records.clone()
     }
 
     /// A copy of the shelf records. Takes memory for all of them.
-    pub fn copied_shelves(&self) -> Result<Vec<ShelfRecord>, AllocError>
+    pub fn copied_shelves(&self) -> Result<Vec<LinkedShelf>, AllocError>
         ensures { IfOk result (λ shelves. shelves.items ≡ self.now.shelves) }
     {
         self.shelf_records.clone()
@@ -175,7 +175,7 @@ impl Records {
 
     /// Makes an item record, whose number is that of the records before it. The error comes only where
     /// there was no memory, and then nothing has changed.
-    pub fn make_item(&mut self, item: ItemRecord) -> Result<(), AllocError>
+    pub fn make_item(&mut self, item: LinkedItem) -> Result<(), AllocError>
         ensures ok { OnOk result (self.new ≡ edits.item_made item self.old) }
         ensures err { OnErr result (self.new ≡ self.old) }
     {
@@ -185,7 +185,7 @@ impl Records {
 
     /// Makes a shelf record, whose number is that of the records before it. The error comes only where
     /// there was no memory, and then nothing has changed.
-    pub fn make_shelf(&mut self, shelf: ShelfRecord) -> Result<(), AllocError>
+    pub fn make_shelf(&mut self, shelf: LinkedShelf) -> Result<(), AllocError>
         ensures ok { OnOk result (self.new ≡ edits.shelf_made shelf self.old) }
         ensures err { OnErr result (self.new ≡ self.old) }
     {
@@ -222,14 +222,14 @@ impl Records {
     pub fn missing_items(&self, wanted: usize) -> usize
         ensures { result ≡ using.missing item_chain wanted self.now.free_items self.now.items }
     {
-        uses::missing::<ItemRecord>(&self.item_records, self.unused_items, wanted)
+        uses::missing::<LinkedItem>(&self.item_records, self.unused_items, wanted)
     }
 
     /// How many shelf records are missing to put so many to use.
     pub fn missing_shelves(&self, wanted: usize) -> usize
         ensures { result ≡ using.missing shelf_chain wanted self.now.free_shelves self.now.shelves }
     {
-        uses::missing::<ShelfRecord>(&self.shelf_records, self.unused_shelves, wanted)
+        uses::missing::<LinkedShelf>(&self.shelf_records, self.unused_shelves, wanted)
     }
 
     /// Makes so many item and shelf records, which stand in no list. The error comes only where there was no
@@ -265,7 +265,7 @@ impl Records {
         ensures small { IfSome result (λ number. number < no_link) }
         ensures records { self.new ≡ making.shelf_used_again self.old }
     {
-        lists::take::<Chain, ShelfRecord>(&self.shelf_records, &mut self.unused_shelves)
+        lists::take::<Chain, LinkedShelf>(&self.shelf_records, &mut self.unused_shelves)
     }
 
     /// Puts an item that stands in no list after another one of a shelf.
@@ -274,7 +274,7 @@ impl Records {
         requires number { number < no_link }
         ensures { self.new ≡ edits.item_inserted_after previous number self.old }
     {
-        lists::insert_after::<Chain, ItemRecord>(&mut self.item_records, previous, number);
+        lists::insert_after::<Chain, LinkedItem>(&mut self.item_records, previous, number);
     }
 
     /// Takes an item out of the free list of its shelf. Its own links stay.
@@ -282,7 +282,7 @@ impl Records {
         ensures { self.new ≡ edits.free_unlinked shelf number self.old }
     {
         let mut first = fields::first_free(&self.shelf_records, shelf);
-        lists::unlink::<FreeList, ItemRecord>(&mut self.item_records, &mut first, number);
+        lists::unlink::<FreeList, LinkedItem>(&mut self.item_records, &mut first, number);
         fields::set_first_free(&mut self.shelf_records, shelf, first);
     }
 
@@ -292,7 +292,7 @@ impl Records {
         ensures { self.new ≡ edits.free_inserted_front shelf number self.old }
     {
         let mut first = fields::first_free(&self.shelf_records, shelf);
-        lists::insert_front::<FreeList, ItemRecord>(&mut self.item_records, &mut first, number);
+        lists::insert_front::<FreeList, LinkedItem>(&mut self.item_records, &mut first, number);
         fields::set_first_free(&mut self.shelf_records, shelf, first);
     }
 
@@ -302,7 +302,7 @@ impl Records {
         requires number { number < no_link }
         ensures { self.new ≡ edits.free_inserted_after previous number self.old }
     {
-        lists::insert_after::<FreeList, ItemRecord>(&mut self.item_records, previous, number);
+        lists::insert_after::<FreeList, LinkedItem>(&mut self.item_records, previous, number);
     }
 
     /// Puts the record of an item aside that stands in no list.
@@ -310,7 +310,7 @@ impl Records {
         requires { number < no_link }
         ensures { self.new ≡ edits.item_put_aside number self.old }
     {
-        lists::put_aside::<Chain, ItemRecord>(
+        lists::put_aside::<Chain, LinkedItem>(
             &mut self.item_records,
             &mut self.unused_items,
             number,
@@ -321,7 +321,7 @@ impl Records {
     pub fn unlink_shelf(&mut self, number: usize)
         ensures { self.new ≡ edits.shelf_unlinked number self.old }
     {
-        lists::unlink::<Chain, ShelfRecord>(&mut self.shelf_records, &mut self.first, number);
+        lists::unlink::<Chain, LinkedShelf>(&mut self.shelf_records, &mut self.first, number);
     }
 
     /// Puts a shelf that stands in no list after another one.
@@ -330,7 +330,7 @@ impl Records {
         requires number { number < no_link }
         ensures { self.new ≡ edits.shelf_inserted_after previous number self.old }
     {
-        lists::insert_after::<Chain, ShelfRecord>(&mut self.shelf_records, previous, number);
+        lists::insert_after::<Chain, LinkedShelf>(&mut self.shelf_records, previous, number);
     }
 
     /// Puts the record of a shelf aside that stands in no list.
@@ -338,7 +338,7 @@ impl Records {
         requires { number < no_link }
         ensures { self.new ≡ edits.shelf_put_aside number self.old }
     {
-        lists::put_aside::<Chain, ShelfRecord>(
+        lists::put_aside::<Chain, LinkedShelf>(
             &mut self.shelf_records,
             &mut self.unused_shelves,
             number,
@@ -378,7 +378,7 @@ impl Records {
     }
 
     /// Writes the record of an item anew.
-    pub fn write_item(&mut self, number: usize, item: ItemRecord)
+    pub fn write_item(&mut self, number: usize, item: LinkedItem)
         ensures { self.new ≡ edits.item_changed number (λ _. item) self.old }
     {
         fields::write_item(&mut self.item_records, number, item);
@@ -401,7 +401,7 @@ impl Records {
     }
 
     /// Writes the record of a shelf anew.
-    pub fn write_shelf(&mut self, number: usize, shelf: ShelfRecord)
+    pub fn write_shelf(&mut self, number: usize, shelf: LinkedShelf)
         ensures { self.new ≡ edits.shelf_changed number (λ _. shelf) self.old }
     {
         fields::write_shelf(&mut self.shelf_records, number, shelf);
@@ -418,10 +418,10 @@ impl Records {
         ensures { self.new ≡ merges.free_absorbed shelf number next width self.old }
     {
         let here = &mut self.shelf_records[shelf];
-        let items: &mut [ItemRecord] = &mut self.item_records;
-        lists::unlink_among::<FreeList, ItemRecord>(items, &mut here.first_unallocated, next);
-        lists::unlink_among::<Chain, ItemRecord>(items, &mut here.first_item, next);
-        lists::put_aside_among::<Chain, ItemRecord>(items, &mut self.unused_items, next);
+        let items: &mut [LinkedItem] = &mut self.item_records;
+        lists::unlink_among::<FreeList, LinkedItem>(items, &mut here.first_unallocated, next);
+        lists::unlink_among::<Chain, LinkedItem>(items, &mut here.first_item, next);
+        lists::put_aside_among::<Chain, LinkedItem>(items, &mut self.unused_items, next);
         fields::set_width_among(items, number, width);
     }
 
@@ -436,8 +436,8 @@ impl Records {
         ensures { self.new ≡ merges.allocated_absorbed shelf number next width self.old }
     {
         let here = &mut self.shelf_records[shelf];
-        let items: &mut [ItemRecord] = &mut self.item_records;
-        lists::unlink_among::<Chain, ItemRecord>(items, &mut here.first_item, next);
+        let items: &mut [LinkedItem] = &mut self.item_records;
+        lists::unlink_among::<Chain, LinkedItem>(items, &mut here.first_item, next);
         fields::free_and_put_aside_among(items, &mut self.unused_items, next);
         fields::set_width_among(items, number, width);
     }
@@ -483,9 +483,9 @@ impl Records {
         shelf: usize,
         height: u16,
         rest: usize,
-        rest_shelf: ShelfRecord,
+        rest_shelf: LinkedShelf,
         rest_item: usize,
-        item: ItemRecord,
+        item: LinkedItem,
     )
         requires shelf { shelf < no_link }
         requires rest { rest < no_link }

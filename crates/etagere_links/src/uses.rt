@@ -13,7 +13,7 @@ ghost use Rattle.etagere_links.specs.RecordUses as spec;
 use crate::chained::{Chain, Linked};
 use crate::links::Link;
 use crate::lists;
-use crate::records::{ItemRecord, ShelfRecord};
+use crate::records::{LinkedItem, LinkedShelf};
 use std::alloc::AllocError;
 
 /// The numbers of the records for what is left where a shelf or an item is split: of a shelf its record and
@@ -26,7 +26,7 @@ pub struct Rests {
 }
 
 /// How many item records are missing to put one or two to use.
-fn missing_items(items: &[ItemRecord], unused: Link, of_shelf: bool, of_item: bool) -> usize
+fn missing_items(items: &[LinkedItem], unused: Link, of_shelf: bool, of_item: bool) -> usize
     ensures value { result
         ≡ spec.missing item_chain
         ((if of_shelf then 1 else 0) + (if of_item then 1 else 0)) unused items.now }
@@ -39,13 +39,13 @@ fn missing_items(items: &[ItemRecord], unused: Link, of_shelf: bool, of_item: bo
     if wanted < 2 {
         return 0;
     }
-    let below = lists::next_of::<Chain, ItemRecord>(items, top);
+    let below = lists::next_of::<Chain, LinkedItem>(items, top);
     usize::from(below.number().is_none())
 }
 
 /// Makes room for the item records that are missing. The error comes only where there was no memory.
 pub(crate) fn reserve_items(
-    items: &mut Vec<ItemRecord>,
+    items: &mut Vec<LinkedItem>,
     unused: Link,
     of_shelf: bool,
     of_item: bool,
@@ -68,7 +68,7 @@ pub(crate) fn reserve_items(
 /// Makes room for a shelf record where one is wanted and none was put aside. The error comes only where
 /// there was no memory.
 pub(crate) fn reserve_shelf(
-    shelves: &mut Vec<ShelfRecord>,
+    shelves: &mut Vec<LinkedShelf>,
     unused: Link,
     wanted: bool,
 ) -> Result<(), AllocError>
@@ -86,7 +86,7 @@ pub(crate) fn reserve_shelf(
 }
 
 /// Counts that an item record is put to use again.
-fn use_again(items: &mut [ItemRecord], number: usize)
+fn use_again(items: &mut [LinkedItem], number: usize)
     ensures { items.new ≡ changed_by (Some number) spec.used_again items.old }
 {
     if number < items.len() {
@@ -96,10 +96,10 @@ fn use_again(items: &mut [ItemRecord], number: usize)
 }
 
 /// A new item record.
-fn new_item() -> ItemRecord
+fn new_item() -> LinkedItem
     ensures { result ≡ spec.new_item }
 {
-    ItemRecord {
+    LinkedItem {
         x: 0,
         width: 0,
         prev: Link::none(),
@@ -113,10 +113,10 @@ fn new_item() -> ItemRecord
 }
 
 /// A new shelf record.
-fn new_shelf() -> ShelfRecord
+fn new_shelf() -> LinkedShelf
     ensures { result ≡ spec.new_shelf }
 {
-    ShelfRecord {
+    LinkedShelf {
         x: 0,
         y: 0,
         height: 0,
@@ -144,7 +144,7 @@ pub(crate) fn missing<T: Linked<Chain>>(records: &[T], unused: Link, wanted: usi
 }
 
 /// Makes so many item records. There is room for them.
-pub(crate) fn make_items(items: &mut Vec<ItemRecord>, count: usize)
+pub(crate) fn make_items(items: &mut Vec<LinkedItem>, count: usize)
     requires { length items.old.items + count ≤ vec_capacity items.old }
     ensures { items.new.items ≡ making.with_new_items count items.old.items }
 {
@@ -154,7 +154,7 @@ pub(crate) fn make_items(items: &mut Vec<ItemRecord>, count: usize)
 }
 
 /// Makes so many shelf records. There is room for them.
-pub(crate) fn make_shelves(shelves: &mut Vec<ShelfRecord>, count: usize)
+pub(crate) fn make_shelves(shelves: &mut Vec<LinkedShelf>, count: usize)
     requires { length shelves.old.items + count ≤ vec_capacity shelves.old }
     ensures { shelves.new.items ≡ making.with_new_shelves count shelves.old.items }
 {
@@ -164,21 +164,21 @@ pub(crate) fn make_shelves(shelves: &mut Vec<ShelfRecord>, count: usize)
 }
 
 /// Puts the item record to use again that was put aside last; none where none was.
-pub(crate) fn use_item_again(items: &mut [ItemRecord], unused: &mut Link) -> Option<usize>
+pub(crate) fn use_item_again(items: &mut [LinkedItem], unused: &mut Link) -> Option<usize>
     ensures number { result ≡ unused.old }
     ensures small { IfSome result (λ number. number < no_link) }
     ensures items { items.new ≡ spec.items_used (is_some unused.old) unused.old items.old }
     ensures unused { unused.new
         ≡ spec.unused_after item_chain (is_some unused.old) unused.old items.old }
 {
-    let number = lists::take::<Chain, ItemRecord>(items, unused)?;
+    let number = lists::take::<Chain, LinkedItem>(items, unused)?;
     use_again(items, number);
     Some(number)
 }
 
 /// Puts an item record to use where one is wanted, and gives its number.
 pub(crate) fn use_item(
-    items: &mut Vec<ItemRecord>,
+    items: &mut Vec<LinkedItem>,
     unused: &mut Link,
     wanted: bool,
 ) -> Option<usize>
@@ -196,7 +196,7 @@ pub(crate) fn use_item(
     if !wanted {
         return None;
     }
-    let Some(number) = lists::take::<Chain, ItemRecord>(items, unused) else {
+    let Some(number) = lists::take::<Chain, LinkedItem>(items, unused) else {
         let number = items.len();
         items.push_reserved(new_item());
         return Some(number);
@@ -207,7 +207,7 @@ pub(crate) fn use_item(
 
 /// Puts a shelf record to use where one is wanted, and gives its number.
 pub(crate) fn use_shelf(
-    shelves: &mut Vec<ShelfRecord>,
+    shelves: &mut Vec<LinkedShelf>,
     unused: &mut Link,
     wanted: bool,
 ) -> Option<usize>
@@ -224,7 +224,7 @@ pub(crate) fn use_shelf(
     if !wanted {
         return None;
     }
-    let Some(number) = lists::take::<Chain, ShelfRecord>(shelves, unused) else {
+    let Some(number) = lists::take::<Chain, LinkedShelf>(shelves, unused) else {
         let number = shelves.len();
         shelves.push_reserved(new_shelf());
         return Some(number);

@@ -10,10 +10,10 @@ use Rattle.json.specs.declared.value.Value.{Value, Object}
 use Rattle.json.proofs.Grammar.{members_end, members_more, read_key-shorter, value-begin_object}
 use Rattle.json.proofs.Trees.{view-Object}
 use Rattle.etagere_bucketed.specs.declared.snapshots.BucketedSnapshot.{BucketedSnapshot}
-use Rattle.etagere_bucketed.specs.declared.records.BucketRecord.{BucketRecord}
-use Rattle.etagere_bucketed.specs.declared.records.BucketShelfRecord.{BucketShelfRecord}
-use Rattle.etagere_links.specs.declared.records.ItemRecord.{ItemRecord}
-use Rattle.etagere_links.specs.declared.records.ShelfRecord.{ShelfRecord}
+use Rattle.etagere_bucketed.specs.declared.records.LinkedBucket.{LinkedBucket}
+use Rattle.etagere_bucketed.specs.declared.records.LinkedBucketShelf.{LinkedBucketShelf}
+use Rattle.etagere_links.specs.declared.records.LinkedItem.{LinkedItem}
+use Rattle.etagere_links.specs.declared.records.LinkedShelf.{LinkedShelf}
 use Rattle.etagere.specs.declared.snapshots.AtlasSnapshot.{AtlasSnapshot}
 use Rattle.saved_json.specs.Fields.{field, the_only}
 use Rattle.saved_json.specs.Records.{IsBucket, IsBucketShelf, IsItem, IsShelf}
@@ -24,10 +24,10 @@ use Rattle.saved_json.specs.declared.saved.Saved.TheVariants.{Atlas, Bucketed}
 use Rattle.saved_json.proofs.PassedItems.{value-shorter}
 use Rattle.saved_json.proofs.KeptMembers.{first-array, kept-values, second-array}
 
-abbrev atlas_arrays : AtlasSnapshot → Arrays ShelfRecord ItemRecord
+abbrev atlas_arrays : AtlasSnapshot → Arrays LinkedShelf LinkedItem
 atlas_arrays snapshot = arrays_of IsShelf snapshot.shelves.items (codes "items") IsItem snapshot.items.items
 
-abbrev bucketed_arrays : BucketedSnapshot → Arrays BucketShelfRecord BucketRecord
+abbrev bucketed_arrays : BucketedSnapshot → Arrays LinkedBucketShelf LinkedBucket
 bucketed_arrays snapshot =
     arrays_of IsBucketShelf snapshot.shelves.items (codes "buckets") IsBucket snapshot.buckets.items
 
@@ -100,7 +100,7 @@ object-passed old start new all first are =
     ap (value 127) first ∙ value-begin_object 127 start (omega arith) ∙ ap (parse_map object) are
 
 pub atlas-passed : {A : Type 0} (snapshot : AtlasSnapshot) (old start new : List Token)
-    (kept : Vec (Bor (List ℕ) × Value A) A) (first : List ShelfRecord) (second : List ItemRecord) (shelves items : Json)
+    (kept : Vec (Bor (List ℕ) × Value A) A) (first : List LinkedShelf) (second : List LinkedItem) (shelves items : Json)
     → old ≡ begin_object ∷ start → first ≡ snapshot.shelves.items → second ≡ snapshot.items.items
     → PassesMembers (arrays_of IsShelf first (codes "items") IsItem second) 126 start (members_view kept.items) new
     → field 12 10 (codes "shelves") (value_view (Object kept)) ≡ Some shelves
@@ -108,10 +108,10 @@ pub atlas-passed : {A : Type 0} (snapshot : AtlasSnapshot) (old start new : List
     → HasAtlasFields (value_view (Object kept)) snapshot → Passes 127 old (λ json. IsAtlas json snapshot) new
 atlas-passed snapshot old start new kept first second shelves items opened first_is second_is passed one other has =
     let view = view-Object kept in
-    let with_first = subst (λ (f : List ShelfRecord).
+    let with_first = subst (λ (f : List LinkedShelf).
     PassesMembers (arrays_of IsShelf f (codes "items") IsItem second) 126 start (members_view kept.items) new)
     first_is passed in
-    let whole = subst (λ (s : List ItemRecord).
+    let whole = subst (λ (s : List LinkedItem).
     PassesMembers (arrays_of IsShelf snapshot.shelves.items (codes "items") IsItem s) 126 start
     (members_view kept.items) new) second_is with_first in
     record {
@@ -123,7 +123,7 @@ atlas-passed snapshot old start new kept first second shelves items opened first
     }
 
 pub bucketed-passed : {A : Type 0} (snapshot : BucketedSnapshot) (old start new : List Token)
-    (kept : Vec (Bor (List ℕ) × Value A) A) (first : List BucketShelfRecord) (second : List BucketRecord)
+    (kept : Vec (Bor (List ℕ) × Value A) A) (first : List LinkedBucketShelf) (second : List LinkedBucket)
     (shelves buckets : Json)
     → old ≡ begin_object ∷ start → first ≡ snapshot.shelves.items → second ≡ snapshot.buckets.items
     → PassesMembers (arrays_of IsBucketShelf first (codes "buckets") IsBucket second) 126 start
@@ -133,10 +133,10 @@ pub bucketed-passed : {A : Type 0} (snapshot : BucketedSnapshot) (old start new 
     → HasBucketedFields (value_view (Object kept)) snapshot → Passes 127 old (λ json. IsBucketed json snapshot) new
 bucketed-passed snapshot old start new kept first second shelves buckets opened first_is second_is passed one other has =
     let view = view-Object kept in
-    let with_first = subst (λ (f : List BucketShelfRecord).
+    let with_first = subst (λ (f : List LinkedBucketShelf).
     PassesMembers (arrays_of IsBucketShelf f (codes "buckets") IsBucket second) 126 start
     (members_view kept.items) new) first_is passed in
-    let whole = subst (λ (s : List BucketRecord).
+    let whole = subst (λ (s : List LinkedBucket).
     PassesMembers (arrays_of IsBucketShelf snapshot.shelves.items (codes "buckets") IsBucket s) 126 start
     (members_view kept.items) new) second_is with_first in
     record {

@@ -1,14 +1,14 @@
 -- How a JSON value spells each record of a snapshot.
 use Rattle.std.specs.Prelude.{◌≡◌, List, [], ◌∷◌, Some, codes}
 use Rattle.json.specs.Json.{Json, boolean, Items, no_items, item}
-use Rattle.etagere_bucketed.specs.declared.records.BucketRecord.{BucketRecord}
-use Rattle.etagere_bucketed.specs.declared.records.BucketShelfRecord.{BucketShelfRecord}
-use Rattle.etagere_links.specs.declared.records.ItemRecord.{ItemRecord}
-use Rattle.etagere_links.specs.declared.records.ShelfRecord.{ShelfRecord}
+use Rattle.etagere_bucketed.specs.declared.records.LinkedBucket.{LinkedBucket}
+use Rattle.etagere_bucketed.specs.declared.records.LinkedBucketShelf.{LinkedBucketShelf}
+use Rattle.etagere_links.specs.declared.records.LinkedItem.{LinkedItem}
+use Rattle.etagere_links.specs.declared.records.LinkedShelf.{LinkedShelf}
 use Rattle.etagere_links.specs.Links.{bits_of}
 use Rattle.saved_json.specs.Fields.{field, natural}
 
-pub record IsItem (json : Json) (item : ItemRecord) : Type 0 where
+pub record IsItem (json : Json) (item : LinkedItem) : Type 0 where
   pub x : field 9 0 (codes "x") json ≡ Some (natural item.x)
   pub width : field 9 1 (codes "width") json ≡ Some (natural item.width)
   pub prev : field 9 2 (codes "prev") json ≡ Some (natural (bits_of item.prev))
@@ -19,7 +19,7 @@ pub record IsItem (json : Json) (item : ItemRecord) : Type 0 where
   pub allocated : field 9 7 (codes "allocated") json ≡ Some (boolean item.allocated)
   pub generation : field 9 8 (codes "generation") json ≡ Some (natural item.generation)
 
-pub record IsShelf (json : Json) (shelf : ShelfRecord) : Type 0 where
+pub record IsShelf (json : Json) (shelf : LinkedShelf) : Type 0 where
   pub x : field 8 0 (codes "x") json ≡ Some (natural shelf.x)
   pub y : field 8 1 (codes "y") json ≡ Some (natural shelf.y)
   pub height : field 8 2 (codes "height") json ≡ Some (natural shelf.height)
@@ -29,14 +29,14 @@ pub record IsShelf (json : Json) (shelf : ShelfRecord) : Type 0 where
   pub first_unallocated : field 8 6 (codes "first_unallocated") json ≡ Some (natural (bits_of shelf.first_unallocated))
   pub is_empty : field 8 7 (codes "is_empty") json ≡ Some (boolean shelf.is_empty)
 
-pub record IsBucketShelf (json : Json) (shelf : BucketShelfRecord) : Type 0 where
+pub record IsBucketShelf (json : Json) (shelf : LinkedBucketShelf) : Type 0 where
   pub x : field 5 0 (codes "x") json ≡ Some (natural shelf.x)
   pub y : field 5 1 (codes "y") json ≡ Some (natural shelf.y)
   pub height : field 5 2 (codes "height") json ≡ Some (natural shelf.height)
   pub bucket_width : field 5 3 (codes "bucket_width") json ≡ Some (natural shelf.bucket_width)
   pub first_bucket : field 5 4 (codes "first_bucket") json ≡ Some (natural (bits_of shelf.first_bucket))
 
-pub record IsBucket (json : Json) (bucket : BucketRecord) : Type 0 where
+pub record IsBucket (json : Json) (bucket : LinkedBucket) : Type 0 where
   pub x : field 7 0 (codes "x") json ≡ Some (natural bucket.x)
   pub free_space : field 7 1 (codes "free_space") json ≡ Some (natural bucket.free_space)
   pub next : field 7 2 (codes "next") json ≡ Some (natural (bits_of bucket.next))

@@ -6,7 +6,7 @@ use Rattle.std.proofs.lemmas.List.{length-map}
 use Rattle.std.specs.Option.{is_some}
 use Rattle.std.specs.Prelude.{find, nat_le, nat_lt, if◌then◌else◌}
 use Rattle.etagere_links.specs.RecordLists.{Records, free_walk}
-use Rattle.etagere_links.specs.declared.records.ShelfRecord.{ShelfRecord}
+use Rattle.etagere_links.specs.declared.records.LinkedShelf.{LinkedShelf}
 use Rattle.etagere.specs.AtlasRecords.{height_of, item_at}
 use Rattle.etagere.specs.Private.ByHeight.{place_number, ranked_at, ranked_numbers}
 use Rattle.etagere.specs.Private.Opening.{AreSearchable, IsEarliestWide, IsSearchable, looked_into, place_at, widest_of}
@@ -64,7 +64,7 @@ offered-of records width height shelf candidate offers = by_parts (nat_le height
     by_parts true (Some item) offers = cc
 
 -- the number at a position, and what a list of offers comes to where each has a later place
-module _ (shelves : List ShelfRecord) (offers : ℕ → Option Candidate) where
+module _ (shelves : List LinkedShelf) (offers : ℕ → Option Candidate) where
   -- each offer of these shelves is of one whose place is later
   abbrev AreLater : ℕ → List ℕ → Type 0
   AreLater place ns = (k : ℕ) → k < length ns → (candidate : Candidate) → offers (get_or ns k 0) ≡ Some candidate → place < place_number shelves candidate.shelf

@@ -4,7 +4,7 @@ use Rattle.std.proofs.Common.{◌≡◌, ℕ, zero, suc, ◌+◌, ◌<◌, ◌�
 use Rattle.std.proofs.lemmas.Bool.Decides.{nat_tests}
 use Rattle.std.specs.Prelude.{◌*◌, ◌==◌, IfSome, nat_lt}
 use Rattle.etagere_base.specs.Lists.{Each}
-use Rattle.etagere_links.specs.declared.records.ShelfRecord.{ShelfRecord}
+use Rattle.etagere_links.specs.declared.records.LinkedShelf.{LinkedShelf}
 use Rattle.etagere.specs.AtlasRecords.{height_of}
 use Rattle.etagere.specs.Listing.{RiseFrom}
 use Rattle.etagere.specs.Private.ByHeight.{AreInOrder, IsFirstAsWide, IsStart, order_at, order_of, place_number, ranked_at, ranked_numbers}
@@ -62,7 +62,7 @@ found-wide (one ∷ ones) zero width within each = each.0
 found-wide (one ∷ ones) (suc index) width within each = found-wide ones index width (omega arith) each
 
 -- orders rise from position to position
-orders-rise : (shelves : List ShelfRecord) (from : ℕ) (ranked : List RankedShelf) (k next : ℕ) → k < next → next < length ranked → RiseFrom from (map (order_of shelves) (ranked_numbers ranked))
+orders-rise : (shelves : List LinkedShelf) (from : ℕ) (ranked : List RankedShelf) (k next : ℕ) → k < next → next < length ranked → RiseFrom from (map (order_of shelves) (ranked_numbers ranked))
     → order_of shelves (ranked_at ranked k).shelf < order_of shelves (ranked_at ranked next).shelf
 orders-rise shelves from [] k next less within rise = absurd (omega arith)
 orders-rise shelves from (one ∷ others) k zero less within rise = absurd (omega arith)
@@ -70,7 +70,7 @@ orders-rise shelves from (one ∷ others) zero (suc next) less within rise =
     omega (arith, rise-read shelves (order_of shelves one.shelf + 1) next others nothing (omega arith) rise.1)
 orders-rise shelves from (one ∷ others) (suc k) (suc next) less within rise = orders-rise shelves (order_of shelves one.shelf + 1) others k next (omega arith) (omega arith) rise.1
 
-module _ (shelves : List ShelfRecord) (ranked : List RankedShelf) where
+module _ (shelves : List LinkedShelf) (ranked : List RankedShelf) where
   -- before the first shelf that is as wide none is found
   pub none-earliest : (start width : ℕ) → IsEarliest shelves ranked start start width None
   none-earliest start width = λ k after before. absurd (omega (arith, after, before))

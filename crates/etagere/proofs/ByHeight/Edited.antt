@@ -9,7 +9,7 @@ use Rattle.etagere.specs.Listing.{RiseFrom}
 use Rattle.etagere.proofs.Recorded.Members.{Each-member}
 use Rattle.etagere.proofs.Spelled.RecordValues.{map-agrees}
 use Rattle.etagere_base.specs.declared.frames.Frame.{Frame}
-use Rattle.etagere_links.specs.declared.records.ShelfRecord.{ShelfRecord}
+use Rattle.etagere_links.specs.declared.records.LinkedShelf.{LinkedShelf}
 use Rattle.etagere_links.specs.RecordLists.{Records, shelf_numbers, walked_lists}
 use Rattle.etagere.specs.Private.ByHeight.{AreInOrder, AreRanked, bound_of, order_of, put_in, raised, ranked_numbers, taken_out}
 use Rattle.etagere.specs.Private.Kept.{AreKept}
@@ -32,7 +32,7 @@ numbers-taken_out shelf (one ∷ others) = by_test (one.shelf == shelf) (numbers
     by_test false rest = ap (λ (ns : List ℕ). one.shelf ∷ ns) rest
 
 -- how often a number stands there once a shelf was put in
-pub times-put_in : (k : ℕ) (shelves : List ShelfRecord) (one : RankedShelf) (ranked : List RankedShelf)
+pub times-put_in : (k : ℕ) (shelves : List LinkedShelf) (one : RankedShelf) (ranked : List RankedShelf)
     → times k (ranked_numbers (put_in shelves one ranked)) ≡ times k (one.shelf ∷ ranked_numbers ranked)
 times-put_in k shelves one [] = refl
 times-put_in k shelves one (other ∷ others) = by_test (nat_lt (order_of shelves other.shelf) (order_of shelves one.shelf)) (times-put_in k shelves one others)
@@ -66,7 +66,7 @@ Each-taken_out P Q shelf (one ∷ others) weaken each = by_test (one.shelf == sh
     by_test false e rest = let other : one.shelf ≢ shelf = grind arith in (weaken one other each.0, rest)
 
 -- what holds of each shelf and of the one that is put in
-pub Each-put_in : (P : RankedShelf → Type 0) (shelves : List ShelfRecord) (one : RankedShelf) (ranked : List RankedShelf)
+pub Each-put_in : (P : RankedShelf → Type 0) (shelves : List LinkedShelf) (one : RankedShelf) (ranked : List RankedShelf)
     → P one → Each P ranked → Each P (put_in shelves one ranked)
 Each-put_in P shelves one [] own each = (own, tt)
 Each-put_in P shelves one (other ∷ others) own each = by_test (nat_lt (order_of shelves other.shelf) (order_of shelves one.shelf)) (Each-put_in P shelves one others own each.1)
@@ -149,7 +149,7 @@ rise-once value k from (n ∷ ns) rise = by_test (n == k) refl (rise-once value 
         omega (arith, rest, times-other k n ns other)
 
 -- the others rise once a shelf was taken out
-rise-taken_out : (shelves : List ShelfRecord) (shelf from : ℕ) (ranked : List RankedShelf) → RiseFrom from (map (order_of shelves) (ranked_numbers ranked))
+rise-taken_out : (shelves : List LinkedShelf) (shelf from : ℕ) (ranked : List RankedShelf) → RiseFrom from (map (order_of shelves) (ranked_numbers ranked))
     → RiseFrom from (map (order_of shelves) (ranked_numbers (taken_out shelf ranked)))
 rise-taken_out shelves shelf from [] rise = tt
 rise-taken_out shelves shelf from (one ∷ others) rise = by_test (one.shelf == shelf) (rise-taken_out shelves shelf (order_of shelves one.shelf + 1) others rise.1)
@@ -160,7 +160,7 @@ rise-taken_out shelves shelf from (one ∷ others) rise = by_test (one.shelf == 
     by_test false rest = (rise.0, rest)
 
 -- all rise once one was put in that none of the others shares a place with
-rise-put_in : (shelves : List ShelfRecord) (one : RankedShelf) (from : ℕ) (ranked : List RankedShelf) → from ≤ order_of shelves one.shelf
+rise-put_in : (shelves : List LinkedShelf) (one : RankedShelf) (from : ℕ) (ranked : List RankedShelf) → from ≤ order_of shelves one.shelf
     → ((k : ℕ) → 1 ≤ times k (ranked_numbers ranked) → order_of shelves k ≢ order_of shelves one.shelf)
     → RiseFrom from (map (order_of shelves) (ranked_numbers ranked)) → RiseFrom from (map (order_of shelves) (ranked_numbers (put_in shelves one ranked)))
 rise-put_in shelves one from [] low apart rise = (low, tt)
@@ -198,12 +198,12 @@ ranked-in_order frame records ranked kept are =
     }
 
 -- in their order each number stands once at most
-pub in_order-once : (shelves : List ShelfRecord) (ranked : List RankedShelf) (k : ℕ)
+pub in_order-once : (shelves : List LinkedShelf) (ranked : List RankedShelf) (k : ℕ)
     → AreInOrder shelves ranked → times k (ranked_numbers ranked) ≤ 1
 in_order-once shelves ranked k order = rise-once (order_of shelves) k 0 (ranked_numbers ranked) order.rising
 
 -- they stand in their order by other records that give each of them the same place in it
-pub in_order-kept : (shelves new : List ShelfRecord) (ranked : List RankedShelf)
+pub in_order-kept : (shelves new : List LinkedShelf) (ranked : List RankedShelf)
     → length shelves ≤ length new
     → ((k : ℕ) → 1 ≤ times k (ranked_numbers ranked) → order_of new k ≡ order_of shelves k)
     → AreInOrder shelves ranked → AreInOrder new ranked
@@ -214,7 +214,7 @@ in_order-kept shelves new ranked longer same order =
     }
 
 -- the others stand in their order once a shelf was taken out
-pub in_order-taken_out : (shelves : List ShelfRecord) (shelf : ℕ) (ranked : List RankedShelf)
+pub in_order-taken_out : (shelves : List LinkedShelf) (shelf : ℕ) (ranked : List RankedShelf)
     → AreInOrder shelves ranked → AreInOrder shelves (taken_out shelf ranked)
 in_order-taken_out shelves shelf ranked order =
     record {
@@ -223,7 +223,7 @@ in_order-taken_out shelves shelf ranked order =
     }
 
 -- all stand in their order once one was put in that none of the others shares a place in it with
-pub in_order-put_in : (shelves : List ShelfRecord) (one : RankedShelf) (ranked : List RankedShelf)
+pub in_order-put_in : (shelves : List LinkedShelf) (one : RankedShelf) (ranked : List RankedShelf)
     → one.shelf < length shelves
     → ((k : ℕ) → 1 ≤ times k (ranked_numbers ranked) → order_of shelves k ≢ order_of shelves one.shelf)
     → AreInOrder shelves ranked → AreInOrder shelves (put_in shelves one ranked)
@@ -238,7 +238,7 @@ in_order-put_in shelves one ranked within apart order =
     put_below k stands = Each-member (λ n. n < length shelves) (one.shelf ∷ ranked_numbers ranked) k (within, order.within) stands
 
 -- they stand in their order once the bound of one was raised
-pub in_order-raised : (shelves : List ShelfRecord) (shelf width : ℕ) (ranked : List RankedShelf)
+pub in_order-raised : (shelves : List LinkedShelf) (shelf width : ℕ) (ranked : List RankedShelf)
     → AreInOrder shelves ranked → AreInOrder shelves (raised shelf width ranked)
 in_order-raised shelves shelf width ranked order =
     record {

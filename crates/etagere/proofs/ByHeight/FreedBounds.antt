@@ -5,7 +5,7 @@ use Rattle.std.proofs.lemmas.List.{map-append}
 use Rattle.etagere_base.proofs.EachLemmas.{Each-append, Each-back, Each-front, Each-middle, Each-weaken}
 use Rattle.etagere_base.specs.Lists.{Each, NoNeighbours}
 use Rattle.etagere_base.specs.MergingAt.{merged_at, merged_before}
-use Rattle.etagere_links.specs.declared.records.ItemRecord.{ItemRecord}
+use Rattle.etagere_links.specs.declared.records.LinkedItem.{LinkedItem}
 use Rattle.etagere_links.specs.Edits.{link_at}
 use Rattle.etagere_links.specs.Lists.{first_or, last_or}
 use Rattle.etagere_links.specs.RecordLists.{IsEntry, first_item_of}
@@ -33,14 +33,14 @@ within-more one other items less each =
     Each-weaken (IsWithin one) (IsWithin other) items (λ (item : Item) within free. omega (arith, within free, less)) each
 
 -- a free item that merged with the free one after it, if any, and what stands after it then
-record IsNextMerged (items : List ItemRecord) (front back : List ℕ) (width widest : ℕ) : Type 0 where
+record IsNextMerged (items : List LinkedItem) (front back : List ℕ) (width widest : ℕ) : Type 0 where
   rest : List Item
   merged :
       merged_at both_free combined_items (length front) (map (item_at items) front ++ free_item width ∷ map (item_at items) back)
       ≡ map (item_at items) front ++ free_item (width + named_width items (free_named items (first_or None back))) ∷ rest
   within : Each (IsWithin widest) rest
 
-next-is-merged : (items : List ItemRecord) (front back : List ℕ) (width widest : ℕ) → Each (IsWithin widest) (map (item_at items) back) → IsNextMerged items front back width widest
+next-is-merged : (items : List LinkedItem) (front back : List ℕ) (width widest : ℕ) → Each (IsWithin widest) (map (item_at items) back) → IsNextMerged items front back width widest
 next-is-merged items front [] width widest within =
     let same : width + 0 ≡ width = omega arith in
     record { rest = []; merged = rw same (next-stays (item_at items) front width [] refl); within = tt }
@@ -64,7 +64,7 @@ next-is-merged items front (next ∷ back) width widest within = by_mark (is_all
         }
 
 -- a free item that merged with the free one before it, if any
-previous-within : (items : List ItemRecord) (width widest : ℕ) (rest : List Item) (front : List ℕ) → Each (IsWithin widest) (map (item_at items) front) → Each (IsWithin widest) rest → width + named_width items (free_named items (last_or None front)) ≤ widest → Each (IsWithin widest) (merged_before both_free combined_items (length front) (map (item_at items) front ++ free_item width ∷ rest))
+previous-within : (items : List LinkedItem) (width widest : ℕ) (rest : List Item) (front : List ℕ) → Each (IsWithin widest) (map (item_at items) front) → Each (IsWithin widest) rest → width + named_width items (free_named items (last_or None front)) ≤ widest → Each (IsWithin widest) (merged_before both_free combined_items (length front) (map (item_at items) front ++ free_item width ∷ rest))
 previous-within items width widest rest =
     by_end (λ (xs : List ℕ). Each (IsWithin widest) (map (item_at items) xs) → Each (IsWithin widest) rest → width + named_width items (free_named items (last_or None xs)) ≤ widest → Each (IsWithin widest) (merged_before both_free combined_items (length xs) (map (item_at items) xs ++ free_item width ∷ rest)))
     (λ _ after low. ((λ _. omega (arith, low)), after))
@@ -98,7 +98,7 @@ previous-within items width widest rest =
 -- how wide an item of a shelf is with its free neighbours, by where it stands
 freed_width-is : (atlas : AtlasRecords) (shelf number : ℕ) (front back free : List ℕ) → IsEntry atlas.lists (entry_of shelf (front ++ number ∷ back) free) → freed_width atlas.lists.items number ≡ width_of atlas.lists.items number + named_width atlas.lists.items (free_named atlas.lists.items (first_or None back)) + named_width atlas.lists.items (free_named atlas.lists.items (last_or None front))
 freed_width-is atlas shelf number front back free is =
-    let items : List ItemRecord = atlas.lists.items in
+    let items : List LinkedItem = atlas.lists.items in
     let next : link_at item_chain.next items number ≡ first_or None back = next-is (link_at item_chain.next items) front back number (first_item_of atlas.lists.shelves shelf) None is.items.forward in
     let previous : link_at item_chain.previous items number ≡ last_or None front = previous-is (link_at item_chain.previous items) front back number None is.items.backward in
     ap (λ (o : Option ℕ). width_of items number + named_width items (free_named items o) + named_width items (free_named items (link_at item_chain.previous items number))) next
@@ -107,7 +107,7 @@ freed_width-is atlas shelf number front back free is =
 -- the free items of a shelf after one of its items became free
 pub freed-within : (atlas : AtlasRecords) (shelf number : ℕ) (front back free : List ℕ) (widest : ℕ) → IsEntry atlas.lists (entry_of shelf (front ++ number ∷ back) free) → NoNeighbours both_free (map (item_at atlas.lists.items) (front ++ number ∷ back)) → Each (IsWithin widest) (map (item_at atlas.lists.items) (front ++ number ∷ back)) → freed_width atlas.lists.items number ≤ widest → Each (IsWithin widest) (merged_items (freed (length front) (map (item_at atlas.lists.items) (front ++ number ∷ back))))
 freed-within atlas shelf number front back free widest is apart within low =
-    let items : List ItemRecord = atlas.lists.items in
+    let items : List LinkedItem = atlas.lists.items in
     let whole : map (item_at items) (front ++ number ∷ back) ≡ map (item_at items) front ++ item_at items number ∷ map (item_at items) back = map-append (item_at items) front (number ∷ back) in
     let parts : Each (IsWithin widest) (map (item_at items) front ++ item_at items number ∷ map (item_at items) back) = subst (λ (is : List Item). Each (IsWithin widest) is) whole within in
     let next : IsNextMerged items front back (width_of items number) widest =

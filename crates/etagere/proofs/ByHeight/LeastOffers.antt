@@ -4,7 +4,7 @@ use Rattle.std.proofs.lemmas.Bool.Decides.{nat_tests}
 use Rattle.std.specs.Prelude.{◌/◌, ◌||◌, nat_le, nat_lt}
 use Rattle.etagere_base.specs.Lists.{Each, times}
 use Rattle.etagere_base.specs.declared.frames.Frame.{Frame}
-use Rattle.etagere_links.specs.declared.records.ShelfRecord.{ShelfRecord}
+use Rattle.etagere_links.specs.declared.records.LinkedShelf.{LinkedShelf}
 use Rattle.etagere_links.specs.RecordLists.{Records}
 use Rattle.etagere.specs.AtlasRecords.{height_of, is_empty_at}
 use Rattle.etagere.specs.Choice.{bad_fit_rank}
@@ -18,11 +18,11 @@ use Rattle.etagere.proofs.Recorded.Members.{Each-member}
 use Rattle.etagere.proofs.Searched.SearchSteps.{Offers, offers-parts}
 
 -- how a candidate weighs: by its rank, and then by the place of its shelf
-abbrev pub weight : List ShelfRecord → Candidate → ℕ
+abbrev pub weight : List LinkedShelf → Candidate → ℕ
 weight shelves candidate = order_at candidate.rank (place_number shelves candidate.shelf)
 
 -- what is known of what a shelf offers
-pub record IsOffer (shelves : List ShelfRecord) (shelf : ℕ) (candidate : Candidate) : Type 0 where
+pub record IsOffer (shelves : List LinkedShelf) (shelf : ℕ) (candidate : Candidate) : Type 0 where
   pub own : candidate.shelf ≡ shelf
   pub place : place_number shelves candidate.shelf < 65536 * 65536
   pub above : order_of shelves shelf ≤ weight shelves candidate

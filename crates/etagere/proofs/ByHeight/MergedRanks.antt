@@ -4,7 +4,7 @@ use Rattle.std.proofs.Common.{◌≡◌, ◌≢◌, ℕ, ◌+◌, ◌*◌, ◌�
 use Rattle.etagere_base.proofs.EachLemmas.{Each-append, Each-back, Each-front, Each-middle, Each-weaken}
 use Rattle.etagere_base.proofs.TimesLemmas.{hit, times-append, times-remove_place}
 use Rattle.etagere_base.specs.Lists.{Each, times}
-use Rattle.etagere_links.specs.declared.records.ShelfRecord.{ShelfRecord}
+use Rattle.etagere_links.specs.declared.records.LinkedShelf.{LinkedShelf}
 use Rattle.etagere_links.specs.Links.{no_link}
 use Rattle.etagere_links.specs.RecordLists.{Records, Entry, shelf_numbers}
 use Rattle.etagere_links.specs.RecordMerges.{shelf_absorbed}
@@ -23,7 +23,7 @@ use Rattle.etagere.proofs.Spelled.SpelledLists.{with_lists}
 use Rattle.etagere.proofs.Spelled.SpelledShelves.{IsTaller, shelf_absorbed-values}
 
 -- the shelves of these numbers begin each at a place of its own
-pub record HaveOwnPlaces (shelves : List ShelfRecord) (numbers : List ℕ) : Type 0 where
+pub record HaveOwnPlaces (shelves : List LinkedShelf) (numbers : List ℕ) : Type 0 where
   pub apart : (k m : ℕ) → 1 ≤ times k numbers → 1 ≤ times m numbers → place_number shelves k ≡ place_number shelves m → k ≡ m
   pub small : (k : ℕ) → 1 ≤ times k numbers → place_number shelves k < 4294967296
 
@@ -50,7 +50,7 @@ bounds-same atlas new shelf widest other (entry ∷ entries) same less bounds =
     )
 
 -- places of their own stay so among fewer shelves that begin where they began
-pub places-fewer : (shelves new : List ShelfRecord) (numbers fewer : List ℕ) → ((k : ℕ) → place_number new k ≡ place_number shelves k) → ((k : ℕ) → times k fewer ≤ times k numbers) → HaveOwnPlaces shelves numbers → HaveOwnPlaces new fewer
+pub places-fewer : (shelves new : List LinkedShelf) (numbers fewer : List ℕ) → ((k : ℕ) → place_number new k ≡ place_number shelves k) → ((k : ℕ) → times k fewer ≤ times k numbers) → HaveOwnPlaces shelves numbers → HaveOwnPlaces new fewer
 places-fewer shelves new numbers fewer same less places =
     record {
       apart = λ k m stands other e. places.apart k m (omega (arith, less k, stands)) (omega (arith, less m, other)) (sym (same k) ∙ e ∙ same m);
@@ -61,7 +61,7 @@ places-fewer shelves new numbers fewer same less places =
 apart-orders : (one other height height' : ℕ) → one < 4294967296 → other < 4294967296 → height * 4294967296 + one ≡ height' * 4294967296 + other → one ≡ other
 apart-orders one other height height' small small' same = omega arith
 
-pub orders-apart : (shelves : List ShelfRecord) (numbers : List ℕ) (k m : ℕ) → HaveOwnPlaces shelves numbers → 1 ≤ times k numbers → 1 ≤ times m numbers → order_of shelves k ≡ order_of shelves m → k ≡ m
+pub orders-apart : (shelves : List LinkedShelf) (numbers : List ℕ) (k m : ℕ) → HaveOwnPlaces shelves numbers → 1 ≤ times k numbers → 1 ≤ times m numbers → order_of shelves k ≡ order_of shelves m → k ≡ m
 orders-apart shelves numbers k m places stands other same =
     places.apart k m stands other
     (apart-orders (place_number shelves k) (place_number shelves m) (height_of shelves k) (height_of shelves m) (places.small k stands) (places.small m other) same)
@@ -69,8 +69,8 @@ orders-apart shelves numbers k m places stands other same =
 -- what an item that became free leaves ranked, where the bound of its shelf was raised
 pub raised-ranks : (atlas new : AtlasRecords) (before after : List Entry) (entry edited : Entry) (width : ℕ) (ranked : List RankedShelf) → edited.number ≡ entry.number → length new.lists.shelves ≡ length atlas.lists.shelves → ((k : ℕ) → place_number new.lists.shelves k ≡ place_number atlas.lists.shelves k) → ((k : ℕ) → height_of new.lists.shelves k ≡ height_of atlas.lists.shelves k) → map (spelled_shelf new) before ≡ map (spelled_shelf atlas) before → map (spelled_shelf new) after ≡ map (spelled_shelf atlas) after → ((widest : ℕ) → IsBound widest (spelled_shelf atlas entry) → width ≤ widest → IsBound widest (spelled_shelf new edited)) → Ranks atlas (before ++ entry ∷ after) ranked → Ranks new (before ++ edited ∷ after) (raised entry.number width ranked)
 raised-ranks atlas new before after entry edited width ranked number lengths places heights before_same after_same own ranks =
-    let old : List ShelfRecord = atlas.lists.shelves in
-    let shelves : List ShelfRecord = new.lists.shelves in
+    let old : List LinkedShelf = atlas.lists.shelves in
+    let shelves : List LinkedShelf = new.lists.shelves in
     let numbers : shelf_numbers (before ++ edited ∷ after) ≡ shelf_numbers (before ++ entry ∷ after) =
     shelf_numbers-append before (edited ∷ after)
     ∙ ap (λ n. shelf_numbers before ++ n ∷ shelf_numbers after) number
@@ -135,7 +135,7 @@ module _ (shelf next : ℕ) (ranked : List RankedShelf) (pair : IsPair shelf nex
       omega (arith, two, one-gone k)
 
   -- the others stand in their order by records in which the one shelf has another height
-  pub others-in_order : (shelves new : List ShelfRecord) → length shelves ≤ length new → ((k : ℕ) → Some shelf ≢ Some k → SameShelf shelves new k) → AreInOrder shelves ranked → AreInOrder new (taken_out shelf (taken_out next ranked))
+  pub others-in_order : (shelves new : List LinkedShelf) → length shelves ≤ length new → ((k : ℕ) → Some shelf ≢ Some k → SameShelf shelves new k) → AreInOrder shelves ranked → AreInOrder new (taken_out shelf (taken_out next ranked))
   others-in_order shelves new longer same order =
       in_order-kept shelves new (taken_out shelf (taken_out next ranked)) longer
       (λ k stands.
@@ -230,7 +230,7 @@ merging-pair records shelf next ranked can named =
     }
 
 -- the number of a ranked shelf is one of a record
-pub ranked-within : (shelves : List ShelfRecord) (shelf : ℕ) (ranked : List RankedShelf) → AreInOrder shelves ranked → 1 ≤ times shelf (ranked_numbers ranked) → shelf < length shelves
+pub ranked-within : (shelves : List LinkedShelf) (shelf : ℕ) (ranked : List RankedShelf) → AreInOrder shelves ranked → 1 ≤ times shelf (ranked_numbers ranked) → shelf < length shelves
 ranked-within shelves shelf ranked order stands = each-member (λ k. k < length shelves) (ranked_numbers ranked) shelf order.within stands
 
 -- the others stand in their order once a shelf took the place of the next one

@@ -13,7 +13,7 @@ use Rattle.etagere_base.proofs.EachLemmas.{Each-all, Each-weaken}
 use Rattle.etagere_base.proofs.FrameSides.{columns-apart}
 use Rattle.etagere_base.proofs.TimesLemmas.{hit}
 use Rattle.etagere_links.proofs.AllLists.LinkedWalks.{walked-numbers}
-use Rattle.etagere_links.specs.declared.records.ShelfRecord.{ShelfRecord}
+use Rattle.etagere_links.specs.declared.records.LinkedShelf.{LinkedShelf}
 use Rattle.etagere_links.specs.RecordLists.{Entry, Records, shelf_numbers, shelf_walk, walked_lists}
 use Rattle.etagere.specs.AtlasRecords.{height_of, spelled_shelf}
 use Rattle.etagere.specs.Listing.{RiseFrom}
@@ -65,9 +65,9 @@ column-order : (frame : Frame) (column : ℕ) → column < frame.columns → ord
 column-order frame column below =
     omega (
       arith,
-      numbered-field (λ (s : ShelfRecord). s.height) 0 (fresh_shelf frame) frame.columns column below,
-      numbered-field (λ (s : ShelfRecord). s.x) 0 (fresh_shelf frame) frame.columns column below,
-      numbered-field (λ (s : ShelfRecord). s.y) 0 (fresh_shelf frame) frame.columns column below,
+      numbered-field (λ (s : LinkedShelf). s.height) 0 (fresh_shelf frame) frame.columns column below,
+      numbered-field (λ (s : LinkedShelf). s.x) 0 (fresh_shelf frame) frame.columns column below,
+      numbered-field (λ (s : LinkedShelf). s.y) 0 (fresh_shelf frame) frame.columns column below,
     )
 
 -- the shelves of the columns from one on are in order

@@ -9,7 +9,7 @@ use Rattle.etagere_base.specs.Lists.{Each, NoNeighbours}
 use Rattle.etagere_base.specs.declared.frames.Frame.{Frame}
 use Rattle.etagere_base.proofs.EachLemmas.{Each-get}
 use Rattle.etagere_base.proofs.FrameSides.{column-within, columns-apart, sides_low}
-use Rattle.etagere_links.specs.declared.records.ShelfRecord.{ShelfRecord}
+use Rattle.etagere_links.specs.declared.records.LinkedShelf.{LinkedShelf}
 use Rattle.etagere_links.specs.RecordLists.{Records, shelf_walk, walked_entry}
 use Rattle.etagere_links.proofs.AllLists.LinkedWalks.{walked-numbers}
 use Rattle.etagere.specs.AtlasRecords.{AtlasRecords, across_of, along_of, height_of, spelled_shelf}
@@ -27,7 +27,7 @@ use Rattle.etagere.proofs.Searched.SearchedShelves.{IsSearched, kept-searched}
 use Rattle.etagere.proofs.Spelled.StackedMerges.{height_before-append}
 
 -- a shelf begins where its column does, and lies within sides that are short
-pub record LiesWithin (frame : Frame) (shelves : List ShelfRecord) (number : ℕ) : Type 0 where
+pub record LiesWithin (frame : Frame) (shelves : List LinkedShelf) (number : ℕ) : Type 0 where
   pub column : along_of shelves number / frame.column_width * frame.column_width ≡ along_of shelves number
   pub along : along_of shelves number < 65536
   pub across : across_of shelves number < 65536

@@ -4,7 +4,7 @@ use Rattle.std.proofs.Math.Nat.{pow-suc}
 use Rattle.std.specs.Prelude.{insert, nat_lt, remove, ◌*◌, ◌^◌, ◌==◌}
 use Rattle.etagere_base.specs.Lists.{Each, times}
 use Rattle.etagere_links.proofs.ListEnds.{times-other}
-use Rattle.etagere_links.specs.declared.records.ShelfRecord.{ShelfRecord}
+use Rattle.etagere_links.specs.declared.records.LinkedShelf.{LinkedShelf}
 use Rattle.etagere.specs.Listing.{RiseFrom}
 use Rattle.etagere.specs.Private.ByHeight.{AreInOrder, IsStart, bound_of, order_of, put_in, raised, ranked_at, ranked_numbers, taken_out}
 use Rattle.etagere.specs.declared.linked.ranked.RankedShelf.{RankedShelf}
@@ -28,7 +28,7 @@ digits-halved size less probes digits half some has = by_left has.left has.sum h
         record { left = left; sum = omega (arith, sum); small = omega (arith, small, half, double) }
 
 -- the order of a shelf that is read is no lower than where those rise from
-pub rise-read : (shelves : List ShelfRecord) (from n : ℕ) (ranked : List RankedShelf) (other : RankedShelf) → n < length ranked
+pub rise-read : (shelves : List LinkedShelf) (from n : ℕ) (ranked : List RankedShelf) (other : RankedShelf) → n < length ranked
     → RiseFrom from (map (order_of shelves) (ranked_numbers ranked)) → from ≤ order_of shelves (get_or ranked n other).shelf
 rise-read shelves from n [] other within rise = absurd (omega arith)
 rise-read shelves from zero (one ∷ others) other within rise = rise.0
@@ -42,14 +42,14 @@ read-number P zero (one ∷ others) other within each = each.0
 read-number P (suc n) (one ∷ others) other within each = read-number P n others other (omega arith) each.1
 
 -- none of those that rise is below where they rise from
-rise-each : (shelves : List ShelfRecord) (low from : ℕ) (ranked : List RankedShelf) → low ≤ from → RiseFrom from (map (order_of shelves) (ranked_numbers ranked))
+rise-each : (shelves : List LinkedShelf) (low from : ℕ) (ranked : List RankedShelf) → low ≤ from → RiseFrom from (map (order_of shelves) (ranked_numbers ranked))
     → Each (λ (one : RankedShelf). low ≤ order_of shelves one.shelf) ranked
 rise-each shelves low from [] less rise = tt
 rise-each shelves low from (one ∷ others) less rise =
     (omega (arith, less, rise.0), rise-each shelves low (order_of shelves one.shelf + 1) others (omega (arith, less, rise.0)) rise.1)
 
 -- where a shelf that is read comes before an order, so do those before it
-pub before-probed : (shelves : List ShelfRecord) (from order n : ℕ) (ranked : List RankedShelf) (other : RankedShelf) → n < length ranked
+pub before-probed : (shelves : List LinkedShelf) (from order n : ℕ) (ranked : List RankedShelf) (other : RankedShelf) → n < length ranked
     → RiseFrom from (map (order_of shelves) (ranked_numbers ranked)) → order_of shelves (get_or ranked n other).shelf < order
     → Each (λ (one : RankedShelf). order_of shelves one.shelf < order) (take (suc n) ranked)
 before-probed shelves from order n [] other within rise before = tt
@@ -60,7 +60,7 @@ before-probed shelves from order (suc n) (one ∷ others) other within rise befo
 )
 
 -- where it doesn't, neither do those after it
-pub after-probed : (shelves : List ShelfRecord) (from order n : ℕ) (ranked : List RankedShelf) (other : RankedShelf) → n < length ranked
+pub after-probed : (shelves : List LinkedShelf) (from order n : ℕ) (ranked : List RankedShelf) (other : RankedShelf) → n < length ranked
     → RiseFrom from (map (order_of shelves) (ranked_numbers ranked)) → order ≤ order_of shelves (get_or ranked n other).shelf
     → Each (λ (one : RankedShelf). order ≤ order_of shelves one.shelf) (drop n ranked)
 after-probed shelves from order n [] other within rise after = absurd (omega arith)
@@ -122,7 +122,7 @@ stands-behind shelf index one others other at =
     }
 
 -- a shelf stands where those begin that don't come before its order
-pub stands-at : (shelves : List ShelfRecord) (shelf from index : ℕ) (ranked : List RankedShelf)
+pub stands-at : (shelves : List LinkedShelf) (shelf from index : ℕ) (ranked : List RankedShelf)
     → Each (λ (one : RankedShelf). order_of shelves one.shelf < order_of shelves shelf) (take index ranked)
     → Each (λ (one : RankedShelf). order_of shelves shelf ≤ order_of shelves one.shelf) (drop index ranked)
     → RiseFrom from (map (order_of shelves) (ranked_numbers ranked)) → 1 ≤ times shelf (ranked_numbers ranked) → StandsAt shelf index ranked
@@ -152,7 +152,7 @@ stands-at shelves shelf from (suc index) (one ∷ others) before after rise stan
     apart e less = omega (arith, less, ap (order_of shelves) e)
 
 -- a shelf is put in where those begin that don't come before its order
-pub put_in-at : (shelves : List ShelfRecord) (one : RankedShelf) (index : ℕ) (ranked : List RankedShelf) → index ≤ length ranked
+pub put_in-at : (shelves : List LinkedShelf) (one : RankedShelf) (index : ℕ) (ranked : List RankedShelf) → index ≤ length ranked
     → Each (λ (other : RankedShelf). order_of shelves other.shelf < order_of shelves one.shelf) (take index ranked)
     → Each (λ (other : RankedShelf). order_of shelves one.shelf ≤ order_of shelves other.shelf) (drop index ranked)
     → insert ranked index one ≡ put_in shelves one ranked
@@ -167,16 +167,16 @@ put_in-at shelves one (suc index) (other ∷ others) within before after =
     rw is (ap (λ (l : List RankedShelf). other ∷ l) rest)
 
 -- a shelf stands where its order was found to begin
-pub stands-found : (shelves : List ShelfRecord) (shelf index probes : ℕ) (ranked : List RankedShelf)
+pub stands-found : (shelves : List LinkedShelf) (shelf index probes : ℕ) (ranked : List RankedShelf)
     → AreInOrder shelves ranked → 1 ≤ times shelf (ranked_numbers ranked) → IsStart shelves ranked (order_of shelves shelf) index probes → StandsAt shelf index ranked
 stands-found shelves shelf index probes ranked in_order stands start = stands-at shelves shelf 0 index ranked start.before start.after in_order.rising stands
 
 -- one that stands there has a record
-pub stands-within : (shelves : List ShelfRecord) (shelf : ℕ) (ranked : List RankedShelf) → AreInOrder shelves ranked → 1 ≤ times shelf (ranked_numbers ranked) → shelf < length shelves
+pub stands-within : (shelves : List LinkedShelf) (shelf : ℕ) (ranked : List RankedShelf) → AreInOrder shelves ranked → 1 ≤ times shelf (ranked_numbers ranked) → shelf < length shelves
 stands-within shelves shelf ranked in_order stands = Each-member (λ k. k < length shelves) (ranked_numbers ranked) shelf in_order.within stands
 
 -- one is put in where its order was found to begin
-pub put_in-found : (shelves : List ShelfRecord) (number index probes : ℕ) (one : RankedShelf) (ranked : List RankedShelf) → number ≡ one.shelf
+pub put_in-found : (shelves : List LinkedShelf) (number index probes : ℕ) (one : RankedShelf) (ranked : List RankedShelf) → number ≡ one.shelf
     → IsStart shelves ranked (order_of shelves number) index probes → insert ranked index one ≡ put_in shelves one ranked
 put_in-found shelves number index probes one ranked is start =
     let from : IsStart shelves ranked (order_of shelves one.shelf) index probes = subst (λ n. IsStart shelves ranked (order_of shelves n) index probes) is start in

@@ -4,7 +4,7 @@ use Rattle.etagere_base.specs.declared.frames.Frame.{Frame}
 use Rattle.etagere_base.specs.declared.sides.Sides.{Sides}
 use Rattle.etagere_base.specs.Lists.{Each, times}
 use Rattle.etagere_base.proofs.EachLemmas.{Each-all, Each-weaken}
-use Rattle.etagere_links.specs.declared.records.ItemRecord.{ItemRecord}
+use Rattle.etagere_links.specs.declared.records.LinkedItem.{LinkedItem}
 use Rattle.etagere_links.specs.RecordLists.{Entry, Records, shelf_walk, walked_entry}
 use Rattle.etagere_links.proofs.AllLists.LinkedWalks.{walked-numbers}
 use Rattle.etagere.specs.AtlasRecords.{is_allocated_at, is_empty_at, item_at, spelled_shelf}
@@ -34,7 +34,7 @@ Each-map P f [] each = tt
 Each-map P f (x ∷ xs) each = (each.0, Each-map P f xs each.1)
 
 -- where a list has those of some items that are free, a bound on its widths is one on those of the free items
-module _ (items : List ItemRecord) (members free : List ℕ) (lists : (item : ℕ) → times item free ≡ times item (filter (λ member. not (is_allocated_at items member)) members)) where
+module _ (items : List LinkedItem) (members free : List ℕ) (lists : (item : ℕ) → times item free ≡ times item (filter (λ member. not (is_allocated_at items member)) members)) where
   -- one in the list is an item, and free
   listed-free : (k : ℕ) → 1 ≤ times k free → (1 ≤ times k members) × (is_free (item_at items k) ≡ true)
   listed-free k stands = by_test (not (is_allocated_at items k)) refl

@@ -4,7 +4,7 @@ use Rattle.std.proofs.lemmas.Bool.Decides.{nat_tests}
 use Rattle.std.specs.Option.{option_map_or}
 use Rattle.std.specs.Prelude.{IfSome, find, nat_le, nat_lt}
 use Rattle.etagere_base.specs.Lists.{Each}
-use Rattle.etagere_links.specs.declared.records.ItemRecord.{ItemRecord}
+use Rattle.etagere_links.specs.declared.records.LinkedItem.{LinkedItem}
 use Rattle.etagere_links.specs.RecordLists.{Records, free_walk}
 use Rattle.etagere.specs.AtlasRecords.{height_of, item_at}
 use Rattle.etagere.specs.Choice.{bad_fit_rank}
@@ -64,7 +64,7 @@ good-none records width height shelf none =
     by_test false o = refl
 
 -- each of these items is at most as wide as a bound on the widest
-bounds-widest : (items : List ItemRecord) (numbers : List ℕ) (bound : ℕ) → widest_of items numbers ≤ bound → Each (λ item. (item_at items item).width ≤ bound) numbers
+bounds-widest : (items : List LinkedItem) (numbers : List ℕ) (bound : ℕ) → widest_of items numbers ≤ bound → Each (λ item. (item_at items item).width ≤ bound) numbers
 bounds-widest items [] bound low = tt
 bounds-widest items (n ∷ ns) bound low = (omega (arith, low), bounds-widest items ns bound (omega (arith, low)))
 

@@ -6,7 +6,7 @@ use Rattle.std.specs.Option.{option_map_or}
 use Rattle.etagere_base.specs.Lists.{Each}
 use Rattle.etagere_base.proofs.EachLemmas.{Each-back}
 use Rattle.etagere_links.specs.RecordLists.{Records}
-use Rattle.etagere_links.specs.declared.records.ShelfRecord.{ShelfRecord}
+use Rattle.etagere_links.specs.declared.records.LinkedShelf.{LinkedShelf}
 use Rattle.etagere.specs.AtlasRecords.{height_of}
 use Rattle.etagere.specs.Listing.{RiseFrom}
 use Rattle.etagere.specs.Private.ByHeight.{AreInOrder, IsFirstAsWide, IsStart, order_at, order_of, ranked_numbers, ranked_at}
@@ -58,7 +58,7 @@ passed-first offers [] others vain = refl
 passed-first offers (n ∷ ns) others vain =
     ap (λ o. option_map_or Some o (first_offer offers (ns ++ others))) vain.0 ∙ passed-first offers ns others vain.1
 
-pub passed-earliest : (records : List ShelfRecord) (offers : ℕ → Option Candidate) (shelves others : List ℕ) → Each (λ shelf. offers shelf ≡ None) shelves → earliest records (map offers (shelves ++ others)) ≡ earliest records (map offers others)
+pub passed-earliest : (records : List LinkedShelf) (offers : ℕ → Option Candidate) (shelves others : List ℕ) → Each (λ shelf. offers shelf ≡ None) shelves → earliest records (map offers (shelves ++ others)) ≡ earliest records (map offers others)
 passed-earliest records offers [] others vain = refl
 passed-earliest records offers (n ∷ ns) others vain =
     ap (λ o. earlier records o (earliest records (map offers (ns ++ others)))) vain.0 ∙ passed-earliest records offers ns others vain.1
@@ -96,7 +96,7 @@ pub same-size : (ranked new : List RankedShelf) → ranked_numbers new ≡ ranke
 same-size ranked new same = sym (length-map new (λ (x : RankedShelf). x.shelf)) ∙ ap length same ∙ length-map ranked (λ (x : RankedShelf). x.shelf)
 
 -- shelves of the same numbers stand in the same order
-pub in-order : (shelves : List ShelfRecord) (ranked new : List RankedShelf) → ranked_numbers new ≡ ranked_numbers ranked → AreInOrder shelves ranked → AreInOrder shelves new
+pub in-order : (shelves : List LinkedShelf) (ranked new : List RankedShelf) → ranked_numbers new ≡ ranked_numbers ranked → AreInOrder shelves ranked → AreInOrder shelves new
 in-order shelves ranked new same order =
     record {
       within = subst (Each (λ shelf. shelf < length shelves)) (sym same) order.within;

@@ -8,8 +8,8 @@ use Rattle.etagere_links.specs.RecordLists.{Records, first_free_of, shelf_walk}
 use Rattle.etagere_links.specs.RecordMerges.{shelf_split}
 use Rattle.etagere_links.specs.RecordUses.{new_shelf, rests_of, rests_used, shelves_used}
 use Rattle.etagere_links.specs.Records.{free_list, item_chain, shelf_chain}
-use Rattle.etagere_links.specs.declared.records.ItemRecord.{ItemRecord}
-use Rattle.etagere_links.specs.declared.records.ShelfRecord.{ShelfRecord}
+use Rattle.etagere_links.specs.declared.records.LinkedItem.{LinkedItem}
+use Rattle.etagere_links.specs.declared.records.LinkedShelf.{LinkedShelf}
 use Rattle.etagere_links.proofs.FirstLinks.{field_at-kept}
 use Rattle.etagere_links.proofs.RecordChanges.{length-changed_by}
 use Rattle.etagere_links.proofs.RecordFrames.{length-linked_between, map-linked_between}
@@ -28,7 +28,7 @@ use Rattle.etagere.proofs.Spelled.SpelledShelves.{shelves-keep_values}
 use Rattle.etagere.proofs.Spelled.SpelledUses.{SameShelf-then, same-shelf, shelves-used}
 
 -- a shelf that says the same stands where it stood
-pub order-same : (shelves new : List ShelfRecord) (k : ℕ) → SameShelf shelves new k → order_of new k ≡ order_of shelves k
+pub order-same : (shelves new : List LinkedShelf) (k : ℕ) → SameShelf shelves new k → order_of new k ≡ order_of shelves k
 order-same shelves new k same =
     ap (λ (h : ℕ). h * (65536 * 65536) + place_number new k) same.height
     ∙ ap (λ (a : ℕ). height_of shelves k * (65536 * 65536) + (a * 65536 + across_of new k)) same.along
@@ -49,25 +49,25 @@ length-used true of_item records = by_link records.free_shelves
     by_link (Some number) = omega arith
 
 -- the other shelves say the same once one was split
-pub same-split : (records : Records) (number rest rest_item height : ℕ) (rest_shelf : ShelfRecord) (item : ItemRecord) (k : ℕ) → number ≢ k → rest ≢ k
+pub same-split : (records : Records) (number rest rest_item height : ℕ) (rest_shelf : LinkedShelf) (item : LinkedItem) (k : ℕ) → number ≢ k → rest ≢ k
     → SameShelf records.shelves (shelf_split number rest rest_item height rest_shelf item records).shelves k
 same-split records number rest rest_item height rest_shelf item k other rest_other =
-    let old : List ShelfRecord = records.shelves in
-    let one : List ShelfRecord = changed_by (Some rest) (λ _. rest_shelf) old in
+    let old : List LinkedShelf = records.shelves in
+    let one : List LinkedShelf = changed_by (Some rest) (λ _. rest_shelf) old in
     let next : Option ℕ = link_at shelf_chain.next one number in
-    let two : List ShelfRecord = linked_between shelf_chain (Some number) next rest one in
+    let two : List LinkedShelf = linked_between shelf_chain (Some number) next rest one in
     let written : SameShelf old one k = shelf-other old old (λ _. rest_shelf) rest k (λ e. let same : rest ≡ k = cc in rest_other same) (same-shelf old k) in
     let linked : SameShelf one two k = shelves-same one two k (map-linked_between shelf_chain shelf_values shelves-keep_values one (Some number) next rest) in
     shelf-other old two (λ x. record x { height = height }) number k (λ e. let same : number ≡ k = cc in other same) (SameShelf-then old one two k written linked)
 
 -- there are as many then
-pub length-split : (records : Records) (number rest rest_item height : ℕ) (rest_shelf : ShelfRecord) (item : ItemRecord)
+pub length-split : (records : Records) (number rest rest_item height : ℕ) (rest_shelf : LinkedShelf) (item : LinkedItem)
     → length (shelf_split number rest rest_item height rest_shelf item records).shelves ≡ length records.shelves
 length-split records number rest rest_item height rest_shelf item =
-    let old : List ShelfRecord = records.shelves in
-    let one : List ShelfRecord = changed_by (Some rest) (λ _. rest_shelf) old in
+    let old : List LinkedShelf = records.shelves in
+    let one : List LinkedShelf = changed_by (Some rest) (λ _. rest_shelf) old in
     let next : Option ℕ = link_at shelf_chain.next one number in
-    length-changed_by (λ (x : ShelfRecord). record x { height = height }) (linked_between shelf_chain (Some number) next rest one) (Some number)
+    length-changed_by (λ (x : LinkedShelf). record x { height = height }) (linked_between shelf_chain (Some number) next rest one) (Some number)
     ∙ length-linked_between shelf_chain one (Some number) next rest
     ∙ length-changed_by (λ _. rest_shelf) old (Some rest)
 
@@ -77,9 +77,9 @@ same-given found None records k =
     shelves-same records.shelves (with_item_given found None records).shelves k
     (free-first found.shelf (first_without (link_at free_list.previous records.items found.item) (link_at free_list.next records.items found.item) (first_free_of records.shelves found.shelf)) records.shelves)
 same-given found (Some rest) records k =
-    let items : List ItemRecord = (with_rest_written found rest records).items in
-    let one : List ItemRecord = linked_between item_chain (Some found.item) (link_at item_chain.next items found.item) rest items in
-    let two : List ItemRecord = linked_between free_list (Some found.item) (link_at free_list.next one found.item) rest one in
+    let items : List LinkedItem = (with_rest_written found rest records).items in
+    let one : List LinkedItem = linked_between item_chain (Some found.item) (link_at item_chain.next items found.item) rest items in
+    let two : List LinkedItem = linked_between free_list (Some found.item) (link_at free_list.next one found.item) rest one in
     shelves-same records.shelves (with_item_given found (Some rest) records).shelves k
     (free-first found.shelf (first_without (link_at free_list.previous two found.item) (link_at free_list.next two found.item) (first_free_of records.shelves found.shelf)) records.shelves)
 
@@ -95,11 +95,11 @@ order-taken column_width found records k =
     let split : Records = shelf_split_for column_width found records in
     let given : Records = with_item_given found (rests_of found.splits_shelf found.splits_item records).item split in
     let same : SameShelf split.shelves given.shelves k = same-given found (rests_of found.splits_shelf found.splits_item records).item split k in
-    let marked : ShelfRecord → ShelfRecord = λ here. record here { is_empty = false } in
-    let new : List ShelfRecord = changed_by (Some found.shelf) marked given.shelves in
-    ap (λ (h : ℕ). h * (65536 * 65536) + place_number new k) (field_at-kept (λ (x : ShelfRecord). x.height) 0 marked given.shelves found.shelf k (λ x. refl))
-    ∙ ap (λ (a : ℕ). height_of given.shelves k * (65536 * 65536) + (a * 65536 + across_of new k)) (field_at-kept (λ (x : ShelfRecord). x.x) 0 marked given.shelves found.shelf k (λ x. refl))
-    ∙ ap (λ (a : ℕ). height_of given.shelves k * (65536 * 65536) + (along_of given.shelves k * 65536 + a)) (field_at-kept (λ (x : ShelfRecord). x.y) 0 marked given.shelves found.shelf k (λ x. refl))
+    let marked : LinkedShelf → LinkedShelf = λ here. record here { is_empty = false } in
+    let new : List LinkedShelf = changed_by (Some found.shelf) marked given.shelves in
+    ap (λ (h : ℕ). h * (65536 * 65536) + place_number new k) (field_at-kept (λ (x : LinkedShelf). x.height) 0 marked given.shelves found.shelf k (λ x. refl))
+    ∙ ap (λ (a : ℕ). height_of given.shelves k * (65536 * 65536) + (a * 65536 + across_of new k)) (field_at-kept (λ (x : LinkedShelf). x.x) 0 marked given.shelves found.shelf k (λ x. refl))
+    ∙ ap (λ (a : ℕ). height_of given.shelves k * (65536 * 65536) + (along_of given.shelves k * 65536 + a)) (field_at-kept (λ (x : LinkedShelf). x.y) 0 marked given.shelves found.shelf k (λ x. refl))
     ∙ order-same split.shelves given.shelves k same
 
 -- there are as many then
@@ -108,7 +108,7 @@ pub length-taken : (column_width : ℕ) (found : Placement) (records : Records)
 length-taken column_width found records =
     let split : Records = shelf_split_for column_width found records in
     let rest : Option ℕ = (rests_of found.splits_shelf found.splits_item records).item in
-    length-changed_by (λ (here : ShelfRecord). record here { is_empty = false }) (with_item_given found rest split).shelves (Some found.shelf)
+    length-changed_by (λ (here : LinkedShelf). record here { is_empty = false }) (with_item_given found rest split).shelves (Some found.shelf)
     ∙ length-given found rest split
 
 -- two of one order begin at one place, where these are below a bound

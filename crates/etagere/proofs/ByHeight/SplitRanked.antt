@@ -6,7 +6,7 @@ use Rattle.etagere_base.proofs.TimesLemmas.{hit, times-append, times-remove_plac
 use Rattle.etagere_base.specs.Lists.{times}
 use Rattle.etagere_base.specs.declared.frames.Frame.{Frame}
 use Rattle.etagere_links.specs.RecordLists.{Records, shelf_numbers, shelf_walk, walked_lists}
-use Rattle.etagere_links.specs.declared.records.ShelfRecord.{ShelfRecord}
+use Rattle.etagere_links.specs.declared.records.LinkedShelf.{LinkedShelf}
 use Rattle.etagere_links.proofs.AllLists.LinkedWalks.{walked-numbers}
 use Rattle.etagere.specs.AtlasRecords.{spelled_shelf}
 use Rattle.etagere.specs.Private.ByHeight.{AreInOrder, AreRanked, IsBound, bound_of, order_of, put_in, ranked_numbers, taken_out}
@@ -148,7 +148,7 @@ module _ (frame : Frame) (records new split : Records) (ranked : List RankedShel
           omega (arith, stands, again, count-lower k)
 
   -- what ranking the rest of the shelf needs, where the records before the split have the places of the old ones
-  pub split-rankable : (used : List ShelfRecord) → length records.shelves ≤ length used → ((k : ℕ) → order_of used k ≡ order_of records.shelves k)
+  pub split-rankable : (used : List LinkedShelf) → length records.shelves ≤ length used → ((k : ℕ) → order_of used k ≡ order_of records.shelves k)
       → IsShelfRankable shelf rest used split.shelves ranked
   split-rankable used longer same =
       record {

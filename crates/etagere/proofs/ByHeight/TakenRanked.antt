@@ -5,7 +5,7 @@ use Rattle.etagere_base.specs.Lists.{times}
 use Rattle.etagere_base.specs.declared.frames.Frame.{Frame}
 use Rattle.etagere_links.specs.RecordLists.{Records, shelf_numbers, walked_lists}
 use Rattle.etagere_links.specs.RecordUses.{number_used}
-use Rattle.etagere_links.specs.declared.records.ShelfRecord.{ShelfRecord}
+use Rattle.etagere_links.specs.declared.records.LinkedShelf.{LinkedShelf}
 use Rattle.etagere.specs.AtlasRecords.{spelled_shelf}
 use Rattle.etagere.specs.Choice.{Placement}
 use Rattle.etagere.specs.Private.ByHeight.{AreRanked, IsBound, order_of}
@@ -144,7 +144,7 @@ taken-ranked frame records placement found ranked kept made split_same are = by_
         let item : ℕ = made.spells.item in
         let split : Records = split_by (Some rest) (Some item) in
         let same : Orders (Some rest) (Some item) = orders (Some rest) (Some item) (shelf_used true e) (item_used true e) in
-        let whole_record : ShelfRecord = shelf_record used.shelves found.shelf in
+        let whole_record : LinkedShelf = shelf_record used.shelves found.shelf in
         let long : length split.shelves ≡ length used.shelves =
         length-split used found.shelf rest item found.height (rest_shelf whole_record found.height item)
         (free_item whole_record.x frame.column_width rest (item_record used.items item).generation) in

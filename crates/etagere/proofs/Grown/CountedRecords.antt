@@ -6,7 +6,7 @@ use Rattle.etagere_base.specs.declared.geometry.Size.{Size}
 use Rattle.etagere_base.specs.Frames.{across_side}
 use Rattle.etagere_base.specs.Lists.{Each, times, total}
 use Rattle.etagere_base.proofs.AlignedPlaces.{multiple}
-use Rattle.etagere_links.specs.declared.records.ItemRecord.{ItemRecord}
+use Rattle.etagere_links.specs.declared.records.LinkedItem.{LinkedItem}
 use Rattle.etagere_links.specs.Chains.{Leads}
 use Rattle.etagere_links.specs.Edits.{link_at}
 use Rattle.etagere_links.specs.RecordLists.{Records, first_item_of, item_walk, shelf_walk, walked_entry}
@@ -36,7 +36,7 @@ last-leads next records (suc n) x (y ∷ ys) leads few =
     sym (last-next next records (suc n) n x y refl leads.0) ∙ last-leads next records n y ys leads.1 (omega (arith, few))
 
 -- the items of a list end with a free one where its last one is free
-ends-last : (items : List ItemRecord) (x : ℕ) (xs : List ℕ) → ends_free (map (item_at items) (x ∷ xs)) ≡ not (is_allocated_at items (last_of x xs))
+ends-last : (items : List LinkedItem) (x : ℕ) (xs : List ℕ) → ends_free (map (item_at items) (x ∷ xs)) ≡ not (is_allocated_at items (last_of x xs))
 ends-last items x [] = free-spelled items x
 ends-last items x (y ∷ ys) = ends-last items y ys
 

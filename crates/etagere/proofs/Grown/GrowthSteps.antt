@@ -2,8 +2,8 @@
 use Rattle.std.proofs.Common.{◌≡◌, ℕ, zero, suc, ◌+◌, ◌*◌, ◌≤◌, Bool, true, false, cond, Option, None, Some, List, refl, arith}
 use Rattle.etagere_base.specs.declared.frames.Frame.{Frame}
 use Rattle.etagere_base.specs.Frames.{across_side}
-use Rattle.etagere_links.specs.declared.records.ShelfRecord.{ShelfRecord}
-use Rattle.etagere_links.specs.declared.records.ItemRecord.{ItemRecord}
+use Rattle.etagere_links.specs.declared.records.LinkedShelf.{LinkedShelf}
+use Rattle.etagere_links.specs.declared.records.LinkedItem.{LinkedItem}
 use Rattle.etagere_links.specs.Edits.{link_at}
 use Rattle.etagere_links.specs.RecordEdits.{item_changed}
 use Rattle.etagere_links.specs.RecordLists.{Records}
@@ -25,13 +25,13 @@ last-none next records zero number is = refl
 last-none next records (suc n) number is = rw is refl
 
 -- one shelf is counted
-pub counted-next : (counts : ℕ → Option ℕ → Bool) (shelves : List ShelfRecord) (n m shelf : ℕ) (at next : Option ℕ) → n ≡ suc m → at ≡ Some shelf
+pub counted-next : (counts : ℕ → Option ℕ → Bool) (shelves : List LinkedShelf) (n m shelf : ℕ) (at next : Option ℕ) → n ≡ suc m → at ≡ Some shelf
     → next ≡ link_at shelf_chain.next shelves shelf
     → counted_from counts shelves n at ≡ cond (counts shelf next) 1 0 + counted_from counts shelves m next
 counted-next counts shelves n m shelf at next h is follows = rw (h, is, follows) refl
 
 -- no shelf is left to be counted
-pub counted-none : (counts : ℕ → Option ℕ → Bool) (shelves : List ShelfRecord) (n : ℕ) (at : Option ℕ) → at ≡ None → counted_from counts shelves n at ≡ 0
+pub counted-none : (counts : ℕ → Option ℕ → Bool) (shelves : List LinkedShelf) (n : ℕ) (at : Option ℕ) → at ≡ None → counted_from counts shelves n at ≡ 0
 counted-none counts shelves zero at is = refl
 counted-none counts shelves (suc n) at is = rw is refl
 
@@ -48,7 +48,7 @@ growing-is records made growing h k = rw (h, k) refl
 -- a free last item becomes wider
 pub widened-free : (shelf place width last wide : ℕ) (growing : Growing) (new : Records) → last_item growing.records shelf ≡ Some last
     → is_allocated_at growing.records.items last ≡ false → wide ≡ width_of growing.records.items last + width
-    → new ≡ item_changed last (λ (item : ItemRecord). record item { width = wide }) growing.records
+    → new ≡ item_changed last (λ (item : LinkedItem). record item { width = wide }) growing.records
     → new ≡ (shelf_widened shelf place width growing).records
 widened-free shelf place width last wide growing new is free wide_is changed = rw (is, free, ← wide_is) changed
 

@@ -4,8 +4,8 @@ use Rattle.std.proofs.Math.Nat.{mul-div_cancel, mul-mod_left}
 use Rattle.std.specs.Prelude.{◌%◌, ◌==◌, is_some, slice_get}
 use Rattle.etagere_base.specs.declared.frames.Frame.{Frame}
 use Rattle.etagere_base.specs.Lists.{Each, times}
-use Rattle.etagere_links.specs.declared.records.ItemRecord.{ItemRecord}
-use Rattle.etagere_links.specs.declared.records.ShelfRecord.{ShelfRecord}
+use Rattle.etagere_links.specs.declared.records.LinkedItem.{LinkedItem}
+use Rattle.etagere_links.specs.declared.records.LinkedShelf.{LinkedShelf}
 use Rattle.etagere_links.specs.Edits.{changed_by, link_at, linked_between}
 use Rattle.etagere_links.specs.RecordEdits.{item_changed, shelf_changed, shelf_inserted_after}
 use Rattle.etagere_links.specs.RecordLists.{Entry, IsEntry, IsLinkedBut, Records, item_numbers, shelf_numbers}
@@ -64,7 +64,7 @@ Each-numbers : (P : ℕ → Type 0) (entries : List Entry) → Each (λ (entry :
 Each-numbers P [] each = tt
 Each-numbers P (entry ∷ entries) each = (each.0, Each-numbers P entries each.1)
 
-module _ (shelves new : List ShelfRecord) (column_width column added : ℕ) where
+module _ (shelves new : List LinkedShelf) (column_width column added : ℕ) where
   -- a shelf doesn't count for other columns
   other-height : (c : ℕ) → along_of new added / column_width ≡ column → c ≢ column → height_before new column_width c (added ∷ []) ≡ 0
   other-height c is other =
@@ -142,22 +142,22 @@ module _ (records : Records) (previous shelf item width along across height : �
   inserted-values : shelf < length records.shelves → item < length records.items
       → IsInserted records (empty_inserted previous shelf item width along across height records) shelf item width along across height
   inserted-values within item_within =
-      let items : List ItemRecord = records.items in
-      let old : List ShelfRecord = records.shelves in
-      let written : ShelfRecord = empty_shelf_record along across height item in
-      let one : List ShelfRecord = changed_by (Some shelf) (λ _. written) old in
+      let items : List LinkedItem = records.items in
+      let old : List LinkedShelf = records.shelves in
+      let written : LinkedShelf = empty_shelf_record along across height item in
+      let one : List LinkedShelf = changed_by (Some shelf) (λ _. written) old in
       let next : Option ℕ = link_at shelf_chain.next one previous in
-      let new : List ShelfRecord = linked_between shelf_chain (Some previous) next shelf one in
+      let new : List LinkedShelf = linked_between shelf_chain (Some previous) next shelf one in
       let linked : (k : ℕ) → SameShelf one new k = λ k. shelves-same one new k (map-linked_between shelf_chain shelf_values shelves-keep_values one (Some previous) next shelf) in
       record {
-        begins = (linked shelf).along ∙ field_at-changed (λ (x : ShelfRecord). x.x) 0 (λ _. written) old shelf along within (λ x. refl);
-        stands = (linked shelf).across ∙ field_at-changed (λ (x : ShelfRecord). x.y) 0 (λ _. written) old shelf across within (λ x. refl);
-        tall = (linked shelf).height ∙ field_at-changed (λ (x : ShelfRecord). x.height) 0 (λ _. written) old shelf height within (λ x. refl);
-        is_empty = (linked shelf).is_empty ∙ field_at-changed (λ (x : ShelfRecord). x.is_empty) false (λ _. written) old shelf true within (λ x. refl);
+        begins = (linked shelf).along ∙ field_at-changed (λ (x : LinkedShelf). x.x) 0 (λ _. written) old shelf along within (λ x. refl);
+        stands = (linked shelf).across ∙ field_at-changed (λ (x : LinkedShelf). x.y) 0 (λ _. written) old shelf across within (λ x. refl);
+        tall = (linked shelf).height ∙ field_at-changed (λ (x : LinkedShelf). x.height) 0 (λ _. written) old shelf height within (λ x. refl);
+        is_empty = (linked shelf).is_empty ∙ field_at-changed (λ (x : LinkedShelf). x.is_empty) false (λ _. written) old shelf true within (λ x. refl);
         spells = field_at-changed (spelled_item item) (record { width = 0; id = None }) (started along width shelf) items item (record { width = width; id = None }) item_within (λ x. refl);
-        place = field_at-changed (λ (x : ItemRecord). x.x) 0 (started along width shelf) items item along item_within (λ x. refl);
-        owner = field_at-changed (λ (x : ItemRecord). x.shelf) 0 (started along width shelf) items item shelf item_within (λ x. refl);
-        free = field_at-changed (λ (x : ItemRecord). x.allocated) false (started along width shelf) items item false item_within (λ x. refl);
+        place = field_at-changed (λ (x : LinkedItem). x.x) 0 (started along width shelf) items item along item_within (λ x. refl);
+        owner = field_at-changed (λ (x : LinkedItem). x.shelf) 0 (started along width shelf) items item shelf item_within (λ x. refl);
+        free = field_at-changed (λ (x : LinkedItem). x.allocated) false (started along width shelf) items item false item_within (λ x. refl);
         others = λ k other. SameShelf-then old one new k (shelf-other old old (λ _. written) shelf k (λ e. let same : shelf ≡ k = cc in other same) (same-shelf old k)) (linked k);
         items = λ k other. get-changed_by-other (started along width shelf) items (Some item) k (λ e. let same : item ≡ k = cc in other same);
       }
@@ -165,7 +165,7 @@ module _ (records : Records) (previous shelf item width along across height : �
   -- as many shelves as before
   inserted-shelves : length (empty_inserted previous shelf item width along across height records).shelves ≡ length records.shelves
   inserted-shelves =
-      let one : List ShelfRecord = changed_by (Some shelf) (λ _. empty_shelf_record along across height item) records.shelves in
+      let one : List LinkedShelf = changed_by (Some shelf) (λ _. empty_shelf_record along across height item) records.shelves in
       length-linked_between shelf_chain one (Some previous) (link_at shelf_chain.next one previous) shelf
       ∙ length-changed_by (λ _. empty_shelf_record along across height item) records.shelves (Some shelf)
 
@@ -173,21 +173,21 @@ module _ (records : Records) (previous shelf item width along across height : �
   empty-entry : shelf < length records.shelves → item < length records.items
       → IsEntry (shelf_changed shelf (λ _. empty_shelf_record along across height item) (item_changed item (started along width shelf) records)) (entry_of shelf (item ∷ []) (item ∷ []))
   empty-entry within item_within =
-      let items : List ItemRecord = records.items in
-      let shelves : List ShelfRecord = records.shelves in
-      let written : ShelfRecord = empty_shelf_record along across height item in
-      let change : ItemRecord → ItemRecord = started along width shelf in
+      let items : List LinkedItem = records.items in
+      let shelves : List LinkedShelf = records.shelves in
+      let written : LinkedShelf = empty_shelf_record along across height item in
+      let change : LinkedItem → LinkedItem = started along width shelf in
       record {
         items = record {
           forward = (
-            field_at-changed (λ (x : ShelfRecord). x.first_item) None (λ _. written) shelves shelf (Some item) within (λ x. refl),
+            field_at-changed (λ (x : LinkedShelf). x.first_item) None (λ _. written) shelves shelf (Some item) within (λ x. refl),
             link_at-changed item_chain.next change items (Some item) None item refl item_within (λ x. refl),
           );
           backward = (link_at-changed item_chain.previous change items (Some item) None item refl item_within (λ x. refl), tt);
         };
         free_list = record {
           forward = (
-            field_at-changed (λ (x : ShelfRecord). x.first_unallocated) None (λ _. written) shelves shelf (Some item) within (λ x. refl),
+            field_at-changed (λ (x : LinkedShelf). x.first_unallocated) None (λ _. written) shelves shelf (Some item) within (λ x. refl),
             link_at-changed free_list.next change items (Some item) None item refl item_within (λ x. refl),
           );
           backward = (link_at-changed free_list.previous change items (Some item) None item refl item_within (λ x. refl), tt);
@@ -298,7 +298,7 @@ made-item None made = refl
 made-item (Some number) made = refl
 
 -- putting a shelf to use that was put aside, or made before, keeps all shelf records
-kept-shelves : (unused : Option ℕ) (shelves : List ShelfRecord) → shelves_used (is_some unused) unused shelves ≡ shelves
+kept-shelves : (unused : Option ℕ) (shelves : List LinkedShelf) → shelves_used (is_some unused) unused shelves ≡ shelves
 kept-shelves None shelves = refl
 kept-shelves (Some number) shelves = refl
 
@@ -355,14 +355,14 @@ ready frame growing entries unused_items unused_shelves items shelves spelled fl
     let all_shelves : used.records.shelves ≡ growing.records.shelves = kept-shelves growing.records.free_shelves growing.records.shelves in
     let same : SameEntries (bare frame growing.records) used.records entries =
     same-entries (bare frame growing.records) used.records entries
-    (λ k stands. subst (λ (s : List ShelfRecord). SameShelf growing.records.shelves s k) (sym all_shelves) (same-shelf growing.records.shelves k))
+    (λ k stands. subst (λ (s : List LinkedShelf). SameShelf growing.records.shelves s k) (sym all_shelves) (same-shelf growing.records.shelves k))
     (λ k stands. kept k (stranger (next_item growing) k (item_numbers entries) free.no_used stands)) spelled.linked.entries in
     record {
       spelled =
           record {
             linked = linked;
             placed = same.placed spelled.placed;
-            stacked = subst (λ (s : List ShelfRecord). AreStacked s frame.column_width [] (shelf_numbers entries)) (sym all_shelves) spelled.stacked;
+            stacked = subst (λ (s : List LinkedShelf). AreStacked s frame.column_width [] (shelf_numbers entries)) (sym all_shelves) spelled.stacked;
             unused = unmarked-same growing.records.items used.records.items rest_items
                 (λ k stands. kept k (stranger (next_item growing) k rest_items free.no_unused stands))
                 (Each-but_first (λ item. is_allocated_at growing.records.items item ≡ false) unused_items spelled.unused);
@@ -388,7 +388,7 @@ module _ (frame : Frame) (old : ℕ) (growing : Growing) (before after : List En
       loose-of (length used.records.items) (item_numbers entries) rest_items (left_items used rest_items items) (next_item growing) is_ready.spelled.linked.items_once in
       let apart : IsApart growing.records before after unused_items (left_items growing unused_items (suc items)) entry =
       linked-apart growing.records before after entry unused_items unused_shelves (left_items growing unused_items (suc items)) (left_shelves growing unused_shelves (suc shelves)) is.spelled.linked in
-      let shelf_count : length used.records.shelves ≡ length growing.records.shelves = ap (λ (s : List ShelfRecord). length s) is_ready.same_shelves in
+      let shelf_count : length used.records.shelves ≡ length growing.records.shelves = ap (λ (s : List LinkedShelf). length s) is_ready.same_shelves in
       record {
         small = omega (arith, apart.number, is.counts.shelves.1);
         item = omega (arith, free.within, is_ready.count, is.counts.items.1);
@@ -412,12 +412,12 @@ module _ (frame : Frame) (old : ℕ) (growing : Growing) (before after : List En
       let is_ready : IsReady frame growing used entries unused_items unused_shelves items shelves = ready frame growing entries unused_items unused_shelves items shelves is.spelled is.flags in
       let is_added : IsAdded frame used.records new before after entry added rest_items rest_shelves (left_items used rest_items items) (left_shelves used rest_shelves shelves) column height =
       shelf-added frame used.records before after entry shelf item column across height rest_items rest_shelves (left_items used rest_items items) (left_shelves used rest_shelves shelves) wide
-      (ends ∙ ap (λ (s : List ShelfRecord). height_before s frame.column_width column (shelf_numbers (before ++ entry ∷ []))) (sym is_ready.same_shelves))
-      (subst (λ (s : List ShelfRecord). Each (λ (other : Entry). along_of s other.number / frame.column_width ≢ column) after) (sym is_ready.same_shelves) others)
+      (ends ∙ ap (λ (s : List LinkedShelf). height_before s frame.column_width column (shelf_numbers (before ++ entry ∷ []))) (sym is_ready.same_shelves))
+      (subst (λ (s : List LinkedShelf). Each (λ (other : Entry). along_of s other.number / frame.column_width ≢ column) after) (sym is_ready.same_shelves) others)
       is_ready.spelled in
       let item_count : length new.items ≡ length growing.records.items = length-changed_by (started (column * frame.column_width) frame.column_width shelf) used.records.items (Some item) ∙ is_ready.count in
       let shelf_count : length new.shelves ≡ length growing.records.shelves =
-      inserted-shelves used.records entry.number shelf item frame.column_width (column * frame.column_width) across height ∙ ap (λ (s : List ShelfRecord). length s) is_ready.same_shelves in
+      inserted-shelves used.records entry.number shelf item frame.column_width (column * frame.column_width) across height ∙ ap (λ (s : List LinkedShelf). length s) is_ready.same_shelves in
       record {
         item = item;
         is =
@@ -434,7 +434,7 @@ module _ (frame : Frame) (old : ℕ) (growing : Growing) (before after : List En
             };
         spelled = map-inserted (spelled_shelf (bare frame new)) (spelled_shelf (bare frame growing.records)) before entry added after (empty_shelf frame column height)
             is_added.empty (is_added.others ∙ is_ready.same);
-        same = λ k stands. subst (λ (s : List ShelfRecord). SameShelf s new.shelves k) is_ready.same_shelves (is_added.same k stands);
+        same = λ k stands. subst (λ (s : List LinkedShelf). SameShelf s new.shelves k) is_ready.same_shelves (is_added.same k stands);
       }
 
 -- an empty shelf is put after another one, where those before it in its column end

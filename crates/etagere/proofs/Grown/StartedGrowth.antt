@@ -9,8 +9,8 @@ use Rattle.etagere_base.specs.declared.geometry.Size.{Size}
 use Rattle.etagere_base.specs.Lists.{Each}
 use Rattle.etagere_base.proofs.AlignedPlaces.{multiple}
 use Rattle.etagere_base.proofs.EachLemmas.{Each-append, Each-weaken}
-use Rattle.etagere_links.specs.declared.records.ItemRecord.{ItemRecord}
-use Rattle.etagere_links.specs.declared.records.ShelfRecord.{ShelfRecord}
+use Rattle.etagere_links.specs.declared.records.LinkedItem.{LinkedItem}
+use Rattle.etagere_links.specs.declared.records.LinkedShelf.{LinkedShelf}
 use Rattle.etagere_links.specs.Chains.{IsPileIn}
 use Rattle.etagere_links.specs.Edits.{link_at}
 use Rattle.etagere_links.specs.Families.{Family}
@@ -106,32 +106,32 @@ missing-counted family (suc wanted) unused records (x ∷ xs) leads =
     rw leads.0 (omega (arith, rest))
 
 -- items say the same after so many were made
-items-made : (count : ℕ) (items : List ItemRecord) (k : ℕ) → SameItem items (with_new_items count items) k
+items-made : (count : ℕ) (items : List LinkedItem) (k : ℕ) → SameItem items (with_new_items count items) k
 items-made zero items k = item-same items items k refl
 items-made (suc count) items k =
     SameItem-then items (items ++ new_item ∷ []) (with_new_items count (items ++ new_item ∷ [])) k
     (record {
       item = field_at-made (spelled_item k) (record { width = 0; id = None }) items new_item k refl;
-      place = field_at-made (λ (i : ItemRecord). i.x) 0 items new_item k refl;
-      shelf = field_at-made (λ (i : ItemRecord). i.shelf) 0 items new_item k refl;
-      allocated = field_at-made (λ (i : ItemRecord). i.allocated) false items new_item k refl;
+      place = field_at-made (λ (i : LinkedItem). i.x) 0 items new_item k refl;
+      shelf = field_at-made (λ (i : LinkedItem). i.shelf) 0 items new_item k refl;
+      allocated = field_at-made (λ (i : LinkedItem). i.allocated) false items new_item k refl;
     })
     (items-made count (items ++ new_item ∷ []) k)
 
 -- and so do shelves
-shelves-made : (count : ℕ) (shelves : List ShelfRecord) (k : ℕ) → SameShelf shelves (with_new_shelves count shelves) k
+shelves-made : (count : ℕ) (shelves : List LinkedShelf) (k : ℕ) → SameShelf shelves (with_new_shelves count shelves) k
 shelves-made zero shelves k = same-shelf shelves k
 shelves-made (suc count) shelves k =
     SameShelf-then shelves (shelves ++ new_shelf ∷ []) (with_new_shelves count (shelves ++ new_shelf ∷ [])) k (shelves-used None shelves k)
     (shelves-made count (shelves ++ new_shelf ∷ []) k)
 
 -- so many items are more
-length-items : (count : ℕ) (items : List ItemRecord) → length (with_new_items count items) ≡ length items + count
+length-items : (count : ℕ) (items : List LinkedItem) → length (with_new_items count items) ≡ length items + count
 length-items zero items = omega arith
 length-items (suc count) items = omega (arith, length-items count (items ++ new_item ∷ []), length-append items (new_item ∷ []))
 
 -- and so many shelves
-length-shelves : (count : ℕ) (shelves : List ShelfRecord) → length (with_new_shelves count shelves) ≡ length shelves + count
+length-shelves : (count : ℕ) (shelves : List LinkedShelf) → length (with_new_shelves count shelves) ≡ length shelves + count
 length-shelves zero shelves = omega arith
 length-shelves (suc count) shelves = omega (arith, length-shelves count (shelves ++ new_shelf ∷ []), length-append shelves (new_shelf ∷ []))
 

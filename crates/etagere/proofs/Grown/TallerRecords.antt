@@ -6,7 +6,7 @@ use Rattle.etagere_base.specs.declared.frames.Frame.{Frame}
 use Rattle.etagere_base.specs.Lists.{Each, times}
 use Rattle.etagere_base.proofs.EachLemmas.{Each-append, Each-back, Each-front}
 use Rattle.etagere_base.proofs.TimesLemmas.{times-append}
-use Rattle.etagere_links.specs.declared.records.ShelfRecord.{ShelfRecord}
+use Rattle.etagere_links.specs.declared.records.LinkedShelf.{LinkedShelf}
 use Rattle.etagere_links.specs.RecordEdits.{shelf_changed}
 use Rattle.etagere_links.specs.RecordLists.{Entry, IsEntry, Records, shelf_numbers}
 use Rattle.etagere_links.proofs.AllLists.LinkedFields.{shelf_changed-linked}
@@ -28,7 +28,7 @@ use Rattle.etagere.proofs.Spelled.SpelledShelves.{IsTaller, still-placed}
 use Rattle.etagere.proofs.Spelled.SpelledUses.{SameEntries, same-entries}
 use Rattle.etagere.proofs.Spelled.StackedMerges.{height-one, height_before-append, stacked-after}
 
-module _ (shelves : List ShelfRecord) (column_width : ℕ) where
+module _ (shelves : List LinkedShelf) (column_width : ℕ) where
   -- of shelves that stand one on the other, the first ones do, and the others do after them
   pub stacked-parts : (below front back : List ℕ) → AreStacked shelves column_width below (front ++ back)
       → AreStacked shelves column_width below front × AreStacked shelves column_width (below ++ front) back
@@ -47,7 +47,7 @@ module _ (shelves : List ShelfRecord) (column_width : ℕ) where
   )
 
 -- a shelf of another column adds no height
-height-other : (shelves : List ShelfRecord) (column_width column n : ℕ) → along_of shelves n / column_width ≢ column
+height-other : (shelves : List LinkedShelf) (column_width column n : ℕ) → along_of shelves n / column_width ≢ column
     → height_before shelves column_width column (n ∷ []) ≡ 0
 height-other shelves column_width column n other =
     omega (arith, cond-false (along_of shelves n / column_width == column) (height_of shelves n) 0 (apart (along_of shelves n / column_width) column other))
@@ -55,7 +55,7 @@ height-other shelves column_width column n other =
     apart : (a b : ℕ) → a ≢ b → (a == b) ≡ false
     apart a b h = grind arith
 
-module _ (shelves new : List ShelfRecord) (column_width : ℕ) where
+module _ (shelves new : List LinkedShelf) (column_width : ℕ) where
   -- the heights of shelves that say the same
   heights-among : (column : ℕ) (numbers : List ℕ) → ((k : ℕ) → 1 ≤ times k numbers → SameShelf shelves new k)
       → height_before new column_width column numbers ≡ height_before shelves column_width column numbers
@@ -116,18 +116,18 @@ module _ (shelves new : List ShelfRecord) (column_width : ℕ) where
 
 -- records with one shelf as tall as this
 abbrev pub with_tall : ℕ → ℕ → Records → Records
-with_tall number height records = shelf_changed number (λ (here : ShelfRecord). record here { height = height }) records
+with_tall number height records = shelf_changed number (λ (here : LinkedShelf). record here { height = height }) records
 
 -- what records say once one shelf is taller
 tall-values : (records : Records) (number height : ℕ) → number < length records.shelves → IsTaller records (with_tall number height records) number height
 tall-values records number height within =
-    let old : List ShelfRecord = records.shelves in
-    let change : ShelfRecord → ShelfRecord = λ x. record x { height = height } in
+    let old : List LinkedShelf = records.shelves in
+    let change : LinkedShelf → LinkedShelf = λ x. record x { height = height } in
     record {
-      along = λ k. field_at-kept (λ (x : ShelfRecord). x.x) 0 change old number k (λ x. refl);
-      across = λ k. field_at-kept (λ (x : ShelfRecord). x.y) 0 change old number k (λ x. refl);
-      is_empty = λ k. field_at-kept (λ (x : ShelfRecord). x.is_empty) false change old number k (λ x. refl);
-      own = field_at-changed (λ (x : ShelfRecord). x.height) 0 change old number height within (λ x. refl);
+      along = λ k. field_at-kept (λ (x : LinkedShelf). x.x) 0 change old number k (λ x. refl);
+      across = λ k. field_at-kept (λ (x : LinkedShelf). x.y) 0 change old number k (λ x. refl);
+      is_empty = λ k. field_at-kept (λ (x : LinkedShelf). x.is_empty) false change old number k (λ x. refl);
+      own = field_at-changed (λ (x : LinkedShelf). x.height) 0 change old number height within (λ x. refl);
       others = λ k other. shelf-other old old change number k other (record { along = refl; across = refl; height = refl; is_empty = refl });
       items = λ k. item-same records.items records.items k refl;
       as_many = length-changed_by change old (Some number);
@@ -180,7 +180,7 @@ end-taller frame old growing before after entry unused_items unused_shelves item
           record {
             spelled =
                 record {
-                  linked = shelf_changed-linked records entry.number (λ (here : ShelfRecord). record here { height = tall }) entries unused_items unused_shelves _ _
+                  linked = shelf_changed-linked records entry.number (λ (here : LinkedShelf). record here { height = tall }) entries unused_items unused_shelves _ _
                       (record { next = λ x. refl; prev = λ x. refl; first_item = λ x. refl; first_unallocated = λ x. refl }) is.spelled.linked;
                   placed = still-placed atlas new entries taller.along taller.items is.spelled.placed;
                   stacked = rw numbers

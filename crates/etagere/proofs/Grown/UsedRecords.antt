@@ -2,7 +2,7 @@
 use Rattle.std.proofs.Common.{◌≡◌, ◌≢◌, ℕ, suc, ◌≤◌, Option, None, Some, List, [], ◌∷◌, length, refl, arith}
 use Rattle.std.specs.Option.{option_map_or}
 use Rattle.std.specs.Prelude.{is_some, slice_get}
-use Rattle.etagere_links.specs.declared.records.ItemRecord.{ItemRecord}
+use Rattle.etagere_links.specs.declared.records.LinkedItem.{LinkedItem}
 use Rattle.etagere_links.specs.RecordUses.{items_used, used_again}
 use Rattle.etagere_links.proofs.AllLists.LinkedUses.{but_first}
 use Rattle.etagere_links.proofs.RecordChanges.{get-changed_by-other, length-changed_by}
@@ -10,13 +10,13 @@ use Rattle.etagere.specs.Private.RecordsGrown.{Growing, after_item, made_after_i
 use Rattle.etagere.specs.declared.linked.growing.Made.{Made}
 
 -- records are the same after one was put to use, but for it
-pub used-other : (unused : Option ℕ) (items : List ItemRecord) (made k : ℕ) → option_map_or (λ n. n) unused made ≢ k
+pub used-other : (unused : Option ℕ) (items : List LinkedItem) (made k : ℕ) → option_map_or (λ n. n) unused made ≢ k
     → slice_get (items_used (is_some unused) unused items) k ≡ slice_get items k
 used-other None items made k other = refl
 used-other (Some n) items made k other = get-changed_by-other used_again items (Some n) k (λ e. let same : n ≡ k = cc in other same)
 
 -- none was made for that
-length-used : (unused : Option ℕ) (items : List ItemRecord) → length (items_used (is_some unused) unused items) ≡ length items
+length-used : (unused : Option ℕ) (items : List LinkedItem) → length (items_used (is_some unused) unused items) ≡ length items
 length-used None items = refl
 length-used (Some n) items = length-changed_by used_again items (Some n)
 

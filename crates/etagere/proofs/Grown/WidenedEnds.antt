@@ -6,7 +6,7 @@ use Rattle.etagere_base.specs.declared.frames.Frame.{Frame}
 use Rattle.etagere_base.specs.Lists.{times}
 use Rattle.etagere_base.proofs.EachLemmas.{Each-middle}
 use Rattle.etagere_base.proofs.TimesLemmas.{times-append}
-use Rattle.etagere_links.specs.declared.records.ItemRecord.{ItemRecord}
+use Rattle.etagere_links.specs.declared.records.LinkedItem.{LinkedItem}
 use Rattle.etagere_links.specs.Edits.{changed_by}
 use Rattle.etagere_links.specs.RecordEdits.{item_changed, item_inserted_after}
 use Rattle.etagere_links.specs.RecordLists.{Entry, IsEntry, IsLinkedBut, Records, item_numbers}
@@ -64,7 +64,7 @@ module _ (frame grown : Frame) (old : ℕ) (growing : Growing) (before after : L
   abbrev pub with_wider : Growing
   with_wider = record {
     records =
-        item_changed last (λ (item : ItemRecord). record item { width = width_of growing.records.items last + width }) growing.records;
+        item_changed last (λ (item : LinkedItem). record item { width = width_of growing.records.items last + width }) growing.records;
     made = growing.made;
   }
 
@@ -73,10 +73,10 @@ module _ (frame grown : Frame) (old : ℕ) (growing : Growing) (before after : L
       → is_allocated_at growing.records.items last ≡ false
       → EditsShelf grown old growing with_wider before after entry entry unused_items unused_shelves items shelves (wider_shelf frame width shelf)
   wider-edits is unmarked =
-      let old_items : List ItemRecord = growing.records.items in
+      let old_items : List LinkedItem = growing.records.items in
       let wide : ℕ = width_of old_items last + width in
-      let change : ItemRecord → ItemRecord = λ item. record item { width = wide } in
-      let new : List ItemRecord = changed_by (Some last) change old_items in
+      let change : LinkedItem → LinkedItem = λ item. record item { width = wide } in
+      let new : List LinkedItem = changed_by (Some last) change old_items in
       let atlas : AtlasRecords = bare grown growing.records in
       let apart : IsApart growing.records before after unused_items (loose growing items unused_items) entry =
       linked-apart growing.records before after entry unused_items unused_shelves (loose growing items unused_items) (loose_shelves growing) is.spelled.linked in
@@ -97,12 +97,12 @@ module _ (frame grown : Frame) (old : ℕ) (growing : Growing) (before after : L
           along = placed.along;
           places = wide-places old_items new (along_of growing.records.shelves number) wide front last now own placed.places;
           free_list = λ k. placed.free_list k
-              ∙ sym (free_count-same old_items new k numbers (λ n stands. field_at-kept (λ (x : ItemRecord). x.allocated) false change old_items last n (λ x. refl)));
+              ∙ sym (free_count-same old_items new k numbers (λ n stands. field_at-kept (λ (x : LinkedItem). x.allocated) false change old_items last n (λ x. refl)));
         };
         own = shelf-parts shelf.column shelf.column shelf.height shelf.height (map (item_at new) numbers) (wider_end width shelf.items) (map (place_of new) free)
             (cond (ends_free shelf.items) shelf.free_list ((column_place frame shelf + frame.column_width) ∷ shelf.free_list)) refl refl
             (wide-spelled old_items new width front last now own unmarked)
-            (map-agrees (place_of new) (place_of old_items) free (λ k stands. field_at-kept (λ (x : ItemRecord). x.x) 0 change old_items last k (λ x. refl))
+            (map-agrees (place_of new) (place_of old_items) free (λ k stands. field_at-kept (λ (x : LinkedItem). x.x) 0 change old_items last k (λ x. refl))
             ∙ sym (cond-true _ _ _ (ends-spelled old_items front last false unmarked)));
         flag = is_one_free-wider_end width shelf.items (some-end (item_at old_items) front last);
         others = λ k stands. others k (omega (arith, count k, stands));
@@ -151,11 +151,11 @@ module _ (frame grown : Frame) (old : ℕ) (growing : Growing) (before after : L
       → place ≡ along_of growing.records.shelves number + widths growing.records.items numbers → place ≡ column_place frame shelf + frame.column_width
       → EditsShelf grown old growing (with_end place) before after entry longer (but_first unused_items) unused_shelves items shelves (wider_shelf frame width shelf)
   end-edits place is marked at column =
-      let old_items : List ItemRecord = growing.records.items in
+      let old_items : List LinkedItem = growing.records.items in
       let one : Records = (after_item growing).records in
       let two : Records = item_changed next (started place width number) one in
       let three : Records = item_inserted_after last next two in
-      let new : List ItemRecord = (with_end place).records.items in
+      let new : List LinkedItem = (with_end place).records.items in
       let rest : List ℕ = but_first unused_items in
       let held : List ℕ = loose (after_item growing) items rest in
       let atlas : AtlasRecords = bare grown growing.records in

@@ -6,7 +6,7 @@ use Rattle.std.specs.Prelude.{not}
 use Rattle.etagere_base.proofs.EachLemmas.{Each-append, Each-back, Each-front}
 use Rattle.etagere_base.specs.Lists.{Each, times}
 use Rattle.etagere_base.proofs.TimesLemmas.{times-append}
-use Rattle.etagere_links.specs.declared.records.ItemRecord.{ItemRecord}
+use Rattle.etagere_links.specs.declared.records.LinkedItem.{LinkedItem}
 use Rattle.etagere_links.specs.Edits.{link_at}
 use Rattle.etagere_links.specs.RecordEdits.{item_changed, item_inserted_after}
 use Rattle.etagere_links.specs.RecordLists.{Records, first_free_of}
@@ -60,7 +60,7 @@ some-end f [] last = omega arith
 some-end f (x ∷ front) last = omega arith
 
 -- items of which the last became wider lie side by side
-pub wide-places : (items new : List ItemRecord) (here wide : ℕ) (front : List ℕ) (last : ℕ) → IsWidened items new last wide
+pub wide-places : (items new : List LinkedItem) (here wide : ℕ) (front : List ℕ) (last : ℕ) → IsWidened items new last wide
     → ((k : ℕ) → 1 ≤ times k front → last ≢ k) → LieFrom items here (front ++ last ∷ []) → LieFrom new here (front ++ last ∷ [])
 wide-places items new here wide front last is other lies =
     let same : (k : ℕ) → 1 ≤ times k front → SameItem items new k = λ k stands. is.others k (other k stands) in
@@ -70,7 +70,7 @@ wide-places items new here wide front last is other lies =
     (is.place ∙ (LieFrom-back items here front (last ∷ []) lies).0 ∙ sym begins, tt)
 
 -- they name their shelf
-pub wide-owners : (items new : List ItemRecord) (shelf wide : ℕ) (front : List ℕ) (last : ℕ) → IsWidened items new last wide
+pub wide-owners : (items new : List LinkedItem) (shelf wide : ℕ) (front : List ℕ) (last : ℕ) → IsWidened items new last wide
     → ((k : ℕ) → 1 ≤ times k front → last ≢ k) → Each (λ item. shelf_of items item ≡ shelf) (front ++ last ∷ [])
     → Each (λ item. shelf_of new item ≡ shelf) (front ++ last ∷ [])
 wide-owners items new shelf wide front last is other owners =
@@ -79,7 +79,7 @@ wide-owners items new shelf wide front last is other owners =
     (is.shelf ∙ (Each-back (λ item. shelf_of items item ≡ shelf) front (last ∷ []) owners).0, tt)
 
 -- what they spell is the items with a width at their end, where the last one is free
-pub wide-spelled : (items new : List ItemRecord) (width : ℕ) (front : List ℕ) (last : ℕ) → IsWidened items new last ((item_at items last).width + width)
+pub wide-spelled : (items new : List LinkedItem) (width : ℕ) (front : List ℕ) (last : ℕ) → IsWidened items new last ((item_at items last).width + width)
     → ((k : ℕ) → 1 ≤ times k front → last ≢ k) → is_allocated_at items last ≡ false
     → map (item_at new) (front ++ last ∷ []) ≡ wider_end width (map (item_at items) (front ++ last ∷ []))
 wide-spelled items new width front last is other unmarked =
@@ -94,13 +94,13 @@ wide-spelled items new width front last is other unmarked =
     ∙ sym (ap (wider_end width) (spelled-end (item_at items) front last) ∙ wider_end-free width (item_at items last) (map (item_at items) front) free)
 
 -- a shelf ends with a free item where its last record is free
-pub ends-spelled : (items : List ItemRecord) (front : List ℕ) (last : ℕ) (allocated : Bool) → is_allocated_at items last ≡ allocated
+pub ends-spelled : (items : List LinkedItem) (front : List ℕ) (last : ℕ) (allocated : Bool) → is_allocated_at items last ≡ allocated
     → ends_free (map (item_at items) (front ++ last ∷ [])) ≡ not allocated
 ends-spelled items front last allocated is =
     ap ends_free (spelled-end (item_at items) front last) ∙ ends_free-last (item_at items last) (map (item_at items) front) ∙ free-item items last allocated is
 
 -- what items say once a free one was put after the last one of a shelf
-pub record HasEnd (items new : List ItemRecord) (owner number here width : ℕ) : Type 0 where
+pub record HasEnd (items new : List LinkedItem) (owner number here width : ℕ) : Type 0 where
   pub item : item_at new number ≡ free_item width
   pub place : place_of new number ≡ here
   pub shelf : shelf_of new number ≡ owner
@@ -113,11 +113,11 @@ pub end-values : (growing : Growing) (shelf last place width : ℕ) → next_ite
     → HasEnd growing.records.items (end_inserted shelf last (next_item growing) place width (after_item growing).records).items shelf (next_item growing) place width
 end-values growing shelf last place width within =
     let number : ℕ = next_item growing in
-    let items : List ItemRecord = growing.records.items in
+    let items : List LinkedItem = growing.records.items in
     let one : Records = (after_item growing).records in
     let two : Records = item_changed number (started place width shelf) one in
     let three : Records = item_inserted_after last number two in
-    let new : List ItemRecord = (end_inserted shelf last number place width one).items in
+    let new : List LinkedItem = (end_inserted shelf last number place width one).items in
     let values : (k : ℕ) → SameItem two.items new k = λ k.
     items-same two.items new k
     (map-linked_between free_list item_values frees-keep_values three.items None (first_free_of three.shelves shelf) number
@@ -127,9 +127,9 @@ end-values growing shelf last place width within =
     record {
       item = (values number).item
           ∙ field_at-changed (spelled_item number) (record { width = 0; id = None }) (started place width shelf) one.items number (free_item width) inside (λ x. refl);
-      place = (values number).place ∙ field_at-changed (λ (x : ItemRecord). x.x) 0 (started place width shelf) one.items number place inside (λ x. refl);
-      shelf = (values number).shelf ∙ field_at-changed (λ (x : ItemRecord). x.shelf) 0 (started place width shelf) one.items number shelf inside (λ x. refl);
-      free = (values number).allocated ∙ field_at-changed (λ (x : ItemRecord). x.allocated) false (started place width shelf) one.items number false inside (λ x. refl);
+      place = (values number).place ∙ field_at-changed (λ (x : LinkedItem). x.x) 0 (started place width shelf) one.items number place inside (λ x. refl);
+      shelf = (values number).shelf ∙ field_at-changed (λ (x : LinkedItem). x.shelf) 0 (started place width shelf) one.items number shelf inside (λ x. refl);
+      free = (values number).allocated ∙ field_at-changed (λ (x : LinkedItem). x.allocated) false (started place width shelf) one.items number false inside (λ x. refl);
       others = λ k other.
           SameItem-then items two.items new k
           (item-same items two.items k
@@ -143,7 +143,7 @@ end-values growing shelf last place width within =
     }
 
 -- items lie side by side where a free one was put after the last one
-pub end-places : (items new : List ItemRecord) (here shelf number place width : ℕ) (front : List ℕ) (last : ℕ) → HasEnd items new shelf number place width
+pub end-places : (items new : List LinkedItem) (here shelf number place width : ℕ) (front : List ℕ) (last : ℕ) → HasEnd items new shelf number place width
     → ((k : ℕ) → 1 ≤ times k (front ++ last ∷ []) → number ≢ k) → place ≡ here + widths items (front ++ last ∷ [])
     → LieFrom items here (front ++ last ∷ []) → LieFrom new here (front ++ last ∷ number ∷ [])
 end-places items new here shelf number place width front last has other at lies =
@@ -157,7 +157,7 @@ end-places items new here shelf number place width front last has other at lies 
     (omega (arith, same_last.place, back.0, begins), (omega (arith, has.place, at, widths-append items front (last ∷ []), begins, width_last), tt))
 
 -- they name their shelf
-pub end-owners : (items new : List ItemRecord) (shelf number place width : ℕ) (front : List ℕ) (last : ℕ) → HasEnd items new shelf number place width
+pub end-owners : (items new : List LinkedItem) (shelf number place width : ℕ) (front : List ℕ) (last : ℕ) → HasEnd items new shelf number place width
     → ((k : ℕ) → 1 ≤ times k (front ++ last ∷ []) → number ≢ k) → Each (λ item. shelf_of items item ≡ shelf) (front ++ last ∷ [])
     → Each (λ item. shelf_of new item ≡ shelf) (front ++ last ∷ number ∷ [])
 end-owners items new shelf number place width front last has other owners =
@@ -168,7 +168,7 @@ end-owners items new shelf number place width front last has other owners =
     ((Each-back (λ item. shelf_of new item ≡ shelf) front (last ∷ []) all).0, (has.shelf, tt))
 
 -- the free ones are those before and the new one
-pub end-free : (items new : List ItemRecord) (shelf number place width : ℕ) (front : List ℕ) (last : ℕ) → HasEnd items new shelf number place width
+pub end-free : (items new : List LinkedItem) (shelf number place width : ℕ) (front : List ℕ) (last : ℕ) → HasEnd items new shelf number place width
     → ((k : ℕ) → 1 ≤ times k (front ++ last ∷ []) → number ≢ k) → is_allocated_at items last ≡ true → (k : ℕ)
     → free_count new k (front ++ last ∷ number ∷ []) ≡ times k (number ∷ []) + free_count items k (front ++ last ∷ [])
 end-free items new shelf number place width front last has other allocated k =
@@ -184,7 +184,7 @@ end-free items new shelf number place width front last has other allocated k =
     )
 
 -- what they spell is the items with a width at their end
-pub end-spelled : (items new : List ItemRecord) (shelf number place width : ℕ) (front : List ℕ) (last : ℕ) → HasEnd items new shelf number place width
+pub end-spelled : (items new : List LinkedItem) (shelf number place width : ℕ) (front : List ℕ) (last : ℕ) → HasEnd items new shelf number place width
     → ((k : ℕ) → 1 ≤ times k (front ++ last ∷ []) → number ≢ k) → is_allocated_at items last ≡ true
     → map (item_at new) (front ++ last ∷ number ∷ []) ≡ wider_end width (map (item_at items) (front ++ last ∷ []))
 end-spelled items new shelf number place width front last has other allocated =

@@ -3,7 +3,7 @@ use Rattle.std.proofs.Common.{◌≡◌, ◌≢◌, ℕ, zero, suc, ◌≤◌, B
 use Rattle.std.specs.Prelude.{◌==◌, if◌then◌else◌}
 use Rattle.etagere_base.specs.Lists.{Each, times}
 use Rattle.etagere_links.proofs.ListEnds.{times-here, times-other}
-use Rattle.etagere_links.specs.declared.records.ItemRecord.{ItemRecord}
+use Rattle.etagere_links.specs.declared.records.LinkedItem.{LinkedItem}
 use Rattle.etagere_links.specs.RecordLists.{Entry}
 use Rattle.etagere.specs.AtlasRecords.{is_allocated_at}
 use Rattle.etagere.specs.Private.Judging.{AreOwn, ListsFree, free_among, is_own, is_own_free}
@@ -48,7 +48,7 @@ each-from_stands P [] each = tt
 each-from_stands P (x ∷ xs) each =
     (each x (omega (arith, times-here x xs)), each-from_stands P xs (λ k stands. each k (omega (arith, stands))))
 
-module _ (items : List ItemRecord) (marks : List Bool) (entry : Entry) where
+module _ (items : List LinkedItem) (marks : List Bool) (entry : Entry) where
   -- a free item of the shelf stands once among its free ones
   once-free : AreOwn items marks entry → (k : ℕ) → is_own_free items marks entry.number k ≡ true → times k (free_among items entry.items) ≡ 1
   once-free own k free = by_own (is_own items marks entry.number k) (is_allocated_at items k) refl refl

@@ -5,8 +5,8 @@ use Rattle.etagere_base.proofs.FrameSides.{across-positive}
 use Rattle.etagere_base.specs.declared.frames.Frame.{Frame}
 use Rattle.etagere_base.specs.Frames.{IsFrame, longest_side}
 use Rattle.etagere_base.specs.Lists.{Each, NoNeighbours}
-use Rattle.etagere_links.specs.declared.records.ItemRecord.{ItemRecord}
-use Rattle.etagere_links.specs.declared.records.ShelfRecord.{ShelfRecord}
+use Rattle.etagere_links.specs.declared.records.LinkedItem.{LinkedItem}
+use Rattle.etagere_links.specs.declared.records.LinkedShelf.{LinkedShelf}
 use Rattle.etagere_links.specs.RecordLists.{Entry}
 use Rattle.etagere.specs.AtlasRecords.{along_of, spelled_shelf}
 use Rattle.etagere.specs.Private.Judging.{HasShelvesIn, judged, StackFrom, FillFrom}
@@ -14,7 +14,7 @@ use Rattle.etagere.specs.State.{Shelf}
 use Rattle.etagere.specs.Valid.{is_out_of_order}
 use Rattle.etagere.proofs.Judged.StackedShelves.{FillsRest, fills-follow, follow-fills, follow-stacked, ordered-rises, stacked-follow}
 
-module _ (frame : Frame) (shelves : List ShelfRecord) (items : List ItemRecord) (entries : List Entry) where
+module _ (frame : Frame) (shelves : List LinkedShelf) (items : List LinkedItem) (entries : List Entry) where
   -- nothing counts for no column
   nothing : (b : Bool) (height : ℕ) → height ≡ 0 → (if b then height else 0) ≡ 0
   nothing true height e = e

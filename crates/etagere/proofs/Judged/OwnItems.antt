@@ -6,7 +6,7 @@ use Rattle.etagere_base.proofs.EachLemmas.{Each-both, Each-weaken}
 use Rattle.etagere_base.proofs.TimesLemmas.{times-append}
 use Rattle.etagere_base.specs.Lists.{Each, times}
 use Rattle.etagere_links.proofs.ListEnds.{times-here, times-other}
-use Rattle.etagere_links.specs.declared.records.ItemRecord.{ItemRecord}
+use Rattle.etagere_links.specs.declared.records.LinkedItem.{LinkedItem}
 use Rattle.etagere_links.specs.RecordLists.{Entry, item_numbers, shelf_numbers}
 use Rattle.etagere.specs.AtlasRecords.{shelf_of}
 use Rattle.etagere.specs.Private.Judging.{AreOwn, is_own}
@@ -26,11 +26,11 @@ numbers-other shelf (entry ∷ entries) none = (
 )
 
 -- the items of a shelf name it
-abbrev pub NamesItsOwn : List ItemRecord → Entry → Type 0
+abbrev pub NamesItsOwn : List LinkedItem → Entry → Type 0
 NamesItsOwn items entry = Each (λ item. shelf_of items item ≡ entry.number) entry.items
 
 -- an item that names another shelf does not stand in this one
-names-other : (items : List ItemRecord) (k : ℕ) (entry : Entry) → NamesItsOwn items entry → entry.number ≢ shelf_of items k → times k entry.items ≡ 0
+names-other : (items : List LinkedItem) (k : ℕ) (entry : Entry) → NamesItsOwn items entry → entry.number ≢ shelf_of items k → times k entry.items ≡ 0
 names-other items k entry names other = by_count (times k entry.items) refl
   where
     by_count : (n : ℕ) → times k entry.items ≡ n → times k entry.items ≡ 0
@@ -39,7 +39,7 @@ names-other items k entry names other = by_count (times k entry.items) refl
         absurd (other (sym (each-stands (λ item. shelf_of items item ≡ entry.number) k entry.items (omega (arith, e)) names)))
 
 -- an item whose shelf is none of these stands in none
-names-none : (items : List ItemRecord) (k : ℕ) (entries : List Entry) → Each (NamesItsOwn items) entries
+names-none : (items : List LinkedItem) (k : ℕ) (entries : List Entry) → Each (NamesItsOwn items) entries
     → Each (λ (entry : Entry). entry.number ≢ shelf_of items k) entries → times k (item_numbers entries) ≡ 0
 names-none items k [] names others = refl
 names-none items k (entry ∷ entries) names others =
@@ -51,11 +51,11 @@ names-none items k (entry ∷ entries) names others =
     )
 
 -- an item of a shelf stands nowhere else
-abbrev StandsThere : List ItemRecord → ℕ → ℕ → Entry → Type 0
+abbrev StandsThere : List LinkedItem → ℕ → ℕ → Entry → Type 0
 StandsThere items k count entry = entry.number ≡ shelf_of items k → times k entry.items ≡ count
 
 -- each item stands in the shelf that it names as often as in all
-stands-there : (items : List ItemRecord) (k : ℕ) (entries : List Entry) → times (shelf_of items k) (shelf_numbers entries) ≤ 1
+stands-there : (items : List LinkedItem) (k : ℕ) (entries : List Entry) → times (shelf_of items k) (shelf_numbers entries) ≤ 1
     → Each (NamesItsOwn items) entries → Each (StandsThere items k (times k (item_numbers entries))) entries
 stands-there items k [] once names = tt
 stands-there items k (entry ∷ entries) once names = by_test (entry.number == shelf_of items k) refl (stands-there items k entries)
@@ -82,7 +82,7 @@ stands-there items k (entry ∷ entries) once names = by_test (entry.number == s
         )
 
 -- the marks tell the items of a shelf
-pub own-items : (items : List ItemRecord) (marks : List Bool) (entries : List Entry)
+pub own-items : (items : List LinkedItem) (marks : List Bool) (entries : List Entry)
     → ((k : ℕ) → times k (shelf_numbers entries) ≤ 1)
     → ((k : ℕ) → times k (item_numbers entries) ≡ (if slice_index_or marks k false then 1 else 0))
     → Each (NamesItsOwn items) entries → Each (AreOwn items marks) entries

@@ -5,8 +5,8 @@ use Rattle.std.specs.Prelude.{◌==◌, if◌then◌else◌}
 use Rattle.etagere_base.specs.declared.frames.Frame.{Frame}
 use Rattle.etagere_base.specs.Frames.{across_side}
 use Rattle.etagere_base.specs.Lists.{Each, NoNeighbours}
-use Rattle.etagere_links.specs.declared.records.ItemRecord.{ItemRecord}
-use Rattle.etagere_links.specs.declared.records.ShelfRecord.{ShelfRecord}
+use Rattle.etagere_links.specs.declared.records.LinkedItem.{LinkedItem}
+use Rattle.etagere_links.specs.declared.records.LinkedShelf.{LinkedShelf}
 use Rattle.etagere_links.specs.RecordLists.{Entry, shelf_numbers}
 use Rattle.etagere.specs.AtlasRecords.{height_of, spelled_shelf}
 use Rattle.etagere.specs.Places.{column_height}
@@ -86,7 +86,7 @@ alone own k below here none = by_test (own == k)
     by_test true = omega (arith, none)
     by_test false = refl
 
-module _ (frame : Frame) (shelves : List ShelfRecord) (items : List ItemRecord) where
+module _ (frame : Frame) (shelves : List LinkedShelf) (items : List LinkedItem) where
   -- the shelves that records spell
   abbrev spelled : List Entry → List Shelf
   spelled entries = map (spelled_shelf (judged frame shelves items)) entries

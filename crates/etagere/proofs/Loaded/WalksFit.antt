@@ -6,7 +6,7 @@ use Rattle.etagere_base.specs.Lists.{Each, times}
 use Rattle.etagere_base.proofs.EachLemmas.{Each-weaken}
 use Rattle.etagere_links.proofs.AllLists.LinkedWalks.{walked-numbers}
 use Rattle.etagere_links.proofs.WalkChains.{walk-leads}
-use Rattle.etagere_links.specs.declared.records.ItemRecord.{ItemRecord}
+use Rattle.etagere_links.specs.declared.records.LinkedItem.{LinkedItem}
 use Rattle.etagere_links.specs.Links.{bits_of, no_link}
 use Rattle.etagere_links.specs.RecordLists.{Records, Entry, HasEachOnce, first_free_of, first_item_of, item_numbers, item_walk, shelf_numbers, shelf_walk, unused_item_walk, unused_shelf_walk, walked_entry}
 use Rattle.etagere_links.specs.Records.{free_list}
@@ -26,7 +26,7 @@ frees-once : (records : Records) → length records.items ≤ no_link → (numbe
     → Each (λ (entry : Entry). (item : ℕ) → times item entry.free_list ≤ 1) (map (walked_entry records) numbers)
 frees-once records few [] = tt
 frees-once records few (n ∷ ns) =
-    let bits : ItemRecord → ℕ = λ here. bits_of (free_list.next here) in
+    let bits : LinkedItem → ℕ = λ here. bits_of (free_list.next here) in
     let short : length (map bits records.items) ≤ no_link = rw (length-map records.items bits) few in (
       (walk-leads (map bits records.items) (bits_of (first_free_of records.shelves n)) short).once,
       frees-once records few ns,

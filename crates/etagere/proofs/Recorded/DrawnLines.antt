@@ -10,7 +10,7 @@ use Rattle.etagere_base.specs.declared.drawing.Colour.TheVariants.{Allocated, Fr
 use Rattle.etagere_base.specs.declared.drawing.Drawn.{Drawn}
 use Rattle.etagere_base.specs.declared.frames.Frame.{Frame}
 use Rattle.etagere_base.specs.Lists.{Each}
-use Rattle.etagere_links.specs.declared.records.ItemRecord.{ItemRecord}
+use Rattle.etagere_links.specs.declared.records.LinkedItem.{LinkedItem}
 use Rattle.etagere_links.specs.RecordLists.{Entry, Records, shelf_numbers, shelf_walk, walked_entry, walked_lists}
 use Rattle.etagere_links.proofs.AllLists.LinkedFrames.{shelf_numbers-append}
 use Rattle.etagere.specs.AtlasRecords.{AtlasRecords, across_of, along_of, height_of, is_allocated_at, item_at, place_of, spelled_shelf}
@@ -24,7 +24,7 @@ use Rattle.etagere.proofs.Recorded.RecordedAllocations.{spelled-column, spelled-
 use Rattle.etagere.proofs.Spelled.SpelledPlaces.{free-spelled}
 
 -- the colour of an item, as its record says
-colour-spelled : (items : List ItemRecord) (number : ℕ) → (if is_allocated_at items number then Allocated else Free) ≡ colour_of (item_at items number)
+colour-spelled : (items : List LinkedItem) (number : ℕ) → (if is_allocated_at items number then Allocated else Free) ≡ colour_of (item_at items number)
 colour-spelled items number =
     of_mark (is_allocated_at items number) ∙ ap (λ b. if b then Free else Allocated) (sym (free-spelled items number))
   where

@@ -7,7 +7,7 @@ use Rattle.std.specs.Prelude.{◌%◌, ◌==◌, filter, find}
 use Rattle.etagere_base.specs.Lists.{times}
 use Rattle.etagere_base.specs.declared.frames.Frame.{Frame}
 use Rattle.etagere_base.specs.declared.ids.Allocation.{Allocation}
-use Rattle.etagere_links.specs.declared.records.ItemRecord.{ItemRecord}
+use Rattle.etagere_links.specs.declared.records.LinkedItem.{LinkedItem}
 use Rattle.etagere_links.specs.RecordLists.{Records, field_at, item_numbers, walked_lists}
 use Rattle.etagere_links.proofs.AllLists.LinkedUnused.{three-count}
 use Rattle.etagere_links.proofs.ListEnds.{times-here}
@@ -21,13 +21,13 @@ use Rattle.etagere.proofs.Recorded.Members.{Each-member}
 use Rattle.etagere.proofs.Recorded.RecordsOfIds.{kept-allocations, kept-within, numbered}
 
 -- an item that is not marked allocated has no id
-unmarked-free : (items : List ItemRecord) (label k : ℕ) → is_allocated_at items k ≡ false → (field_at (spelled_item label) (record { width = 0; id = None }) items k).id ≡ None
+unmarked-free : (items : List LinkedItem) (label k : ℕ) → is_allocated_at items k ≡ false → (field_at (spelled_item label) (record { width = 0; id = None }) items k).id ≡ None
 unmarked-free [] label k e = refl
 unmarked-free (x ∷ xs) label zero e = ap (λ b. cond b (Some (label + 65536 * x.generation)) None) e
 unmarked-free (x ∷ xs) label (suc k) e = unmarked-free xs label k e
 
 -- an item that is marked allocated has its id
-marked-id : (items : List ItemRecord) (label k : ℕ) → is_allocated_at items k ≡ true → (field_at (spelled_item label) (record { width = 0; id = None }) items k).id ≡ Some (label + 65536 * field_at (λ (x : ItemRecord). x.generation) 0 items k)
+marked-id : (items : List LinkedItem) (label k : ℕ) → is_allocated_at items k ≡ true → (field_at (spelled_item label) (record { width = 0; id = None }) items k).id ≡ Some (label + 65536 * field_at (λ (x : LinkedItem). x.generation) 0 items k)
 marked-id [] label k e = absurd (cc)
 marked-id (x ∷ xs) label zero e = ap (λ b. cond b (Some (label + 65536 * x.generation)) None) e
 marked-id (x ∷ xs) label (suc k) e = marked-id xs label k e
@@ -122,10 +122,10 @@ module _ (frame : Frame) (records : Records) where
       }
 
   -- the step that was found, or nothing is left
-  pub step-found : (items : List ItemRecord) (from number : ℕ) → from ≤ length records.items → items ≡ records.items → Some number ≡ next_allocated items from → IsStep from number
+  pub step-found : (items : List LinkedItem) (from number : ℕ) → from ≤ length records.items → items ≡ records.items → Some number ≡ next_allocated items from → IsStep from number
   step-found items from number before same found = step-from from number before (ap (λ is. next_allocated is from) (sym same) ∙ sym found)
 
-  pub none-found : (items : List ItemRecord) (from : ℕ) → items ≡ records.items → None ≡ next_allocated items from → recorded_from frame records from ≡ []
+  pub none-found : (items : List LinkedItem) (from : ℕ) → items ≡ records.items → None ≡ next_allocated items from → recorded_from frame records from ≡ []
   none-found items from same found = none-next from (length records.items - from) (ap (λ is. next_allocated is from) (sym same) ∙ sym found)
 
   -- past the last record nothing is left
@@ -169,7 +169,7 @@ module _ (frame : Frame) (records : Records) where
       by_test false e = let zero_more : 0 + times number ks ≡ times number ks = omega arith in rw zero_more refl
 
 -- an item that is not marked is passed
-pub next-passed : (items : List ItemRecord) (from : ℕ) → from < length items → is_allocated_at items from ≡ false → next_allocated items from ≡ next_allocated items (from + 1)
+pub next-passed : (items : List LinkedItem) (from : ℕ) → from < length items → is_allocated_at items from ≡ false → next_allocated items from ≡ next_allocated items (from + 1)
 next-passed items from within fails =
     let left : length items - from ≡ suc (length items - (from + 1)) = omega arith in
     ap (λ count. find (is_allocated_at items) (range_with_len from count)) left

@@ -3,7 +3,7 @@ use Rattle.std.proofs.Common.{◌≡◌, ℕ, ◌+◌, ◌<◌, Bool, true, fals
 use Rattle.std.proofs.lemmas.Bool.{eqb-true}
 use Rattle.std.specs.Prelude.{◌%◌}
 use Rattle.etagere_base.specs.declared.frames.Frame.{Frame}
-use Rattle.etagere_links.specs.declared.records.ItemRecord.{ItemRecord}
+use Rattle.etagere_links.specs.declared.records.LinkedItem.{LinkedItem}
 use Rattle.etagere_links.specs.RecordLists.{Records}
 use Rattle.etagere.specs.Atlas.{KeepsPromises, without_id}
 use Rattle.etagere.specs.Places.{allocations}
@@ -34,7 +34,7 @@ pub record AfterReturn (frame : Frame) (records : Records) (id : ℕ) (new : Rec
   pub promises_after : KeepsPromises (state_of frame new)
 
 -- the record that an id names has that id
-named-id : (items : List ItemRecord) (id number : ℕ) → record_of items id ≡ Some number → id_at items number ≡ id
+named-id : (items : List LinkedItem) (id number : ℕ) → record_of items id ≡ Some number → id_at items number ≡ id
 named-id items id number names = by_test (has_id id (item_at items (id % 65536)).id) refl names
   where
     by_test : (b : Bool) → has_id id (item_at items (id % 65536)).id ≡ b → cond b (Some (id % 65536)) None ≡ Some number → id_at items number ≡ id

@@ -12,8 +12,8 @@ use Rattle.etagere_base.specs.declared.ids.Allocation.{Allocation}
 use Rattle.etagere_base.proofs.EachLemmas.{Each-middle}
 use Rattle.etagere_base.proofs.FirstPlace.{is_some-map}
 use Rattle.etagere_base.proofs.TimesLemmas.{times-append}
-use Rattle.etagere_links.specs.declared.records.ItemRecord.{ItemRecord}
-use Rattle.etagere_links.specs.declared.records.ShelfRecord.{ShelfRecord}
+use Rattle.etagere_links.specs.declared.records.LinkedItem.{LinkedItem}
+use Rattle.etagere_links.specs.declared.records.LinkedShelf.{LinkedShelf}
 use Rattle.etagere_links.specs.RecordLists.{HasEachOnce, Records, field_at, item_numbers, shelf_numbers, walked_lists}
 use Rattle.etagere_links.proofs.AllLists.LinkedUnused.{three-count}
 use Rattle.etagere_links.proofs.AllLists.LinkedWalks.{once-part}
@@ -79,19 +79,19 @@ module _ (owner : ℕ → Option ℕ) (area : ℕ → Rectangle) (id : ℕ) wher
       by_owner (Some holder) e later = rw e later
 
 -- an id that is the item's of a number is that number modulo 65536
-pub numbered : (items : List ItemRecord) (k id : ℕ) → k < 65536 → has_id id (item_at items k).id ≡ true → id % 65536 ≡ k
+pub numbered : (items : List LinkedItem) (k id : ℕ) → k < 65536 → has_id id (item_at items k).id ≡ true → id % 65536 ≡ k
 numbered items k id small has = by_item (slice_get items k) has
   where
     by_mark : (generation : ℕ) (b : Bool) → has_id id (cond b (Some (k + 65536 * generation)) None) ≡ true → id % 65536 ≡ k
     by_mark generation true h = let same : k + 65536 * generation ≡ id = eqb-true _ _ h in omega (arith, same, small)
     by_mark generation false h = absurd (cc)
 
-    by_item : (o : Option ItemRecord) → has_id id (option_map_or (spelled_item k) o (record { width = 0; id = None })).id ≡ true → id % 65536 ≡ k
+    by_item : (o : Option LinkedItem) → has_id id (option_map_or (spelled_item k) o (record { width = 0; id = None })).id ≡ true → id % 65536 ≡ k
     by_item None h = absurd (cc)
     by_item (Some item) h = by_mark item.generation item.allocated h
 
 -- an item that has an id is marked allocated
-has-marked : (items : List ItemRecord) (label k id : ℕ) → has_id id (field_at (spelled_item label) (record { width = 0; id = None }) items k).id ≡ true → is_allocated_at items k ≡ true
+has-marked : (items : List LinkedItem) (label k id : ℕ) → has_id id (field_at (spelled_item label) (record { width = 0; id = None }) items k).id ≡ true → is_allocated_at items k ≡ true
 has-marked [] label k id has = absurd (cc)
 has-marked (x ∷ xs) label zero id has = by_mark x.generation x.allocated has
   where
@@ -101,13 +101,13 @@ has-marked (x ∷ xs) label zero id has = by_mark x.generation x.allocated has
 has-marked (x ∷ xs) label (suc k) id has = has-marked xs label k id has
 
 -- what is marked allocated is a record
-pub marked-within : (items : List ItemRecord) (k : ℕ) → is_allocated_at items k ≡ true → k < length items
+pub marked-within : (items : List LinkedItem) (k : ℕ) → is_allocated_at items k ≡ true → k < length items
 marked-within [] k marked = absurd (cc)
 marked-within (x ∷ xs) zero marked = omega arith
 marked-within (x ∷ xs) (suc k) marked = omega (arith, marked-within xs k marked)
 
 -- an item that is marked allocated is no record put aside
-in_use : (items : List ItemRecord) (used unused : List ℕ) (number : ℕ) → HasEachOnce (length items) (used ++ unused ++ []) → Each (λ item. is_allocated_at items item ≡ false) unused → is_allocated_at items number ≡ true → 1 ≤ times number used
+in_use : (items : List LinkedItem) (used unused : List ℕ) (number : ℕ) → HasEachOnce (length items) (used ++ unused ++ []) → Each (λ item. is_allocated_at items item ≡ false) unused → is_allocated_at items number ≡ true → 1 ≤ times number used
 in_use items used unused number once free marked = by_count (times number unused) refl
   where
     by_count : (n : ℕ) → times number unused ≡ n → 1 ≤ times number used
@@ -189,7 +189,7 @@ kept-index frame records id kept =
     by_test false = refl
 
 -- the record that an id names is marked allocated
-pub record-marked : (items : List ItemRecord) (id number : ℕ) → record_of items id ≡ Some number → (is_allocated_at items number ≡ true) × (number ≡ id % 65536)
+pub record-marked : (items : List LinkedItem) (id number : ℕ) → record_of items id ≡ Some number → (is_allocated_at items number ≡ true) × (number ≡ id % 65536)
 record-marked items id number names = by_test (has_id id (item_at items (id % 65536)).id) refl names
   where
     by_test : (b : Bool) → has_id id (item_at items (id % 65536)).id ≡ b → cond b (Some (id % 65536)) None ≡ Some number → (is_allocated_at items number ≡ true) × (number ≡ id % 65536)
@@ -227,14 +227,14 @@ field_at-read field other (y ∷ ys) zero x within read = ap field (sym read)
 field_at-read field other (y ∷ ys) (suc k) x within read = field_at-read field other ys k x (omega arith) read
 
 -- where an item lies whose record was read, and that of the shelf that it names
-pub rectangle-read : (frame : Frame) (records : Records) (number at : ℕ) (item : ItemRecord) (shelf : ShelfRecord) → number < length records.items → item ≡ get_or records.items number item → at ≡ item.shelf → at < length records.shelves → shelf ≡ get_or records.shelves at shelf
+pub rectangle-read : (frame : Frame) (records : Records) (number at : ℕ) (item : LinkedItem) (shelf : LinkedShelf) → number < length records.items → item ≡ get_or records.items number item → at ≡ item.shelf → at < length records.shelves → shelf ≡ get_or records.shelves at shelf
     → rectangle_at frame item.x shelf.y item.width shelf.height ≡ recorded_rectangle frame records number
 rectangle-read frame records number at item shelf within read names shelf_within shelf_read =
-    let place : place_of records.items number ≡ item.x = field_at-read (λ (x : ItemRecord). x.x) 0 records.items number item within read in
-    let named : shelf_of records.items number ≡ at = field_at-read (λ (x : ItemRecord). x.shelf) 0 records.items number item within read ∙ sym names in
+    let place : place_of records.items number ≡ item.x = field_at-read (λ (x : LinkedItem). x.x) 0 records.items number item within read in
+    let named : shelf_of records.items number ≡ at = field_at-read (λ (x : LinkedItem). x.shelf) 0 records.items number item within read ∙ sym names in
     let whole : item_at records.items number ≡ spelled_item number item = field_at-read (spelled_item number) (record { width = 0; id = None }) records.items number item within read in
-    let across : across_of records.shelves at ≡ shelf.y = field_at-read (λ (x : ShelfRecord). x.y) 0 records.shelves at shelf shelf_within shelf_read in
-    let height : height_of records.shelves at ≡ shelf.height = field_at-read (λ (x : ShelfRecord). x.height) 0 records.shelves at shelf shelf_within shelf_read in
+    let across : across_of records.shelves at ≡ shelf.y = field_at-read (λ (x : LinkedShelf). x.y) 0 records.shelves at shelf shelf_within shelf_read in
+    let height : height_of records.shelves at ≡ shelf.height = field_at-read (λ (x : LinkedShelf). x.height) 0 records.shelves at shelf shelf_within shelf_read in
     sym (
     ap (λ s. rectangle_at frame (place_of records.items number) (across_of records.shelves s) (item_at records.items number).width (height_of records.shelves s)) named
     ∙ ap (λ p. rectangle_at frame p (across_of records.shelves at) (item_at records.items number).width (height_of records.shelves at)) place

@@ -13,7 +13,7 @@ use Rattle.etagere_base.specs.declared.sides.Sides.{Sides}
 use Rattle.etagere_base.proofs.EachLemmas.{Each-get}
 use Rattle.etagere_base.proofs.ReplacedLists.{IsAt, split-at}
 use Rattle.etagere_base.proofs.TimesLemmas.{find-stands}
-use Rattle.etagere_links.specs.declared.records.ShelfRecord.{ShelfRecord}
+use Rattle.etagere_links.specs.declared.records.LinkedShelf.{LinkedShelf}
 use Rattle.etagere_links.specs.RecordLists.{Entry, Records, shelf_numbers, shelf_walk, walked_entry, walked_lists}
 use Rattle.etagere_links.proofs.AllLists.LinkedWalks.{walked-numbers}
 use Rattle.etagere.specs.AtlasRecords.{across_of, along_of, height_of, is_empty_at, item_at, place_of, spelled_shelf}
@@ -31,7 +31,7 @@ use Rattle.etagere.proofs.Searched.SearchSteps.{Offers, is_wide, offers-parts}
 use Rattle.etagere.proofs.Searched.SearchedShelves.{IsPlacedItem, IsSearched, kept-searched, placed-item, searched-place, searched-ranks}
 
 -- where a shelf begins across, of shelves that are stacked
-stacked-at : (shelves : List ShelfRecord) (column_width : ℕ) (before front : List ℕ) (n : ℕ) (back : List ℕ) → AreStacked shelves column_width before (front ++ n ∷ back)
+stacked-at : (shelves : List LinkedShelf) (column_width : ℕ) (before front : List ℕ) (n : ℕ) (back : List ℕ) → AreStacked shelves column_width before (front ++ n ∷ back)
     → across_of shelves n ≡ height_before shelves column_width (along_of shelves n / column_width) (before ++ front)
 stacked-at shelves column_width before [] n back stacked = rw append-nil stacked.0
 stacked-at shelves column_width before (x ∷ front) n back stacked =

@@ -5,7 +5,7 @@ use Rattle.std.specs.Option.{option_map_or}
 use Rattle.std.specs.Prelude.{find, max, nat_le, nat_lt}
 use Rattle.etagere_base.specs.Lists.{times}
 use Rattle.etagere_base.proofs.TimesLemmas.{find-stands}
-use Rattle.etagere_links.specs.declared.records.ItemRecord.{ItemRecord}
+use Rattle.etagere_links.specs.declared.records.LinkedItem.{LinkedItem}
 use Rattle.etagere_links.specs.Edits.{link_at}
 use Rattle.etagere_links.specs.RecordLists.{IsLinked, Records, first_free_of, free_walk, shelf_walk, walked_lists}
 use Rattle.etagere_links.specs.Records.{free_list}
@@ -65,12 +65,12 @@ pub free-here : (records : Records) (width shelf widest : ℕ) (at : Option ℕ)
 free-here records width shelf widest at number search is = (step-left free_list.next records.items at number search.steps search.rest search.left is).here
 
 -- how wide the record at hand is
-width-read : (records : Records) (number : ℕ) (item : ItemRecord) → number < length records.items → item ≡ get_or records.items number item → (item_at records.items number).width ≡ item.width
+width-read : (records : Records) (number : ℕ) (item : LinkedItem) → number < length records.items → item ≡ get_or records.items number item → (item_at records.items number).width ≡ item.width
 width-read records number item within read =
     ap (λ (i : Item). i.width) (field_at-read (spelled_item number) (record { width = 0; id = None }) records.items number item within read)
 
 -- a wide one is found
-pub free-found : (records : Records) (width shelf widest : ℕ) (at : Option ℕ) (number : ℕ) (item : ItemRecord) → SearchesFree records width shelf widest at → at ≡ Some number → item ≡ get_or records.items number item → width ≤ item.width → Found number ≡ searched records width shelf
+pub free-found : (records : Records) (width shelf widest : ℕ) (at : Option ℕ) (number : ℕ) (item : LinkedItem) → SearchesFree records width shelf widest at → at ≡ Some number → item ≡ get_or records.items number item → width ≤ item.width → Found number ≡ searched records width shelf
 free-found records width shelf widest at number item search is read wide =
     let step : IsStep free_list.next records.items number search.steps search.rest = step-left free_list.next records.items at number search.steps search.rest search.left is in
     let passes : is_wide records width number ≡ true = ap (nat_le width) (width-read records number item step.here read) ∙ grind (arith, nat_tests) in
@@ -79,13 +79,13 @@ free-found records width shelf widest at number item search is read wide =
     ap (λ o. option_map_or Found o (Widest (widest_of records.items (free_walk records shelf).met))) first
 
 -- where the record at hand leads
-next-read : (items : List ItemRecord) (number : ℕ) (item : ItemRecord) → number < length items → item ≡ get_or items number item → link_at free_list.next items number ≡ item.next_unallocated
+next-read : (items : List LinkedItem) (number : ℕ) (item : LinkedItem) → number < length items → item ≡ get_or items number item → link_at free_list.next items number ≡ item.next_unallocated
 next-read [] number item within read = absurd (omega arith)
-next-read (x ∷ xs) zero item within read = ap (λ (i : ItemRecord). i.next_unallocated) (sym read)
+next-read (x ∷ xs) zero item within read = ap (λ (i : LinkedItem). i.next_unallocated) (sym read)
 next-read (x ∷ xs) (suc number) item within read = next-read xs number item (omega arith) read
 
 -- one that is not is passed
-pub free-passed : (records : Records) (width shelf widest wider : ℕ) (at next : Option ℕ) (number : ℕ) (item : ItemRecord) → SearchesFree records width shelf widest at → at ≡ Some number → item ≡ get_or records.items number item → item.width < width → wider ≡ max widest item.width → next ≡ item.next_unallocated → SearchesFree records width shelf wider next
+pub free-passed : (records : Records) (width shelf widest wider : ℕ) (at next : Option ℕ) (number : ℕ) (item : LinkedItem) → SearchesFree records width shelf widest at → at ≡ Some number → item ≡ get_or records.items number item → item.width < width → wider ≡ max widest item.width → next ≡ item.next_unallocated → SearchesFree records width shelf wider next
 free-passed records width shelf widest wider at next number item search is read narrow grown follows =
     let step : IsStep free_list.next records.items number search.steps search.rest = step-left free_list.next records.items at number search.steps search.rest search.left is in
     let own : (item_at records.items number).width ≡ item.width = width-read records number item step.here read in
@@ -105,7 +105,7 @@ free-passed records width shelf widest wider at next number item search is read 
     }
 
 -- a step leaves less of the free list
-pub free-nearer : (records : Records) (width shelf widest : ℕ) (at next : Option ℕ) (number : ℕ) (item : ItemRecord) → IsLinked records (walked_lists records) → 1 ≤ times shelf (shelf_walk records).met → SearchesFree records width shelf widest at → at ≡ Some number → item ≡ get_or records.items number item → next ≡ item.next_unallocated
+pub free-nearer : (records : Records) (width shelf widest : ℕ) (at next : Option ℕ) (number : ℕ) (item : LinkedItem) → IsLinked records (walked_lists records) → 1 ≤ times shelf (shelf_walk records).met → SearchesFree records width shelf widest at → at ≡ Some number → item ≡ get_or records.items number item → next ≡ item.next_unallocated
     → count_from next (free_walk records shelf).met < count_from at (free_walk records shelf).met
 free-nearer records width shelf widest at next number item linked stands search is read follows =
     let step : IsStep free_list.next records.items number search.steps search.rest = step-left free_list.next records.items at number search.steps search.rest search.left is in

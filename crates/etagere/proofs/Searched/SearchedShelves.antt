@@ -6,7 +6,7 @@ use Rattle.etagere_base.specs.Lists.{Each, times}
 use Rattle.etagere_base.proofs.EachLemmas.{Each-both, Each-weaken}
 use Rattle.etagere_base.proofs.ReplacedLists.{slice_get-append}
 use Rattle.etagere_base.specs.declared.frames.Frame.{Frame}
-use Rattle.etagere_links.specs.declared.records.ItemRecord.{ItemRecord}
+use Rattle.etagere_links.specs.declared.records.LinkedItem.{LinkedItem}
 use Rattle.etagere_links.specs.RecordLists.{Entry, IsEntry, Records, shelf_walk, walked_entry, walked_lists}
 use Rattle.etagere_links.proofs.ListEnds.{times-here}
 use Rattle.etagere.specs.AtlasRecords.{AtlasRecords, along_of, height_of, is_empty_at, item_at, place_of, spelled_shelf}
@@ -47,7 +47,7 @@ kept-searched frame records kept =
     (Each-unmap (IsShelf frame) (spelled_shelf atlas) entries kept.valid.shelves))))
 
 -- the item that begins where one of a shelf does is that one
-place-found : (frame : Frame) (items : List ItemRecord) (here : ℕ) (front : List ℕ) (n : ℕ) (back : List ℕ) → Each (IsItem frame) (map (item_at items) (front ++ n ∷ back)) → LieFrom items here (front ++ n ∷ back)
+place-found : (frame : Frame) (items : List LinkedItem) (here : ℕ) (front : List ℕ) (n : ℕ) (back : List ℕ) → Each (IsItem frame) (map (item_at items) (front ++ n ∷ back)) → LieFrom items here (front ++ n ∷ back)
     → (width_at here (map (item_at items) (front ++ n ∷ back)) (place_of items n) ≡ (item_at items n).width)
     × (number_at here (map (item_at items) (front ++ n ∷ back)) (place_of items n) ≡ length front)
 place-found frame items here [] n back are lies =
@@ -79,7 +79,7 @@ pub record IsPlacedItem (atlas : AtlasRecords) (entry : Entry) (number : ℕ) : 
 
 pub placed-item : (atlas : AtlasRecords) (entry : Entry) (number : ℕ) → 1 ≤ atlas.frame.column_width → IsSearched atlas entry → 1 ≤ times number entry.items → IsPlacedItem atlas entry number
 placed-item atlas entry number wide searched stands =
-    let items : List ItemRecord = atlas.lists.items in
+    let items : List LinkedItem = atlas.lists.items in
     let place : ℕ = place_of items number in
     let at : IsAmong number entry.items = among number entry.items stands in
     let begins : column_place atlas.frame (spelled_shelf atlas entry) ≡ along_of atlas.lists.shelves entry.number = spelled-column atlas entry wide searched.placed.along in

@@ -5,7 +5,7 @@ use Rattle.std.specs.Prelude.{◌==◌}
 use Rattle.etagere_base.proofs.EachLemmas.{Each-append, Each-front, Each-back}
 use Rattle.etagere_base.proofs.TimesLemmas.{times-append}
 use Rattle.etagere_base.specs.Lists.{Each, times}
-use Rattle.etagere_links.specs.declared.records.ItemRecord.{ItemRecord}
+use Rattle.etagere_links.specs.declared.records.LinkedItem.{LinkedItem}
 use Rattle.etagere_links.specs.Edits.{changed_by, unlinked, put_aside}
 use Rattle.etagere_links.specs.Families.{IsUnchanged}
 use Rattle.etagere_links.specs.RecordLists.{Records}
@@ -22,7 +22,7 @@ use Rattle.etagere.proofs.Spelled.EntryValues.{widths, LieFrom-front, LieFrom-ba
 use Rattle.etagere.proofs.Spelled.RecordValues.{item_values, SameItem, items-same, item-same, SameItem-then, map-agrees, LieFrom-same, owners-same}
 
 -- what items say where one became as wide as it and the next together, and all others but the next say the same
-pub record Absorbs (items new : List ItemRecord) (number next : ℕ) : Type 0 where
+pub record Absorbs (items new : List LinkedItem) (number next : ℕ) : Type 0 where
   pub item : item_at new number ≡ record { width = (item_at items number).width + (item_at items next).width; id = (item_at items number).id }
   pub place : place_of new number ≡ place_of items number
   pub shelf : shelf_of new number ≡ shelf_of items number
@@ -49,7 +49,7 @@ rest-of front back number next once =
     }
 
 -- the items then spelled: the two are one
-pub absorbed-items : (items new : List ItemRecord) (front back : List ℕ) (number next : ℕ) → IsRest front back number next → Absorbs items new number next → map (item_at new) (front ++ number ∷ back) ≡ map (item_at items) front ++ record { width = (item_at items number).width + (item_at items next).width; id = (item_at items number).id } ∷ map (item_at items) back
+pub absorbed-items : (items new : List LinkedItem) (front back : List ℕ) (number next : ℕ) → IsRest front back number next → Absorbs items new number next → map (item_at new) (front ++ number ∷ back) ≡ map (item_at items) front ++ record { width = (item_at items number).width + (item_at items next).width; id = (item_at items number).id } ∷ map (item_at items) back
 absorbed-items items new front back number next rest absorbs =
     let kept_front : map (item_at new) front ≡ map (item_at items) front =
     map-agrees (item_at new) (item_at items) front (λ k stands. (absorbs.others k (rest.before k stands).0 (rest.before k stands).1).item) in
@@ -61,7 +61,7 @@ absorbed-items items new front back number next rest absorbs =
     ∙ ap (λ (i : Item). map (item_at items) front ++ i ∷ map (item_at items) back) absorbs.item
 
 -- the items still lie side by side
-pub absorbed-places : (items new : List ItemRecord) (here : ℕ) (front back : List ℕ) (number next : ℕ) → IsRest front back number next → Absorbs items new number next → LieFrom items here (front ++ number ∷ next ∷ back) → LieFrom new here (front ++ number ∷ back)
+pub absorbed-places : (items new : List LinkedItem) (here : ℕ) (front back : List ℕ) (number next : ℕ) → IsRest front back number next → Absorbs items new number next → LieFrom items here (front ++ number ∷ next ∷ back) → LieFrom new here (front ++ number ∷ back)
 absorbed-places items new here front back number next rest absorbs lies =
     let same_front : (k : ℕ) → 1 ≤ times k front → SameItem items new k = λ k stands. absorbs.others k (rest.before k stands).0 (rest.before k stands).1 in
     let same_back : (k : ℕ) → 1 ≤ times k back → SameItem items new k = λ k stands. absorbs.others k (rest.after k stands).0 (rest.after k stands).1 in
@@ -76,7 +76,7 @@ absorbed-places items new here front back number next rest absorbs lies =
     LieFrom-append new here front (number ∷ back) (LieFrom-same items new here front same_front (LieFrom-front items here front (number ∷ next ∷ back) lies)) new_back
 
 -- the items still name their shelf
-pub absorbed-owners : (items new : List ItemRecord) (owner : ℕ) (front back : List ℕ) (number next : ℕ) → IsRest front back number next → Absorbs items new number next → Each (λ item. shelf_of items item ≡ owner) (front ++ number ∷ next ∷ back) → Each (λ item. shelf_of new item ≡ owner) (front ++ number ∷ back)
+pub absorbed-owners : (items new : List LinkedItem) (owner : ℕ) (front back : List ℕ) (number next : ℕ) → IsRest front back number next → Absorbs items new number next → Each (λ item. shelf_of items item ≡ owner) (front ++ number ∷ next ∷ back) → Each (λ item. shelf_of new item ≡ owner) (front ++ number ∷ back)
 absorbed-owners items new owner front back number next rest absorbs each =
     let tail = Each-back (λ item. shelf_of items item ≡ owner) front (number ∷ next ∷ back) each in
     Each-append (λ item. shelf_of new item ≡ owner) front (number ∷ back)
@@ -95,7 +95,7 @@ only-member x n stands = by_test (x == n) refl
     by_test false e = grind (arith, stands)
 
 -- how often a number is a free one: as often as before, but for the next item
-pub absorbed-free : (items new : List ItemRecord) (k : ℕ) (front back : List ℕ) (number next : ℕ) → IsRest front back number next → Absorbs items new number next → free_count new k (front ++ number ∷ back) + free_count items k (next ∷ []) ≡ free_count items k (front ++ number ∷ next ∷ back)
+pub absorbed-free : (items new : List LinkedItem) (k : ℕ) (front back : List ℕ) (number next : ℕ) → IsRest front back number next → Absorbs items new number next → free_count new k (front ++ number ∷ back) + free_count items k (next ∷ []) ≡ free_count items k (front ++ number ∷ next ∷ back)
 absorbed-free items new k front back number next rest absorbs =
     let kept_front : free_count new k front ≡ free_count items k front =
     free_count-same items new k front (λ n stands. (absorbs.others n (rest.before n stands).0 (rest.before n stands).1).allocated) in
@@ -126,12 +126,12 @@ frees-keep_values = record { next = λ link x. refl; previous = λ link x. refl 
 -- what items say after the next of one was put aside and the one became as wide as both
 pub free-widens : (records : Records) (shelf number next : ℕ) → number < length records.items → IsWidened records.items (free_absorbed shelf number next ((item_at records.items number).width + (item_at records.items next).width) records).items number ((item_at records.items number).width + (item_at records.items next).width)
 free-widens records shelf number next within =
-    let items : List ItemRecord = records.items in
+    let items : List LinkedItem = records.items in
     let width : ℕ = (item_at items number).width + (item_at items next).width in
-    let one : List ItemRecord = unlinked free_list next items in
-    let two : List ItemRecord = unlinked item_chain next one in
-    let three : List ItemRecord = put_aside item_chain records.free_items next two in
-    let new : List ItemRecord = changed_by (Some number) (λ (x : ItemRecord). record x { width = width }) three in
+    let one : List LinkedItem = unlinked free_list next items in
+    let two : List LinkedItem = unlinked item_chain next one in
+    let three : List LinkedItem = put_aside item_chain records.free_items next two in
+    let new : List LinkedItem = changed_by (Some number) (λ (x : LinkedItem). record x { width = width }) three in
     let values : map item_values three ≡ map item_values items =
     map-put_aside item_chain item_values items-keep_values two records.free_items next
     ∙ map-unlinked item_chain item_values items-keep_values one next
@@ -149,20 +149,20 @@ free-widens records shelf number next within =
     }
 
 -- an item that became as wide as it and the next absorbs the next
-pub widened-absorbs : (items new : List ItemRecord) (number next : ℕ) → IsWidened items new number ((item_at items number).width + (item_at items next).width) → Absorbs items new number next
+pub widened-absorbs : (items new : List LinkedItem) (number next : ℕ) → IsWidened items new number ((item_at items number).width + (item_at items next).width) → Absorbs items new number next
 widened-absorbs items new number next wide =
     record { item = wide.item; place = wide.place; shelf = wide.shelf; allocated = wide.allocated; others = λ k other next_other. wide.others k other }
 
 -- a free item that took the place of the allocated one after it absorbs it
 pub allocated-absorbs : (records : Records) (shelf number next : ℕ) → number ≢ next → number < length records.items → Absorbs records.items (allocated_absorbed shelf number next ((item_at records.items number).width + (item_at records.items next).width) records).items number next
 allocated-absorbs records shelf number next apart within =
-    let items : List ItemRecord = records.items in
+    let items : List LinkedItem = records.items in
     let width : ℕ = (item_at items number).width + (item_at items next).width in
-    let unmark : ItemRecord → ItemRecord = λ x. record x { allocated = false } in
-    let one : List ItemRecord = unlinked item_chain next items in
-    let two : List ItemRecord = changed_by (Some next) unmark one in
-    let three : List ItemRecord = put_aside item_chain records.free_items next two in
-    let new : List ItemRecord = changed_by (Some number) (λ (x : ItemRecord). record x { width = width }) three in
+    let unmark : LinkedItem → LinkedItem = λ x. record x { allocated = false } in
+    let one : List LinkedItem = unlinked item_chain next items in
+    let two : List LinkedItem = changed_by (Some next) unmark one in
+    let three : List LinkedItem = put_aside item_chain records.free_items next two in
+    let new : List LinkedItem = changed_by (Some number) (λ (x : LinkedItem). record x { width = width }) three in
     let long : length three ≡ length items =
     length-put_aside item_chain two records.free_items next ∙ length-changed_by unmark one (Some next) ∙ length-unlinked item_chain items next in
     let wide : IsWidened three new number width = widened three number width (rw long within) in
@@ -184,12 +184,12 @@ allocated-absorbs records shelf number next apart within =
 -- and the one put aside is not marked allocated
 pub allocated-unmarked : (records : Records) (shelf number next width : ℕ) → number ≢ next → next < length records.items → is_allocated_at (allocated_absorbed shelf number next width records).items next ≡ false
 allocated-unmarked records shelf number next width apart within =
-    let items : List ItemRecord = records.items in
-    let unmark : ItemRecord → ItemRecord = λ x. record x { allocated = false } in
-    let widen : ItemRecord → ItemRecord = λ x. record x { width = width } in
-    let one : List ItemRecord = unlinked item_chain next items in
-    let two : List ItemRecord = changed_by (Some next) unmark one in
-    let three : List ItemRecord = put_aside item_chain records.free_items next two in
-    field_at-kept (λ (x : ItemRecord). x.allocated) false widen three number next (λ x. refl)
+    let items : List LinkedItem = records.items in
+    let unmark : LinkedItem → LinkedItem = λ x. record x { allocated = false } in
+    let widen : LinkedItem → LinkedItem = λ x. record x { width = width } in
+    let one : List LinkedItem = unlinked item_chain next items in
+    let two : List LinkedItem = changed_by (Some next) unmark one in
+    let three : List LinkedItem = put_aside item_chain records.free_items next two in
+    field_at-kept (λ (x : LinkedItem). x.allocated) false widen three number next (λ x. refl)
     ∙ (items-same two three next (map-put_aside item_chain item_values items-keep_values two records.free_items next)).allocated
-    ∙ field_at-changed (λ (x : ItemRecord). x.allocated) false unmark one next false (rw (length-unlinked item_chain items next) within) (λ x. refl)
+    ∙ field_at-changed (λ (x : LinkedItem). x.allocated) false unmark one next false (rw (length-unlinked item_chain items next) within) (λ x. refl)

@@ -4,8 +4,8 @@ use Rattle.std.specs.Prelude.{◌/◌, not, is_none, if◌then◌else◌}
 use Rattle.etagere_base.proofs.EachLemmas.{Each-append, Each-middle}
 use Rattle.etagere_base.proofs.TimesLemmas.{times-append}
 use Rattle.etagere_base.specs.Lists.{Each, times}
-use Rattle.etagere_links.specs.declared.records.ItemRecord.{ItemRecord}
-use Rattle.etagere_links.specs.declared.records.ShelfRecord.{ShelfRecord}
+use Rattle.etagere_links.specs.declared.records.LinkedItem.{LinkedItem}
+use Rattle.etagere_links.specs.declared.records.LinkedShelf.{LinkedShelf}
 use Rattle.etagere_links.specs.Chains.{IsChainIn}
 use Rattle.etagere_links.specs.RecordLists.{Records, Entry, Lists, IsEntry, first_item_of, shelf_numbers}
 use Rattle.etagere_links.specs.Records.{item_chain}
@@ -50,7 +50,7 @@ shelf-is atlas lists entry height along tall same =
     ∙ ap (λ (ps : List ℕ). record { column = (spelled_shelf atlas entry).column; height = height; items = (spelled_shelf atlas entry).items; free_list = ps }) places
 
 -- shelves that begin where they began and are as tall stand where they stood
-module _ (shelves new : List ShelfRecord) (column_width : ℕ) (along : (k : ℕ) → along_of new k ≡ along_of shelves k) (across : (k : ℕ) → across_of new k ≡ across_of shelves k) (height : (k : ℕ) → height_of new k ≡ height_of shelves k) where
+module _ (shelves new : List LinkedShelf) (column_width : ℕ) (along : (k : ℕ) → along_of new k ≡ along_of shelves k) (across : (k : ℕ) → across_of new k ≡ across_of shelves k) (height : (k : ℕ) → height_of new k ≡ height_of shelves k) where
   heights-stay : (column : ℕ) (numbers : List ℕ) → height_before new column_width column numbers ≡ height_before shelves column_width column numbers
   heights-stay column [] = refl
   heights-stay column (n ∷ ns) =
@@ -66,7 +66,7 @@ module _ (shelves new : List ShelfRecord) (column_width : ℕ) (along : (k : ℕ
       (across n ∙ stacked.0 ∙ sym own, stacked-stay (before ++ n ∷ []) ns stacked.1)
 
 -- the link to the first of a shelf's items names one free item where that is all
-pub one-free : (items : List ItemRecord) (first : Option ℕ) (xs : List ℕ) → IsChainIn item_chain items first xs → names_one_free items first ≡ is_one_free (map (item_at items) xs)
+pub one-free : (items : List LinkedItem) (first : Option ℕ) (xs : List ℕ) → IsChainIn item_chain items first xs → names_one_free items first ≡ is_one_free (map (item_at items) xs)
 one-free items first [] chain = ap (names_one_free items) chain.forward
 one-free items first (x ∷ []) chain =
     let all : (b : Bool) → (b && true) ≡ b = λ b. grind arith in
@@ -81,29 +81,29 @@ one-free items first (x ∷ y ∷ ys) chain =
     ∙ none (not (is_allocated_at items x))
 
 -- saying whether a shelf is empty keeps the links
-keeps-emptiness : (is_empty : Bool) → KeepsShelfLinks (λ (shelf : ShelfRecord). record shelf { is_empty = is_empty })
+keeps-emptiness : (is_empty : Bool) → KeepsShelfLinks (λ (shelf : LinkedShelf). record shelf { is_empty = is_empty })
 keeps-emptiness is_empty = record { next = λ x. refl; prev = λ x. refl; first_item = λ x. refl; first_unallocated = λ x. refl }
 
 -- the records after a shelf was made to say whether it is empty: they spell the same, and every shelf says it
 pub emptiness_said-flagged : (atlas : AtlasRecords) (before after : List Entry) (entry : Entry) (unused shelves : List ℕ) → Each (HasFlag atlas) before → Each (HasFlag atlas) after → IsSpelled atlas (lists_of (before ++ entry ∷ after) unused shelves) → IsFlagged (with_lists atlas (emptiness_said entry.number atlas.lists)) (lists_of (before ++ entry ∷ after) unused shelves) × (map (spelled_shelf (with_lists atlas (emptiness_said entry.number atlas.lists))) (before ++ entry ∷ after) ≡ map (spelled_shelf atlas) (before ++ entry ∷ after))
 emptiness_said-flagged atlas before after entry unused shelves flags_before flags_after spelled =
-    let old : List ShelfRecord = atlas.lists.shelves in
-    let items : List ItemRecord = atlas.lists.items in
+    let old : List LinkedShelf = atlas.lists.shelves in
+    let items : List LinkedItem = atlas.lists.items in
     let entries : List Entry = before ++ entry ∷ after in
     let value : Bool = names_one_free items (first_item_of old entry.number) in
-    let change : ShelfRecord → ShelfRecord = λ x. record x { is_empty = value } in
+    let change : LinkedShelf → LinkedShelf = λ x. record x { is_empty = value } in
     let lists : Records = emptiness_said entry.number atlas.lists in
     let new : AtlasRecords = with_lists atlas lists in
     let apart : IsApart atlas.lists before after unused [] entry = linked-apart atlas.lists before after entry unused shelves [] [] spelled.linked in
-    let along : (k : ℕ) → along_of lists.shelves k ≡ along_of old k = λ k. field_at-kept (λ (x : ShelfRecord). x.x) 0 change old entry.number k (λ x. refl) in
-    let across : (k : ℕ) → across_of lists.shelves k ≡ across_of old k = λ k. field_at-kept (λ (x : ShelfRecord). x.y) 0 change old entry.number k (λ x. refl) in
-    let height : (k : ℕ) → height_of lists.shelves k ≡ height_of old k = λ k. field_at-kept (λ (x : ShelfRecord). x.height) 0 change old entry.number k (λ x. refl) in
+    let along : (k : ℕ) → along_of lists.shelves k ≡ along_of old k = λ k. field_at-kept (λ (x : LinkedShelf). x.x) 0 change old entry.number k (λ x. refl) in
+    let across : (k : ℕ) → across_of lists.shelves k ≡ across_of old k = λ k. field_at-kept (λ (x : LinkedShelf). x.y) 0 change old entry.number k (λ x. refl) in
+    let height : (k : ℕ) → height_of lists.shelves k ≡ height_of old k = λ k. field_at-kept (λ (x : LinkedShelf). x.height) 0 change old entry.number k (λ x. refl) in
     let same : (k : ℕ) → SameItem items lists.items k = λ k. items-same items lists.items k refl in
     let each : (es : List Entry) → map (spelled_shelf new) es ≡ map (spelled_shelf atlas) es = λ es. shelves-stay atlas lists along height same es in
     let is : IsEntry atlas.lists entry = Each-middle (IsEntry atlas.lists) before entry after spelled.linked.entries in
     let among : (k : ℕ) → times k (shelf_numbers before ++ shelf_numbers after) ≡ times k (shelf_numbers before) + times k (shelf_numbers after) = λ k. times-append k (shelf_numbers before) (shelf_numbers after) in
-    let other : (k : ℕ) → Some entry.number ≢ Some k → is_empty_at lists.shelves k ≡ is_empty_at old k = λ k stranger. field_at-other (λ (x : ShelfRecord). x.is_empty) false change old (Some entry.number) k stranger in
-    let own : is_empty_at lists.shelves entry.number ≡ value = field_at-changed (λ (x : ShelfRecord). x.is_empty) false change old entry.number value apart.number (λ x. refl) in (
+    let other : (k : ℕ) → Some entry.number ≢ Some k → is_empty_at lists.shelves k ≡ is_empty_at old k = λ k stranger. field_at-other (λ (x : LinkedShelf). x.is_empty) false change old (Some entry.number) k stranger in
+    let own : is_empty_at lists.shelves entry.number ≡ value = field_at-changed (λ (x : LinkedShelf). x.is_empty) false change old entry.number value apart.number (λ x. refl) in (
       record {
         spelled =
             record {

@@ -9,8 +9,8 @@ use Rattle.etagere_base.specs.Frames.{HasAllColumns, IsFrame, across_side}
 use Rattle.etagere_base.proofs.FrameSides.{columns-le}
 use Rattle.etagere_base.specs.Lists.{times}
 use Rattle.etagere_links.specs.Chains.{IsChainIn, Leads, LeadsBack}
-use Rattle.etagere_links.specs.declared.records.ItemRecord.{ItemRecord}
-use Rattle.etagere_links.specs.declared.records.ShelfRecord.{ShelfRecord}
+use Rattle.etagere_links.specs.declared.records.LinkedItem.{LinkedItem}
+use Rattle.etagere_links.specs.declared.records.LinkedShelf.{LinkedShelf}
 use Rattle.etagere_links.specs.Edits.{link_at}
 use Rattle.etagere_links.specs.RecordLists.{Entry, Lists, HasEachOnce, IsEntry, IsLinked, field_at, first_item_of, first_free_of, item_numbers, shelf_numbers, shelf_walk}
 use Rattle.etagere_links.specs.Records.{item_chain, free_list, shelf_chain}
@@ -87,10 +87,10 @@ module _ (frame : Frame) where
   fresh-entry : (column : ℕ) → column < frame.columns → IsEntry (fresh_records frame) (fresh_entry column)
   fresh-entry column below =
       let first : first_item_of (fresh_records frame).shelves column ≡ Some column =
-      numbered-field (λ (s : ShelfRecord). s.first_item) None (fresh_shelf frame) frame.columns column below in
+      numbered-field (λ (s : LinkedShelf). s.first_item) None (fresh_shelf frame) frame.columns column below in
       let first_free : first_free_of (fresh_records frame).shelves column ≡ Some column =
-      numbered-field (λ (s : ShelfRecord). s.first_unallocated) None (fresh_shelf frame) frame.columns column below in
-      let link : (field : ItemRecord → Option ℕ) → link_at field (fresh_records frame).items column ≡ field (fresh_item frame column) =
+      numbered-field (λ (s : LinkedShelf). s.first_unallocated) None (fresh_shelf frame) frame.columns column below in
+      let link : (field : LinkedItem → Option ℕ) → link_at field (fresh_records frame).items column ≡ field (fresh_item frame column) =
       λ field. numbered-link field (fresh_item frame) frame.columns column below in
       record {
         items = record { forward = (first, link item_chain.next); backward = (link item_chain.previous, tt) };
@@ -121,14 +121,14 @@ module _ (frame : Frame) where
 
     -- where the shelf of a column begins along
     fresh-along : (column : ℕ) → column < frame.columns → along_of (fresh_records frame).shelves column ≡ column * frame.column_width
-    fresh-along column below = numbered-field (λ (s : ShelfRecord). s.x) 0 (fresh_shelf frame) frame.columns column below
+    fresh-along column below = numbered-field (λ (s : LinkedShelf). s.x) 0 (fresh_shelf frame) frame.columns column below
 
     -- the column of the shelf of a number is that number
     fresh-column : (column : ℕ) → column < frame.columns → along_of (fresh_records frame).shelves column / frame.column_width ≡ column
     fresh-column column below = rw (fresh-along column below) (mul-div_cancel column is_frame.column_width)
 
     -- a field of the item of a column
-    fresh-item-field : {X : Type 0} (field : ItemRecord → X) (other : X) (column : ℕ) → column < frame.columns → field_at field other (fresh_records frame).items column ≡ field (fresh_item frame column)
+    fresh-item-field : {X : Type 0} (field : LinkedItem → X) (other : X) (column : ℕ) → column < frame.columns → field_at field other (fresh_records frame).items column ≡ field (fresh_item frame column)
     fresh-item-field field other column below = numbered-field field other (fresh_item frame) frame.columns column below
 
     -- the item of a column is free, and as wide as it
@@ -139,8 +139,8 @@ module _ (frame : Frame) where
     fresh-shelf-at : (column : ℕ) → column < frame.columns → spelled_shelf (fresh_atlas frame) (fresh_entry column) ≡ empty_shelf frame column (across_side frame)
     fresh-shelf-at column below =
         let height : height_of (fresh_records frame).shelves column ≡ across_side frame =
-        numbered-field (λ (s : ShelfRecord). s.height) 0 (fresh_shelf frame) frame.columns column below in
-        let place : place_of (fresh_records frame).items column ≡ column * frame.column_width = fresh-item-field (λ (i : ItemRecord). i.x) 0 column below in
+        numbered-field (λ (s : LinkedShelf). s.height) 0 (fresh_shelf frame) frame.columns column below in
+        let place : place_of (fresh_records frame).items column ≡ column * frame.column_width = fresh-item-field (λ (i : LinkedItem). i.x) 0 column below in
         ap (λ (c : ℕ). record { column = c; height = height_of (fresh_records frame).shelves column; items = item_at (fresh_records frame).items column ∷ []; free_list = place_of (fresh_records frame).items column ∷ [] }) (fresh-column column below)
         ∙ ap (λ (h : ℕ). record { column = column; height = h; items = item_at (fresh_records frame).items column ∷ []; free_list = place_of (fresh_records frame).items column ∷ [] }) height
         ∙ ap (λ (i : Item). record { column = column; height = across_side frame; items = i ∷ []; free_list = place_of (fresh_records frame).items column ∷ [] }) (fresh-item-at column below)
@@ -156,18 +156,18 @@ module _ (frame : Frame) where
     -- the records of a column say what they must
     fresh-placed : (column : ℕ) → column < frame.columns → IsPlaced (fresh_atlas frame) (fresh_entry column)
     fresh-placed column below =
-        let free : is_allocated_at (fresh_records frame).items column ≡ false = fresh-item-field (λ (i : ItemRecord). i.allocated) false column below in
+        let free : is_allocated_at (fresh_records frame).items column ≡ false = fresh-item-field (λ (i : LinkedItem). i.allocated) false column below in
         record {
-          owners = (fresh-item-field (λ (i : ItemRecord). i.shelf) 0 column below, tt);
+          owners = (fresh-item-field (λ (i : LinkedItem). i.shelf) 0 column below, tt);
           along = rw (fresh-along column below) (mul-mod_left column frame.column_width);
-          places = (fresh-item-field (λ (i : ItemRecord). i.x) 0 column below ∙ sym (fresh-along column below), tt);
+          places = (fresh-item-field (λ (i : LinkedItem). i.x) 0 column below ∙ sym (fresh-along column below), tt);
           free_list = λ item. rw free refl;
         }
 
     -- and the shelf says that it is empty
     fresh-flag : (column : ℕ) → column < frame.columns → HasFlag (fresh_atlas frame) (fresh_entry column)
     fresh-flag column below =
-        rw (fresh-item-at column below) (numbered-field (λ (s : ShelfRecord). s.is_empty) false (fresh_shelf frame) frame.columns column below)
+        rw (fresh-item-at column below) (numbered-field (λ (s : LinkedShelf). s.is_empty) false (fresh_shelf frame) frame.columns column below)
 
     -- no earlier column has a height in a later one
     fresh-height : (column from n : ℕ) → from + n ≤ column → column < frame.columns → height_before (fresh_records frame).shelves frame.column_width column (numbered (λ number. number) from n) ≡ 0
@@ -180,7 +180,7 @@ module _ (frame : Frame) where
     fresh-stacked : (from n : ℕ) → from + n ≤ frame.columns → AreStacked (fresh_records frame).shelves frame.column_width (numbered (λ number. number) 0 from) (numbered (λ number. number) from n)
     fresh-stacked from zero all = tt
     fresh-stacked from (suc n) all = (
-      numbered-field (λ (s : ShelfRecord). s.y) 0 (fresh_shelf frame) frame.columns from (omega arith)
+      numbered-field (λ (s : LinkedShelf). s.y) 0 (fresh_shelf frame) frame.columns from (omega arith)
           ∙ sym (rw (fresh-column from (omega arith)) (fresh-height from 0 from (omega arith) (omega arith))),
       rw (numbered-last from) (fresh-stacked (suc from) n (omega arith)),
     )

@@ -6,8 +6,8 @@ use Rattle.std.specs.Prelude.{slice_get}
 use Rattle.etagere_base.proofs.EachLemmas.{Each-append, Each-front, Each-back, Each-middle}
 use Rattle.etagere_base.proofs.TimesLemmas.{times-append}
 use Rattle.etagere_base.specs.Lists.{Each, times}
-use Rattle.etagere_links.specs.declared.records.ItemRecord.{ItemRecord}
-use Rattle.etagere_links.specs.declared.records.ShelfRecord.{ShelfRecord}
+use Rattle.etagere_links.specs.declared.records.LinkedItem.{LinkedItem}
+use Rattle.etagere_links.specs.declared.records.LinkedShelf.{LinkedShelf}
 use Rattle.etagere_links.specs.Edits.{first_without, link_at, linked_between, unlinked}
 use Rattle.etagere_links.specs.Links.{no_link}
 use Rattle.etagere_links.specs.RecordEdits.{item_changed}
@@ -101,19 +101,19 @@ read-within field other none (x ∷ xs) zero within = refl
 read-within field other none (x ∷ xs) (suc k) within = read-within field other none xs k (omega arith)
 
 -- the id of a record that stayed
-id-same : (items new : List ItemRecord) (k : ℕ) → k < length items → slice_get new k ≡ slice_get items k → id_at new k ≡ id_of items k
+id-same : (items new : List LinkedItem) (k : ℕ) → k < length items → slice_get new k ≡ slice_get items k → id_at new k ≡ id_of items k
 id-same items new k within same =
-    ap (λ (r : Option ItemRecord). k + 65536 * option_map_or (λ (x : ItemRecord). x.generation) r 0) same
-    ∙ ap (λ g. k + 65536 * g) (read-within (λ (x : ItemRecord). x.generation) 0 (item_record [] k) items k within)
+    ap (λ (r : Option LinkedItem). k + 65536 * option_map_or (λ (x : LinkedItem). x.generation) r 0) same
+    ∙ ap (λ g. k + 65536 * g) (read-within (λ (x : LinkedItem). x.generation) 0 (item_record [] k) items k within)
 
 -- the width that an item spells is that of its record
-pub width-read : (items : List ItemRecord) (label k : ℕ) → (field_at (spelled_item label) (record { width = 0; id = None }) items k).width ≡ (item_record items k).width
+pub width-read : (items : List LinkedItem) (label k : ℕ) → (field_at (spelled_item label) (record { width = 0; id = None }) items k).width ≡ (item_record items k).width
 width-read [] label k = refl
 width-read (x ∷ items) label zero = refl
 width-read (x ∷ items) label (suc k) = width-read items label k
 
 -- what was said of the items of a shelf before one of them was given is said of the others still
-keeps-others : (atlas : AtlasRecords) (split_records : Records) (new : List ItemRecord) (before added after : List Entry) (shelf number : ℕ) (front back free_front free_back unused_items unused_shelves loose : List ℕ) (tall : ℕ) (rests : List Shelf) → HasShelfSplit atlas split_records before added after (entry_of shelf (front ++ number ∷ back) (free_front ++ number ∷ free_back)) unused_items unused_shelves loose tall rests → ((k : ℕ) → number ≢ k → SameItem split_records.items new k) → KeepsOthers atlas.lists.items new front back free_front free_back
+keeps-others : (atlas : AtlasRecords) (split_records : Records) (new : List LinkedItem) (before added after : List Entry) (shelf number : ℕ) (front back free_front free_back unused_items unused_shelves loose : List ℕ) (tall : ℕ) (rests : List Shelf) → HasShelfSplit atlas split_records before added after (entry_of shelf (front ++ number ∷ back) (free_front ++ number ∷ free_back)) unused_items unused_shelves loose tall rests → ((k : ℕ) → number ≢ k → SameItem split_records.items new k) → KeepsOthers atlas.lists.items new front back free_front free_back
 keeps-others atlas split_records new before added after shelf number front back free_front free_back unused_items unused_shelves loose tall rests is_split others =
     let numbers : List ℕ = front ++ number ∷ back in
     let free : List ℕ = free_front ++ number ∷ free_back in
@@ -136,35 +136,35 @@ keeps-others atlas split_records new before added after shelf number front back 
 -- giving keeps the counts of records
 given-length : (records : Records) (shelf number : ℕ) → length (item_given shelf number records).items ≡ length records.items
 given-length records shelf number =
-    length-changed_by (λ (x : ItemRecord). record x { allocated = true }) (unlinked free_list number records.items) (Some number) ∙ length-unlinked free_list records.items number
+    length-changed_by (λ (x : LinkedItem). record x { allocated = true }) (unlinked free_list number records.items) (Some number) ∙ length-unlinked free_list records.items number
 
 pub given-shelves : (records : Records) (shelf number : ℕ) → length (item_given shelf number records).shelves ≡ length records.shelves
 given-shelves records shelf number =
     let link : Option ℕ = first_without (link_at free_list.previous records.items number) (link_at free_list.next records.items number) (first_free_of records.shelves shelf) in
-    length-changed_by (λ (x : ShelfRecord). record x { first_unallocated = link }) records.shelves (Some shelf)
+    length-changed_by (λ (x : LinkedShelf). record x { first_unallocated = link }) records.shelves (Some shelf)
 
 front-length : (records : Records) (shelf number rest width : ℕ) → length (front_given shelf number rest width records).items ≡ length records.items
 front-length records shelf number rest width =
-    let items : List ItemRecord = records.items in
-    let one : List ItemRecord = linked_between item_chain (Some number) (link_at item_chain.next items number) rest items in
-    let two : List ItemRecord = linked_between free_list (Some number) (link_at free_list.next one number) rest one in
-    length-changed_by (λ (x : ItemRecord). record x { width = width; allocated = true }) (unlinked free_list number two) (Some number)
+    let items : List LinkedItem = records.items in
+    let one : List LinkedItem = linked_between item_chain (Some number) (link_at item_chain.next items number) rest items in
+    let two : List LinkedItem = linked_between free_list (Some number) (link_at free_list.next one number) rest one in
+    length-changed_by (λ (x : LinkedItem). record x { width = width; allocated = true }) (unlinked free_list number two) (Some number)
     ∙ length-unlinked free_list two number
     ∙ length-linked_between free_list one (Some number) (link_at free_list.next one number) rest
     ∙ length-linked_between item_chain items (Some number) (link_at item_chain.next items number) rest
 
 pub front-shelves : (records : Records) (shelf number rest width : ℕ) → length (front_given shelf number rest width records).shelves ≡ length records.shelves
 front-shelves records shelf number rest width =
-    let items : List ItemRecord = records.items in
-    let one : List ItemRecord = linked_between item_chain (Some number) (link_at item_chain.next items number) rest items in
-    let two : List ItemRecord = linked_between free_list (Some number) (link_at free_list.next one number) rest one in
+    let items : List LinkedItem = records.items in
+    let one : List LinkedItem = linked_between item_chain (Some number) (link_at item_chain.next items number) rest items in
+    let two : List LinkedItem = linked_between free_list (Some number) (link_at free_list.next one number) rest one in
     let link : Option ℕ = first_without (link_at free_list.previous two number) (link_at free_list.next two number) (first_free_of records.shelves shelf) in
-    length-changed_by (λ (x : ShelfRecord). record x { first_unallocated = link }) records.shelves (Some shelf)
+    length-changed_by (λ (x : LinkedShelf). record x { first_unallocated = link }) records.shelves (Some shelf)
 
 -- an item was given whole
 pub item-whole : (atlas : AtlasRecords) (split_records : Records) (before added after : List Entry) (shelf number : ℕ) (front back free_front free_back unused_items unused_shelves : List ℕ) (placement : Placement) (rests : List Shelf) → number < length atlas.lists.items → IsPlacedAt atlas.lists.items placement front back free_front free_back number → placement.splits_item ≡ false → Each (IsEntry atlas.lists) (before ++ entry_of shelf (front ++ number ∷ back) (free_front ++ number ∷ free_back) ∷ after) → HasShelfSplit atlas split_records before added after (entry_of shelf (front ++ number ∷ back) (free_front ++ number ∷ free_back)) unused_items unused_shelves [] placement.height rests → IsItemGiven atlas (item_given shelf number split_records) before added after (entry_of shelf (front ++ number ∷ back) (free_front ++ number ∷ free_back)) unused_items unused_shelves (taken_from false placement (id_of atlas.lists.items number) (spelled_shelf atlas (entry_of shelf (front ++ number ∷ back) (free_front ++ number ∷ free_back)))) rests
 item-whole atlas split_records before added after shelf number front back free_front free_back unused_items unused_shelves placement rests within is no_split are_old is_split =
-    let old : List ItemRecord = atlas.lists.items in
+    let old : List LinkedItem = atlas.lists.items in
     let new : Records = item_given shelf number split_records in
     let numbers : List ℕ = front ++ number ∷ back in
     let free : List ℕ = free_front ++ number ∷ free_back in
@@ -193,9 +193,9 @@ item-whole atlas split_records before added after shelf number front back free_f
 -- the front of an item was given, after the record of the rest was written
 pub item-front : (atlas : AtlasRecords) (split_records : Records) (before added after : List Entry) (shelf number rest generation : ℕ) (front back free_front free_back unused_items unused_shelves : List ℕ) (placement : Placement) (rests : List Shelf) → number < length atlas.lists.items → IsPlacedAt atlas.lists.items placement front back free_front free_back number → placement.splits_item ≡ true → Each (IsEntry atlas.lists) (before ++ entry_of shelf (front ++ number ∷ back) (free_front ++ number ∷ free_back) ∷ after) → HasShelfSplit atlas split_records before added after (entry_of shelf (front ++ number ∷ back) (free_front ++ number ∷ free_back)) unused_items unused_shelves (rest ∷ []) placement.height rests → IsItemGiven atlas (front_given shelf number rest placement.width (item_changed rest (λ _. rest_item (item_record split_records.items number) placement.width shelf generation) split_records)) before added after (entry_of shelf (front ++ number ∷ back) (free_front ++ number ∷ free_back)) unused_items unused_shelves (taken_from true placement (id_of atlas.lists.items number) (spelled_shelf atlas (entry_of shelf (front ++ number ∷ back) (free_front ++ number ∷ free_back)))) rests
 item-front atlas split_records before added after shelf number rest generation front back free_front free_back unused_items unused_shelves placement rests within is split are_old is_split =
-    let old : List ItemRecord = atlas.lists.items in
+    let old : List LinkedItem = atlas.lists.items in
     let width : ℕ = placement.width in
-    let item : ItemRecord = rest_item (item_record split_records.items number) width shelf generation in
+    let item : LinkedItem = rest_item (item_record split_records.items number) width shelf generation in
     let written : Records = item_changed rest (λ _. item) split_records in
     let new : Records = front_given shelf number rest width written in
     let numbers : List ℕ = front ++ number ∷ back in
@@ -218,20 +218,20 @@ item-front atlas split_records before added after shelf number rest generation f
     omega (arith, apart.loose_within rest rest_stands, length-changed_by (λ _. item) split_records.items (Some rest)) in
     let whole_width : (item_record split_records.items number).width ≡ (item_at old number).width =
     sym (width-read split_records.items number number) ∙ ap (λ (i : Item). i.width) same_split.item in
-    let whole_place : (item_record split_records.items number).x ≡ place_of old number = read-record (λ (x : ItemRecord). x.x) (item_record [] number) split_records.items number ∙ same_split.place in
+    let whole_place : (item_record split_records.items number).x ≡ place_of old number = read-record (λ (x : LinkedItem). x.x) (item_record [] number) split_records.items number ∙ same_split.place in
     let rest_is : item_at written.items rest ≡ record { width = (item_at old number).width - width; id = None } =
     field_at-changed (spelled_item rest) (record { width = 0; id = None }) (λ _. item) split_records.items rest (record { width = (item_record split_records.items number).width - width; id = None }) rest_within (λ x. refl)
     ∙ ap (λ w. record { width = w - width; id = None }) whole_width in
     let rest_place : place_of written.items rest ≡ place_of old number + width =
-    field_at-changed (λ (x : ItemRecord). x.x) 0 (λ _. item) split_records.items rest ((item_record split_records.items number).x + width) rest_within (λ x. refl)
+    field_at-changed (λ (x : LinkedItem). x.x) 0 (λ _. item) split_records.items rest ((item_record split_records.items number).x + width) rest_within (λ x. refl)
     ∙ ap (λ p. p + width) whole_place in
     let narrower : width < (item_at old number).width = is.split split in
     let is_rest : IsRestItem written.items shelf number rest width =
     record {
       width = omega (arith, narrower, ap (λ (i : Item). i.width) same.item, ap (λ (i : Item). i.width) rest_is);
       place = rest_place ∙ ap (λ p. p + width) (sym same.place);
-      shelf = field_at-changed (λ (x : ItemRecord). x.shelf) 0 (λ _. item) split_records.items rest shelf rest_within (λ x. refl);
-      free = field_at-changed (λ (x : ItemRecord). x.allocated) false (λ _. item) split_records.items rest false rest_within (λ x. refl);
+      shelf = field_at-changed (λ (x : LinkedItem). x.shelf) 0 (λ _. item) split_records.items rest shelf rest_within (λ x. refl);
+      free = field_at-changed (λ (x : LinkedItem). x.allocated) false (λ _. item) split_records.items rest false rest_within (λ x. refl);
     } in
     let edits : EditsItems (with_lists atlas written) new before (added ++ after) unused_items unused_items unused_shelves entry edited =
     front_given-spelled (with_lists atlas written) before (added ++ after) shelf number rest width front back free_front free_back unused_items unused_shelves (same.allocated ∙ is.free) is_rest is_written.spelled in

@@ -4,7 +4,7 @@ use Rattle.etagere_base.specs.Frames.{IsFrame}
 use Rattle.etagere_base.proofs.EachLemmas.{Each-middle}
 use Rattle.etagere_base.proofs.FrameSides.{column_width-le, sides_low}
 use Rattle.etagere_base.specs.Lists.{times}
-use Rattle.etagere_links.specs.declared.records.ItemRecord.{ItemRecord}
+use Rattle.etagere_links.specs.declared.records.LinkedItem.{LinkedItem}
 use Rattle.etagere_links.specs.Edits.{link_at}
 use Rattle.etagere_links.specs.Lists.{first_or, last_or}
 use Rattle.etagere_links.specs.RecordLists.{Entry, IsEntry, first_item_of}
@@ -25,7 +25,7 @@ use Rattle.etagere.proofs.Spelled.NextMerged.{MergesNext, merges-next}
 use Rattle.etagere.proofs.Spelled.SpelledLists.{IsSpelled}
 
 -- a member of a list is no wider than all
-member-width : (items : List ItemRecord) (xs : List ℕ) (n : ℕ) → 1 ≤ times n xs → width_of items n ≤ widths items xs
+member-width : (items : List LinkedItem) (xs : List ℕ) (n : ℕ) → 1 ≤ times n xs → width_of items n ≤ widths items xs
 member-width items [] n stands = absurd (omega (arith, stands))
 member-width items (x ∷ xs) n stands = by_test (x == n) refl (member-width items xs n)
   where
@@ -36,10 +36,10 @@ member-width items (x ∷ xs) n stands = by_test (x == n) refl (member-width ite
 -- what freeing an item and merging it adds up fits 16 bits, and all that it reads is there
 pub can-merge-item : (atlas : AtlasRecords) (before after : List Entry) (shelf number : ℕ) (front back free unused shelves : List ℕ) → IsFrame 65535 atlas.frame → IsShelf atlas.frame (spelled_shelf atlas (entry_of shelf (front ++ number ∷ back) free)) → is_allocated_at atlas.lists.items number ≡ true → IsSpelled atlas (lists_of (before ++ entry_of shelf (front ++ number ∷ back) free ∷ after) unused shelves) → CanMergeItem shelf number atlas.lists
 can-merge-item atlas before after shelf number front back free unused shelves is_frame valid allocated spelled =
-    let items : List ItemRecord = atlas.lists.items in
+    let items : List LinkedItem = atlas.lists.items in
     let entry : Entry = entry_of shelf (front ++ number ∷ back) free in
     let one : Step = next_absorbed shelf number (free_next items number) atlas.lists in
-    let new : List ItemRecord = one.records.items in
+    let new : List LinkedItem = one.records.items in
     let next : MergesNext atlas one before after shelf number front back free unused shelves =
     merges-next atlas before after shelf number front back free unused shelves (wide-items atlas shelf (front ++ number ∷ back) free valid) allocated spelled in
     let is : IsEntry atlas.lists entry = Each-middle (IsEntry atlas.lists) before entry after spelled.linked.entries in

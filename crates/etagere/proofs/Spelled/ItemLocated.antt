@@ -4,7 +4,7 @@ use Rattle.std.proofs.lemmas.List.{length-append, length-map}
 use Rattle.std.specs.Prelude.{nat_lt}
 use Rattle.etagere_base.proofs.TimesLemmas.{times-append}
 use Rattle.etagere_base.specs.Lists.{Each, times}
-use Rattle.etagere_links.specs.declared.records.ItemRecord.{ItemRecord}
+use Rattle.etagere_links.specs.declared.records.LinkedItem.{LinkedItem}
 use Rattle.etagere_links.specs.RecordLists.{Entry, Lists, HasEachOnce, IsLinked, item_numbers}
 use Rattle.etagere_links.proofs.AllLists.LinkedMerges.{entry_of}
 use Rattle.etagere_links.proofs.AllLists.LinkedUnused.{three-count}
@@ -59,7 +59,7 @@ has-item number (entry ∷ entries) stands = by_count (times number entry.items)
     by_count (suc m) e later = has-first number entry entries (member-of number entry.items (omega (arith, e)))
 
 -- what is allocated is a record
-pub allocated-within : (items : List ItemRecord) (number : ℕ) → is_allocated_at items number ≡ true → number < length items
+pub allocated-within : (items : List LinkedItem) (number : ℕ) → is_allocated_at items number ≡ true → number < length items
 allocated-within [] number e = absurd (cc)
 allocated-within (x ∷ xs) zero e = omega arith
 allocated-within (x ∷ xs) (suc number) e = omega (arith, allocated-within xs number e)

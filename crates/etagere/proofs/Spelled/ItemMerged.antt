@@ -8,7 +8,7 @@ use Rattle.etagere_base.proofs.AlignedPlaces.{multiple}
 use Rattle.etagere_base.proofs.EachLemmas.{Each-middle}
 use Rattle.etagere_base.specs.Lists.{NoNeighbours, remove_place, times}
 use Rattle.etagere_base.specs.MergingAt.{merged_at, merged_before}
-use Rattle.etagere_links.specs.declared.records.ItemRecord.{ItemRecord}
+use Rattle.etagere_links.specs.declared.records.LinkedItem.{LinkedItem}
 use Rattle.etagere_links.specs.RecordLists.{Entry}
 use Rattle.etagere_links.proofs.AllLists.LinkedMerges.{entry_of}
 use Rattle.etagere_links.proofs.AllLists.LinkedUnused.{lists_of}
@@ -60,7 +60,7 @@ list-edited : (next_free previous_free : Bool) (next own own' : ℕ) (places mid
 list-edited next_free previous_free next own own' places middle new one same two = rw (two, one, same) refl
 
 -- the free list of a shelf around an item
-list-around : (items : List ItemRecord) (here : ℕ) (front : List ℕ) (item : Item) (others : List Item) (places : List ℕ) → returned_free_list here (map (item_at items) front ++ item ∷ others) (length front) places ≡ edited_list (is_first_free others) (here + (widths items front + item.width)) (is_free_before (length front) (map (item_at items) front ++ item ∷ others)) (here + widths items front) places
+list-around : (items : List LinkedItem) (here : ℕ) (front : List ℕ) (item : Item) (others : List Item) (places : List ℕ) → returned_free_list here (map (item_at items) front ++ item ∷ others) (length front) places ≡ edited_list (is_first_free others) (here + (widths items front + item.width)) (is_free_before (length front) (map (item_at items) front ++ item ∷ others)) (here + widths items front) places
 list-around items here front item others places =
     rw (free-next (item_at items) front item others, place-next items here front item others, place-here items here front (item ∷ others)) refl
 
@@ -72,7 +72,7 @@ wide-items atlas shelf numbers free valid n stands =
 -- an allocated item became free and was merged with its free neighbours
 pub merges-item : (atlas : AtlasRecords) (before after : List Entry) (shelf number : ℕ) (front back free unused shelves : List ℕ) → IsShelf atlas.frame (spelled_shelf atlas (entry_of shelf (front ++ number ∷ back) free)) → is_allocated_at atlas.lists.items number ≡ true → IsSpelled atlas (lists_of (before ++ entry_of shelf (front ++ number ∷ back) free ∷ after) unused shelves) → MergesItem atlas (item_merged shelf number atlas.lists) before after shelf number front back free unused shelves
 merges-item atlas before after shelf number front back free unused shelves valid allocated spelled =
-    let items : List ItemRecord = atlas.lists.items in
+    let items : List LinkedItem = atlas.lists.items in
     let entry : Entry = entry_of shelf (front ++ number ∷ back) free in
     let old : Shelf = spelled_shelf atlas entry in
     let one : Step = next_absorbed shelf number (free_next items number) atlas.lists in

@@ -8,7 +8,7 @@ use Rattle.etagere_base.proofs.FrameSides.{sides_low}
 use Rattle.etagere_base.proofs.TimesLemmas.{times-append}
 use Rattle.etagere_base.specs.Lists.{Each, times}
 use Rattle.etagere_base.specs.MergingAt.{merged_at, merged_before}
-use Rattle.etagere_links.specs.declared.records.ItemRecord.{ItemRecord}
+use Rattle.etagere_links.specs.declared.records.LinkedItem.{LinkedItem}
 use Rattle.etagere_links.specs.RecordLists.{Records, field_at, Entry, Lists, IsLinked, shelf_numbers, walked_lists}
 use Rattle.etagere_links.proofs.AllLists.LinkedFrames.{shelf_numbers-append}
 use Rattle.etagere_links.proofs.AllLists.LinkedMerges.{entry_of}
@@ -151,7 +151,7 @@ kept-again frame records new id aside change kept lengths is =
     )
 
 -- the id of an allocated item
-pub allocated-id : (items : List ItemRecord) (label number : ℕ) → is_allocated_at items number ≡ true → (field_at (spelled_item label) (record { width = 0; id = None }) items number).id ≡ Some (label + 65536 * field_at (λ (x : ItemRecord). x.generation) 0 items number)
+pub allocated-id : (items : List LinkedItem) (label number : ℕ) → is_allocated_at items number ≡ true → (field_at (spelled_item label) (record { width = 0; id = None }) items number).id ≡ Some (label + 65536 * field_at (λ (x : LinkedItem). x.generation) 0 items number)
 allocated-id [] label number e = absurd (cc)
 allocated-id (x ∷ xs) label zero e = simp e refl
 allocated-id (x ∷ xs) label (suc number) e = allocated-id xs label number e

@@ -6,7 +6,7 @@ use Rattle.std.specs.Prelude.{not}
 use Rattle.etagere_base.proofs.TimesLemmas.{times-append}
 use Rattle.etagere_base.specs.Lists.{Each, times}
 use Rattle.etagere_base.specs.MergingAt.{merged_at, merged_before}
-use Rattle.etagere_links.specs.declared.records.ItemRecord.{ItemRecord}
+use Rattle.etagere_links.specs.declared.records.LinkedItem.{LinkedItem}
 use Rattle.etagere_links.specs.RecordLists.{field_at}
 use Rattle.etagere_links.proofs.ListEnds.{times-other}
 use Rattle.etagere.specs.AtlasRecords.{is_allocated_at, place_of, item_at, spelled_item}
@@ -60,7 +60,7 @@ map-parts f g (z ∷ zs) x y ys same =
     (cc (first, rest.0), rest.1)
 
 -- an item is free where its record is not allocated
-free-label : (items : List ItemRecord) (label k : ℕ) → is_free (field_at (spelled_item label) (record { width = 0; id = None }) items k) ≡ not (is_allocated_at items k)
+free-label : (items : List LinkedItem) (label k : ℕ) → is_free (field_at (spelled_item label) (record { width = 0; id = None }) items k) ≡ not (is_allocated_at items k)
 free-label [] label k = refl
 free-label (x ∷ xs) label zero = by_mark x.allocated refl
   where
@@ -69,7 +69,7 @@ free-label (x ∷ xs) label zero = by_mark x.allocated refl
     by_mark false e = simp e refl
 free-label (x ∷ xs) label (suc k) = free-label xs label k
 
-pub free-item : (items : List ItemRecord) (k : ℕ) (allocated : Bool) → is_allocated_at items k ≡ allocated → is_free (item_at items k) ≡ not allocated
+pub free-item : (items : List LinkedItem) (k : ℕ) (allocated : Bool) → is_allocated_at items k ≡ allocated → is_free (item_at items k) ≡ not allocated
 free-item items k allocated e = free-label items k k ∙ ap not e
 
 -- a free item is one without an id
@@ -81,16 +81,16 @@ free-none item e = by_id item.id e
     by_id (Some id) e = absurd (cc)
 
 -- the widths of items, added up
-pub widths-total : (items : List ItemRecord) (xs : List ℕ) → total_width (map (item_at items) xs) ≡ widths items xs
+pub widths-total : (items : List LinkedItem) (xs : List ℕ) → total_width (map (item_at items) xs) ≡ widths items xs
 widths-total items [] = refl
 widths-total items (x ∷ xs) = ap (λ w. (item_at items x).width + w) (widths-total items xs)
 
-pub widths-append : (items : List ItemRecord) (xs ys : List ℕ) → widths items (xs ++ ys) ≡ widths items xs + widths items ys
+pub widths-append : (items : List LinkedItem) (xs ys : List ℕ) → widths items (xs ++ ys) ≡ widths items xs + widths items ys
 widths-append items [] ys = omega arith
 widths-append items (x ∷ xs) ys = omega (arith, widths-append items xs ys)
 
 -- where the item after a front begins
-pub place-here : (items : List ItemRecord) (here : ℕ) (front : List ℕ) (others : List Item) → place_at here (map (item_at items) front ++ others) (length front) ≡ here + widths items front
+pub place-here : (items : List LinkedItem) (here : ℕ) (front : List ℕ) (others : List Item) → place_at here (map (item_at items) front ++ others) (length front) ≡ here + widths items front
 place-here items here [] others = refl
 place-here items here (x ∷ front) others =
     let rest : here + (item_at items x).width + total_width (take (length front) (map (item_at items) front ++ others)) ≡ here + (item_at items x).width + widths items front =
@@ -98,7 +98,7 @@ place-here items here (x ∷ front) others =
     omega (arith, rest)
 
 -- where the next one begins
-pub place-next : (items : List ItemRecord) (here : ℕ) (front : List ℕ) (item : Item) (others : List Item) → place_at here (map (item_at items) front ++ item ∷ others) (suc (length front)) ≡ here + (widths items front + item.width)
+pub place-next : (items : List LinkedItem) (here : ℕ) (front : List ℕ) (item : Item) (others : List Item) → place_at here (map (item_at items) front ++ item ∷ others) (suc (length front)) ≡ here + (widths items front + item.width)
 place-next items here [] item others = omega arith
 place-next items here (x ∷ front) item others =
     let rest : here + (item_at items x).width + total_width (take (suc (length front)) (map (item_at items) front ++ item ∷ others)) ≡ here + (item_at items x).width + (widths items front + item.width) =
@@ -160,7 +160,7 @@ module _ (f : ℕ → Item) where
       (subst (λ n. merged_at both_free combined_items n (map f front ++ f last ∷ free_item width ∷ others) ≡ map f front ++ f last ∷ free_item width ∷ others) (length-map front f) (merged-previous-none (map f front) others (f last) width e))
 
 -- the items of a shelf begin at places that differ
-pub place-apart : (items : List ItemRecord) (here : ℕ) (front back : List ℕ) (number k : ℕ) → ((n : ℕ) → 1 ≤ times n (front ++ number ∷ back) → 1 ≤ (item_at items n).width) → LieFrom items here (front ++ number ∷ back) → 1 ≤ times k (front ++ number ∷ back) → number ≢ k → place_of items k ≢ place_of items number
+pub place-apart : (items : List LinkedItem) (here : ℕ) (front back : List ℕ) (number k : ℕ) → ((n : ℕ) → 1 ≤ times n (front ++ number ∷ back) → 1 ≤ (item_at items n).width) → LieFrom items here (front ++ number ∷ back) → 1 ≤ times k (front ++ number ∷ back) → number ≢ k → place_of items k ≢ place_of items number
 place-apart items here front back number k wide lies stands other same = by_count (times k front) refl
   where
     by_count : (m : ℕ) → times k front ≡ m → ⊥

@@ -9,7 +9,7 @@ use Rattle.etagere_base.proofs.TimesLemmas.{times-append}
 use Rattle.etagere_base.specs.Lists.{Each, times}
 use Rattle.etagere_base.specs.declared.frames.Frame.{Frame}
 use Rattle.etagere_base.specs.declared.geometry.Size.{Size}
-use Rattle.etagere_links.specs.declared.records.ItemRecord.{ItemRecord}
+use Rattle.etagere_links.specs.declared.records.LinkedItem.{LinkedItem}
 use Rattle.etagere_links.specs.RecordLists.{Records, Entry, Lists, IsEntry, IsLinkedBut, walked_lists}
 use Rattle.etagere_links.proofs.AllLists.LinkedItems.{IsApart, linked-apart}
 use Rattle.etagere_links.proofs.AllLists.LinkedMerges.{entry_of}
@@ -64,7 +64,7 @@ takes-split : (atlas : AtlasRecords) (placement : Placement) (entry split : Entr
 takes-split atlas placement entry split same takes = subst (λ (e : Entry). IsTaking atlas.frame placement (spelled_shelf atlas e)) same takes
 
 -- items of which each is wide
-items-wide : (frame : Frame) (items : List ItemRecord) (xs : List ℕ) → Each (IsItem frame) (map (item_at items) xs) → Each (λ k. 1 ≤ (item_at items k).width) xs
+items-wide : (frame : Frame) (items : List LinkedItem) (xs : List ℕ) → Each (IsItem frame) (map (item_at items) xs) → Each (λ k. 1 ≤ (item_at items k).width) xs
 items-wide frame items [] each = tt
 items-wide frame items (x ∷ xs) each = (each.0.width, items-wide frame items xs each.1)
 
@@ -73,7 +73,7 @@ multiple : (n m : ℕ) → n % m ≡ 0 → n / m * m ≡ n
 multiple n m e = omega (arith, e, div-add-mod' n m)
 
 -- an item without an id is not marked
-free-unmarked : (items : List ItemRecord) (k : ℕ) → (item_at items k).id ≡ None → is_allocated_at items k ≡ false
+free-unmarked : (items : List LinkedItem) (k : ℕ) → (item_at items k).id ≡ None → is_allocated_at items k ≡ false
 free-unmarked items k none = by_mark (is_allocated_at items k) (free-item items k (is_allocated_at items k) refl)
   where
     by_mark : (b : Bool) → is_free (item_at items k) ≡ not b → b ≡ false
@@ -86,7 +86,7 @@ located frame records size placement found kept h locates =
     let atlas : AtlasRecords = atlas_of frame records in
     let lists : Lists = walked_lists records in
     let state : AtlasState = state_of frame records in
-    let items : List ItemRecord = records.items in
+    let items : List LinkedItem = records.items in
     let number : ℕ = found.item in
     let entry : Entry = locates.entry in
     let shelf : Shelf = spelled_shelf atlas entry in

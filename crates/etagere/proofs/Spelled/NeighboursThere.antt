@@ -3,7 +3,7 @@ use Rattle.std.proofs.Common.{◌≡◌, ℕ, ◌+◌, ◌<◌, ◌≤◌, Bool,
 use Rattle.etagere_base.proofs.EachLemmas.{Each-middle}
 use Rattle.etagere_base.proofs.TimesLemmas.{times-append}
 use Rattle.etagere_base.specs.Lists.{times}
-use Rattle.etagere_links.specs.declared.records.ItemRecord.{ItemRecord}
+use Rattle.etagere_links.specs.declared.records.LinkedItem.{LinkedItem}
 use Rattle.etagere_links.specs.Chains.{IsChainIn}
 use Rattle.etagere_links.specs.Edits.{link_at}
 use Rattle.etagere_links.specs.Families.{Family}
@@ -24,7 +24,7 @@ use Rattle.etagere.proofs.Spelled.ItemsAround.{IsMember, member-of}
 use Rattle.etagere.proofs.Spelled.SpelledLists.{IsSpelled}
 
 -- a link that names a free item names this one, and this is free
-pub named-is : (items : List ItemRecord) (link : Option ℕ) (n : ℕ) → free_named items link ≡ Some n → (link ≡ Some n) × (is_allocated_at items n ≡ false)
+pub named-is : (items : List LinkedItem) (link : Option ℕ) (n : ℕ) → free_named items link ≡ Some n → (link ≡ Some n) × (is_allocated_at items n ≡ false)
 named-is items None n e = absurd (cc e)
 named-is items (Some m) n e = by_mark (is_allocated_at items m) refl
   where
@@ -76,7 +76,7 @@ free-next-there atlas before after shelf number front back free unused shelves s
       in_free_list = λ n e. member-neighbours free_list items (first_free_of atlas.lists.shelves shelf) free n apart.free_within is.free_list (is_free n e);
     }
   where
-    items : List ItemRecord
+    items : List LinkedItem
     items = atlas.lists.items
 
     numbers : List ℕ

@@ -6,7 +6,7 @@ use Rattle.etagere_base.proofs.EachLemmas.{Each-middle}
 use Rattle.etagere_base.proofs.TimesLemmas.{times-append}
 use Rattle.etagere_base.specs.Lists.{times, remove_place}
 use Rattle.etagere_base.specs.MergingAt.{merged_at}
-use Rattle.etagere_links.specs.declared.records.ItemRecord.{ItemRecord}
+use Rattle.etagere_links.specs.declared.records.LinkedItem.{LinkedItem}
 use Rattle.etagere_links.specs.Edits.{link_at}
 use Rattle.etagere_links.specs.RecordLists.{Records, Entry, IsEntry, first_item_of}
 use Rattle.etagere_links.specs.Records.{item_chain}
@@ -77,7 +77,7 @@ next-kept atlas before after shelf number front back free unused shelves allocat
     }
 
 -- an item that becomes wider begins where it began, and so do the others
-widened-places : (items new : List ItemRecord) (number width k : ℕ) → IsWidened items new number width → place_of new k ≡ place_of items k
+widened-places : (items new : List LinkedItem) (number width k : ℕ) → IsWidened items new number width → place_of new k ≡ place_of items k
 widened-places items new number width k widened = by_test (number == k) refl
   where
     by_test : (b : Bool) → (number == k) ≡ b → place_of new k ≡ place_of items k
@@ -87,7 +87,7 @@ widened-places items new number width k widened = by_test (number == k) refl
 -- the next item is free: it is absorbed
 next-taken : (atlas : AtlasRecords) (before after : List Entry) (shelf number next : ℕ) (front back free_front free_back unused shelves : List ℕ) → ((n : ℕ) → 1 ≤ times n (front ++ number ∷ next ∷ back) → 1 ≤ width_of atlas.lists.items n) → is_allocated_at atlas.lists.items number ≡ true → is_allocated_at atlas.lists.items next ≡ false → free_next atlas.lists.items number ≡ Some next → IsSpelled atlas (lists_of (before ++ entry_of shelf (front ++ number ∷ next ∷ back) (free_front ++ next ∷ free_back) ∷ after) unused shelves) → MergesNext atlas (next_absorbed shelf number (Some next) atlas.lists) before after shelf number front (next ∷ back) (free_front ++ next ∷ free_back) unused shelves
 next-taken atlas before after shelf number next front back free_front free_back unused shelves wide allocated is_free named spelled =
-    let items : List ItemRecord = atlas.lists.items in
+    let items : List LinkedItem = atlas.lists.items in
     let numbers : List ℕ = front ++ number ∷ next ∷ back in
     let free : List ℕ = free_front ++ next ∷ free_back in
     let entry : Entry = entry_of shelf numbers free in
@@ -152,7 +152,7 @@ next-taken atlas before after shelf number next front back free_front free_back 
 -- an allocated item was merged with the next one where that is free
 pub merges-next : (atlas : AtlasRecords) (before after : List Entry) (shelf number : ℕ) (front back free unused shelves : List ℕ) → ((n : ℕ) → 1 ≤ times n (front ++ number ∷ back) → 1 ≤ width_of atlas.lists.items n) → is_allocated_at atlas.lists.items number ≡ true → IsSpelled atlas (lists_of (before ++ entry_of shelf (front ++ number ∷ back) free ∷ after) unused shelves) → MergesNext atlas (next_absorbed shelf number (free_next atlas.lists.items number) atlas.lists) before after shelf number front back free unused shelves
 merges-next atlas before after shelf number front [] free unused shelves wide allocated spelled =
-    let items : List ItemRecord = atlas.lists.items in
+    let items : List LinkedItem = atlas.lists.items in
     let is : IsEntry atlas.lists (entry_of shelf (front ++ number ∷ []) free) = Each-middle (IsEntry atlas.lists) before (entry_of shelf (front ++ number ∷ []) free) after spelled.linked.entries in
     let link : link_at item_chain.next items number ≡ None = next-is (link_at item_chain.next items) front [] number (first_item_of atlas.lists.shelves shelf) None is.items.forward in
     let none : free_next items number ≡ None = ap (free_named items) link in

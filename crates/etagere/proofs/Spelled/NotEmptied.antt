@@ -1,7 +1,7 @@
 -- A shelf that isn't empty after a return: nothing merges with it.
 use Rattle.std.proofs.Common.{◌≡◌, ℕ, zero, suc, Bool, true, false, ◌==◌, Option, None, Some, List, [], ◌∷◌, refl, ap, sym, ◌∙◌}
 use Rattle.std.specs.Prelude.{◌&&◌}
-use Rattle.etagere_links.specs.declared.records.ShelfRecord.{ShelfRecord}
+use Rattle.etagere_links.specs.declared.records.LinkedShelf.{LinkedShelf}
 use Rattle.etagere_links.specs.Edits.{link_at}
 use Rattle.etagere_links.specs.RecordEdits.{with_empty}
 use Rattle.etagere_links.specs.RecordLists.{Records}
@@ -12,10 +12,10 @@ use Rattle.etagere.specs.Private.RankedReturned.{named_rank_merged, rank_merged,
 use Rattle.etagere.specs.declared.linked.ranked.RankedShelf.{RankedShelf}
 
 -- a shelf that says again what it says
-same-said : (shelf : ℕ) (is_empty : Bool) (shelves : List ShelfRecord) → is_empty_at shelves shelf ≡ is_empty → with_empty shelf is_empty shelves ≡ shelves
+same-said : (shelf : ℕ) (is_empty : Bool) (shelves : List LinkedShelf) → is_empty_at shelves shelf ≡ is_empty → with_empty shelf is_empty shelves ≡ shelves
 same-said shelf is_empty [] e = refl
 same-said zero is_empty (x ∷ xs) e = rw (← e) refl
-same-said (suc shelf) is_empty (x ∷ xs) e = ap (λ (ys : List ShelfRecord). x ∷ ys) (same-said shelf is_empty xs e)
+same-said (suc shelf) is_empty (x ∷ xs) e = ap (λ (ys : List LinkedShelf). x ∷ ys) (same-said shelf is_empty xs e)
 
 -- two shelves aren't both empty where one isn't
 first-not : (same other : Bool) → (same && (false && other)) ≡ false
@@ -28,14 +28,14 @@ second-not true false = refl
 second-not false one = refl
 
 -- a shelf that isn't empty takes no other's place
-none-named : (shelves : List ShelfRecord) (shelf : ℕ) (link : Option ℕ) → is_empty_at shelves shelf ≡ false → empty_named shelves shelf link ≡ None
+none-named : (shelves : List LinkedShelf) (shelf : ℕ) (link : Option ℕ) → is_empty_at shelves shelf ≡ false → empty_named shelves shelf link ≡ None
 none-named shelves shelf None e = refl
 none-named shelves shelf (Some next) e =
     let none : are_both_empty shelves shelf next ≡ false = rw e (first-not (along_of shelves shelf == along_of shelves next) (is_empty_at shelves next)) in
     simp none refl
 
 -- and none takes its place
-none-before : (shelves : List ShelfRecord) (shelf before : ℕ) → link_at shelf_chain.next shelves before ≡ Some shelf → is_empty_at shelves shelf ≡ false → empty_next shelves before ≡ None
+none-before : (shelves : List LinkedShelf) (shelf before : ℕ) → link_at shelf_chain.next shelves before ≡ Some shelf → is_empty_at shelves shelf ≡ false → empty_next shelves before ≡ None
 none-before shelves shelf before link e =
     let none : are_both_empty shelves before shelf ≡ false = rw e (second-not (along_of shelves before == along_of shelves shelf) (is_empty_at shelves before)) in
     let named : empty_named shelves before (Some shelf) ≡ None = simp none refl in
@@ -73,7 +73,7 @@ pub stays-in-use : (shelf number : ℕ) (records : Records) → IsRemaining shel
 stays-in-use shelf number records remaining linked in_use =
     let merged : Records = (item_merged shelf number records).records in
     let said : emptiness_said shelf merged ≡ merged =
-    ap (λ (shelves : List ShelfRecord). record merged { shelves = shelves }) (same-said shelf (has_one_free shelf merged) merged.shelves (remaining.in_use ∙ sym in_use)) in
+    ap (λ (shelves : List LinkedShelf). record merged { shelves = shelves }) (same-said shelf (has_one_free shelf merged) merged.shelves (remaining.in_use ∙ sym in_use)) in
     let busy : is_empty_at (emptiness_said shelf merged).shelves shelf ≡ false = ap (λ (r : Records). is_empty_at r.shelves shelf) said ∙ remaining.in_use in
     let stay : shelves_merged shelf (emptiness_said shelf merged) ≡ record { records = emptiness_said shelf merged; put_aside = 0 } =
     shelves-stay shelf (emptiness_said shelf merged) linked busy in

@@ -7,7 +7,7 @@ use Rattle.etagere_base.proofs.EachLemmas.{Each-middle}
 use Rattle.etagere_base.proofs.TimesLemmas.{times-append}
 use Rattle.etagere_base.specs.Lists.{times}
 use Rattle.etagere_base.specs.MergingAt.{merged_before}
-use Rattle.etagere_links.specs.declared.records.ItemRecord.{ItemRecord}
+use Rattle.etagere_links.specs.declared.records.LinkedItem.{LinkedItem}
 use Rattle.etagere_links.specs.Edits.{link_at}
 use Rattle.etagere_links.specs.Lists.{last_or}
 use Rattle.etagere_links.specs.RecordLists.{Records, Entry, IsEntry}
@@ -69,7 +69,7 @@ around-other front back number once k stands e =
 -- the previous item is not free: the item becomes free
 item-freed : (atlas : AtlasRecords) (before after : List Entry) (shelf number : ℕ) (front back free unused shelves : List ℕ) → is_allocated_at atlas.lists.items number ≡ true → (merged_before both_free combined_items (length front) (map (item_at atlas.lists.items) front ++ free_item (width_of atlas.lists.items number) ∷ map (item_at atlas.lists.items) back) ≡ map (item_at atlas.lists.items) front ++ free_item (width_of atlas.lists.items number) ∷ map (item_at atlas.lists.items) back) → ((others : List Item) → is_free_before (length front) (map (item_at atlas.lists.items) front ++ others) ≡ false) → free_previous atlas.lists.items number ≡ None → IsSpelled atlas (lists_of (before ++ entry_of shelf (front ++ number ∷ back) free ∷ after) unused shelves) → FreesItem atlas (freed_after shelf number None atlas.lists) before after shelf number front back free unused shelves
 item-freed atlas before after shelf number front back free unused shelves allocated stays none unnamed spelled =
-    let items : List ItemRecord = atlas.lists.items in
+    let items : List LinkedItem = atlas.lists.items in
     let numbers : List ℕ = front ++ number ∷ back in
     let entry : Entry = entry_of shelf numbers free in
     let edited_entry : Entry = entry_of shelf numbers (number ∷ free) in
@@ -112,7 +112,7 @@ item-freed atlas before after shelf number front back free unused shelves alloca
 -- the previous item is free: it absorbs the item
 item-taken : (atlas : AtlasRecords) (before after : List Entry) (shelf number previous : ℕ) (front back free unused shelves : List ℕ) → is_allocated_at atlas.lists.items number ≡ true → is_allocated_at atlas.lists.items previous ≡ false → free_previous atlas.lists.items number ≡ Some previous → IsSpelled atlas (lists_of (before ++ entry_of shelf (front ++ previous ∷ number ∷ back) free ∷ after) unused shelves) → FreesItem atlas (freed_after shelf number (Some previous) atlas.lists) before after shelf number (front ++ previous ∷ []) back free unused shelves
 item-taken atlas before after shelf number previous front back free unused shelves allocated is_free named spelled =
-    let items : List ItemRecord = atlas.lists.items in
+    let items : List LinkedItem = atlas.lists.items in
     let numbers : List ℕ = front ++ previous ∷ number ∷ back in
     let entry : Entry = entry_of shelf numbers free in
     let edited_entry : Entry = entry_of shelf (front ++ previous ∷ back) free in
@@ -151,7 +151,7 @@ item-taken atlas before after shelf number previous front back free unused shelv
       width = rw named (omega (arith, ap (λ (i : Item). i.width) absorbs.item));
     }
   where
-    absorbed-place : (old new : List ItemRecord) (one next k : ℕ) → Absorbs old new one next → next ≢ k → place_of new k ≡ place_of old k
+    absorbed-place : (old new : List LinkedItem) (one next k : ℕ) → Absorbs old new one next → next ≢ k → place_of new k ≡ place_of old k
     absorbed-place old new one next k absorbs other = by_test (one == k) refl
       where
         by_test : (b : Bool) → (one == k) ≡ b → place_of new k ≡ place_of old k
@@ -164,7 +164,7 @@ frees-item atlas before after shelf number front back free unused shelves alloca
     by_end (λ (xs : List ℕ). IsSpelled atlas (lists_of (before ++ entry_of shelf (xs ++ number ∷ back) free ∷ after) unused shelves) → FreesItem atlas (freed_after shelf number (free_previous atlas.lists.items number) atlas.lists) before after shelf number xs back free unused shelves)
     first some front
   where
-    items : List ItemRecord
+    items : List LinkedItem
     items = atlas.lists.items
 
     link : (xs : List ℕ) → IsSpelled atlas (lists_of (before ++ entry_of shelf (xs ++ number ∷ back) free ∷ after) unused shelves) → free_previous items number ≡ free_named items (last_or None xs)

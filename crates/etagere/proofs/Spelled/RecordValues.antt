@@ -3,8 +3,8 @@ use Rattle.std.proofs.Common.{◌≡◌, ◌≢◌, ℕ, zero, suc, ◌+◌, ◌
 use Rattle.std.specs.Prelude.{◌*◌, filter, slice_get, if◌then◌else◌}
 use Rattle.std.specs.Option.{option_map_or}
 use Rattle.etagere_base.specs.Lists.{Each, times}
-use Rattle.etagere_links.specs.declared.records.ItemRecord.{ItemRecord}
-use Rattle.etagere_links.specs.declared.records.ShelfRecord.{ShelfRecord}
+use Rattle.etagere_links.specs.declared.records.LinkedItem.{LinkedItem}
+use Rattle.etagere_links.specs.declared.records.LinkedShelf.{LinkedShelf}
 use Rattle.etagere_links.specs.RecordLists.{field_at}
 use Rattle.etagere_links.specs.Edits.{changed_by}
 use Rattle.etagere_links.proofs.RecordChanges.{get-changed_by-other}
@@ -20,7 +20,7 @@ pub record ItemValues : Type 0 where
   pub allocated : Bool
   pub generation : ℕ
 
-abbrev pub item_values : ItemRecord → ItemValues
+abbrev pub item_values : LinkedItem → ItemValues
 item_values item =
     record { x = item.x; width = item.width; shelf = item.shelf; allocated = item.allocated; generation = item.generation }
 
@@ -31,7 +31,7 @@ pub record ShelfValues : Type 0 where
   pub height : ℕ
   pub is_empty : Bool
 
-abbrev pub shelf_values : ShelfRecord → ShelfValues
+abbrev pub shelf_values : LinkedShelf → ShelfValues
 shelf_values shelf = record { x = shelf.x; y = shelf.y; height = shelf.height; is_empty = shelf.is_empty }
 
 -- what is read of a record is read of its values
@@ -46,21 +46,21 @@ values-same {T} {V} values read other xs ys k same =
     read-values values read other ys k ∙ ap (λ (vs : List V). option_map_or read (slice_get vs k) other) same ∙ sym (read-values values read other xs k)
 
 -- the item of a number says the same
-pub record SameItem (items new : List ItemRecord) (k : ℕ) : Type 0 where
+pub record SameItem (items new : List LinkedItem) (k : ℕ) : Type 0 where
   pub item : item_at new k ≡ item_at items k
   pub place : place_of new k ≡ place_of items k
   pub shelf : shelf_of new k ≡ shelf_of items k
   pub allocated : is_allocated_at new k ≡ is_allocated_at items k
 
 -- the shelf of a number says the same
-pub record SameShelf (shelves new : List ShelfRecord) (k : ℕ) : Type 0 where
+pub record SameShelf (shelves new : List LinkedShelf) (k : ℕ) : Type 0 where
   pub along : along_of new k ≡ along_of shelves k
   pub across : across_of new k ≡ across_of shelves k
   pub height : height_of new k ≡ height_of shelves k
   pub is_empty : is_empty_at new k ≡ is_empty_at shelves k
 
 -- where all values are the same, each item says the same
-pub items-same : (items new : List ItemRecord) (k : ℕ) → map item_values new ≡ map item_values items → SameItem items new k
+pub items-same : (items new : List LinkedItem) (k : ℕ) → map item_values new ≡ map item_values items → SameItem items new k
 items-same items new k same =
     record {
       item = values-same item_values (λ (v : ItemValues). record { width = v.width; id = if v.allocated then Some (k + 65536 * v.generation) else None }) (record { width = 0; id = None }) items new k same;
@@ -70,7 +70,7 @@ items-same items new k same =
     }
 
 -- where all values are the same, each shelf says the same
-pub shelves-same : (shelves new : List ShelfRecord) (k : ℕ) → map shelf_values new ≡ map shelf_values shelves → SameShelf shelves new k
+pub shelves-same : (shelves new : List LinkedShelf) (k : ℕ) → map shelf_values new ≡ map shelf_values shelves → SameShelf shelves new k
 shelves-same shelves new k same =
     record {
       along = values-same shelf_values (λ (v : ShelfValues). v.x) 0 shelves new k same;
@@ -80,21 +80,21 @@ shelves-same shelves new k same =
     }
 
 -- a record that is the same says the same
-pub item-same : (items new : List ItemRecord) (k : ℕ) → slice_get new k ≡ slice_get items k → SameItem items new k
+pub item-same : (items new : List LinkedItem) (k : ℕ) → slice_get new k ≡ slice_get items k → SameItem items new k
 item-same items new k same =
     record {
       item = ap (λ r. option_map_or (spelled_item k) r (record { width = 0; id = None })) same;
-      place = ap (λ r. option_map_or (λ (x : ItemRecord). x.x) r 0) same;
-      shelf = ap (λ r. option_map_or (λ (x : ItemRecord). x.shelf) r 0) same;
-      allocated = ap (λ r. option_map_or (λ (x : ItemRecord). x.allocated) r false) same;
+      place = ap (λ r. option_map_or (λ (x : LinkedItem). x.x) r 0) same;
+      shelf = ap (λ r. option_map_or (λ (x : LinkedItem). x.shelf) r 0) same;
+      allocated = ap (λ r. option_map_or (λ (x : LinkedItem). x.allocated) r false) same;
     }
 
 -- saying the same carries over
-pub SameItem-then : (items middle new : List ItemRecord) (k : ℕ) → SameItem items middle k → SameItem middle new k → SameItem items new k
+pub SameItem-then : (items middle new : List LinkedItem) (k : ℕ) → SameItem items middle k → SameItem middle new k → SameItem items new k
 SameItem-then items middle new k one two =
     record { item = two.item ∙ one.item; place = two.place ∙ one.place; shelf = two.shelf ∙ one.shelf; allocated = two.allocated ∙ one.allocated }
 
-pub SameShelf-then : (shelves middle new : List ShelfRecord) (k : ℕ) → SameShelf shelves middle k → SameShelf middle new k → SameShelf shelves new k
+pub SameShelf-then : (shelves middle new : List LinkedShelf) (k : ℕ) → SameShelf shelves middle k → SameShelf middle new k → SameShelf shelves new k
 SameShelf-then shelves middle new k one two =
     record { along = two.along ∙ one.along; across = two.across ∙ one.across; height = two.height ∙ one.height; is_empty = two.is_empty ∙ one.is_empty }
 
@@ -114,7 +114,7 @@ filter-agrees f g (x ∷ xs) same =
     simp (here, rest) refl
 
 -- items that say the same lie as they did
-pub LieFrom-same : (items new : List ItemRecord) (here : ℕ) (xs : List ℕ) → ((k : ℕ) → 1 ≤ times k xs → SameItem items new k) → LieFrom items here xs → LieFrom new here xs
+pub LieFrom-same : (items new : List LinkedItem) (here : ℕ) (xs : List ℕ) → ((k : ℕ) → 1 ≤ times k xs → SameItem items new k) → LieFrom items here xs → LieFrom new here xs
 LieFrom-same items new here [] same lies = tt
 LieFrom-same items new here (x ∷ xs) same lies =
     let own : SameItem items new x = same x (omega (arith, times-here x xs)) in
@@ -122,18 +122,18 @@ LieFrom-same items new here (x ∷ xs) same lies =
     (own.place ∙ lies.0, rw own.item rest)
 
 -- items that say the same have the owners that they had
-pub owners-same : (items new : List ItemRecord) (shelf : ℕ) (xs : List ℕ) → ((k : ℕ) → 1 ≤ times k xs → SameItem items new k) → Each (λ item. shelf_of items item ≡ shelf) xs → Each (λ item. shelf_of new item ≡ shelf) xs
+pub owners-same : (items new : List LinkedItem) (shelf : ℕ) (xs : List ℕ) → ((k : ℕ) → 1 ≤ times k xs → SameItem items new k) → Each (λ item. shelf_of items item ≡ shelf) xs → Each (λ item. shelf_of new item ≡ shelf) xs
 owners-same items new shelf [] same each = tt
 owners-same items new shelf (x ∷ xs) same each =
     ((same x (omega (arith, times-here x xs))).shelf ∙ each.0, owners-same items new shelf xs (λ k stands. same k (omega (arith, stands))) each.1)
 
 -- a shelf that was not changed says what it said
-pub shelf-other : (shelves middle : List ShelfRecord) (change : ShelfRecord → ShelfRecord) (number k : ℕ) → Some number ≢ Some k → SameShelf shelves middle k → SameShelf shelves (changed_by (Some number) change middle) k
+pub shelf-other : (shelves middle : List LinkedShelf) (change : LinkedShelf → LinkedShelf) (number k : ℕ) → Some number ≢ Some k → SameShelf shelves middle k → SameShelf shelves (changed_by (Some number) change middle) k
 shelf-other shelves middle change number k other same =
     let get : slice_get (changed_by (Some number) change middle) k ≡ slice_get middle k = get-changed_by-other change middle (Some number) k other in
     record {
-      along = ap (λ r. option_map_or (λ (x : ShelfRecord). x.x) r 0) get ∙ same.along;
-      across = ap (λ r. option_map_or (λ (x : ShelfRecord). x.y) r 0) get ∙ same.across;
-      height = ap (λ r. option_map_or (λ (x : ShelfRecord). x.height) r 0) get ∙ same.height;
-      is_empty = ap (λ r. option_map_or (λ (x : ShelfRecord). x.is_empty) r false) get ∙ same.is_empty;
+      along = ap (λ r. option_map_or (λ (x : LinkedShelf). x.x) r 0) get ∙ same.along;
+      across = ap (λ r. option_map_or (λ (x : LinkedShelf). x.y) r 0) get ∙ same.across;
+      height = ap (λ r. option_map_or (λ (x : LinkedShelf). x.height) r 0) get ∙ same.height;
+      is_empty = ap (λ r. option_map_or (λ (x : LinkedShelf). x.is_empty) r false) get ∙ same.is_empty;
     }

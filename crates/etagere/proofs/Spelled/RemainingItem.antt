@@ -6,7 +6,7 @@ use Rattle.std.specs.Prelude.{not}
 use Rattle.etagere_base.proofs.EachLemmas.{Each-middle}
 use Rattle.etagere_base.proofs.TimesLemmas.{times-append}
 use Rattle.etagere_base.specs.Lists.{times}
-use Rattle.etagere_links.specs.declared.records.ItemRecord.{ItemRecord}
+use Rattle.etagere_links.specs.declared.records.LinkedItem.{LinkedItem}
 use Rattle.etagere_links.specs.Chains.{IsChainIn}
 use Rattle.etagere_links.specs.Edits.{link_at}
 use Rattle.etagere_links.specs.Lists.{first_or, last_or}
@@ -43,7 +43,7 @@ first-some [] ys x = refl
 first-some (y ∷ xs) ys x = refl
 
 -- a free item of a list stands alone just where the list has this one, free item
-alone-one : (items : List ItemRecord) (first : Option ℕ) (front back : List ℕ) (remaining : ℕ) → is_allocated_at items remaining ≡ false → IsChainIn item_chain items first (front ++ remaining ∷ back) → names_one_free items first ≡ is_alone items remaining
+alone-one : (items : List LinkedItem) (first : Option ℕ) (front back : List ℕ) (remaining : ℕ) → is_allocated_at items remaining ≡ false → IsChainIn item_chain items first (front ++ remaining ∷ back) → names_one_free items first ≡ is_alone items remaining
 alone-one items first [] back remaining is_free chain =
     let named : first ≡ Some remaining = Leads-start (link_at item_chain.next items) (remaining ∷ back) first None chain.forward in
     let previous : link_at item_chain.previous items remaining ≡ None = previous-is (link_at item_chain.previous items) [] back remaining None chain.backward in
@@ -61,7 +61,7 @@ alone-one items first (x ∷ front) back remaining is_free chain =
     neither false = refl
 
 -- the last of a list, where that is free, is as wide where each of them says the same
-named-same : (items new : List ItemRecord) (xs : List ℕ) → ((k : ℕ) → 1 ≤ times k xs → SameItem items new k) → named_width new (free_named new (last_or None xs)) ≡ named_width items (free_named items (last_or None xs))
+named-same : (items new : List LinkedItem) (xs : List ℕ) → ((k : ℕ) → 1 ≤ times k xs → SameItem items new k) → named_width new (free_named new (last_or None xs)) ≡ named_width items (free_named items (last_or None xs))
 named-same items new xs same = by_link (last_or None xs) (λ n e. same n (last-stands-in xs n e))
   where
     by_mark : (n : ℕ) (b : Bool) → is_allocated_at items n ≡ b → SameItem items new n → named_width new (free_named new (Some n)) ≡ named_width items (free_named items (Some n))
@@ -77,7 +77,7 @@ named-same items new xs same = by_link (last_or None xs) (λ n e. same n (last-s
 pub item-remaining : (atlas : AtlasRecords) (before after : List Entry) (shelf number : ℕ) (front back free unused shelves : List ℕ) → IsShelf atlas.frame (spelled_shelf atlas (entry_of shelf (front ++ number ∷ back) free)) → is_allocated_at atlas.lists.items number ≡ true → IsFlagged atlas (lists_of (before ++ entry_of shelf (front ++ number ∷ back) free ∷ after) unused shelves) → IsRemaining shelf number atlas.lists × (width_of (item_merged shelf number atlas.lists).records.items (remaining_in shelf number atlas.lists) ≡ freed_width atlas.lists.items number)
 item-remaining atlas before after shelf number front back free unused shelves valid allocated flagged =
     let spelled : IsSpelled atlas (lists_of (before ++ entry_of shelf (front ++ number ∷ back) free ∷ after) unused shelves) = flagged.spelled in
-    let items : List ItemRecord = atlas.lists.items in
+    let items : List LinkedItem = atlas.lists.items in
     let one : Step = next_absorbed shelf number (free_next items number) atlas.lists in
     let next : MergesNext atlas one before after shelf number front back free unused shelves =
     merges-next atlas before after shelf number front back free unused shelves (wide-items atlas shelf (front ++ number ∷ back) free valid) allocated spelled in

@@ -1,13 +1,13 @@
 -- Returns on the records of small atlases, by computing: which records are put aside, in which order.
 use Rattle.std.proofs.Common.{◌≡◌, ℕ, Bool, true, false, Option, None, Some, [], ◌∷◌, refl}
-use Rattle.etagere_links.specs.declared.records.ItemRecord.{ItemRecord}
-use Rattle.etagere_links.specs.declared.records.ShelfRecord.{ShelfRecord}
+use Rattle.etagere_links.specs.declared.records.LinkedItem.{LinkedItem}
+use Rattle.etagere_links.specs.declared.records.LinkedShelf.{LinkedShelf}
 use Rattle.etagere_links.specs.RecordLists.{Records, walked_lists}
 use Rattle.etagere.specs.AtlasRecords.{height_of, is_empty_at}
 use Rattle.etagere.specs.Private.ItemReturned.{item_returned, put_aside_by, width_of}
 
 -- a shelf of 8 that begins there across, between two others
-abbrev shelf_at : ℕ → Option ℕ → Option ℕ → ℕ → Option ℕ → Bool → ShelfRecord
+abbrev shelf_at : ℕ → Option ℕ → Option ℕ → ℕ → Option ℕ → Bool → LinkedShelf
 shelf_at across previous next first free is_empty =
     record {
       x = 0;
@@ -21,7 +21,7 @@ shelf_at across previous next first free is_empty =
     }
 
 -- an allocated item of 10 that begins there along, between two others of a shelf
-abbrev allocated_at : ℕ → ℕ → Option ℕ → Option ℕ → ItemRecord
+abbrev allocated_at : ℕ → ℕ → Option ℕ → Option ℕ → LinkedItem
 allocated_at along shelf previous next =
     record {
       x = along;
@@ -36,7 +36,7 @@ allocated_at along shelf previous next =
     }
 
 -- a free item of this width, between two others of a shelf and two of its free list
-abbrev free_at : ℕ → ℕ → ℕ → Option ℕ → Option ℕ → Option ℕ → Option ℕ → ItemRecord
+abbrev free_at : ℕ → ℕ → ℕ → Option ℕ → Option ℕ → Option ℕ → Option ℕ → LinkedItem
 free_at along width shelf previous next free_previous free_next =
     record {
       x = along;

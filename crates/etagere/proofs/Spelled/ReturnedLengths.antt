@@ -1,7 +1,7 @@
 -- A return changes the number of no records.
 use Rattle.std.proofs.Common.{◌≡◌, ℕ, ◌+◌, false, Option, None, Some, length, refl, ◌∙◌}
-use Rattle.etagere_links.specs.declared.records.ItemRecord.{ItemRecord}
-use Rattle.etagere_links.specs.declared.records.ShelfRecord.{ShelfRecord}
+use Rattle.etagere_links.specs.declared.records.LinkedItem.{LinkedItem}
+use Rattle.etagere_links.specs.declared.records.LinkedShelf.{LinkedShelf}
 use Rattle.etagere_links.specs.Edits.{link_at, first_without}
 use Rattle.etagere_links.specs.RecordEdits.{item_changed, item_unlinked, free_unlinked, free_inserted_front, item_put_aside, shelf_changed, shelf_put_aside, shelf_unlinked}
 use Rattle.etagere_links.specs.RecordLists.{Records, first_item_of, first_free_of}
@@ -26,11 +26,11 @@ then : (old middle new : Records) → SameLengths old middle → SameLengths mid
 then old middle new one two = record { items = two.items ∙ one.items; shelves = two.shelves ∙ one.shelves }
 
 -- an item record is changed
-changed : (number : ℕ) (change : ItemRecord → ItemRecord) (records : Records) → SameLengths records (item_changed number change records)
+changed : (number : ℕ) (change : LinkedItem → LinkedItem) (records : Records) → SameLengths records (item_changed number change records)
 changed number change records = record { items = length-changed_by change records.items (Some number); shelves = refl }
 
 -- a shelf record is changed
-shelf-changed : (shelf : ℕ) (change : ShelfRecord → ShelfRecord) (records : Records) → SameLengths records (shelf_changed shelf change records)
+shelf-changed : (shelf : ℕ) (change : LinkedShelf → LinkedShelf) (records : Records) → SameLengths records (shelf_changed shelf change records)
 shelf-changed shelf change records = record { items = refl; shelves = length-changed_by change records.shelves (Some shelf) }
 
 -- an item is taken out of its shelf
@@ -76,24 +76,24 @@ next-lengths shelf number (Some next) records =
     let new : Records = (next_absorbed shelf number (Some next) records).records in
     then records three new
     (then records two three (then records one two (free-unlinked shelf next records) (unlinked shelf next one)) (put-aside next two))
-    (changed number (λ (item : ItemRecord). record item { width = width }) three)
+    (changed number (λ (item : LinkedItem). record item { width = width }) three)
 
 -- an item becomes free, or the previous one absorbs it
 freed-lengths : (shelf number : ℕ) (previous : Option ℕ) (records : Records) → SameLengths records (freed_after shelf number previous records).records
 freed-lengths shelf number None records =
-    let unmark : ItemRecord → ItemRecord = λ item. record item { allocated = false } in
+    let unmark : LinkedItem → LinkedItem = λ item. record item { allocated = false } in
     let one : Records = item_changed number unmark records in
     then records one (freed_after shelf number None records).records (changed number unmark records) (free-inserted shelf number one)
 freed-lengths shelf number (Some previous) records =
     let width : ℕ = width_of records.items previous + width_of records.items number in
-    let unmark : ItemRecord → ItemRecord = λ item. record item { allocated = false } in
+    let unmark : LinkedItem → LinkedItem = λ item. record item { allocated = false } in
     let one : Records = item_unlinked shelf number records in
     let two : Records = item_changed number unmark one in
     let three : Records = item_put_aside number two in
     let new : Records = (freed_after shelf number (Some previous) records).records in
     then records three new
     (then records two three (then records one two (unlinked shelf number records) (changed number unmark one)) (put-aside number two))
-    (changed previous (λ (item : ItemRecord). record item { width = width }) three)
+    (changed previous (λ (item : LinkedItem). record item { width = width }) three)
 
 -- a shelf absorbs the next one, whose item is named
 shelf-of-item-lengths : (shelf next : ℕ) (item : Option ℕ) (records : Records) → SameLengths records (shelf_of_item_absorbed shelf next item records).records
@@ -106,7 +106,7 @@ shelf-of-item-lengths shelf next (Some item) records =
     let new : Records = (shelf_of_item_absorbed shelf next (Some item) records).records in
     then records three new
     (then records two three (then records one two (shelf-unlinked next records) (put-aside item one)) (shelf-put-aside next two))
-    (shelf-changed shelf (λ (here : ShelfRecord). record here { height = height }) three)
+    (shelf-changed shelf (λ (here : LinkedShelf). record here { height = height }) three)
 
 -- a shelf absorbs the next one
 shelf-next-lengths : (shelf : ℕ) (next : Option ℕ) (records : Records) → SameLengths records (shelf_next_absorbed shelf next records).records
@@ -123,7 +123,7 @@ pub emptied-lengths : (shelf number : ℕ) (records : Records) → SameLengths r
 emptied-lengths shelf number records =
     let one : Records = (next_absorbed shelf number (free_next records.items number) records).records in
     let two : Records = (item_merged shelf number records).records in
-    let change : ShelfRecord → ShelfRecord = λ here. record here { is_empty = names_one_free two.items (first_item_of two.shelves shelf) } in
+    let change : LinkedShelf → LinkedShelf = λ here. record here { is_empty = names_one_free two.items (first_item_of two.shelves shelf) } in
     then records two (emptiness_said shelf two)
     (then records one two (next-lengths shelf number (free_next records.items number) records) (freed-lengths shelf number (free_previous one.items number) one))
     (shelf-changed shelf change two)

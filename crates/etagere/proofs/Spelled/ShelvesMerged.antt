@@ -8,8 +8,8 @@ use Rattle.etagere_base.proofs.EachLemmas.{Each-append, Each-front, Each-back}
 use Rattle.etagere_base.proofs.TimesLemmas.{times-append}
 use Rattle.etagere_base.specs.Lists.{times}
 use Rattle.etagere_base.specs.MergingAt.{merged_at}
-use Rattle.etagere_links.specs.declared.records.ItemRecord.{ItemRecord}
-use Rattle.etagere_links.specs.declared.records.ShelfRecord.{ShelfRecord}
+use Rattle.etagere_links.specs.declared.records.LinkedItem.{LinkedItem}
+use Rattle.etagere_links.specs.declared.records.LinkedShelf.{LinkedShelf}
 use Rattle.etagere_links.specs.Edits.{link_at}
 use Rattle.etagere_links.specs.Lists.{first_or, last_or}
 use Rattle.etagere_links.specs.RecordLists.{Records, Entry, IsEntry, first_item_of, shelf_numbers}
@@ -95,12 +95,12 @@ touch-same atlas entry next along next_along flag next_flag =
     rw (columns-same (along_of atlas.lists.shelves entry.number) (along_of atlas.lists.shelves next.number) atlas.frame.column_width along next_along, flag, next_flag) refl
 
 -- an empty shelf has one item, which is free
-pub record HasOneFree (items : List ItemRecord) (numbers : List ℕ) : Type 0 where
+pub record HasOneFree (items : List LinkedItem) (numbers : List ℕ) : Type 0 where
   pub item : ℕ
   pub alone : numbers ≡ item ∷ []
   pub free : is_allocated_at items item ≡ false
 
-one-free-of : (items : List ItemRecord) (numbers : List ℕ) → is_one_free (map (item_at items) numbers) ≡ true → HasOneFree items numbers
+one-free-of : (items : List LinkedItem) (numbers : List ℕ) → is_one_free (map (item_at items) numbers) ≡ true → HasOneFree items numbers
 one-free-of items [] e = absurd (cc)
 one-free-of items (x ∷ []) e =
     let unmarked : (b : Bool) → not b ≡ true → b ≡ false = λ b h. grind arith in
@@ -110,8 +110,8 @@ one-free-of items (x ∷ y ∷ ys) e = absurd (cc)
 -- the next shelf is absorbed with its item
 shelf-taken : (atlas : AtlasRecords) (before after : List Entry) (entry : Entry) (next item : ℕ) (free unused shelves : List ℕ) → both_empty (spelled_shelf atlas entry) (spelled_shelf atlas (entry_of next (item ∷ []) free)) ≡ true → along_of atlas.lists.shelves next ≡ along_of atlas.lists.shelves entry.number → is_allocated_at atlas.lists.items item ≡ false → IsFlagged atlas (lists_of (before ++ entry ∷ entry_of next (item ∷ []) free ∷ after) unused shelves) → MergesShelf atlas (shelf_of_item_absorbed entry.number next (Some item) atlas.lists) (rank_of_item_absorbed entry.number next (Some item) atlas.lists) before (entry_of next (item ∷ []) free ∷ after) entry unused shelves
 shelf-taken atlas before after entry next item free unused shelves touch column is_free flagged =
-    let old : List ShelfRecord = atlas.lists.shelves in
-    let items : List ItemRecord = atlas.lists.items in
+    let old : List LinkedShelf = atlas.lists.shelves in
+    let items : List LinkedItem = atlas.lists.items in
     let spelled = flagged.spelled in
     let gone : Entry = entry_of next (item ∷ []) free in
     let height : ℕ = height_of old entry.number + height_of old next in

@@ -4,7 +4,7 @@ use Rattle.std.specs.Prelude.{◌%◌}
 use Rattle.etagere_base.proofs.EachLemmas.{Each-append, Each-front, Each-back, Each-middle}
 use Rattle.etagere_base.proofs.TimesLemmas.{times-append}
 use Rattle.etagere_base.specs.Lists.{times}
-use Rattle.etagere_links.specs.declared.records.ItemRecord.{ItemRecord}
+use Rattle.etagere_links.specs.declared.records.LinkedItem.{LinkedItem}
 use Rattle.etagere_links.specs.Edits.{changed_by, link_at, first_without, linked_between, unlinked}
 use Rattle.etagere_links.specs.RecordLists.{Records, Entry, field_at, first_free_of, item_numbers}
 use Rattle.etagere_links.specs.RecordMerges.{front_given}
@@ -27,13 +27,13 @@ use Rattle.etagere.proofs.Spelled.SpelledLists.{IsSpelledBut, EditsItems}
 use Rattle.etagere.proofs.Spelled.SpelledMerges.{unmarked-same, free-first, not-member, before-other, after-other}
 
 -- an item with its width changed and marked allocated
-front-changed : (items : List ItemRecord) (label number width : ℕ) → number < length items → field_at (spelled_item label) (record { width = 0; id = None }) (changed_by (Some number) (λ (x : ItemRecord). record x { width = width; allocated = true }) items) number ≡ record { width = width; id = Some (label + 65536 * field_at (λ (x : ItemRecord). x.generation) 0 items number) }
+front-changed : (items : List LinkedItem) (label number width : ℕ) → number < length items → field_at (spelled_item label) (record { width = 0; id = None }) (changed_by (Some number) (λ (x : LinkedItem). record x { width = width; allocated = true }) items) number ≡ record { width = width; id = Some (label + 65536 * field_at (λ (x : LinkedItem). x.generation) 0 items number) }
 front-changed [] label number width within = absurd (omega arith)
 front-changed (x ∷ xs) label zero width within = refl
 front-changed (x ∷ xs) label (suc number) width within = front-changed xs label number width (omega arith)
 
 -- what an item says after its front was given
-pub record IsFront (items new : List ItemRecord) (number width : ℕ) : Type 0 where
+pub record IsFront (items new : List LinkedItem) (number width : ℕ) : Type 0 where
   pub item : item_at new number ≡ record { width = width; id = Some (id_at items number) }
   pub place : place_of new number ≡ place_of items number
   pub shelf : shelf_of new number ≡ shelf_of items number
@@ -42,12 +42,12 @@ pub record IsFront (items new : List ItemRecord) (number width : ℕ) : Type 0 w
 
 pub front-values : (records : Records) (shelf number rest width : ℕ) → number < length records.items → IsFront records.items (front_given shelf number rest width records).items number width
 front-values records shelf number rest width within =
-    let items : List ItemRecord = records.items in
-    let change : ItemRecord → ItemRecord = λ x. record x { width = width; allocated = true } in
-    let one : List ItemRecord = linked_between item_chain (Some number) (link_at item_chain.next items number) rest items in
-    let two : List ItemRecord = linked_between free_list (Some number) (link_at free_list.next one number) rest one in
-    let three : List ItemRecord = unlinked free_list number two in
-    let new : List ItemRecord = changed_by (Some number) change three in
+    let items : List LinkedItem = records.items in
+    let change : LinkedItem → LinkedItem = λ x. record x { width = width; allocated = true } in
+    let one : List LinkedItem = linked_between item_chain (Some number) (link_at item_chain.next items number) rest items in
+    let two : List LinkedItem = linked_between free_list (Some number) (link_at free_list.next one number) rest one in
+    let three : List LinkedItem = unlinked free_list number two in
+    let new : List LinkedItem = changed_by (Some number) change three in
     let values : map item_values three ≡ map item_values items =
     map-unlinked free_list item_values frees-keep_values two number
     ∙ map-linked_between free_list item_values frees-keep_values one (Some number) (link_at free_list.next one number) rest
@@ -56,26 +56,26 @@ front-values records shelf number rest width within =
     let long : length three ≡ length items =
     length-unlinked free_list two number ∙ length-linked_between free_list one (Some number) (link_at free_list.next one number) rest ∙ length-linked_between item_chain items (Some number) (link_at item_chain.next items number) rest in
     let inside : number < length three = rw long within in
-    let generation : field_at (λ (x : ItemRecord). x.generation) 0 three number ≡ field_at (λ (x : ItemRecord). x.generation) 0 items number =
+    let generation : field_at (λ (x : LinkedItem). x.generation) 0 three number ≡ field_at (λ (x : LinkedItem). x.generation) 0 items number =
     values-same item_values (λ (v : ItemValues). v.generation) 0 items three number values in
     record {
       item = front-changed three number number width inside ∙ ap (λ g. record { width = width; id = Some (number + 65536 * g) }) generation;
-      place = field_at-kept (λ (x : ItemRecord). x.x) 0 change three number number (λ x. refl) ∙ (same number).place;
-      shelf = field_at-kept (λ (x : ItemRecord). x.shelf) 0 change three number number (λ x. refl) ∙ (same number).shelf;
-      allocated = field_at-changed (λ (x : ItemRecord). x.allocated) false change three number true inside (λ x. refl);
+      place = field_at-kept (λ (x : LinkedItem). x.x) 0 change three number number (λ x. refl) ∙ (same number).place;
+      shelf = field_at-kept (λ (x : LinkedItem). x.shelf) 0 change three number number (λ x. refl) ∙ (same number).shelf;
+      allocated = field_at-changed (λ (x : LinkedItem). x.allocated) false change three number true inside (λ x. refl);
       others = λ k other. SameItem-then items three new k (same k)
           (item-same three new k (get-changed_by-other change three (Some number) k (λ e. let eq : number ≡ k = cc in other eq)));
     }
 
 -- what the record of the rest of an item says before the front is given
-pub record IsRestItem (items : List ItemRecord) (owner number rest given : ℕ) : Type 0 where
+pub record IsRestItem (items : List LinkedItem) (owner number rest given : ℕ) : Type 0 where
   pub width : (item_at items number).width ≡ given + (item_at items rest).width
   pub place : place_of items rest ≡ place_of items number + given
   pub shelf : shelf_of items rest ≡ owner
   pub free : is_allocated_at items rest ≡ false
 
 -- the items lie side by side where one gave its front
-front-places : (items new : List ItemRecord) (here : ℕ) (front back : List ℕ) (shelf number rest width : ℕ) → number ≢ rest → ((k : ℕ) → 1 ≤ times k front → SameItem items new k) → ((k : ℕ) → 1 ≤ times k back → SameItem items new k) → IsRestItem items shelf number rest width → IsFront items new number width → LieFrom items here (front ++ number ∷ back) → LieFrom new here (front ++ number ∷ rest ∷ back)
+front-places : (items new : List LinkedItem) (here : ℕ) (front back : List ℕ) (shelf number rest width : ℕ) → number ≢ rest → ((k : ℕ) → 1 ≤ times k front → SameItem items new k) → ((k : ℕ) → 1 ≤ times k back → SameItem items new k) → IsRestItem items shelf number rest width → IsFront items new number width → LieFrom items here (front ++ number ∷ back) → LieFrom new here (front ++ number ∷ rest ∷ back)
 front-places items new here front back shelf number rest width apart same_front same_back is_rest is_front lies =
     let lie_back : LieFrom items (here + widths items front) (number ∷ back) = LieFrom-back items here front (number ∷ back) lies in
     let middle : ℕ = here + widths items front in
@@ -95,7 +95,7 @@ front-places items new here front back shelf number rest width apart same_front 
 -- the records after the front of a free item was given
 pub front_given-spelled : (atlas : AtlasRecords) (before after : List Entry) (shelf number rest width : ℕ) (front back free_front free_back unused shelves : List ℕ) → is_allocated_at atlas.lists.items number ≡ false → IsRestItem atlas.lists.items shelf number rest width → IsSpelledBut atlas (lists_of (before ++ entry_of shelf (front ++ number ∷ back) (free_front ++ number ∷ free_back) ∷ after) unused shelves) (rest ∷ []) [] → EditsItems atlas (front_given shelf number rest width atlas.lists) before after unused unused shelves (entry_of shelf (front ++ number ∷ back) (free_front ++ number ∷ free_back)) (entry_of shelf (front ++ number ∷ rest ∷ back) (free_front ++ rest ∷ free_back))
 front_given-spelled atlas before after shelf number rest width front back free_front free_back unused shelves is_free is_rest spelled =
-    let items : List ItemRecord = atlas.lists.items in
+    let items : List LinkedItem = atlas.lists.items in
     let lists : Records = front_given shelf number rest width atlas.lists in
     let numbers : List ℕ = front ++ number ∷ back in
     let free : List ℕ = free_front ++ number ∷ free_back in
@@ -147,6 +147,6 @@ front_given-spelled atlas before after shelf number rest width front back free_f
   where
     first-kept : map shelf_values (front_given shelf number rest width atlas.lists).shelves ≡ map shelf_values atlas.lists.shelves
     first-kept =
-        let one : List ItemRecord = linked_between item_chain (Some number) (link_at item_chain.next atlas.lists.items number) rest atlas.lists.items in
-        let two : List ItemRecord = linked_between free_list (Some number) (link_at free_list.next one number) rest one in
+        let one : List LinkedItem = linked_between item_chain (Some number) (link_at item_chain.next atlas.lists.items number) rest atlas.lists.items in
+        let two : List LinkedItem = linked_between free_list (Some number) (link_at free_list.next one number) rest one in
         free-first shelf (first_without (link_at free_list.previous two number) (link_at free_list.next two number) (first_free_of atlas.lists.shelves shelf)) atlas.lists.shelves

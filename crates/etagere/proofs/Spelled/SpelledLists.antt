@@ -5,7 +5,7 @@ use Rattle.std.specs.Prelude.{◌/◌, ◌%◌, ◌==◌, if◌then◌else◌}
 use Rattle.etagere_base.proofs.EachLemmas.{Each-append, Each-front, Each-back}
 use Rattle.etagere_base.proofs.TimesLemmas.{times-append}
 use Rattle.etagere_base.specs.Lists.{Each, times}
-use Rattle.etagere_links.specs.declared.records.ShelfRecord.{ShelfRecord}
+use Rattle.etagere_links.specs.declared.records.LinkedShelf.{LinkedShelf}
 use Rattle.etagere_links.specs.RecordLists.{Records, Entry, Lists, shelf_numbers, item_numbers, IsEntry, IsLinkedBut}
 use Rattle.etagere_links.proofs.AllLists.LinkedEdits.{same-numbers}
 use Rattle.etagere_links.proofs.AllLists.LinkedItems.{IsApart, linked-apart}
@@ -18,7 +18,7 @@ use Rattle.etagere.proofs.Spelled.RecordValues.{SameItem, SameShelf, map-agrees,
 use Rattle.etagere.specs.Private.Kept.{IsPlaced}
 
 -- the heights of shelves that say the same
-height-same : (shelves new : List ShelfRecord) (column_width column : ℕ) → ((k : ℕ) → SameShelf shelves new k) → (numbers : List ℕ) → height_before new column_width column numbers ≡ height_before shelves column_width column numbers
+height-same : (shelves new : List LinkedShelf) (column_width column : ℕ) → ((k : ℕ) → SameShelf shelves new k) → (numbers : List ℕ) → height_before new column_width column numbers ≡ height_before shelves column_width column numbers
 height-same shelves new column_width column same [] = refl
 height-same shelves new column_width column same (n ∷ ns) =
     ap (λ a. (if a / column_width == column then height_of new n else 0) + height_before new column_width column ns) (same n).along
@@ -26,7 +26,7 @@ height-same shelves new column_width column same (n ∷ ns) =
     ∙ ap (λ rest. (if along_of shelves n / column_width == column then height_of shelves n else 0) + rest) (height-same shelves new column_width column same ns)
 
 -- shelves that say the same stand where they stood
-pub stacked-same : (shelves new : List ShelfRecord) (column_width : ℕ) → ((k : ℕ) → SameShelf shelves new k) → (before numbers : List ℕ) → AreStacked shelves column_width before numbers → AreStacked new column_width before numbers
+pub stacked-same : (shelves new : List LinkedShelf) (column_width : ℕ) → ((k : ℕ) → SameShelf shelves new k) → (before numbers : List ℕ) → AreStacked shelves column_width before numbers → AreStacked new column_width before numbers
 stacked-same shelves new column_width same before [] stacked = tt
 stacked-same shelves new column_width same before (n ∷ ns) stacked =
     let own : height_before new column_width (along_of new n / column_width) before ≡ height_before shelves column_width (along_of shelves n / column_width) before =

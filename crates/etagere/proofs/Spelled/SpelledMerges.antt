@@ -4,8 +4,8 @@ use Rattle.std.specs.Prelude.{◌%◌}
 use Rattle.etagere_base.proofs.EachLemmas.{Each-append, Each-front, Each-back, Each-middle}
 use Rattle.etagere_base.proofs.TimesLemmas.{times-append}
 use Rattle.etagere_base.specs.Lists.{Each, times}
-use Rattle.etagere_links.specs.declared.records.ItemRecord.{ItemRecord}
-use Rattle.etagere_links.specs.declared.records.ShelfRecord.{ShelfRecord}
+use Rattle.etagere_links.specs.declared.records.LinkedItem.{LinkedItem}
+use Rattle.etagere_links.specs.declared.records.LinkedShelf.{LinkedShelf}
 use Rattle.etagere_links.specs.Edits.{changed_by, link_at, first_without, linked_between, unlinked}
 use Rattle.etagere_links.specs.RecordEdits.{free_unlinked, with_first_item, with_first_free}
 use Rattle.etagere_links.specs.RecordLists.{Records, Entry, first_item_of, first_free_of, item_numbers, field_at}
@@ -26,15 +26,15 @@ use Rattle.etagere.proofs.Spelled.SpelledLists.{with_lists, IsSpelled, EditsItem
 use Rattle.etagere.specs.Private.Kept.{IsPlaced}
 
 -- what a shelf says where another item begins it
-item-first : (shelf : ℕ) (link : Option ℕ) (shelves : List ShelfRecord) → map shelf_values (with_first_item shelf link shelves) ≡ map shelf_values shelves
-item-first shelf link shelves = map-changed_by shelf_values (λ (x : ShelfRecord). record x { first_item = link }) shelves (Some shelf) (λ x. refl)
+item-first : (shelf : ℕ) (link : Option ℕ) (shelves : List LinkedShelf) → map shelf_values (with_first_item shelf link shelves) ≡ map shelf_values shelves
+item-first shelf link shelves = map-changed_by shelf_values (λ (x : LinkedShelf). record x { first_item = link }) shelves (Some shelf) (λ x. refl)
 
 -- what a shelf says where another item begins its free list
-pub free-first : (shelf : ℕ) (link : Option ℕ) (shelves : List ShelfRecord) → map shelf_values (with_first_free shelf link shelves) ≡ map shelf_values shelves
-free-first shelf link shelves = map-changed_by shelf_values (λ (x : ShelfRecord). record x { first_unallocated = link }) shelves (Some shelf) (λ x. refl)
+pub free-first : (shelf : ℕ) (link : Option ℕ) (shelves : List LinkedShelf) → map shelf_values (with_first_free shelf link shelves) ≡ map shelf_values shelves
+free-first shelf link shelves = map-changed_by shelf_values (λ (x : LinkedShelf). record x { first_unallocated = link }) shelves (Some shelf) (λ x. refl)
 
 -- items that are not marked allocated stay so where they say the same
-pub unmarked-same : (items new : List ItemRecord) (xs : List ℕ) → ((k : ℕ) → 1 ≤ times k xs → SameItem items new k) → Each (λ item. is_allocated_at items item ≡ false) xs → Each (λ item. is_allocated_at new item ≡ false) xs
+pub unmarked-same : (items new : List LinkedItem) (xs : List ℕ) → ((k : ℕ) → 1 ≤ times k xs → SameItem items new k) → Each (λ item. is_allocated_at items item ≡ false) xs → Each (λ item. is_allocated_at new item ≡ false) xs
 unmarked-same items new [] same each = tt
 unmarked-same items new (x ∷ xs) same each =
     ((same x (omega (arith, times-here x xs))).allocated ∙ each.0, unmarked-same items new xs (λ k stands. same k (omega (arith, stands))) each.1)
@@ -60,7 +60,7 @@ neither front back number next k absent =
 -- the records after an item took the place of the free one after it
 pub free_absorbed-spelled : (atlas : AtlasRecords) (before after : List Entry) (shelf number next : ℕ) (front back free_front free_back unused shelves : List ℕ) → is_allocated_at atlas.lists.items next ≡ false → IsSpelled atlas (lists_of (before ++ entry_of shelf (front ++ number ∷ next ∷ back) (free_front ++ next ∷ free_back) ∷ after) unused shelves) → EditsItems atlas (free_absorbed shelf number next ((item_at atlas.lists.items number).width + (item_at atlas.lists.items next).width) atlas.lists) before after unused (next ∷ unused) shelves (entry_of shelf (front ++ number ∷ next ∷ back) (free_front ++ next ∷ free_back)) (entry_of shelf (front ++ number ∷ back) (free_front ++ free_back))
 free_absorbed-spelled atlas before after shelf number next front back free_front free_back unused shelves is_free spelled =
-    let items : List ItemRecord = atlas.lists.items in
+    let items : List LinkedItem = atlas.lists.items in
     let width : ℕ = (item_at items number).width + (item_at items next).width in
     let lists : Records = free_absorbed shelf number next width atlas.lists in
     let numbers : List ℕ = front ++ number ∷ next ∷ back in
@@ -96,7 +96,7 @@ free_absorbed-spelled atlas before after shelf number next front back free_front
 -- the records after a free item took the place of the allocated one after it
 pub allocated_absorbed-spelled : (atlas : AtlasRecords) (before after : List Entry) (shelf number next : ℕ) (front back free unused shelves : List ℕ) → is_allocated_at atlas.lists.items next ≡ true → IsSpelled atlas (lists_of (before ++ entry_of shelf (front ++ number ∷ next ∷ back) free ∷ after) unused shelves) → EditsItems atlas (allocated_absorbed shelf number next ((item_at atlas.lists.items number).width + (item_at atlas.lists.items next).width) atlas.lists) before after unused (next ∷ unused) shelves (entry_of shelf (front ++ number ∷ next ∷ back) free) (entry_of shelf (front ++ number ∷ back) free)
 allocated_absorbed-spelled atlas before after shelf number next front back free unused shelves is_allocated spelled =
-    let items : List ItemRecord = atlas.lists.items in
+    let items : List LinkedItem = atlas.lists.items in
     let width : ℕ = (item_at items number).width + (item_at items next).width in
     let lists : Records = allocated_absorbed shelf number next width atlas.lists in
     let numbers : List ℕ = front ++ number ∷ next ∷ back in
@@ -134,10 +134,10 @@ allocated_absorbed-spelled atlas before after shelf number next front back free 
 -- what an item says after it became free
 pub freed-values : (records : Records) (shelf number : ℕ) → number < length records.items → IsFreed records.items (item_freed shelf number records).items number
 freed-values records shelf number within =
-    let items : List ItemRecord = records.items in
-    let one : List ItemRecord = changed_by (Some number) (λ (x : ItemRecord). record x { allocated = false }) items in
+    let items : List LinkedItem = records.items in
+    let one : List LinkedItem = changed_by (Some number) (λ (x : LinkedItem). record x { allocated = false }) items in
     let first : Option ℕ = first_free_of records.shelves shelf in
-    let new : List ItemRecord = linked_between free_list None first number one in
+    let new : List LinkedItem = linked_between free_list None first number one in
     let freed : IsFreed items one number = unmarked items number within in
     let same : (k : ℕ) → SameItem one new k = λ k. items-same one new k (map-linked_between free_list item_values frees-keep_values one None first number) in
     record {
@@ -168,7 +168,7 @@ after-other front back number k once stands e =
 -- the records after an allocated item became free
 pub item_freed-spelled : (atlas : AtlasRecords) (before after : List Entry) (shelf number : ℕ) (front back free unused shelves : List ℕ) → is_allocated_at atlas.lists.items number ≡ true → IsSpelled atlas (lists_of (before ++ entry_of shelf (front ++ number ∷ back) free ∷ after) unused shelves) → EditsItems atlas (item_freed shelf number atlas.lists) before after unused unused shelves (entry_of shelf (front ++ number ∷ back) free) (entry_of shelf (front ++ number ∷ back) (number ∷ free))
 item_freed-spelled atlas before after shelf number front back free unused shelves is_allocated spelled =
-    let items : List ItemRecord = atlas.lists.items in
+    let items : List LinkedItem = atlas.lists.items in
     let lists : Records = item_freed shelf number atlas.lists in
     let numbers : List ℕ = front ++ number ∷ back in
     let entry : Entry = entry_of shelf numbers free in
@@ -216,12 +216,12 @@ item_freed-spelled atlas before after shelf number front back free unused shelve
 -- what an item says after it was given whole
 pub given-values : (records : Records) (shelf number : ℕ) → number < length records.items → IsGiven records.items (item_given shelf number records).items number
 given-values records shelf number within =
-    let items : List ItemRecord = records.items in
-    let one : List ItemRecord = unlinked free_list number items in
-    let new : List ItemRecord = changed_by (Some number) (λ (x : ItemRecord). record x { allocated = true }) one in
+    let items : List LinkedItem = records.items in
+    let one : List LinkedItem = unlinked free_list number items in
+    let new : List LinkedItem = changed_by (Some number) (λ (x : LinkedItem). record x { allocated = true }) one in
     let values : map item_values one ≡ map item_values items = map-unlinked free_list item_values frees-keep_values items number in
     let same : (k : ℕ) → SameItem items one k = λ k. items-same items one k values in
-    let generation : field_at (λ (x : ItemRecord). x.generation) 0 one number ≡ field_at (λ (x : ItemRecord). x.generation) 0 items number =
+    let generation : field_at (λ (x : LinkedItem). x.generation) 0 one number ≡ field_at (λ (x : LinkedItem). x.generation) 0 items number =
     values-same item_values (λ (v : ItemValues). v.generation) 0 items one number values in
     let given : IsGiven one new number = marked one number (rw (length-unlinked free_list items number) within) in
     record {
@@ -237,7 +237,7 @@ given-values records shelf number within =
 -- the records after a free item was given whole
 pub item_given-spelled : (atlas : AtlasRecords) (before after : List Entry) (shelf number : ℕ) (front back free_front free_back unused shelves : List ℕ) → is_allocated_at atlas.lists.items number ≡ false → IsSpelled atlas (lists_of (before ++ entry_of shelf (front ++ number ∷ back) (free_front ++ number ∷ free_back) ∷ after) unused shelves) → EditsItems atlas (item_given shelf number atlas.lists) before after unused unused shelves (entry_of shelf (front ++ number ∷ back) (free_front ++ number ∷ free_back)) (entry_of shelf (front ++ number ∷ back) (free_front ++ free_back))
 item_given-spelled atlas before after shelf number front back free_front free_back unused shelves is_free spelled =
-    let items : List ItemRecord = atlas.lists.items in
+    let items : List LinkedItem = atlas.lists.items in
     let lists : Records = item_given shelf number atlas.lists in
     let numbers : List ℕ = front ++ number ∷ back in
     let free : List ℕ = free_front ++ number ∷ free_back in

@@ -9,7 +9,7 @@ use Rattle.std.proofs.lemmas.Option.{slice_get_within}
 use Rattle.etagere_base.specs.declared.ids.Allocation.{Allocation}
 use Rattle.etagere_base.specs.Lists.{Each, times}
 use Rattle.etagere_links.specs.Links.{no_link}
-use Rattle.etagere_links.specs.declared.records.ItemRecord.{ItemRecord}
+use Rattle.etagere_links.specs.declared.records.LinkedItem.{LinkedItem}
 use Rattle.etagere_links.proofs.ListEnds.{times-other}
 use Rattle.etagere_links.specs.RecordLists.{Entry, item_numbers}
 use Rattle.etagere.specs.AtlasRecords.{AtlasRecords, is_allocated_at, item_at, spelled_item, spelled_shelf, spelled_state}
@@ -35,16 +35,16 @@ number-of_record number generation small =
     ap record_number (omega arith) ∙ mod-mul-add generation 65536 number small
 
 -- an item that is marked allocated is among the records
-marked-within : (items : List ItemRecord) (number : ℕ) → is_allocated_at items number ≡ true → number < length items
+marked-within : (items : List LinkedItem) (number : ℕ) → is_allocated_at items number ≡ true → number < length items
 marked-within items number marked = by_record (slice_get items number) refl marked
   where
-    by_record : (o : Option ItemRecord) → slice_get items number ≡ o
-        → option_map_or (λ (item : ItemRecord). item.allocated) o false ≡ true → number < length items
+    by_record : (o : Option LinkedItem) → slice_get items number ≡ o
+        → option_map_or (λ (item : LinkedItem). item.allocated) o false ≡ true → number < length items
     by_record None e marked = absurd (cc)
     by_record (Some item) e marked = slice_get_within items number item e
 
 -- the record number that an item spells is its own, where it is marked allocated
-item-number : (items : List ItemRecord) (number : ℕ) → length items ≤ no_link
+item-number : (items : List LinkedItem) (number : ℕ) → length items ≤ no_link
     → map record_number (id_list (item_at items number).id) ≡ cond (is_allocated_at items number) (number ∷ []) []
 item-number items number few = by_record (slice_get items number) refl
   where
@@ -53,9 +53,9 @@ item-number items number few = by_record (slice_get items number) refl
     of_record true generation small = ap (λ n. n ∷ []) (number-of_record number generation small)
     of_record false generation small = refl
 
-    by_record : (o : Option ItemRecord) → slice_get items number ≡ o
+    by_record : (o : Option LinkedItem) → slice_get items number ≡ o
         → map record_number (id_list (option_map_or (spelled_item number) o (record { width = 0; id = None })).id)
-        ≡ cond (option_map_or (λ (item : ItemRecord). item.allocated) o false) (number ∷ []) []
+        ≡ cond (option_map_or (λ (item : LinkedItem). item.allocated) o false) (number ∷ []) []
     by_record None e = refl
     by_record (Some item) e =
         of_record item.allocated item.generation (omega (arith, few, slice_get_within items number item e))
@@ -66,7 +66,7 @@ filter-cons true n ns = refl
 filter-cons false n ns = refl
 
 -- the record numbers that items spell are those of the ones that are marked allocated
-items-numbers : (items : List ItemRecord) (xs : List ℕ) → length items ≤ no_link
+items-numbers : (items : List LinkedItem) (xs : List ℕ) → length items ≤ no_link
     → map record_number (item_ids (map (item_at items) xs)) ≡ filter (is_allocated_at items) xs
 items-numbers items [] few = refl
 items-numbers items (x ∷ xs) few =
@@ -93,7 +93,7 @@ spelled-numbers atlas entries few =
     allocated_numbers-ids (spelled_state atlas entries) ∙ shelves-numbers atlas entries few
 
 -- the marked ones are among the records
-pub marked-below : (items : List ItemRecord) (xs : List ℕ)
+pub marked-below : (items : List LinkedItem) (xs : List ℕ)
     → Each (λ (number : ℕ). number < length items) (filter (is_allocated_at items) xs)
 marked-below items [] = tt
 marked-below items (x ∷ xs) = by_test (is_allocated_at items x) refl (marked-below items xs)
@@ -104,7 +104,7 @@ marked-below items (x ∷ xs) = by_test (is_allocated_at items x) refl (marked-b
     by_test false e later = later
 
 -- a number that is not marked is none of theirs
-unmarked-new : (items : List ItemRecord) (number : ℕ) (xs : List ℕ) → is_allocated_at items number ≡ false
+unmarked-new : (items : List LinkedItem) (number : ℕ) (xs : List ℕ) → is_allocated_at items number ≡ false
     → times number (filter (is_allocated_at items) xs) ≡ 0
 unmarked-new items number [] free = refl
 unmarked-new items number (x ∷ xs) free = by_test (is_allocated_at items x) refl (unmarked-new items number xs free)

@@ -3,8 +3,8 @@ use Rattle.std.proofs.Common.{◌≡◌, ◌≢◌, ℕ, ◌+◌, ◌<◌, false
 use Rattle.etagere_base.proofs.EachLemmas.{Each-append, Each-front, Each-back}
 use Rattle.etagere_base.proofs.TimesLemmas.{times-append}
 use Rattle.etagere_base.specs.Lists.{Each, times}
-use Rattle.etagere_links.specs.declared.records.ItemRecord.{ItemRecord}
-use Rattle.etagere_links.specs.declared.records.ShelfRecord.{ShelfRecord}
+use Rattle.etagere_links.specs.declared.records.LinkedItem.{LinkedItem}
+use Rattle.etagere_links.specs.declared.records.LinkedShelf.{LinkedShelf}
 use Rattle.etagere_links.specs.Edits.{unlinked, put_aside}
 use Rattle.etagere_links.specs.Families.{IsUnchanged}
 use Rattle.etagere_links.specs.RecordLists.{Records, Entry, shelf_numbers}
@@ -47,19 +47,19 @@ pub record IsTaller (old new : Records) (number height : ℕ) : Type 0 where
 
 pub shelf_absorbed-values : (records : Records) (number next item height : ℕ) → number < length records.shelves → IsTaller records (shelf_absorbed number next item height records) number height
 shelf_absorbed-values records number next item height within =
-    let old : List ShelfRecord = records.shelves in
-    let change : ShelfRecord → ShelfRecord = λ x. record x { height = height } in
-    let one : List ShelfRecord = unlinked shelf_chain next old in
-    let two : List ShelfRecord = put_aside shelf_chain records.free_shelves next one in
+    let old : List LinkedShelf = records.shelves in
+    let change : LinkedShelf → LinkedShelf = λ x. record x { height = height } in
+    let one : List LinkedShelf = unlinked shelf_chain next old in
+    let two : List LinkedShelf = put_aside shelf_chain records.free_shelves next one in
     let values : map shelf_values two ≡ map shelf_values old =
     map-put_aside shelf_chain shelf_values shelves-keep_values one records.free_shelves next ∙ map-unlinked shelf_chain shelf_values shelves-keep_values old next in
     let long : length two ≡ length old = length-put_aside shelf_chain one records.free_shelves next ∙ length-unlinked shelf_chain old next in
     let middle : (k : ℕ) → SameShelf old two k = λ k. shelves-same old two k values in
     record {
-      along = λ k. field_at-kept (λ (x : ShelfRecord). x.x) 0 change two number k (λ x. refl) ∙ (middle k).along;
-      across = λ k. field_at-kept (λ (x : ShelfRecord). x.y) 0 change two number k (λ x. refl) ∙ (middle k).across;
-      is_empty = λ k. field_at-kept (λ (x : ShelfRecord). x.is_empty) false change two number k (λ x. refl) ∙ (middle k).is_empty;
-      own = field_at-changed (λ (x : ShelfRecord). x.height) 0 change two number height (rw long within) (λ x. refl);
+      along = λ k. field_at-kept (λ (x : LinkedShelf). x.x) 0 change two number k (λ x. refl) ∙ (middle k).along;
+      across = λ k. field_at-kept (λ (x : LinkedShelf). x.y) 0 change two number k (λ x. refl) ∙ (middle k).across;
+      is_empty = λ k. field_at-kept (λ (x : LinkedShelf). x.is_empty) false change two number k (λ x. refl) ∙ (middle k).is_empty;
+      own = field_at-changed (λ (x : LinkedShelf). x.height) 0 change two number height (rw long within) (λ x. refl);
       others = λ k other. shelf-other old two change number k other (middle k);
       items = λ k. items-same records.items (shelf_absorbed number next item height records).items k (map-put_aside item_chain item_values items-keep_values records.items records.free_items item);
       as_many = length-changed_by change two (Some number) ∙ long;
@@ -68,8 +68,8 @@ shelf_absorbed-values records number next item height within =
 -- the records after an empty shelf took the place of the empty one after it in its column
 pub shelf_absorbed-spelled : (atlas : AtlasRecords) (before after : List Entry) (entry : Entry) (next item : ℕ) (free unused shelves : List ℕ) → along_of atlas.lists.shelves next ≡ along_of atlas.lists.shelves entry.number → is_allocated_at atlas.lists.items item ≡ false → IsSpelled atlas (lists_of (before ++ entry ∷ entry_of next (item ∷ []) free ∷ after) unused shelves) → IsSpelled (with_lists atlas (shelf_absorbed entry.number next item (height_of atlas.lists.shelves entry.number + height_of atlas.lists.shelves next) atlas.lists)) (lists_of (before ++ entry ∷ after) (item ∷ unused) (next ∷ shelves))
 shelf_absorbed-spelled atlas before after entry next item free unused shelves column is_free spelled =
-    let old : List ShelfRecord = atlas.lists.shelves in
-    let items : List ItemRecord = atlas.lists.items in
+    let old : List LinkedShelf = atlas.lists.shelves in
+    let items : List LinkedItem = atlas.lists.items in
     let height : ℕ = height_of old entry.number + height_of old next in
     let lists : Records = shelf_absorbed entry.number next item height atlas.lists in
     let gone : Entry = entry_of next (item ∷ []) free in

@@ -5,8 +5,8 @@ use Rattle.std.specs.Prelude.{◌/◌, ◌%◌, slice_get}
 use Rattle.etagere_base.proofs.EachLemmas.{Each-append, Each-front, Each-back, Each-middle}
 use Rattle.etagere_base.proofs.TimesLemmas.{times-append}
 use Rattle.etagere_base.specs.Lists.{Each, times}
-use Rattle.etagere_links.specs.declared.records.ItemRecord.{ItemRecord}
-use Rattle.etagere_links.specs.declared.records.ShelfRecord.{ShelfRecord}
+use Rattle.etagere_links.specs.declared.records.LinkedItem.{LinkedItem}
+use Rattle.etagere_links.specs.declared.records.LinkedShelf.{LinkedShelf}
 use Rattle.etagere_links.specs.Edits.{changed_by, link_at, linked_between}
 use Rattle.etagere_links.specs.Links.{no_link}
 use Rattle.etagere_links.specs.RecordEdits.{item_changed}
@@ -86,7 +86,7 @@ split-none atlas new before after entry unused_items unused_shelves loose used =
     }
 
 -- what the records of the rest of a shelf say once they were written
-record IsRestOf (frame_width : ℕ) (items : List ItemRecord) (shelves old : List ShelfRecord) (number rest rest_item tall : ℕ) : Type 0 where
+record IsRestOf (frame_width : ℕ) (items : List LinkedItem) (shelves old : List LinkedShelf) (number rest rest_item tall : ℕ) : Type 0 where
   pub splits : SplitsShelf old shelves number rest
   pub height : height_of shelves number ≡ tall
   pub is_empty : is_empty_at shelves rest ≡ true
@@ -98,16 +98,16 @@ record IsRestOf (frame_width : ℕ) (items : List ItemRecord) (shelves old : Lis
 
 rest-of : (records : Records) (number rest rest_item height frame_width : ℕ) → number ≢ rest → number < length records.shelves → rest < length records.shelves → rest_item < length records.items → height ≤ height_of records.shelves number → IsRestOf frame_width (shelf_split number rest rest_item height (rest_shelf (shelf_record records.shelves number) height rest_item) (free_item (shelf_record records.shelves number).x frame_width rest (item_record records.items rest_item).generation) records).items (shelf_split number rest rest_item height (rest_shelf (shelf_record records.shelves number) height rest_item) (free_item (shelf_record records.shelves number).x frame_width rest (item_record records.items rest_item).generation) records).shelves records.shelves number rest rest_item height
 rest-of records number rest rest_item height frame_width apart within rest_within item_within tall =
-    let whole : ShelfRecord = shelf_record records.shelves number in
-    let rest_record : ShelfRecord = rest_shelf whole height rest_item in
-    let item : ItemRecord = free_item whole.x frame_width rest (item_record records.items rest_item).generation in
-    let items : List ItemRecord = records.items in
-    let old : List ShelfRecord = records.shelves in
-    let change : ShelfRecord → ShelfRecord = λ x. record x { height = height } in
-    let one : List ShelfRecord = changed_by (Some rest) (λ _. rest_record) old in
+    let whole : LinkedShelf = shelf_record records.shelves number in
+    let rest_record : LinkedShelf = rest_shelf whole height rest_item in
+    let item : LinkedItem = free_item whole.x frame_width rest (item_record records.items rest_item).generation in
+    let items : List LinkedItem = records.items in
+    let old : List LinkedShelf = records.shelves in
+    let change : LinkedShelf → LinkedShelf = λ x. record x { height = height } in
+    let one : List LinkedShelf = changed_by (Some rest) (λ _. rest_record) old in
     let next : Option ℕ = link_at shelf_chain.next one number in
-    let two : List ShelfRecord = linked_between shelf_chain (Some number) next rest one in
-    let new : List ShelfRecord = changed_by (Some number) change two in
+    let two : List LinkedShelf = linked_between shelf_chain (Some number) next rest one in
+    let new : List LinkedShelf = changed_by (Some number) change two in
     let long : length two ≡ length old = length-linked_between shelf_chain one (Some number) next rest ∙ length-changed_by (λ _. rest_record) old (Some rest) in
     let linked : (k : ℕ) → SameShelf one two k = λ k. shelves-same one two k (map-linked_between shelf_chain shelf_values shelves-keep_values one (Some number) next rest) in
     let written : (k : ℕ) → rest ≢ k → SameShelf old one k = λ k other.
@@ -115,30 +115,30 @@ rest-of records number rest rest_item height frame_width apart within rest_withi
     let middle : (k : ℕ) → rest ≢ k → SameShelf old two k = λ k other. SameShelf-then old one two k (written k other) (linked k) in
     let own : SameShelf old two number = middle number (λ e. apart (sym e)) in
     let last : SameShelf one new rest = shelf-other one two change number rest (λ e. let same : number ≡ rest = cc in apart same) (linked rest) in
-    let own_along : along_of new number ≡ along_of old number = field_at-kept (λ (x : ShelfRecord). x.x) 0 change two number number (λ x. refl) ∙ own.along in
-    let own_height : height_of new number ≡ height = field_at-changed (λ (x : ShelfRecord). x.height) 0 change two number height (rw long within) (λ x. refl) in
+    let own_along : along_of new number ≡ along_of old number = field_at-kept (λ (x : LinkedShelf). x.x) 0 change two number number (λ x. refl) ∙ own.along in
+    let own_height : height_of new number ≡ height = field_at-changed (λ (x : LinkedShelf). x.height) 0 change two number height (rw long within) (λ x. refl) in
     let rest_along : along_of new rest ≡ along_of old number =
-    last.along ∙ field_at-changed (λ (x : ShelfRecord). x.x) 0 (λ _. rest_record) old rest whole.x rest_within (λ x. refl) ∙ read-record (λ (x : ShelfRecord). x.x) _ old number in
+    last.along ∙ field_at-changed (λ (x : LinkedShelf). x.x) 0 (λ _. rest_record) old rest whole.x rest_within (λ x. refl) ∙ read-record (λ (x : LinkedShelf). x.x) _ old number in
     let rest_across : across_of new rest ≡ whole.y + height =
-    last.across ∙ field_at-changed (λ (x : ShelfRecord). x.y) 0 (λ _. rest_record) old rest (whole.y + height) rest_within (λ x. refl) in
+    last.across ∙ field_at-changed (λ (x : LinkedShelf). x.y) 0 (λ _. rest_record) old rest (whole.y + height) rest_within (λ x. refl) in
     let rest_height : height_of new rest ≡ whole.height - height =
-    last.height ∙ field_at-changed (λ (x : ShelfRecord). x.height) 0 (λ _. rest_record) old rest (whole.height - height) rest_within (λ x. refl) in
+    last.height ∙ field_at-changed (λ (x : LinkedShelf). x.height) 0 (λ _. rest_record) old rest (whole.height - height) rest_within (λ x. refl) in
     record {
       splits =
           record {
             along = own_along;
-            across = field_at-kept (λ (x : ShelfRecord). x.y) 0 change two number number (λ x. refl) ∙ own.across;
-            height = omega (arith, own_height, rest_height, tall, read-record (λ (x : ShelfRecord). x.height) (shelf_record [] number) old number);
+            across = field_at-kept (λ (x : LinkedShelf). x.y) 0 change two number number (λ x. refl) ∙ own.across;
+            height = omega (arith, own_height, rest_height, tall, read-record (λ (x : LinkedShelf). x.height) (shelf_record [] number) old number);
             rest_along = rest_along;
-            rest_across = omega (arith, own_height, rest_across, read-record (λ (x : ShelfRecord). x.y) (shelf_record [] number) old number);
+            rest_across = omega (arith, own_height, rest_across, read-record (λ (x : LinkedShelf). x.y) (shelf_record [] number) old number);
           };
       height = own_height;
-      is_empty = last.is_empty ∙ field_at-changed (λ (x : ShelfRecord). x.is_empty) false (λ _. rest_record) old rest true rest_within (λ x. refl);
+      is_empty = last.is_empty ∙ field_at-changed (λ (x : LinkedShelf). x.is_empty) false (λ _. rest_record) old rest true rest_within (λ x. refl);
       item = field_at-changed (spelled_item rest_item) (record { width = 0; id = None }) (λ _. item) items rest_item (record { width = frame_width; id = None }) item_within (λ x. refl);
-      place = field_at-changed (λ (x : ItemRecord). x.x) 0 (λ _. item) items rest_item whole.x item_within (λ x. refl)
-          ∙ read-record (λ (x : ShelfRecord). x.x) _ old number ∙ sym rest_along;
-      owner = field_at-changed (λ (x : ItemRecord). x.shelf) 0 (λ _. item) items rest_item rest item_within (λ x. refl);
-      free = field_at-changed (λ (x : ItemRecord). x.allocated) false (λ _. item) items rest_item false item_within (λ x. refl);
+      place = field_at-changed (λ (x : LinkedItem). x.x) 0 (λ _. item) items rest_item whole.x item_within (λ x. refl)
+          ∙ read-record (λ (x : LinkedShelf). x.x) _ old number ∙ sym rest_along;
+      owner = field_at-changed (λ (x : LinkedItem). x.shelf) 0 (λ _. item) items rest_item rest item_within (λ x. refl);
+      free = field_at-changed (λ (x : LinkedItem). x.allocated) false (λ _. item) items rest_item false item_within (λ x. refl);
       others = λ k other rest_other. shelf-other old two change number k (λ e. let same : number ≡ k = cc in other same) (middle k rest_other);
     }
 
@@ -149,9 +149,9 @@ split-shelf atlas used before after entry rest rest_item height unused_items unu
     let entries : List Entry = before ++ entry ∷ after in
     let number : ℕ = entry.number in
     let cw : ℕ = atlas.frame.column_width in
-    let whole : ShelfRecord = shelf_record used.shelves number in
-    let rest_record : ShelfRecord = rest_shelf whole height rest_item in
-    let item : ItemRecord = free_item whole.x cw rest (item_record used.items rest_item).generation in
+    let whole : LinkedShelf = shelf_record used.shelves number in
+    let rest_record : LinkedShelf = rest_shelf whole height rest_item in
+    let item : LinkedItem = free_item whole.x cw rest (item_record used.items rest_item).generation in
     let added : Entry = entry_of rest (rest_item ∷ []) (rest_item ∷ []) in
     let new : Records = shelf_split number rest rest_item height rest_record item used in
     let spelled : IsSpelledBut middle (lists_of entries unused_items unused_shelves) (rest_item ∷ loose) (rest ∷ []) = is_used.spelled in
@@ -175,7 +175,7 @@ split-shelf atlas used before after entry rest rest_item height unused_items unu
     let others : (k : ℕ) → 1 ≤ times k (shelf_numbers before ++ shelf_numbers after) → SameShelf used.shelves new.shelves k = λ k stands.
     is.others k (number_other k stands) (rest_other k (omega (arith, among k, number_count k, stands))) in
     let along : (k : ℕ) → 1 ≤ times k (shelf_numbers entries) → along_of new.shelves k ≡ along_of used.shelves k = λ k stands.
-    (field_at-kept (λ (x : ShelfRecord). x.x) 0 (λ (x : ShelfRecord). record x { height = height }) (linked_between shelf_chain (Some number) (link_at shelf_chain.next (changed_by (Some rest) (λ _. rest_record) used.shelves) number) rest (changed_by (Some rest) (λ _. rest_record) used.shelves)) number k (λ x. refl))
+    (field_at-kept (λ (x : LinkedShelf). x.x) 0 (λ (x : LinkedShelf). record x { height = height }) (linked_between shelf_chain (Some number) (link_at shelf_chain.next (changed_by (Some rest) (λ _. rest_record) used.shelves) number) rest (changed_by (Some rest) (λ _. rest_record) used.shelves)) number k (λ x. refl))
     ∙ (shelves-same (changed_by (Some rest) (λ _. rest_record) used.shelves) (linked_between shelf_chain (Some number) (link_at shelf_chain.next (changed_by (Some rest) (λ _. rest_record) used.shelves) number) rest (changed_by (Some rest) (λ _. rest_record) used.shelves)) k (map-linked_between shelf_chain shelf_values shelves-keep_values (changed_by (Some rest) (λ _. rest_record) used.shelves) (Some number) (link_at shelf_chain.next (changed_by (Some rest) (λ _. rest_record) used.shelves) number) rest)).along
     ∙ (shelf-other used.shelves used.shelves (λ _. rest_record) rest k (λ e. let same : rest ≡ k = cc in rest_other k stands same) (same-shelf used.shelves k)).along in
     let all : Each (IsPlaced (with_lists atlas new)) entries = placed-entries middle new entries along (λ k stands. item-same used.items new.items k (kept k stands)) spelled.placed in
@@ -221,7 +221,7 @@ split-shelf atlas used before after entry rest rest_item height unused_items unu
       flags = (is.is_empty ∙ sym (ap is_empty added_spelled), tt);
       more = omega (arith, is_used.more, length-changed_by (λ _. item) used.items (Some rest_item));
       made = λ some. length-changed_by (λ _. item) used.items (Some rest_item) ∙ is_used.made some;
-      few = omega (arith, is_used.few, length-changed_by (λ (x : ShelfRecord). record x { height = height }) (linked_between shelf_chain (Some number) (link_at shelf_chain.next (changed_by (Some rest) (λ _. rest_record) used.shelves) number) rest (changed_by (Some rest) (λ _. rest_record) used.shelves)) (Some number), length-linked_between shelf_chain (changed_by (Some rest) (λ _. rest_record) used.shelves) (Some number) (link_at shelf_chain.next (changed_by (Some rest) (λ _. rest_record) used.shelves) number) rest, length-changed_by (λ _. rest_record) used.shelves (Some rest));
+      few = omega (arith, is_used.few, length-changed_by (λ (x : LinkedShelf). record x { height = height }) (linked_between shelf_chain (Some number) (link_at shelf_chain.next (changed_by (Some rest) (λ _. rest_record) used.shelves) number) rest (changed_by (Some rest) (λ _. rest_record) used.shelves)) (Some number), length-linked_between shelf_chain (changed_by (Some rest) (λ _. rest_record) used.shelves) (Some number) (link_at shelf_chain.next (changed_by (Some rest) (λ _. rest_record) used.shelves) number) rest, length-changed_by (λ _. rest_record) used.shelves (Some rest));
     }
   where
     self-stands : (n : ℕ) (ns : List ℕ) → 1 ≤ times n (n ∷ ns)
@@ -231,7 +231,7 @@ split-shelf atlas used before after entry rest rest_item height unused_items unu
     multiple a width e = omega (arith, e, div-add-mod' a width)
 
 -- the record of the rest of an item, which stands in no list, is written
-pub split-written : (atlas : AtlasRecords) (new : Records) (before added after : List Entry) (entry : Entry) (unused_items unused_shelves loose : List ℕ) (tall : ℕ) (pieces : List Shelf) (rest : ℕ) (item : ItemRecord) → HasShelfSplit atlas new before added after entry unused_items unused_shelves (rest ∷ loose) tall pieces → HasShelfSplit atlas (item_changed rest (λ _. item) new) before added after entry unused_items unused_shelves (rest ∷ loose) tall pieces
+pub split-written : (atlas : AtlasRecords) (new : Records) (before added after : List Entry) (entry : Entry) (unused_items unused_shelves loose : List ℕ) (tall : ℕ) (pieces : List Shelf) (rest : ℕ) (item : LinkedItem) → HasShelfSplit atlas new before added after entry unused_items unused_shelves (rest ∷ loose) tall pieces → HasShelfSplit atlas (item_changed rest (λ _. item) new) before added after entry unused_items unused_shelves (rest ∷ loose) tall pieces
 split-written atlas new before added after entry unused_items unused_shelves loose tall pieces rest item is_split =
     let middle : AtlasRecords = with_lists atlas new in
     let last : Records = item_changed rest (λ _. item) new in

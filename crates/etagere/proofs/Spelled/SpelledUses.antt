@@ -3,7 +3,7 @@ use Rattle.std.proofs.Common.{◌≡◌, ◌≢◌, ℕ, zero, suc, ◌+◌, ◌
 use Rattle.std.specs.Prelude.{slice_get}
 use Rattle.etagere_base.proofs.TimesLemmas.{times-append}
 use Rattle.etagere_base.specs.Lists.{Each, times}
-use Rattle.etagere_links.specs.declared.records.ShelfRecord.{ShelfRecord}
+use Rattle.etagere_links.specs.declared.records.LinkedShelf.{LinkedShelf}
 use Rattle.etagere_links.specs.Links.{no_link}
 use Rattle.etagere_links.specs.RecordLists.{Records, Entry, field_at, shelf_numbers, item_numbers, IsEntry}
 use Rattle.etagere_links.specs.RecordUses.{number_used, new_shelf, shelves_used, item_used, shelf_used}
@@ -47,22 +47,22 @@ field_at-made field other (y ∷ ys) x zero e = refl
 field_at-made field other (y ∷ ys) x (suc k) e = field_at-made field other ys x k e
 
 -- shelves say what they say
-pub same-shelf : (shelves : List ShelfRecord) (k : ℕ) → SameShelf shelves shelves k
+pub same-shelf : (shelves : List LinkedShelf) (k : ℕ) → SameShelf shelves shelves k
 same-shelf shelves k = record { along = refl; across = refl; height = refl; is_empty = refl }
 
 -- shelves say the same after one was put to use
-pub shelves-used : (unused : Option ℕ) (shelves : List ShelfRecord) (k : ℕ) → SameShelf shelves (shelves_used true unused shelves) k
+pub shelves-used : (unused : Option ℕ) (shelves : List LinkedShelf) (k : ℕ) → SameShelf shelves (shelves_used true unused shelves) k
 shelves-used None shelves k =
     record {
-      along = field_at-made (λ (s : ShelfRecord). s.x) 0 shelves new_shelf k refl;
-      across = field_at-made (λ (s : ShelfRecord). s.y) 0 shelves new_shelf k refl;
-      height = field_at-made (λ (s : ShelfRecord). s.height) 0 shelves new_shelf k refl;
-      is_empty = field_at-made (λ (s : ShelfRecord). s.is_empty) false shelves new_shelf k refl;
+      along = field_at-made (λ (s : LinkedShelf). s.x) 0 shelves new_shelf k refl;
+      across = field_at-made (λ (s : LinkedShelf). s.y) 0 shelves new_shelf k refl;
+      height = field_at-made (λ (s : LinkedShelf). s.height) 0 shelves new_shelf k refl;
+      is_empty = field_at-made (λ (s : LinkedShelf). s.is_empty) false shelves new_shelf k refl;
     }
 shelves-used (Some number) shelves k = same-shelf shelves k
 
 -- saying the same carries over
-pub SameShelf-then : (shelves middle new : List ShelfRecord) (k : ℕ) → SameShelf shelves middle k → SameShelf middle new k → SameShelf shelves new k
+pub SameShelf-then : (shelves middle new : List LinkedShelf) (k : ℕ) → SameShelf shelves middle k → SameShelf middle new k → SameShelf shelves new k
 SameShelf-then shelves middle new k one two =
     record { along = two.along ∙ one.along; across = two.across ∙ one.across; height = two.height ∙ one.height; is_empty = two.is_empty ∙ one.is_empty }
 

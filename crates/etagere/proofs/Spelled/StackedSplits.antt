@@ -2,7 +2,7 @@
 use Rattle.std.proofs.Common.{◌≡◌, ℕ, ◌+◌, ◌≤◌, Bool, true, false, List, [], ◌∷◌, ◌++◌, ap, arith, sym, ◌∙◌}
 use Rattle.std.specs.Prelude.{◌/◌, ◌==◌, if◌then◌else◌}
 use Rattle.etagere_base.specs.Lists.{times}
-use Rattle.etagere_links.specs.declared.records.ShelfRecord.{ShelfRecord}
+use Rattle.etagere_links.specs.declared.records.LinkedShelf.{LinkedShelf}
 use Rattle.etagere_links.proofs.ListEnds.{times-here}
 use Rattle.etagere.specs.AtlasRecords.{along_of, across_of, height_of}
 use Rattle.etagere.specs.StandsFor.{AreStacked, height_before}
@@ -10,7 +10,7 @@ use Rattle.etagere.proofs.Spelled.RecordValues.{SameShelf}
 use Rattle.etagere.proofs.Spelled.StackedMerges.{height_before-append, height-one, stacked-after}
 
 -- what shelves say where one was split, and the rest is another
-pub record SplitsShelf (shelves new : List ShelfRecord) (number rest : ℕ) : Type 0 where
+pub record SplitsShelf (shelves new : List LinkedShelf) (number rest : ℕ) : Type 0 where
   pub along : along_of new number ≡ along_of shelves number
   pub across : across_of new number ≡ across_of shelves number
   pub height : height_of new number + height_of new rest ≡ height_of shelves number
@@ -18,7 +18,7 @@ pub record SplitsShelf (shelves new : List ShelfRecord) (number rest : ℕ) : Ty
   pub rest_across : across_of new rest ≡ across_of shelves number + height_of new number
 
 -- the height that both count for a column
-height-parts : (shelves new : List ShelfRecord) (column_width column number rest : ℕ) → SplitsShelf shelves new number rest → height_before new column_width column (number ∷ rest ∷ []) ≡ height_before shelves column_width column (number ∷ [])
+height-parts : (shelves new : List LinkedShelf) (column_width column number rest : ℕ) → SplitsShelf shelves new number rest → height_before new column_width column (number ∷ rest ∷ []) ≡ height_before shelves column_width column (number ∷ [])
 height-parts shelves new column_width column number rest splits =
     rw (splits.along, splits.rest_along, ← splits.height)
     (together (along_of shelves number / column_width == column) (height_of new number) (height_of new rest))
@@ -28,13 +28,13 @@ height-parts shelves new column_width column number rest splits =
     together false one two = omega arith
 
 -- a shelf counts for its own column
-own-height : (new : List ShelfRecord) (column_width number : ℕ) → height_before new column_width (along_of new number / column_width) (number ∷ []) ≡ height_of new number
+own-height : (new : List LinkedShelf) (column_width number : ℕ) → height_before new column_width (along_of new number / column_width) (number ∷ []) ≡ height_of new number
 own-height new column_width number =
     let own : (along_of new number / column_width == along_of new number / column_width) ≡ true = grind arith in
     rw own (omega arith)
 
 -- shelves stand one on the other after one was split
-pub stacked-split : (shelves new : List ShelfRecord) (column_width : ℕ) (below below' before after : List ℕ) (number rest : ℕ) → SplitsShelf shelves new number rest → ((column : ℕ) → height_before new column_width column below' ≡ height_before shelves column_width column below) → ((k : ℕ) → 1 ≤ times k before → SameShelf shelves new k) → ((k : ℕ) → 1 ≤ times k after → SameShelf shelves new k) → AreStacked shelves column_width below (before ++ number ∷ after) → AreStacked new column_width below' (before ++ number ∷ rest ∷ after)
+pub stacked-split : (shelves new : List LinkedShelf) (column_width : ℕ) (below below' before after : List ℕ) (number rest : ℕ) → SplitsShelf shelves new number rest → ((column : ℕ) → height_before new column_width column below' ≡ height_before shelves column_width column below) → ((k : ℕ) → 1 ≤ times k before → SameShelf shelves new k) → ((k : ℕ) → 1 ≤ times k after → SameShelf shelves new k) → AreStacked shelves column_width below (before ++ number ∷ after) → AreStacked new column_width below' (before ++ number ∷ rest ∷ after)
 stacked-split shelves new column_width below below' [] after number rest splits heights same_before same_after stacked =
     let under : height_before new column_width (along_of new number / column_width) below' ≡ height_before shelves column_width (along_of shelves number / column_width) below =
     heights (along_of new number / column_width) ∙ ap (λ a. height_before shelves column_width (a / column_width) below) splits.along in

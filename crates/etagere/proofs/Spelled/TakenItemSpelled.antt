@@ -3,7 +3,7 @@ use Rattle.std.proofs.Common.{◌≡◌, ◌≢◌, ℕ, ◌+◌, ◌-◌, ◌<�
 use Rattle.std.proofs.lemmas.List.{map-append}
 use Rattle.std.specs.Prelude.{◌/◌, if◌then◌else◌}
 use Rattle.etagere_base.specs.Lists.{times, remove_place, replace_place, replaced_at}
-use Rattle.etagere_links.specs.declared.records.ItemRecord.{ItemRecord}
+use Rattle.etagere_links.specs.declared.records.LinkedItem.{LinkedItem}
 use Rattle.etagere_links.specs.RecordLists.{Records}
 use Rattle.etagere_links.proofs.AllLists.LinkedMerges.{entry_of}
 use Rattle.etagere.specs.AtlasRecords.{AtlasRecords, is_allocated_at, place_of, along_of, height_of, item_at, spelled_shelf}
@@ -32,7 +32,7 @@ replaced-mapped f pieces [] back number = refl
 replaced-mapped f pieces (x ∷ front) back number = ap (λ ys. f x ∷ ys) (replaced-mapped f pieces front back number)
 
 -- an item of a shelf as a placement names it: free, among these items and in this free list
-pub record IsPlacedAt (items : List ItemRecord) (placement : Placement) (front back free_front free_back : List ℕ) (number : ℕ) : Type 0 where
+pub record IsPlacedAt (items : List LinkedItem) (placement : Placement) (front back free_front free_back : List ℕ) (number : ℕ) : Type 0 where
   pub at : placement.item ≡ length front
   pub along : placement.along ≡ place_of items number
   pub free : is_allocated_at items number ≡ false
@@ -41,14 +41,14 @@ pub record IsPlacedAt (items : List ItemRecord) (placement : Placement) (front b
   pub apart : (k : ℕ) → 1 ≤ times k (free_front ++ free_back) → place_of items k ≢ place_of items number
 
 -- the items and places of others are those that they were
-pub record KeepsOthers (items new : List ItemRecord) (front back free_front free_back : List ℕ) : Type 0 where
+pub record KeepsOthers (items new : List LinkedItem) (front back free_front free_back : List ℕ) : Type 0 where
   pub before : (k : ℕ) → 1 ≤ times k front → item_at new k ≡ item_at items k
   pub after : (k : ℕ) → 1 ≤ times k back → item_at new k ≡ item_at items k
   pub free_before : (k : ℕ) → 1 ≤ times k free_front → place_of new k ≡ place_of items k
   pub free_after : (k : ℕ) → 1 ≤ times k free_back → place_of new k ≡ place_of items k
 
 -- the items that are spelled around some
-around : (items new : List ItemRecord) (front middle back : List ℕ) → ((k : ℕ) → 1 ≤ times k front → item_at new k ≡ item_at items k) → ((k : ℕ) → 1 ≤ times k back → item_at new k ≡ item_at items k) → map (item_at new) (front ++ (middle ++ back)) ≡ map (item_at items) front ++ (map (item_at new) middle ++ map (item_at items) back)
+around : (items new : List LinkedItem) (front middle back : List ℕ) → ((k : ℕ) → 1 ≤ times k front → item_at new k ≡ item_at items k) → ((k : ℕ) → 1 ≤ times k back → item_at new k ≡ item_at items k) → map (item_at new) (front ++ (middle ++ back)) ≡ map (item_at items) front ++ (map (item_at new) middle ++ map (item_at items) back)
 around items new front middle back same_front same_back =
     map-append (item_at new) front (middle ++ back)
     ∙ ap (λ (is : List Item). is ++ map (item_at new) (middle ++ back)) (map-agrees (item_at new) (item_at items) front same_front)
@@ -56,7 +56,7 @@ around items new front middle back same_front same_back =
     ∙ ap (λ (is : List Item). map (item_at items) front ++ (map (item_at new) middle ++ is)) (map-agrees (item_at new) (item_at items) back same_back)
 
 -- the places around some
-places-around : (items new : List ItemRecord) (front middle back : List ℕ) → ((k : ℕ) → 1 ≤ times k front → place_of new k ≡ place_of items k) → ((k : ℕ) → 1 ≤ times k back → place_of new k ≡ place_of items k) → map (place_of new) (front ++ (middle ++ back)) ≡ map (place_of items) front ++ (map (place_of new) middle ++ map (place_of items) back)
+places-around : (items new : List LinkedItem) (front middle back : List ℕ) → ((k : ℕ) → 1 ≤ times k front → place_of new k ≡ place_of items k) → ((k : ℕ) → 1 ≤ times k back → place_of new k ≡ place_of items k) → map (place_of new) (front ++ (middle ++ back)) ≡ map (place_of items) front ++ (map (place_of new) middle ++ map (place_of items) back)
 places-around items new front middle back same_front same_back =
     map-append (place_of new) front (middle ++ back)
     ∙ ap (λ (is : List ℕ). is ++ map (place_of new) (middle ++ back)) (map-agrees (place_of new) (place_of items) front same_front)
@@ -66,8 +66,8 @@ places-around items new front middle back same_front same_back =
 -- the shelf after an item was given whole
 pub whole-spelled : (atlas : AtlasRecords) (lists : Records) (placement : Placement) (id shelf number : ℕ) (front back free_front free_back : List ℕ) → IsPlacedAt atlas.lists.items placement front back free_front free_back number → KeepsOthers atlas.lists.items lists.items front back free_front free_back → along_of lists.shelves shelf ≡ along_of atlas.lists.shelves shelf → height_of lists.shelves shelf ≡ placement.height → item_at lists.items number ≡ record { width = placement.width; id = Some id } → spelled_shelf (with_lists atlas lists) (entry_of shelf (front ++ number ∷ back) (free_front ++ free_back)) ≡ taken_from false placement id (spelled_shelf atlas (entry_of shelf (front ++ number ∷ back) (free_front ++ number ∷ free_back)))
 whole-spelled atlas lists placement id shelf number front back free_front free_back is keeps along height item =
-    let old : List ItemRecord = atlas.lists.items in
-    let new : List ItemRecord = lists.items in
+    let old : List LinkedItem = atlas.lists.items in
+    let new : List LinkedItem = lists.items in
     let cw : ℕ = atlas.frame.column_width in
     let pieces : Item → List Item = λ i. record { width = placement.width; id = Some id } ∷ [] in
     let items : map (item_at new) (front ++ number ∷ back) ≡ replaced_at placement.item pieces (map (item_at old) (front ++ number ∷ back)) =
@@ -88,8 +88,8 @@ whole-spelled atlas lists placement id shelf number front back free_front free_b
 -- the shelf after the front of an item was given
 pub front-spelled : (atlas : AtlasRecords) (lists : Records) (placement : Placement) (id shelf number rest : ℕ) (front back free_front free_back : List ℕ) → IsPlacedAt atlas.lists.items placement front back free_front free_back number → KeepsOthers atlas.lists.items lists.items front back free_front free_back → along_of lists.shelves shelf ≡ along_of atlas.lists.shelves shelf → height_of lists.shelves shelf ≡ placement.height → item_at lists.items number ≡ record { width = placement.width; id = Some id } → item_at lists.items rest ≡ record { width = (item_at atlas.lists.items number).width - placement.width; id = None } → place_of lists.items rest ≡ placement.along + placement.width → spelled_shelf (with_lists atlas lists) (entry_of shelf (front ++ number ∷ rest ∷ back) (free_front ++ rest ∷ free_back)) ≡ taken_from true placement id (spelled_shelf atlas (entry_of shelf (front ++ number ∷ back) (free_front ++ number ∷ free_back)))
 front-spelled atlas lists placement id shelf number rest front back free_front free_back is keeps along height item rest_item rest_place =
-    let old : List ItemRecord = atlas.lists.items in
-    let new : List ItemRecord = lists.items in
+    let old : List LinkedItem = atlas.lists.items in
+    let new : List LinkedItem = lists.items in
     let cw : ℕ = atlas.frame.column_width in
     let pieces : Item → List Item = λ i. record { width = placement.width; id = Some id } ∷ record { width = i.width - placement.width; id = None } ∷ [] in
     let items : map (item_at new) (front ++ number ∷ rest ∷ back) ≡ replaced_at placement.item pieces (map (item_at old) (front ++ number ∷ back)) =

@@ -7,8 +7,8 @@ use Rattle.etagere_base.proofs.TimesLemmas.{times-append}
 use Rattle.etagere_base.specs.Lists.{times}
 use Rattle.etagere_base.specs.declared.frames.Frame.{Frame}
 use Rattle.etagere_base.specs.declared.geometry.Size.{Size}
-use Rattle.etagere_links.specs.declared.records.ItemRecord.{ItemRecord}
-use Rattle.etagere_links.specs.declared.records.ShelfRecord.{ShelfRecord}
+use Rattle.etagere_links.specs.declared.records.LinkedItem.{LinkedItem}
+use Rattle.etagere_links.specs.declared.records.LinkedShelf.{LinkedShelf}
 use Rattle.etagere_links.specs.Links.{no_link}
 use Rattle.etagere_links.specs.RecordLists.{Records, Entry, Lists, item_numbers, shelf_walk, walked_entry, walked_lists}
 use Rattle.etagere_links.specs.RecordUses.{number_used, rests_used}
@@ -150,14 +150,14 @@ can-take frame records size placement found kept h locates =
           record {
             shelf = apart.number;
             few = rests.used.few;
-            bottom = omega (arith, read-record (λ (x : ShelfRecord). x.y) (shelf_record [] shelf) used.shelves shelf, used_shelf.across, across-placed frame records size placement found kept h locates, ends.bottom);
-            shorter = omega (arith, read-record (λ (x : ShelfRecord). x.height) (shelf_record [] shelf) used.shelves shelf, used_shelf.height, height);
+            bottom = omega (arith, read-record (λ (x : LinkedShelf). x.y) (shelf_record [] shelf) used.shelves shelf, used_shelf.across, across-placed frame records size placement found kept h locates, ends.bottom);
+            shorter = omega (arith, read-record (λ (x : LinkedShelf). x.height) (shelf_record [] shelf) used.shelves shelf, used_shelf.height, height);
           };
       splits_item =
           record {
             item = apart_split.within number stands;
             few = omega (arith, split-length frame.column_width place (number_used of_shelf records.free_shelves records.shelves) (number_used of_shelf records.free_items records.items) used, few_items);
-            right = omega (arith, read-record (λ (x : ItemRecord). x.x) (item_record [] number) split_records.items number, same.place, is.item.along, ends.right);
+            right = omega (arith, read-record (λ (x : LinkedItem). x.x) (item_record [] number) split_records.items number, same.place, is.item.along, ends.right);
             narrower = omega (arith, width-read split_records.items number number, ap (λ (i : Item). i.width) same.item, fits placement.width (item_at records.items number).width of_item is.item.split is.item.whole);
           };
     } in

@@ -3,7 +3,7 @@ use Rattle.std.proofs.Common.{◌≡◌, ℕ, ◌+◌, ◌-◌, ◌<◌, ◌≤�
 use Rattle.std.specs.Prelude.{if◌then◌else◌}
 use Rattle.etagere_base.proofs.EachLemmas.{Each-middle}
 use Rattle.etagere_base.specs.Lists.{Each}
-use Rattle.etagere_links.specs.declared.records.ShelfRecord.{ShelfRecord}
+use Rattle.etagere_links.specs.declared.records.LinkedShelf.{LinkedShelf}
 use Rattle.etagere_links.specs.Links.{no_link}
 use Rattle.etagere_links.specs.RecordEdits.{shelf_changed}
 use Rattle.etagere_links.specs.RecordLists.{Records, Entry, Lists, first_item_of, shelf_numbers, IsEntry}
@@ -35,7 +35,7 @@ given-where true atlas split_records before added after shelf number rest front 
 
 -- a shelf is marked as one that is not empty
 abbrev cleared : ℕ → Bool → Records → Records
-cleared shelf value records = shelf_changed shelf (λ (here : ShelfRecord). record here { is_empty = value }) records
+cleared shelf value records = shelf_changed shelf (λ (here : LinkedShelf). record here { is_empty = value }) records
 
 -- a shelf that is not empty was marked so
 flag-cleared : (atlas : AtlasRecords) (given : Records) (before after : List Entry) (edited : Entry) (shelf : ℕ) (unused_items unused_shelves : List ℕ) → edited.number ≡ shelf → Each (HasFlag (with_lists atlas given)) before → Each (HasFlag (with_lists atlas given)) after → IsSpelled (with_lists atlas given) (lists_of (before ++ edited ∷ after) unused_items unused_shelves) → is_empty (spelled_shelf (with_lists atlas given) edited) ≡ false → IsFlagged (with_lists atlas (cleared shelf false given)) (lists_of (before ++ edited ∷ after) unused_items unused_shelves) × (map (spelled_shelf (with_lists atlas (cleared shelf false given))) (before ++ edited ∷ after) ≡ map (spelled_shelf (with_lists atlas given)) (before ++ edited ∷ after))
@@ -110,7 +110,7 @@ taken-spelled atlas before after shelf number front back free_front free_back un
       shelves = done.1 ∙ given.shelves;
       more = given.more;
       made = given.made;
-      few = omega (arith, given.few, length-changed_by (λ (here : ShelfRecord). record here { is_empty = false }) last.shelves (Some shelf));
+      few = omega (arith, given.few, length-changed_by (λ (here : LinkedShelf). record here { is_empty = false }) last.shelves (Some shelf));
     }
   where
     rests_pieces : Bool → Shelf → List Shelf

@@ -2,7 +2,7 @@
 -- its free items.
 use Rattle.std.specs.Prelude.{◌≡◌, ℕ, ◌+◌, ◌*◌, ◌<◌, ◌≤◌, ◌^◌, true, Option, None, Some, List, [], ◌∷◌, filter, drop, get_or, length, map, not, nat_lt, take, ◌==◌, if◌then◌else◌}
 use Rattle.etagere_base.specs.Lists.{Each, times}
-use Rattle.etagere_links.specs.declared.records.ShelfRecord.{ShelfRecord}
+use Rattle.etagere_links.specs.declared.records.LinkedShelf.{LinkedShelf}
 use Rattle.etagere_links.specs.RecordLists.{Entry, Records, shelf_numbers, walked_lists}
 use Rattle.etagere_base.specs.declared.frames.Frame.{Frame}
 use Rattle.etagere.specs.AtlasRecords.{AtlasRecords, across_of, along_of, height_of, spelled_shelf}
@@ -12,7 +12,7 @@ use Rattle.etagere.specs.State.{Shelf, is_free}
 use Rattle.etagere.specs.declared.linked.ranked.RankedShelf.{RankedShelf}
 
 -- where a shelf begins, as one number: by column, and then across
-abbrev pub place_number : List ShelfRecord → ℕ → ℕ
+abbrev pub place_number : List LinkedShelf → ℕ → ℕ
 place_number shelves shelf = along_of shelves shelf * 65536 + across_of shelves shelf
 
 -- where a shelf of this height that begins there stands in the order: by height, and then by place
@@ -20,7 +20,7 @@ abbrev pub order_at : ℕ → ℕ → ℕ
 order_at height place = height * (65536 * 65536) + place
 
 -- where a shelf stands in the order
-abbrev pub order_of : List ShelfRecord → ℕ → ℕ
+abbrev pub order_of : List LinkedShelf → ℕ → ℕ
 order_of shelves shelf = order_at (height_of shelves shelf) (place_number shelves shelf)
 
 -- the numbers of the shelves, in their order
@@ -28,7 +28,7 @@ abbrev pub ranked_numbers : List RankedShelf → List ℕ
 ranked_numbers ranked = map (λ (one : RankedShelf). one.shelf) ranked
 
 -- these are numbers of records, and they stand in their order
-pub record AreInOrder (shelves : List ShelfRecord) (ranked : List RankedShelf) : Type 0 where
+pub record AreInOrder (shelves : List LinkedShelf) (ranked : List RankedShelf) : Type 0 where
   pub within : Each (λ shelf. shelf < length shelves) (ranked_numbers ranked)
   pub rising : RiseFrom 0 (map (order_of shelves) (ranked_numbers ranked))
 
@@ -67,7 +67,7 @@ abbrev pub taken_out : ℕ → List RankedShelf → List RankedShelf
 taken_out shelf ranked = filter (λ (one : RankedShelf). not (one.shelf == shelf)) ranked
 
 -- the list with a shelf put in where it stands in the order
-abbrev pub put_in : List ShelfRecord → RankedShelf → List RankedShelf → List RankedShelf
+abbrev pub put_in : List LinkedShelf → RankedShelf → List RankedShelf → List RankedShelf
 put_in shelves one [] = one ∷ []
 put_in shelves one (other ∷ others) =
     if nat_lt (order_of shelves other.shelf) (order_of shelves one.shelf)
@@ -101,7 +101,7 @@ IsFirstAsWide from width ranked (Some index) =
 
 -- where the shelves begin that don't come before an order; each probe reads one shelf, and they are
 -- no more than the count of shelves has binary digits
-pub record IsStart (shelves : List ShelfRecord) (ranked : List RankedShelf) (order : ℕ)
+pub record IsStart (shelves : List LinkedShelf) (ranked : List RankedShelf) (order : ℕ)
     (index probes : ℕ) : Type 0 where
   pub within : index ≤ length ranked
   pub before : Each (λ (one : RankedShelf). order_of shelves one.shelf < order) (take index ranked)

@@ -2,8 +2,8 @@
 use Rattle.std.specs.Prelude.{ℕ, zero, suc, ◌*◌, true, false, Option, None, Some, List, [], ◌∷◌, nat_lt, if◌then◌else◌}
 use Rattle.etagere_base.specs.declared.frames.Frame.{Frame}
 use Rattle.etagere_base.specs.Frames.{across_side}
-use Rattle.etagere_links.specs.declared.records.ItemRecord.{ItemRecord}
-use Rattle.etagere_links.specs.declared.records.ShelfRecord.{ShelfRecord}
+use Rattle.etagere_links.specs.declared.records.LinkedItem.{LinkedItem}
+use Rattle.etagere_links.specs.declared.records.LinkedShelf.{LinkedShelf}
 use Rattle.etagere_links.specs.RecordLists.{Records}
 
 -- what a function makes of so many numbers from this one on
@@ -21,7 +21,7 @@ abbrev pub column_after : ℕ → ℕ → Option ℕ
 column_after columns column = if nat_lt (suc column) columns then Some (suc column) else None
 
 -- the item of a column
-abbrev pub fresh_item : Frame → ℕ → ItemRecord
+abbrev pub fresh_item : Frame → ℕ → LinkedItem
 fresh_item frame column =
     record {
       x = column * frame.column_width;
@@ -36,7 +36,7 @@ fresh_item frame column =
     }
 
 -- the shelf of a column
-abbrev pub fresh_shelf : Frame → ℕ → ShelfRecord
+abbrev pub fresh_shelf : Frame → ℕ → LinkedShelf
 fresh_shelf frame column =
     record {
       x = column * frame.column_width;

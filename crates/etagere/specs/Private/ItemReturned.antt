@@ -1,8 +1,8 @@
 -- A return on linked records, step by step: what merges keeps the record of the earlier place, and
 -- puts the other aside.
 use Rattle.std.specs.Prelude.{◌≡◌, ℕ, ◌+◌, ◌<◌, ◌==◌, Bool, false, ◌&&◌, not, Option, None, Some, is_none, List, length, if◌then◌else◌}
-use Rattle.etagere_links.specs.declared.records.ItemRecord.{ItemRecord}
-use Rattle.etagere_links.specs.declared.records.ShelfRecord.{ShelfRecord}
+use Rattle.etagere_links.specs.declared.records.LinkedItem.{LinkedItem}
+use Rattle.etagere_links.specs.declared.records.LinkedShelf.{LinkedShelf}
 use Rattle.etagere_links.specs.Edits.{link_at}
 use Rattle.etagere_links.specs.Neighbours.{HasNeighbours, NamesOneOf}
 use Rattle.etagere_links.specs.RecordEdits.{shelf_changed}
@@ -17,20 +17,20 @@ pub record Step : Type 0 where
   pub put_aside : ℕ
 
 -- the width of the item of a number
-abbrev pub width_of : List ItemRecord → ℕ → ℕ
+abbrev pub width_of : List LinkedItem → ℕ → ℕ
 width_of items number = (item_at items number).width
 
 -- the item that a link names, where that is free
-abbrev pub free_named : List ItemRecord → Option ℕ → Option ℕ
+abbrev pub free_named : List LinkedItem → Option ℕ → Option ℕ
 free_named items None = None
 free_named items (Some number) = if is_allocated_at items number then None else Some number
 
 -- the item after one, where that is free
-abbrev pub free_next : List ItemRecord → ℕ → Option ℕ
+abbrev pub free_next : List LinkedItem → ℕ → Option ℕ
 free_next items number = free_named items (link_at item_chain.next items number)
 
 -- the item before one, where that is free
-abbrev pub free_previous : List ItemRecord → ℕ → Option ℕ
+abbrev pub free_previous : List LinkedItem → ℕ → Option ℕ
 free_previous items number = free_named items (link_at item_chain.previous items number)
 
 -- an allocated item takes the place of the next one, if any
@@ -62,7 +62,7 @@ remaining_item number None = number
 remaining_item number (Some previous) = previous
 
 -- a link names the one item of a list, and that is free
-abbrev pub names_one_free : List ItemRecord → Option ℕ → Bool
+abbrev pub names_one_free : List LinkedItem → Option ℕ → Bool
 names_one_free items None = false
 names_one_free items (Some number) =
     not (is_allocated_at items number) && is_none (link_at item_chain.next items number)
@@ -75,24 +75,24 @@ has_one_free shelf records = names_one_free records.items (first_item_of records
 abbrev pub emptiness_said : ℕ → Records → Records
 emptiness_said shelf records =
     shelf_changed shelf
-    (λ (here : ShelfRecord).
+    (λ (here : LinkedShelf).
     record here { is_empty = has_one_free shelf records })
     records
 
 -- two shelves say that they are empty, and stand in one column
-abbrev pub are_both_empty : List ShelfRecord → ℕ → ℕ → Bool
+abbrev pub are_both_empty : List LinkedShelf → ℕ → ℕ → Bool
 are_both_empty shelves shelf next =
     along_of shelves shelf == along_of shelves next
     && (is_empty_at shelves shelf && is_empty_at shelves next)
 
 -- the shelf that a link names, where it and the one before it are empty and stand in one column
-abbrev pub empty_named : List ShelfRecord → ℕ → Option ℕ → Option ℕ
+abbrev pub empty_named : List LinkedShelf → ℕ → Option ℕ → Option ℕ
 empty_named shelves shelf None = None
 empty_named shelves shelf (Some next) =
     if are_both_empty shelves shelf next then Some next else None
 
 -- the shelf after one, where both are empty and stand in one column
-abbrev pub empty_next : List ShelfRecord → ℕ → Option ℕ
+abbrev pub empty_next : List LinkedShelf → ℕ → Option ℕ
 empty_next shelves shelf = empty_named shelves shelf (link_at shelf_chain.next shelves shelf)
 
 -- an empty shelf takes the place of the next one, if any, whose item is the one named
@@ -141,7 +141,7 @@ merged_width shelf number records =
     width_of (item_merged shelf number records).records.items (remaining_in shelf number records)
 
 -- an item stands alone in its shelf
-abbrev pub is_alone : List ItemRecord → ℕ → Bool
+abbrev pub is_alone : List LinkedItem → ℕ → Bool
 is_alone items number =
     is_none (link_at item_chain.previous items number)
     && is_none (link_at item_chain.next items number)
@@ -171,12 +171,12 @@ abbrev pub put_aside_by : ℕ → Records → ℕ
 put_aside_by number records = (after_return number records).put_aside
 
 -- the width of an item and of another one, if any, fit 16 bits together
-abbrev pub WidthsFit : ℕ → Option ℕ → List ItemRecord → Type 0
+abbrev pub WidthsFit : ℕ → Option ℕ → List LinkedItem → Type 0
 WidthsFit number other items =
     (n : ℕ) → other ≡ Some n → width_of items number + width_of items n < 65536
 
 -- the heights of a shelf and of the next one, if both are empty, fit 16 bits together
-abbrev pub HeightsFit : ℕ → List ShelfRecord → Type 0
+abbrev pub HeightsFit : ℕ → List LinkedShelf → Type 0
 HeightsFit shelf shelves =
     (n : ℕ) → empty_next shelves shelf ≡ Some n
     → height_of shelves shelf + height_of shelves n < 65536
@@ -189,7 +189,7 @@ pub record AreThere (shelf number : ℕ) (records : Records) : Type 0 where
 
 -- where the item after one is free, it is there, and so are its neighbours in the shelf and in the
 -- free list
-pub record FreeNextIsThere (number : ℕ) (items : List ItemRecord) : Type 0 where
+pub record FreeNextIsThere (number : ℕ) (items : List LinkedItem) : Type 0 where
   pub in_shelf : (n : ℕ) → free_next items number ≡ Some n → HasNeighbours item_chain items n
   pub in_free_list : (n : ℕ) → free_next items number ≡ Some n → HasNeighbours free_list items n
 
@@ -224,7 +224,7 @@ pub record CanMergeShelves (shelf : ℕ) (records : Records) : Type 0 where
       → HeightsFit n one.records.shelves)
 
 -- the shelf before one links to it
-abbrev pub IsLinkedBack : ℕ → List ShelfRecord → Type 0
+abbrev pub IsLinkedBack : ℕ → List LinkedShelf → Type 0
 IsLinkedBack shelf shelves =
     (n : ℕ) → link_at shelf_chain.previous shelves shelf ≡ Some n
     → link_at shelf_chain.next shelves n ≡ Some shelf

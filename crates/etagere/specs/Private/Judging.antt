@@ -4,8 +4,8 @@ use Rattle.std.specs.Prelude.{◌≡◌, ℕ, ◌+◌, ◌/◌, ◌%◌, ◌<◌
 use Rattle.etagere_base.specs.declared.frames.Frame.{Frame}
 use Rattle.etagere_base.specs.Frames.{across_side}
 use Rattle.etagere_base.specs.Lists.{Each, NoNeighbours, times}
-use Rattle.etagere_links.specs.declared.records.ItemRecord.{ItemRecord}
-use Rattle.etagere_links.specs.declared.records.ShelfRecord.{ShelfRecord}
+use Rattle.etagere_links.specs.declared.records.LinkedItem.{LinkedItem}
+use Rattle.etagere_links.specs.declared.records.LinkedShelf.{LinkedShelf}
 use Rattle.etagere_links.specs.Chains.{LeadsBack}
 use Rattle.etagere_links.specs.Edits.{link_at}
 use Rattle.etagere_links.specs.RecordLists.{Entry, shelf_numbers}
@@ -18,7 +18,7 @@ use Rattle.etagere.specs.Valid.{is_out_of_order}
 
 -- an atlas with these records; its links to first records and its space are looked at by no rule
 -- that a pass judges
-abbrev pub judged : Frame → List ShelfRecord → List ItemRecord → AtlasRecords
+abbrev pub judged : Frame → List LinkedShelf → List LinkedItem → AtlasRecords
 judged frame shelves items =
     record {
       frame = frame;
@@ -34,22 +34,22 @@ judged frame shelves items =
     }
 
 -- the column in which a shelf stands
-abbrev pub column_at : Frame → List ShelfRecord → Entry → ℕ
+abbrev pub column_at : Frame → List LinkedShelf → Entry → ℕ
 column_at frame shelves entry = along_of shelves entry.number / frame.column_width
 
 -- the first of two shelves stands in a later column
-abbrev pub is_later : Frame → List ShelfRecord → Entry → Entry → Bool
+abbrev pub is_later : Frame → List LinkedShelf → Entry → Entry → Bool
 is_later frame shelves entry next =
     nat_lt (column_at frame shelves next) (column_at frame shelves entry)
 
 -- how much stands before a shelf in its column, where so much stands in this column
-abbrev pub height_below : Frame → List ShelfRecord → ℕ → ℕ → Entry → ℕ
+abbrev pub height_below : Frame → List LinkedShelf → ℕ → ℕ → Entry → ℕ
 height_below frame shelves column height entry =
     if column_at frame shelves entry == column then height else 0
 
 -- shelves follow where so much of this column is filled: each begins where the one before it in its
 -- column ends
-abbrev pub StackFrom : Frame → List ShelfRecord → ℕ → ℕ → List Entry → Type 0
+abbrev pub StackFrom : Frame → List LinkedShelf → ℕ → ℕ → List Entry → Type 0
 StackFrom frame shelves column height [] = Unit {0}
 StackFrom frame shelves column height (entry ∷ entries) =
     (across_of shelves entry.number ≡ height_below frame shelves column height entry)
@@ -58,7 +58,7 @@ StackFrom frame shelves column height (entry ∷ entries) =
 
 -- shelves follow where so much of this column is filled: each is of this column, or the first of
 -- the next one after this one was filled; and they fill all columns that are left
-abbrev pub FillFrom : Frame → List ShelfRecord → ℕ → ℕ → List Entry → Type 0
+abbrev pub FillFrom : Frame → List LinkedShelf → ℕ → ℕ → List Entry → Type 0
 FillFrom frame shelves column height [] =
     (height ≡ across_side frame) × (column + 1 ≡ frame.columns)
 FillFrom frame shelves column height (entry ∷ entries) =
@@ -88,7 +88,7 @@ abbrev pub entry_of : ℕ → List ℕ → List ℕ → Entry
 entry_of number items free_list = record { number = number; items = items; free_list = free_list }
 
 -- a record is marked as one in use, and names this shelf
-abbrev pub is_own : List ItemRecord → List Bool → ℕ → ℕ → Bool
+abbrev pub is_own : List LinkedItem → List Bool → ℕ → ℕ → Bool
 is_own items marks shelf item = slice_index_or marks item false && shelf_of items item == shelf
 
 -- of so many records those are marked that are not unused
@@ -98,34 +98,34 @@ AreUsed count unused marks =
     → slice_index_or marks item false ≡ (nat_lt item count && nat_le (times item unused) 0)
 
 -- the items of a shelf are those marked that name it, each once
-abbrev pub AreOwn : List ItemRecord → List Bool → Entry → Type 0
+abbrev pub AreOwn : List LinkedItem → List Bool → Entry → Type 0
 AreOwn items marks entry =
     (item : ℕ) → times item entry.items ≡ (if is_own items marks entry.number item then 1 else 0)
 
 -- an item of a shelf that is free
-abbrev pub is_own_free : List ItemRecord → List Bool → ℕ → ℕ → Bool
+abbrev pub is_own_free : List LinkedItem → List Bool → ℕ → ℕ → Bool
 is_own_free items marks shelf item =
     is_own items marks shelf item && not (is_allocated_at items item)
 
 -- the free ones of these items
-abbrev pub free_among : List ItemRecord → List ℕ → List ℕ
+abbrev pub free_among : List LinkedItem → List ℕ → List ℕ
 free_among items numbers = filter (λ member. not (is_allocated_at items member)) numbers
 
 -- the free list has each free item of its shelf once, and no other
-abbrev pub ListsFree : List ItemRecord → Entry → Type 0
+abbrev pub ListsFree : List LinkedItem → Entry → Type 0
 ListsFree items entry =
     (item : ℕ) → times item entry.free_list ≡ times item (free_among items entry.items)
 
 -- it does, and links back to the one before
-pub record FreeBack (records : List ItemRecord) (entry : Entry) : Type 0 where
+pub record FreeBack (records : List LinkedItem) (entry : Entry) : Type 0 where
   pub items : ListsFree records entry
   pub back : LeadsBack (link_at free_list.previous records) None entry.free_list
 
 -- items link back to the one before, and name their shelf
-pub record ItemsLinkBack (items : List ItemRecord) (shelf : ℕ) (numbers : List ℕ) : Type 0 where
+pub record ItemsLinkBack (items : List LinkedItem) (shelf : ℕ) (numbers : List ℕ) : Type 0 where
   pub back : LeadsBack (link_at item_chain.previous items) None numbers
   pub owners : Each (λ item. shelf_of items item ≡ shelf) numbers
 
 -- the items of a shelf do
-abbrev pub LinkBack : List ItemRecord → Entry → Type 0
+abbrev pub LinkBack : List LinkedItem → Entry → Type 0
 LinkBack items entry = ItemsLinkBack items entry.number entry.items

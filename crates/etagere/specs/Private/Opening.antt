@@ -2,8 +2,8 @@
 use Rattle.std.specs.Prelude.{◌≡◌, ℕ, ◌*◌, ◌<◌, ◌≤◌, max, true, false, Option, None, Some, List, [], ◌∷◌, length, nat_lt, if◌then◌else◌}
 use Rattle.std.specs.Option.{option_map_or}
 use Rattle.etagere_base.specs.Lists.{Each, times}
-use Rattle.etagere_links.specs.declared.records.ItemRecord.{ItemRecord}
-use Rattle.etagere_links.specs.declared.records.ShelfRecord.{ShelfRecord}
+use Rattle.etagere_links.specs.declared.records.LinkedItem.{LinkedItem}
+use Rattle.etagere_links.specs.declared.records.LinkedShelf.{LinkedShelf}
 use Rattle.etagere_links.specs.RecordLists.{Records, free_walk, shelf_walk}
 use Rattle.etagere.specs.AtlasRecords.{height_of, is_empty_at, item_at}
 use Rattle.etagere.specs.Choice.{bad_fit_rank}
@@ -14,7 +14,7 @@ use Rattle.etagere.specs.declared.linked.choosing.Searched.TheVariants.{Found, W
 use Rattle.etagere.specs.declared.linked.ranked.RankedShelf.{RankedShelf}
 
 -- the width of the widest of these items; 0 where there are none
-abbrev pub widest_of : List ItemRecord → List ℕ → ℕ
+abbrev pub widest_of : List LinkedItem → List ℕ → ℕ
 widest_of items [] = 0
 widest_of items (number ∷ numbers) = max (item_at items number).width (widest_of items numbers)
 
@@ -39,7 +39,7 @@ abbrev pub AreSearchable : Records → List RankedShelf → Type 0
 AreSearchable records ranked = Each (IsSearchable records) ranked
 
 -- each of these shelves is as tall
-abbrev pub AreTall : List ShelfRecord → ℕ → List ℕ → Type 0
+abbrev pub AreTall : List LinkedShelf → ℕ → List ℕ → Type 0
 AreTall shelves height numbers = Each (λ shelf. height ≤ height_of shelves shelf) numbers
 
 -- the one item of an empty shelf is as wide as the column, and each free item of another is less wide
@@ -63,22 +63,22 @@ looked_into records width one =
     (record one { widest = widest_of records.items (free_walk records one.shelf).met })
 
 -- the places of these shelves are below the unit of heights
-abbrev pub ArePlaced : List ShelfRecord → List RankedShelf → Type 0
+abbrev pub ArePlaced : List LinkedShelf → List RankedShelf → Type 0
 ArePlaced shelves ranked =
     Each (λ (one : RankedShelf). place_number shelves one.shelf < 65536 * 65536) ranked
 
 -- where the shelf at a position begins
-abbrev pub place_at : List ShelfRecord → List RankedShelf → ℕ → ℕ
+abbrev pub place_at : List LinkedShelf → List RankedShelf → ℕ → ℕ
 place_at shelves ranked index = place_number shelves (ranked_at ranked index).shelf
 
 -- of two positions the one whose shelf has the earlier place
-abbrev pub earlier_position : List ShelfRecord → List RankedShelf → Option ℕ → ℕ → ℕ
+abbrev pub earlier_position : List LinkedShelf → List RankedShelf → Option ℕ → ℕ → ℕ
 earlier_position shelves ranked None other = other
 earlier_position shelves ranked (Some one) other =
     if nat_lt (place_at shelves ranked one) (place_at shelves ranked other) then one else other
 
 -- of the shelves between two positions whose bound is not below a width, the one in the first place
-pub record IsEarliestWide (shelves : List ShelfRecord) (ranked : List RankedShelf)
+pub record IsEarliestWide (shelves : List LinkedShelf) (ranked : List RankedShelf)
     (start end width index : ℕ) : Type 0 where
   pub after : start ≤ index
   pub within : index < end
@@ -89,14 +89,14 @@ pub record IsEarliestWide (shelves : List ShelfRecord) (ranked : List RankedShel
       → place_at shelves ranked index < place_at shelves ranked k
 
 -- where it stands, or that no bound there is as wide
-abbrev pub IsEarliest : List ShelfRecord → List RankedShelf → ℕ → ℕ → ℕ → Option ℕ → Type 0
+abbrev pub IsEarliest : List LinkedShelf → List RankedShelf → ℕ → ℕ → ℕ → Option ℕ → Type 0
 IsEarliest shelves ranked start end width None =
     (k : ℕ) → start ≤ k → k < end → (ranked_at ranked k).widest < width
 IsEarliest shelves ranked start end width (Some index) =
     IsEarliestWide shelves ranked start end width index
 
 -- a later position, up to which each shelf has a later place than this one
-pub record IsBehind (shelves : List ShelfRecord) (ranked : List RankedShelf) (index next : ℕ)
+pub record IsBehind (shelves : List LinkedShelf) (ranked : List RankedShelf) (index next : ℕ)
     : Type 0 where
   pub after : index < next
   pub within : next ≤ length ranked

@@ -3,8 +3,8 @@ use Rattle.std.specs.Prelude.{ℕ, ◌+◌, ◌-◌, ◌*◌, ◌<◌, ◌≤◌
 use Rattle.etagere_base.specs.Frames.{longest_side}
 use Rattle.etagere_base.specs.Ids.{index_modulus}
 use Rattle.etagere_base.specs.Lists.{times}
-use Rattle.etagere_links.specs.declared.records.ItemRecord.{ItemRecord}
-use Rattle.etagere_links.specs.declared.records.ShelfRecord.{ShelfRecord}
+use Rattle.etagere_links.specs.declared.records.LinkedItem.{LinkedItem}
+use Rattle.etagere_links.specs.declared.records.LinkedShelf.{LinkedShelf}
 use Rattle.etagere_links.specs.Links.{no_link}
 use Rattle.etagere_links.specs.RecordEdits.{item_changed, shelf_changed}
 use Rattle.etagere_links.specs.RecordLists.{Records, field_at}
@@ -15,16 +15,16 @@ use Rattle.etagere.specs.Private.ByHeight.{AreInOrder, bound_of, put_in, ranked_
 use Rattle.etagere.specs.declared.linked.ranked.RankedShelf.{RankedShelf}
 
 -- the item record of this number
-abbrev pub item_record : List ItemRecord → ℕ → ItemRecord
-item_record items number = field_at (λ (item : ItemRecord). item) new_item items number
+abbrev pub item_record : List LinkedItem → ℕ → LinkedItem
+item_record items number = field_at (λ (item : LinkedItem). item) new_item items number
 
 -- the shelf record of this number
-abbrev pub shelf_record : List ShelfRecord → ℕ → ShelfRecord
-shelf_record shelves number = field_at (λ (shelf : ShelfRecord). shelf) new_shelf shelves number
+abbrev pub shelf_record : List LinkedShelf → ℕ → LinkedShelf
+shelf_record shelves number = field_at (λ (shelf : LinkedShelf). shelf) new_shelf shelves number
 
 -- the record of a free item that begins there, of this width, in the shelf of this number, in no
 -- list
-abbrev pub free_item : ℕ → ℕ → ℕ → ℕ → ItemRecord
+abbrev pub free_item : ℕ → ℕ → ℕ → ℕ → LinkedItem
 free_item x width shelf generation =
     record {
       x = x;
@@ -39,7 +39,7 @@ free_item x width shelf generation =
     }
 
 -- the record of the rest of a shelf above this height, with this item
-abbrev pub rest_shelf : ShelfRecord → ℕ → ℕ → ShelfRecord
+abbrev pub rest_shelf : LinkedShelf → ℕ → ℕ → LinkedShelf
 rest_shelf whole height item =
     record {
       x = whole.x;
@@ -65,7 +65,7 @@ with_shelf_rest column_width found (Some shelf) (Some item) records =
     records
 
 -- the record of the rest of an item beyond this width, in the shelf of this number
-abbrev pub rest_item : ItemRecord → ℕ → ℕ → ℕ → ItemRecord
+abbrev pub rest_item : LinkedItem → ℕ → ℕ → ℕ → LinkedItem
 rest_item whole width shelf generation =
     free_item (whole.x + width) (whole.width - width) shelf generation
 
@@ -97,20 +97,20 @@ shelf_split_for column_width found records =
 -- the records after a placement was taken
 abbrev pub placement_taken : ℕ → Placement → Records → Records
 placement_taken column_width found records =
-    shelf_changed found.shelf (λ (here : ShelfRecord). record here { is_empty = false })
+    shelf_changed found.shelf (λ (here : LinkedShelf). record here { is_empty = false })
     (with_item_given found (rests_of found.splits_shelf found.splits_item records).item
     (shelf_split_for column_width found records))
 
 -- the list of ranked shelves without the shelf of this number, and with it where it stands by these
 -- records, with the bound that it had
-abbrev pub put_back : ℕ → List ShelfRecord → List RankedShelf → List RankedShelf
+abbrev pub put_back : ℕ → List LinkedShelf → List RankedShelf → List RankedShelf
 put_back shelf shelves ranked =
     put_in shelves (record { widest = bound_of shelf ranked; shelf = shelf })
     (taken_out shelf ranked)
 
 -- the list once the shelf of a placement was split, where these are the numbers of the rest and of its
 -- item, and these the records; the rest is as wide as its column
-abbrev pub with_rest_ranked : ℕ → ℕ → Option ℕ → Option ℕ → List ShelfRecord → List RankedShelf → List RankedShelf
+abbrev pub with_rest_ranked : ℕ → ℕ → Option ℕ → Option ℕ → List LinkedShelf → List RankedShelf → List RankedShelf
 with_rest_ranked column_width shelf None item shelves ranked = ranked
 with_rest_ranked column_width shelf (Some rest) None shelves ranked = ranked
 with_rest_ranked column_width shelf (Some rest) (Some item) shelves ranked =
@@ -124,7 +124,7 @@ ranked_taken column_width found records ranked =
     (shelf_split_for column_width found records).shelves ranked
 
 -- the id under which the item of this number is given
-abbrev pub id_of : List ItemRecord → ℕ → ℕ
+abbrev pub id_of : List LinkedItem → ℕ → ℕ
 id_of items number = number + index_modulus * (item_record items number).generation
 
 -- what splitting its shelf needs
@@ -152,7 +152,7 @@ pub record CanTakeFrom (column_width : ℕ) (found : Placement) (records : Recor
 
 -- what ranking its shelf and the rest of it needs, by the records before the split and after it: the
 -- shelves stand in their order, and so they do with the shelf in its new place
-pub record IsShelfRankable (shelf rest : ℕ) (shelves new : List ShelfRecord) (ranked : List RankedShelf)
+pub record IsShelfRankable (shelf rest : ℕ) (shelves new : List LinkedShelf) (ranked : List RankedShelf)
     : Type 0 where
   pub order : AreInOrder shelves ranked
   pub stands : 1 ≤ times shelf (ranked_numbers ranked)

@@ -2,8 +2,8 @@
 -- free, and of two shelves that merge the later goes and the other stands where its height puts it.
 use Rattle.std.specs.Prelude.{◌≡◌, ◌≢◌, ℕ, ◌+◌, ◌≤◌, Option, None, Some, List, length}
 use Rattle.etagere_base.specs.Lists.{times}
-use Rattle.etagere_links.specs.declared.records.ItemRecord.{ItemRecord}
-use Rattle.etagere_links.specs.declared.records.ShelfRecord.{ShelfRecord}
+use Rattle.etagere_links.specs.declared.records.LinkedItem.{LinkedItem}
+use Rattle.etagere_links.specs.declared.records.LinkedShelf.{LinkedShelf}
 use Rattle.etagere_links.specs.Edits.{link_at}
 use Rattle.etagere_links.specs.Links.{no_link}
 use Rattle.etagere_links.specs.RecordLists.{Records, first_item_of}
@@ -14,19 +14,19 @@ use Rattle.etagere.specs.Private.ItemReturned.{emptiness_said, empty_next, free_
 use Rattle.etagere.specs.declared.linked.ranked.RankedShelf.{RankedShelf}
 
 -- the width of an item, where there is one
-abbrev pub named_width : List ItemRecord → Option ℕ → ℕ
+abbrev pub named_width : List LinkedItem → Option ℕ → ℕ
 named_width items None = 0
 named_width items (Some number) = width_of items number
 
 -- how wide an item is with its free neighbours
-abbrev pub freed_width : List ItemRecord → ℕ → ℕ
+abbrev pub freed_width : List LinkedItem → ℕ → ℕ
 freed_width items number =
     width_of items number
     + named_width items (free_next items number)
     + named_width items (free_previous items number)
 
 -- without the next shelf, and with the other by the height that these records give it
-abbrev pub rank_absorbed : List ShelfRecord → ℕ → ℕ → List RankedShelf → List RankedShelf
+abbrev pub rank_absorbed : List LinkedShelf → ℕ → ℕ → List RankedShelf → List RankedShelf
 rank_absorbed shelves shelf next ranked =
     let others = taken_out next ranked in
     put_in shelves (record { widest = bound_of shelf others; shelf = shelf })

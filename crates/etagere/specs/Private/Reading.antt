@@ -6,7 +6,7 @@ use Rattle.etagere_base.specs.Places.{rectangle_at}
 use Rattle.etagere_base.specs.declared.frames.Frame.{Frame}
 use Rattle.etagere_base.specs.declared.geometry.Rectangle.{Rectangle}
 use Rattle.etagere_base.specs.declared.ids.Allocation.{Allocation}
-use Rattle.etagere_links.specs.declared.records.ItemRecord.{ItemRecord}
+use Rattle.etagere_links.specs.declared.records.LinkedItem.{LinkedItem}
 use Rattle.etagere_links.specs.RecordLists.{Records, field_at}
 use Rattle.etagere.specs.AtlasRecords.{across_of, height_of, is_allocated_at, item_at, place_of, shelf_of}
 use Rattle.etagere.specs.Places.{allocation_of}
@@ -14,7 +14,7 @@ use Rattle.etagere.specs.Returning.{has_id}
 
 -- the number of the record that is allocated under an id: the id modulo 65536, where that record
 -- has the id
-abbrev pub record_of : List ItemRecord → ℕ → Option ℕ
+abbrev pub record_of : List LinkedItem → ℕ → Option ℕ
 record_of items id =
     if has_id id (item_at items (id % index_modulus)).id then Some (id % index_modulus) else None
 
@@ -37,14 +37,14 @@ recorded_from frame records number =
     (range_with_len number (length records.items - number))
 
 -- the first item from this number on that is allocated
-abbrev pub next_allocated : List ItemRecord → ℕ → Option ℕ
+abbrev pub next_allocated : List LinkedItem → ℕ → Option ℕ
 next_allocated items number =
     find (is_allocated_at items) (range_with_len number (length items - number))
 
 -- the id of the item of this number, where it is allocated
-abbrev pub recorded_id : List ItemRecord → ℕ → ℕ
+abbrev pub recorded_id : List LinkedItem → ℕ → ℕ
 recorded_id items number =
-    number + index_modulus * field_at (λ (item : ItemRecord). item.generation) 0 items number
+    number + index_modulus * field_at (λ (item : LinkedItem). item.generation) 0 items number
 
 -- how large the item of this number is
 abbrev pub recorded_area : Records → ℕ → ℕ

@@ -4,8 +4,8 @@ use Rattle.std.specs.Prelude.{◌≡◌, ℕ, zero, suc, ◌+◌, ◌-◌, ◌*�
 use Rattle.std.specs.Option.{option_map_or}
 use Rattle.etagere_base.specs.declared.frames.Frame.{Frame}
 use Rattle.etagere_base.specs.Frames.{across_side}
-use Rattle.etagere_links.specs.declared.records.ItemRecord.{ItemRecord}
-use Rattle.etagere_links.specs.declared.records.ShelfRecord.{ShelfRecord}
+use Rattle.etagere_links.specs.declared.records.LinkedItem.{LinkedItem}
+use Rattle.etagere_links.specs.declared.records.LinkedShelf.{LinkedShelf}
 use Rattle.etagere_links.specs.Edits.{link_at}
 use Rattle.etagere_links.specs.Links.{no_link}
 use Rattle.etagere_links.specs.RecordEdits.{free_inserted_front, item_changed, item_inserted_after, shelf_changed, shelf_inserted_after}
@@ -42,17 +42,17 @@ ends_free_at records shelf =
     option_map_or (λ last. not (is_allocated_at records.items last)) (last_item records shelf) false
 
 -- the shelf of this number is the last of its column, where this one comes after it
-abbrev pub ends_column_at : List ShelfRecord → ℕ → Option ℕ → Bool
+abbrev pub ends_column_at : List LinkedShelf → ℕ → Option ℕ → Bool
 ends_column_at shelves shelf None = true
 ends_column_at shelves shelf (Some next) = not (along_of shelves shelf == along_of shelves next)
 
 -- a column ends with the shelf of this number, and that isn't empty
-abbrev pub is_filled_end : List ShelfRecord → ℕ → Option ℕ → Bool
+abbrev pub is_filled_end : List LinkedShelf → ℕ → Option ℕ → Bool
 is_filled_end shelves shelf next =
     ends_column_at shelves shelf next && not (is_empty_at shelves shelf)
 
 -- a count over the shelves that links lead to, each with the link to the one after it
-abbrev pub counted_from : (ℕ → Option ℕ → Bool) → List ShelfRecord → ℕ → Option ℕ → ℕ
+abbrev pub counted_from : (ℕ → Option ℕ → Bool) → List LinkedShelf → ℕ → Option ℕ → ℕ
 counted_from counts shelves zero at = 0
 counted_from counts shelves (suc steps) None = 0
 counted_from counts shelves (suc steps) (Some shelf) =
@@ -151,7 +151,7 @@ widened_after shelf place width (Some last) growing =
     else record {
       records =
           item_changed last
-          (λ (item : ItemRecord).
+          (λ (item : LinkedItem).
           record item { width = width_of growing.records.items last + width })
           growing.records;
       made = growing.made;
@@ -172,7 +172,7 @@ shelves_widened place width (suc steps) (Some shelf) growing =
     widened
 
 -- the record of an empty shelf that begins there, this tall, with this item
-abbrev pub empty_shelf_record : ℕ → ℕ → ℕ → ℕ → ShelfRecord
+abbrev pub empty_shelf_record : ℕ → ℕ → ℕ → ℕ → LinkedShelf
 empty_shelf_record along across height item =
     record {
       x = along;
@@ -207,7 +207,7 @@ shelf_heightened width shelf height growing =
     then record {
       records =
           shelf_changed shelf
-          (λ (here : ShelfRecord). record here { height = height_of shelves shelf + height })
+          (λ (here : LinkedShelf). record here { height = height_of shelves shelf + height })
           growing.records;
       made = growing.made;
     }

@@ -4,8 +4,8 @@ use Rattle.etagere_base.specs.declared.faults.RestoreFault.{RestoreFault}
 use Rattle.etagere_base.specs.declared.faults.RestoreFault.TheVariants.{Link, Shelves, Runs, Neighbours, FreeList, Unused, Space, Memory}
 use Rattle.etagere_base.specs.declared.frames.Frame.{Frame}
 use Rattle.etagere_base.specs.Lists.{Each}
-use Rattle.etagere_links.specs.declared.records.ItemRecord.{ItemRecord}
-use Rattle.etagere_links.specs.declared.records.ShelfRecord.{ShelfRecord}
+use Rattle.etagere_links.specs.declared.records.LinkedItem.{LinkedItem}
+use Rattle.etagere_links.specs.declared.records.LinkedShelf.{LinkedShelf}
 use Rattle.etagere_links.specs.RecordLists.{Entry}
 use Rattle.etagere.specs.AtlasRecords.{is_allocated_at, spelled_shelf, spelled_state}
 use Rattle.etagere.specs.Private.Judging.{FreeBack, HasShelvesIn, LinkBack, judged}
@@ -13,7 +13,7 @@ use Rattle.etagere.specs.Space.{space_in}
 use Rattle.etagere.specs.StandsFor.{HasItems, HasNeighbours}
 
 -- all rules that are judged over lists
-pub record KeepsRules (frame : Frame) (shelves : List ShelfRecord) (items : List ItemRecord) (entries : List Entry) (unused : List ℕ) (space : ℤ) : Type 0 where
+pub record KeepsRules (frame : Frame) (shelves : List LinkedShelf) (items : List LinkedItem) (entries : List Entry) (unused : List ℕ) (space : ℤ) : Type 0 where
   pub links : Each (LinkBack items) entries
   pub free_lists : Each (FreeBack items) entries
   pub stacked : HasShelvesIn (judged frame shelves items) entries
@@ -23,7 +23,7 @@ pub record KeepsRules (frame : Frame) (shelves : List ShelfRecord) (items : List
   pub sum : space ≡ pos (space_in (map (spelled_shelf (judged frame shelves items)) entries))
 
 -- the rule whose breach is this fault is broken; want of memory breaks none
-abbrev pub BreaksRule : Frame → List ShelfRecord → List ItemRecord → List Entry → List ℕ → ℤ → RestoreFault → Type 0
+abbrev pub BreaksRule : Frame → List LinkedShelf → List LinkedItem → List Entry → List ℕ → ℤ → RestoreFault → Type 0
 BreaksRule frame shelves items entries unused space Link = Each (LinkBack items) entries → ⊥
 BreaksRule frame shelves items entries unused space FreeList = Each (FreeBack items) entries → ⊥
 BreaksRule frame shelves items entries unused space Shelves = HasShelvesIn (judged frame shelves items) entries → ⊥

@@ -6,7 +6,7 @@ use Rattle.etagere_base.specs.Lists.{Each}
 use Rattle.etagere_base.specs.declared.frames.Frame.{Frame}
 use Rattle.etagere_base.specs.declared.geometry.Size.{Size}
 use Rattle.etagere_base.specs.declared.sides.Sides.{Sides}
-use Rattle.etagere_links.specs.declared.records.ShelfRecord.{ShelfRecord}
+use Rattle.etagere_links.specs.declared.records.LinkedShelf.{LinkedShelf}
 use Rattle.etagere_links.specs.RecordLists.{Records, free_walk, shelf_walk}
 use Rattle.etagere.specs.AtlasRecords.{across_of, height_of, is_empty_at, item_at, place_of}
 use Rattle.etagere.specs.Choice.{Placement, bad_fit_rank, is_item_split, placement_of, shelf_height, shelf_slack}
@@ -22,7 +22,7 @@ first_wide records width shelf =
     find (λ item. nat_le width (item_at records.items item).width) (free_walk records shelf).met
 
 -- the rank of a shelf that fits: a good fit by its height, a bad one after every good one
-abbrev pub rank_of : List ShelfRecord → ℕ → ℕ → ℕ
+abbrev pub rank_of : List LinkedShelf → ℕ → ℕ → ℕ
 rank_of shelves height shelf =
     if is_empty_at shelves shelf || nat_le (height_of shelves shelf) (height + height / 2)
     then height_of shelves shelf
@@ -71,7 +71,7 @@ first_offer offers (shelf ∷ shelves) =
     option_map_or Some (offers shelf) (first_offer offers shelves)
 
 -- each of these shelves is too tall for a good fit, unless it is empty
-abbrev pub AreTooTall : List ShelfRecord → ℕ → List ℕ → Type 0
+abbrev pub AreTooTall : List LinkedShelf → ℕ → List ℕ → Type 0
 AreTooTall shelves height numbers =
     Each (λ shelf. height + height / 2 + 1 ≤ height_of shelves shelf) numbers
 
@@ -87,7 +87,7 @@ IsFirstGood records width height start shelves (Rest rest) =
     × AreTooTall records.shelves height (drop rest shelves)
 
 -- of two candidates the one whose shelf has the earlier place
-abbrev pub earlier : List ShelfRecord → Option Candidate → Option Candidate → Option Candidate
+abbrev pub earlier : List LinkedShelf → Option Candidate → Option Candidate → Option Candidate
 earlier shelves None other = other
 earlier shelves (Some one) None = Some one
 earlier shelves (Some one) (Some other) =
@@ -96,7 +96,7 @@ earlier shelves (Some one) (Some other) =
     else Some other
 
 -- the one whose shelf has the earliest place
-abbrev pub earliest : List ShelfRecord → List (Option Candidate) → Option Candidate
+abbrev pub earliest : List LinkedShelf → List (Option Candidate) → Option Candidate
 earliest shelves [] = None
 earliest shelves (candidate ∷ candidates) =
     earlier shelves candidate (earliest shelves candidates)
@@ -108,7 +108,7 @@ first_by_height records width height shelves =
     (earliest records.shelves (map (offered records width height) shelves))
 
 -- an empty shelf is split where more than the slack would be left of it
-abbrev pub is_split_at : List ShelfRecord → ℕ → ℕ → Bool
+abbrev pub is_split_at : List LinkedShelf → ℕ → ℕ → Bool
 is_split_at shelves height shelf =
     is_empty_at shelves shelf && nat_lt (height + shelf_slack) (height_of shelves shelf)
 

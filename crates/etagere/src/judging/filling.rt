@@ -18,13 +18,13 @@ use crate::judging::WalkedShelf;
 use crate::judging::framing::alignment_along;
 use crate::linked::fields;
 use etagere_base::Frame;
-use etagere_links::{ItemRecord, ShelfRecord};
+use etagere_links::{LinkedItem, LinkedShelf};
 
 /// Whether the items of each of these shelves fill its column.
 pub(crate) fn have_items(
     frame: &Frame,
-    shelves: &[ShelfRecord],
-    items: &[ItemRecord],
+    shelves: &[LinkedShelf],
+    items: &[LinkedItem],
     entries: &[WalkedShelf],
 ) -> bool
     requires frame { IsFrame longest_side frame.now }
@@ -43,8 +43,8 @@ pub(crate) fn have_items(
 /// Whether the items of a shelf fill its column, and its record says rightly whether it is empty.
 fn has_items(
     frame: &Frame,
-    shelves: &[ShelfRecord],
-    items: &[ItemRecord],
+    shelves: &[LinkedShelf],
+    items: &[LinkedItem],
     entry: &WalkedShelf,
 ) -> bool
     requires frame { IsFrame longest_side frame.now }
@@ -65,7 +65,7 @@ fn has_items(
 }
 
 /// Whether items lie side by side from a place on.
-fn lie_from(items: &[ItemRecord], start: u16, numbers: &[u16]) -> bool
+fn lie_from(items: &[LinkedItem], start: u16, numbers: &[u16]) -> bool
     ensures { Decides result (LieFrom items.now start numbers.now) }
 {
     let mut here = u32::from(start);
@@ -80,7 +80,7 @@ fn lie_from(items: &[ItemRecord], start: u16, numbers: &[u16]) -> bool
 }
 
 /// Whether these items are all at least a pixel wide, and aligned.
-fn are_items(frame: &Frame, items: &[ItemRecord], numbers: &[u16]) -> bool
+fn are_items(frame: &Frame, items: &[LinkedItem], numbers: &[u16]) -> bool
     requires { IsFrame longest_side frame.now }
     ensures { Decides result (Each (IsItem frame.now) (map (item_at items.now) numbers.now)) }
 {
@@ -93,7 +93,7 @@ fn are_items(frame: &Frame, items: &[ItemRecord], numbers: &[u16]) -> bool
 }
 
 /// Whether the item of this number is at least a pixel wide, and aligned.
-fn is_item(frame: &Frame, items: &[ItemRecord], number: usize) -> bool
+fn is_item(frame: &Frame, items: &[LinkedItem], number: usize) -> bool
     requires { IsFrame longest_side frame.now }
     ensures { Decides result (IsItem frame.now (item_at items.now number)) }
 {
@@ -105,7 +105,7 @@ fn is_item(frame: &Frame, items: &[ItemRecord], number: usize) -> bool
 }
 
 /// The widths of items, added up.
-fn total_width(items: &[ItemRecord], numbers: &[u16]) -> u32
+fn total_width(items: &[LinkedItem], numbers: &[u16]) -> u32
     requires { length numbers.now ≤ no_link }
     ensures { result ≡ state.total_width (map (item_at items.now) numbers.now) }
 {
@@ -117,7 +117,7 @@ fn total_width(items: &[ItemRecord], numbers: &[u16]) -> u32
 }
 
 /// Whether these items are one, and that is free.
-pub(crate) fn is_one_free(items: &[ItemRecord], numbers: &[u16]) -> bool
+pub(crate) fn is_one_free(items: &[LinkedItem], numbers: &[u16]) -> bool
     ensures { result ≡ state.is_one_free (map (item_at items.now) numbers.now) }
 {
     numbers.len() == 1 && !fields::is_allocated(items, usize::from(numbers[0]))

@@ -12,7 +12,7 @@ ghost use Rattle.etagere.specs.Private.Judging.{judged};
 ghost use Rattle.etagere.specs.StandsFor.{HasCounts};
 
 use etagere_base::Frame;
-use etagere_links::{ItemRecord, ShelfRecord};
+use etagere_links::{LinkedItem, LinkedShelf};
 
 /// No side of an atlas is longer, in pixels.
 const LONGEST_SIDE: u32 = 65535;
@@ -55,7 +55,7 @@ pub(crate) fn is_frame(frame: &Frame) -> bool
 }
 
 /// Whether there are as many records of each kind as an atlas may have.
-pub(crate) fn has_counts(frame: &Frame, shelves: &[ShelfRecord], items: &[ItemRecord]) -> bool
+pub(crate) fn has_counts(frame: &Frame, shelves: &[LinkedShelf], items: &[LinkedItem]) -> bool
     ensures { Decides result (HasCounts (judged frame.now shelves.now items.now)) }
 {
     if !is_count(shelves.len()) {

@@ -13,7 +13,7 @@ ghost use Rattle.etagere.specs.Private.Judging.{AreOwn, AreUsed, FreeBack, LinkB
 use crate::judging::WalkedShelf;
 use crate::judging::linking::links_back;
 use crate::linked::fields;
-use etagere_links::{FreeList, ItemRecord};
+use etagere_links::{FreeList, LinkedItem};
 use std::alloc::{AllocError, Global};
 
 /// Whether the free list of each of these shelves has each of its free items once and links back.
@@ -22,7 +22,7 @@ use std::alloc::{AllocError, Global};
 /// Takes a byte of memory for each item record. The error comes only where there was no memory.
 pub(crate) fn judge_free_lists(
     alloc: Global,
-    items: &[ItemRecord],
+    items: &[LinkedItem],
     entries: &[WalkedShelf],
     unused: &[u16],
 ) -> Result<bool, AllocError>
@@ -54,7 +54,7 @@ fn used_marks(alloc: Global, count: usize, unused: &[u16]) -> Result<Vec<bool>, 
 
 /// Whether the free list of each of these shelves has each of its free items once and links back.
 /// The marks say which items are in use.
-fn have_free_lists(items: &[ItemRecord], marks: &[bool], entries: &[WalkedShelf]) -> bool
+fn have_free_lists(items: &[LinkedItem], marks: &[bool], entries: &[WalkedShelf]) -> bool
     requires own { Each (AreOwn items.now marks.now) entries.now }
     requires once { Each
         (λ (entry : Entry). (item : ℕ) → times item entry.free_list ≤ 1)
@@ -71,7 +71,7 @@ fn have_free_lists(items: &[ItemRecord], marks: &[bool], entries: &[WalkedShelf]
 
 /// Whether a list has each free one of the items of the shelf of this number once, and links back.
 fn has_free_list(
-    items: &[ItemRecord],
+    items: &[LinkedItem],
     marks: &[bool],
     shelf: u16,
     numbers: &[u16],
@@ -85,12 +85,12 @@ fn has_free_list(
     if !lists_free(items, marks, shelf, numbers, free_list) {
         return false;
     }
-    links_back::<FreeList, ItemRecord>(items, free_list)
+    links_back::<FreeList, LinkedItem>(items, free_list)
 }
 
 /// Whether a list has each free one of the items of the shelf of this number once, and no other.
 fn lists_free(
-    items: &[ItemRecord],
+    items: &[LinkedItem],
     marks: &[bool],
     shelf: u16,
     numbers: &[u16],
@@ -108,7 +108,7 @@ fn lists_free(
 }
 
 /// Whether all of these are free items of the shelf of this number.
-fn are_own_free(items: &[ItemRecord], marks: &[bool], shelf: u16, numbers: &[u16]) -> bool
+fn are_own_free(items: &[LinkedItem], marks: &[bool], shelf: u16, numbers: &[u16]) -> bool
     ensures { Decides result
         (Each (λ item. judging.is_own_free items.now marks.now shelf item ≡ true) numbers.now) }
 {
@@ -121,7 +121,7 @@ fn are_own_free(items: &[ItemRecord], marks: &[bool], shelf: u16, numbers: &[u16
 }
 
 /// Whether this is a free item of the shelf of this number.
-fn is_own_free(items: &[ItemRecord], marks: &[bool], shelf: u16, number: usize) -> bool
+fn is_own_free(items: &[LinkedItem], marks: &[bool], shelf: u16, number: usize) -> bool
     ensures { result ≡ judging.is_own_free items.now marks.now shelf number }
 {
     number < marks.len()
@@ -131,7 +131,7 @@ fn is_own_free(items: &[ItemRecord], marks: &[bool], shelf: u16, number: usize) 
 }
 
 /// How many of these items are free.
-fn free_count(items: &[ItemRecord], numbers: &[u16]) -> usize
+fn free_count(items: &[LinkedItem], numbers: &[u16]) -> usize
     ensures { result ≡ length (judging.free_among items.now numbers.now) }
 {
     let mut count = 0;

@@ -11,10 +11,10 @@ ghost use Rattle.etagere.specs.Private.Judging.{ItemsLinkBack, LinkBack};
 
 use crate::judging::WalkedShelf;
 use crate::linked::fields;
-use etagere_links::{Chain, ItemRecord, Link, Linked, previous_of};
+use etagere_links::{Chain, Link, Linked, LinkedItem, previous_of};
 
 /// Whether the items of each of these shelves link back, and name their shelf.
-pub(crate) fn have_links_back(items: &[ItemRecord], entries: &[WalkedShelf]) -> bool
+pub(crate) fn have_links_back(items: &[LinkedItem], entries: &[WalkedShelf]) -> bool
     ensures { Decides result (Each (LinkBack items.now) entries.now) }
 {
     for entry in entries {
@@ -26,10 +26,10 @@ pub(crate) fn have_links_back(items: &[ItemRecord], entries: &[WalkedShelf]) -> 
 }
 
 /// Whether the items of the shelf of this number link back, and name it.
-fn items_link_back(items: &[ItemRecord], shelf: u16, numbers: &[u16]) -> bool
+fn items_link_back(items: &[LinkedItem], shelf: u16, numbers: &[u16]) -> bool
     ensures { Decides result (ItemsLinkBack items.now shelf numbers.now) }
 {
-    if !links_back::<Chain, ItemRecord>(items, numbers) {
+    if !links_back::<Chain, LinkedItem>(items, numbers) {
         return false;
     }
     name_their_shelf(items, shelf, numbers)
@@ -59,7 +59,7 @@ pub(crate) fn links_back<List, T: Linked<List>>(records: &[T], numbers: &[u16]) 
 }
 
 /// Whether each of these items names the shelf of this number.
-pub(crate) fn name_their_shelf(items: &[ItemRecord], shelf: u16, numbers: &[u16]) -> bool
+pub(crate) fn name_their_shelf(items: &[LinkedItem], shelf: u16, numbers: &[u16]) -> bool
     ensures { Decides result (Each (λ item. spec.shelf_of items.now item ≡ shelf) numbers.now) }
 {
     for number in numbers {

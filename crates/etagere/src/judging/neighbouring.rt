@@ -16,13 +16,13 @@ use crate::judging::filling::is_one_free;
 use crate::judging::stacking::column_of;
 use crate::linked::fields;
 use etagere_base::Frame;
-use etagere_links::{ItemRecord, ShelfRecord};
+use etagere_links::{LinkedItem, LinkedShelf};
 
 /// Whether no two free items stand side by side in a shelf, and no two empty shelves in a column.
 pub(crate) fn has_neighbours(
     frame: &Frame,
-    shelves: &[ShelfRecord],
-    items: &[ItemRecord],
+    shelves: &[LinkedShelf],
+    items: &[LinkedItem],
     entries: &[WalkedShelf],
 ) -> bool
     requires { 1 ≤ frame.now.column_width }
@@ -36,7 +36,7 @@ pub(crate) fn has_neighbours(
 }
 
 /// Whether no two free items stand side by side in any of these shelves.
-fn has_free_items_apart(items: &[ItemRecord], entries: &[WalkedShelf]) -> bool
+fn has_free_items_apart(items: &[LinkedItem], entries: &[WalkedShelf]) -> bool
     ensures { Decides result
         (Each
         (λ (entry : Entry). NoNeighbours merging.both_free (map (spec.item_at items.now) entry.items))
@@ -51,7 +51,7 @@ fn has_free_items_apart(items: &[ItemRecord], entries: &[WalkedShelf]) -> bool
 }
 
 /// Whether no two of these items that stand side by side are free.
-fn are_apart(items: &[ItemRecord], numbers: &[u16]) -> bool
+fn are_apart(items: &[LinkedItem], numbers: &[u16]) -> bool
     ensures { Decides result
         (NoNeighbours merging.both_free (map (spec.item_at items.now) numbers.now)) }
 {
@@ -64,7 +64,7 @@ fn are_apart(items: &[ItemRecord], numbers: &[u16]) -> bool
     true
 }
 
-fn are_both_free(items: &[ItemRecord], number: u16, next: u16) -> bool
+fn are_both_free(items: &[LinkedItem], number: u16, next: u16) -> bool
     ensures { result
         ≡ merging.both_free (spec.item_at items.now number) (spec.item_at items.now next) }
 {
@@ -75,8 +75,8 @@ fn are_both_free(items: &[ItemRecord], number: u16, next: u16) -> bool
 /// Whether no two of these shelves that stand side by side in a column are empty.
 fn has_empty_shelves_apart(
     frame: &Frame,
-    shelves: &[ShelfRecord],
-    items: &[ItemRecord],
+    shelves: &[LinkedShelf],
+    items: &[LinkedItem],
     entries: &[WalkedShelf],
 ) -> bool
     requires { 1 ≤ frame.now.column_width }
@@ -97,8 +97,8 @@ fn has_empty_shelves_apart(
 
 fn are_both_empty(
     frame: &Frame,
-    shelves: &[ShelfRecord],
-    items: &[ItemRecord],
+    shelves: &[LinkedShelf],
+    items: &[LinkedItem],
     entry: &WalkedShelf,
     next: &WalkedShelf,
 ) -> bool

@@ -15,10 +15,10 @@ ghost use Rattle.etagere.specs.Space as space;
 use crate::judging::WalkedShelf;
 use crate::linked::fields;
 use etagere_base::Frame;
-use etagere_links::{ItemRecord, ShelfRecord};
+use etagere_links::{LinkedItem, LinkedShelf};
 
 /// Whether none of these items is allocated.
-pub(crate) fn none_allocated(items: &[ItemRecord], numbers: &[u16]) -> bool
+pub(crate) fn none_allocated(items: &[LinkedItem], numbers: &[u16]) -> bool
     ensures { Decides result
         (Each (λ item. spec.is_allocated_at items.now item ≡ false) numbers.now) }
 {
@@ -33,8 +33,8 @@ pub(crate) fn none_allocated(items: &[ItemRecord], numbers: &[u16]) -> bool
 /// Whether this is the area of all allocated items of these shelves.
 pub(crate) fn is_space(
     frame: &Frame,
-    shelves: &[ShelfRecord],
-    items: &[ItemRecord],
+    shelves: &[LinkedShelf],
+    items: &[LinkedItem],
     entries: &[WalkedShelf],
     allocated: i32,
 ) -> bool
@@ -54,8 +54,8 @@ pub(crate) fn is_space(
 /// The area of the allocated items of shelves.
 fn allocated_space(
     _frame: &Frame,
-    shelves: &[ShelfRecord],
-    items: &[ItemRecord],
+    shelves: &[LinkedShelf],
+    items: &[LinkedItem],
     entries: &[WalkedShelf],
 ) -> u64
     requires few { length entries.now ≤ no_link }
@@ -73,7 +73,7 @@ fn allocated_space(
 }
 
 /// The widths of the allocated ones of these items, added up.
-fn allocated_width(items: &[ItemRecord], numbers: &[u16]) -> u64
+fn allocated_width(items: &[LinkedItem], numbers: &[u16]) -> u64
     requires { length numbers.now ≤ no_link }
     ensures value { result ≡ space.allocated_width (map (spec.item_at items.now) numbers.now) }
     ensures small { result ≤ no_link * no_link }

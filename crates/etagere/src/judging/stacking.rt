@@ -16,14 +16,14 @@ ghost use Rattle.etagere.specs.Private.Judging.{HasShelvesIn, judged};
 use crate::judging::WalkedShelf;
 use crate::linked::fields;
 use etagere_base::Frame;
-use etagere_links::{ItemRecord, ShelfRecord};
+use etagere_links::{LinkedItem, LinkedShelf};
 
 /// Whether the shelves fill each column, column after column, and each says rightly where it
 /// begins.
 pub(crate) fn has_shelves(
     frame: &Frame,
-    shelves: &[ShelfRecord],
-    _items: &[ItemRecord],
+    shelves: &[LinkedShelf],
+    _items: &[LinkedItem],
     entries: &[WalkedShelf],
 ) -> bool
     requires frame { IsFrame longest_side frame.now }
@@ -49,7 +49,7 @@ pub(crate) fn has_shelves(
 }
 
 /// Whether each of these shelves stands in a column that there is.
-fn are_in_columns(frame: &Frame, shelves: &[ShelfRecord], entries: &[WalkedShelf]) -> bool
+fn are_in_columns(frame: &Frame, shelves: &[LinkedShelf], entries: &[WalkedShelf]) -> bool
     requires { 1 ≤ frame.now.column_width }
     ensures { Decides result
         (Each
@@ -65,7 +65,7 @@ fn are_in_columns(frame: &Frame, shelves: &[ShelfRecord], entries: &[WalkedShelf
 }
 
 /// Whether no shelf stands in an earlier column than the one before it.
-fn are_in_order(frame: &Frame, shelves: &[ShelfRecord], entries: &[WalkedShelf]) -> bool
+fn are_in_order(frame: &Frame, shelves: &[LinkedShelf], entries: &[WalkedShelf]) -> bool
     requires { 1 ≤ frame.now.column_width }
     ensures { Decides result
         (NoNeighbours (judging.is_later frame.now shelves.now) entries.now) }
@@ -80,7 +80,7 @@ fn are_in_order(frame: &Frame, shelves: &[ShelfRecord], entries: &[WalkedShelf])
 }
 
 /// Whether the first of two shelves stands in a later column.
-fn is_later(frame: &Frame, shelves: &[ShelfRecord], entry: &WalkedShelf, next: &WalkedShelf) -> bool
+fn is_later(frame: &Frame, shelves: &[LinkedShelf], entry: &WalkedShelf, next: &WalkedShelf) -> bool
     requires { 1 ≤ frame.now.column_width }
     ensures { result
         ≡ judging.is_later frame.now shelves.now entry.now next.now }
@@ -89,7 +89,7 @@ fn is_later(frame: &Frame, shelves: &[ShelfRecord], entry: &WalkedShelf, next: &
 }
 
 /// Whether each of these shelves begins along where its column does.
-fn are_at_columns(frame: &Frame, shelves: &[ShelfRecord], entries: &[WalkedShelf]) -> bool
+fn are_at_columns(frame: &Frame, shelves: &[LinkedShelf], entries: &[WalkedShelf]) -> bool
     requires { 1 ≤ frame.now.column_width }
     ensures { Decides result
         (Each
@@ -106,7 +106,7 @@ fn are_at_columns(frame: &Frame, shelves: &[ShelfRecord], entries: &[WalkedShelf
 }
 
 /// Whether each of these shelves is at least a pixel tall.
-fn are_high(shelves: &[ShelfRecord], entries: &[WalkedShelf]) -> bool
+fn are_high(shelves: &[LinkedShelf], entries: &[WalkedShelf]) -> bool
     ensures { Decides result
         (Each (λ (entry : Entry). 1 ≤ spec.height_of shelves.now entry.number) entries.now) }
 {
@@ -119,7 +119,7 @@ fn are_high(shelves: &[ShelfRecord], entries: &[WalkedShelf]) -> bool
 }
 
 /// Whether each of these shelves begins across where the one before it in its column ends.
-fn are_stacked(frame: &Frame, shelves: &[ShelfRecord], entries: &[WalkedShelf]) -> bool
+fn are_stacked(frame: &Frame, shelves: &[LinkedShelf], entries: &[WalkedShelf]) -> bool
     requires { 1 ≤ frame.now.column_width }
     ensures { Decides result (judging.StackFrom frame.now shelves.now 0 0 entries.now) }
 {
@@ -138,7 +138,7 @@ fn are_stacked(frame: &Frame, shelves: &[ShelfRecord], entries: &[WalkedShelf]) 
 }
 
 /// Whether these shelves fill all columns, one after the other.
-fn fill_columns(frame: &Frame, shelves: &[ShelfRecord], entries: &[WalkedShelf]) -> bool
+fn fill_columns(frame: &Frame, shelves: &[LinkedShelf], entries: &[WalkedShelf]) -> bool
     requires width { 1 ≤ frame.now.column_width }
     requires few { length entries.now ≤ no_link }
     ensures { Decides result (judging.FillFrom frame.now shelves.now 0 0 entries.now) }
@@ -160,7 +160,7 @@ fn fill_columns(frame: &Frame, shelves: &[ShelfRecord], entries: &[WalkedShelf])
 /// How much stands before a shelf in its column, where so much stands in this column.
 fn height_below(
     frame: &Frame,
-    shelves: &[ShelfRecord],
+    shelves: &[LinkedShelf],
     column: u32,
     height: u32,
     entry: &WalkedShelf,
@@ -177,7 +177,7 @@ fn height_below(
 }
 
 /// The number of the column in which a shelf stands.
-pub(crate) fn column_of(frame: &Frame, shelves: &[ShelfRecord], entry: &WalkedShelf) -> u32
+pub(crate) fn column_of(frame: &Frame, shelves: &[LinkedShelf], entry: &WalkedShelf) -> u32
     requires { 1 ≤ frame.now.column_width }
     ensures value { result ≡ judging.column_at frame.now shelves.now entry.now }
     ensures small { result ≤ no_link }

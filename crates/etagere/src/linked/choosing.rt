@@ -27,7 +27,7 @@ use crate::linked::heights::{first_from, place_number};
 use crate::linked::ranked::{RankedShelf, RankedShelves};
 use crate::placements::Placement;
 use etagere_base::{Frame, Sides, Size, asked, step};
-use etagere_links::{Records, ShelfRecord};
+use etagere_links::{LinkedShelf, Records};
 
 /// An atlas has no more items than this.
 pub(crate) const MOST_ITEMS: u32 = 65535;
@@ -332,7 +332,7 @@ fn first_placed(
 /// The position of the shelf in the first place from this one on whose bound is not below this width. Shelves of one height
 /// stand in the order of their places, so only the first such one of each height is looked at.
 fn earliest_wide(
-    shelves: &[ShelfRecord],
+    shelves: &[LinkedShelf],
     ranked: &mut RankedShelves,
     start: usize,
     width: u32,
@@ -355,7 +355,7 @@ fn earliest_wide(
 
 /// Of two positions the one whose shelf has the earlier place.
 fn earlier(
-    shelves: &[ShelfRecord],
+    shelves: &[LinkedShelf],
     ranked: &RankedShelves,
     one: Option<usize>,
     other: usize,
@@ -372,7 +372,7 @@ fn earlier(
 }
 
 /// Where the shelf at this position begins, as one number.
-fn place_at(shelves: &[ShelfRecord], ranked: &RankedShelves, index: usize) -> u32
+fn place_at(shelves: &[LinkedShelf], ranked: &RankedShelves, index: usize) -> u32
     requires order { AreInOrder shelves.now ranked.now.items }
     requires index { index < length ranked.now.items }
     ensures { result ≡ opening.place_at shelves.now ranked.now.items index }
@@ -382,7 +382,7 @@ fn place_at(shelves: &[ShelfRecord], ranked: &RankedShelves, index: usize) -> u3
 
 /// A position behind this one, up to which all shelves have its height, and so a later place. Where the next shelf has its
 /// height, it is that behind all shelves of it.
-fn behind_height(shelves: &[ShelfRecord], ranked: &RankedShelves, index: usize) -> usize
+fn behind_height(shelves: &[LinkedShelf], ranked: &RankedShelves, index: usize) -> usize
     requires order { AreInOrder shelves.now ranked.now.items }
     requires places { ArePlaced shelves.now ranked.now.items }
     requires few { length ranked.now.items < 2 ^ 64 }
@@ -398,7 +398,7 @@ fn behind_height(shelves: &[ShelfRecord], ranked: &RankedShelves, index: usize) 
 }
 
 /// Where a shelf begins, as one number.
-fn place_of(shelves: &[ShelfRecord], shelf: usize) -> u32
+fn place_of(shelves: &[LinkedShelf], shelf: usize) -> u32
     requires { shelf < length shelves.now }
     ensures { result ≡ heights.place_number shelves.now shelf }
 {
@@ -407,7 +407,7 @@ fn place_of(shelves: &[ShelfRecord], shelf: usize) -> u32
 }
 
 /// How tall a shelf is.
-fn own_height(shelves: &[ShelfRecord], shelf: usize) -> u32
+fn own_height(shelves: &[LinkedShelf], shelf: usize) -> u32
     requires { shelf < length shelves.now }
     ensures value { result ≡ height_of shelves.now shelf }
     ensures short { result ≤ longest_side }

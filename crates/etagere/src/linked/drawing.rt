@@ -20,7 +20,7 @@ use etagere_base::{
     Colour, Drawn, Frame, GatheredText, Rectangle, Sides, background, drawn_at, has_area,
     push_document_begin, push_drawn, push_part_begin,
 };
-use etagere_links::{Chain, ItemRecord, Records, ShelfRecord, next_of};
+use etagere_links::{Chain, LinkedItem, LinkedShelf, Records, next_of};
 use std::io::{self, Write};
 
 /// The colour of an item.
@@ -73,7 +73,7 @@ fn push_items<W: Write>(
             return Ok(());
         };
         push_drawn(text, &drawn_item(frame, records, shelf, number), writer)?;
-        at = next_of::<Chain, ItemRecord>(records.items(), number).number();
+        at = next_of::<Chain, LinkedItem>(records.items(), number).number();
     }
     Ok(())
 }
@@ -97,7 +97,7 @@ fn push_shelves<W: Write>(
             return Ok(());
         };
         push_items(text, frame, records, shelf, writer)?;
-        at = next_of::<Chain, ShelfRecord>(records.shelves(), shelf).number();
+        at = next_of::<Chain, LinkedShelf>(records.shelves(), shelf).number();
     }
     Ok(())
 }

@@ -9,17 +9,17 @@ ghost use Rattle.etagere.specs.Private.ItemReturned as returned;
 ghost use Rattle.etagere_links.specs.Links.{no_link};
 ghost use Rattle.etagere_links.specs.RecordLists.{first_free_of, first_item_of};
 
-use etagere_links::{ItemRecord, Link, ShelfRecord};
+use etagere_links::{Link, LinkedItem, LinkedShelf};
 
 /// Whether the item of this number is allocated.
-pub(crate) fn is_allocated(items: &[ItemRecord], number: usize) -> bool
+pub(crate) fn is_allocated(items: &[LinkedItem], number: usize) -> bool
     ensures { result ≡ spec.is_allocated_at items.now number }
 {
     number < items.len() && items[number].allocated
 }
 
 /// Where the item of this number begins along.
-pub(crate) fn place(items: &[ItemRecord], number: usize) -> u16
+pub(crate) fn place(items: &[LinkedItem], number: usize) -> u16
     ensures { result ≡ spec.place_of items.now number }
 {
     if number < items.len() {
@@ -30,7 +30,7 @@ pub(crate) fn place(items: &[ItemRecord], number: usize) -> u16
 }
 
 /// How wide the item of this number is.
-pub(crate) fn width(items: &[ItemRecord], number: usize) -> u16
+pub(crate) fn width(items: &[LinkedItem], number: usize) -> u16
     ensures { result ≡ returned.width_of items.now number }
 {
     if number < items.len() {
@@ -41,7 +41,7 @@ pub(crate) fn width(items: &[ItemRecord], number: usize) -> u16
 }
 
 /// The number of the shelf of the item of this number.
-pub(crate) fn shelf(items: &[ItemRecord], number: usize) -> usize
+pub(crate) fn shelf(items: &[LinkedItem], number: usize) -> usize
     ensures { result ≡ spec.shelf_of items.now number }
 {
     if number < items.len() {
@@ -52,7 +52,7 @@ pub(crate) fn shelf(items: &[ItemRecord], number: usize) -> usize
 }
 
 /// Where the shelf of this number begins along.
-pub(crate) fn along(shelves: &[ShelfRecord], shelf: usize) -> u16
+pub(crate) fn along(shelves: &[LinkedShelf], shelf: usize) -> u16
     ensures { result ≡ spec.along_of shelves.now shelf }
 {
     if shelf < shelves.len() {
@@ -63,7 +63,7 @@ pub(crate) fn along(shelves: &[ShelfRecord], shelf: usize) -> u16
 }
 
 /// Where the shelf of this number begins across.
-pub(crate) fn across(shelves: &[ShelfRecord], shelf: usize) -> u16
+pub(crate) fn across(shelves: &[LinkedShelf], shelf: usize) -> u16
     ensures { result ≡ spec.across_of shelves.now shelf }
 {
     if shelf < shelves.len() {
@@ -74,7 +74,7 @@ pub(crate) fn across(shelves: &[ShelfRecord], shelf: usize) -> u16
 }
 
 /// How tall the shelf of this number is.
-pub(crate) fn height(shelves: &[ShelfRecord], shelf: usize) -> u16
+pub(crate) fn height(shelves: &[LinkedShelf], shelf: usize) -> u16
     ensures { result ≡ spec.height_of shelves.now shelf }
 {
     if shelf < shelves.len() {
@@ -85,14 +85,14 @@ pub(crate) fn height(shelves: &[ShelfRecord], shelf: usize) -> u16
 }
 
 /// Whether the shelf of this number is empty.
-pub(crate) fn is_empty(shelves: &[ShelfRecord], shelf: usize) -> bool
+pub(crate) fn is_empty(shelves: &[LinkedShelf], shelf: usize) -> bool
     ensures { result ≡ spec.is_empty_at shelves.now shelf }
 {
     shelf < shelves.len() && shelves[shelf].is_empty
 }
 
 /// The number of the first item of the shelf of this number.
-pub(crate) fn first_item(shelves: &[ShelfRecord], shelf: usize) -> Option<usize>
+pub(crate) fn first_item(shelves: &[LinkedShelf], shelf: usize) -> Option<usize>
     ensures value { result ≡ first_item_of shelves.now shelf }
     ensures small { IfSome result (λ number. number < no_link) }
 {
@@ -104,7 +104,7 @@ pub(crate) fn first_item(shelves: &[ShelfRecord], shelf: usize) -> Option<usize>
 }
 
 /// The link to the first item of the shelf of this number.
-pub(crate) fn first_item_link(shelves: &[ShelfRecord], shelf: usize) -> Link
+pub(crate) fn first_item_link(shelves: &[LinkedShelf], shelf: usize) -> Link
     ensures { result ≡ first_item_of shelves.now shelf }
 {
     if shelf < shelves.len() {
@@ -115,7 +115,7 @@ pub(crate) fn first_item_link(shelves: &[ShelfRecord], shelf: usize) -> Link
 }
 
 /// The link to the first of the free list of the shelf of this number.
-pub(crate) fn first_free_link(shelves: &[ShelfRecord], shelf: usize) -> Link
+pub(crate) fn first_free_link(shelves: &[LinkedShelf], shelf: usize) -> Link
     ensures { result ≡ first_free_of shelves.now shelf }
 {
     if shelf < shelves.len() {

@@ -10,7 +10,7 @@ ghost use Rattle.etagere.specs.Private.ByHeight as spec;
 ghost use Rattle.etagere.specs.Private.ByHeight.{AreInOrder, IsStart};
 
 use crate::linked::ranked::{RankedShelf, RankedShelves};
-use etagere_links::ShelfRecord;
+use etagere_links::LinkedShelf;
 
 /// Where the shelves begin that don't come before an order, and how many shelves were looked at for it.
 #[derive(Clone, Copy)]
@@ -45,7 +45,7 @@ fn order_at(height: u32, place: u32) -> u64
 }
 
 /// Where a shelf stands in the order.
-pub(crate) fn order_of(shelves: &[ShelfRecord], shelf: usize) -> u64
+pub(crate) fn order_of(shelves: &[LinkedShelf], shelf: usize) -> u64
     requires { shelf < length shelves.now }
     ensures { result ≡ spec.order_of shelves.now shelf }
 {
@@ -54,7 +54,7 @@ pub(crate) fn order_of(shelves: &[ShelfRecord], shelf: usize) -> u64
 }
 
 /// Whether a shelf comes before this height and place: the place decides only where the heights are equal.
-fn comes_before(shelves: &[ShelfRecord], shelf: usize, height: u32, place: u32) -> bool
+fn comes_before(shelves: &[LinkedShelf], shelf: usize, height: u32, place: u32) -> bool
     requires { shelf < length shelves.now }
     ensures { result ≡ nat_lt (spec.order_of shelves.now shelf) (spec.order_at height place) }
 {
@@ -69,7 +69,7 @@ fn comes_before(shelves: &[ShelfRecord], shelf: usize, height: u32, place: u32) 
 }
 
 /// Where a shelf stands in the order; 0 where there is no such shelf.
-pub(crate) fn order_or_zero(shelves: &[ShelfRecord], shelf: usize) -> u64
+pub(crate) fn order_or_zero(shelves: &[LinkedShelf], shelf: usize) -> u64
     ensures { result ≡ spec.order_of shelves.now shelf }
 {
     if shelf < shelves.len() {
@@ -81,7 +81,7 @@ pub(crate) fn order_or_zero(shelves: &[ShelfRecord], shelf: usize) -> u64
 
 /// Where the shelves begin that don't come before this height and place, by binary search.
 pub(crate) fn first_from(
-    shelves: &[ShelfRecord],
+    shelves: &[LinkedShelf],
     ranked: &RankedShelves,
     height: u32,
     place: u32,
@@ -109,7 +109,7 @@ pub(crate) fn first_from(
 }
 
 /// Where the shelves begin that don't come before this one.
-fn start_of(shelves: &[ShelfRecord], ranked: &RankedShelves, shelf: usize) -> Start
+fn start_of(shelves: &[LinkedShelf], ranked: &RankedShelves, shelf: usize) -> Start
     requires order { AreInOrder shelves.now ranked.now.items }
     requires within { shelf < length shelves.now }
     ensures { IsStart shelves.now ranked.now.items (spec.order_of shelves.now shelf) result.index
@@ -121,7 +121,7 @@ fn start_of(shelves: &[ShelfRecord], ranked: &RankedShelves, shelf: usize) -> St
 }
 
 /// Where a shelf stands: where it did last time if it still does, else by binary search.
-fn position_of(shelves: &[ShelfRecord], ranked: &mut RankedShelves, shelf: usize) -> usize
+fn position_of(shelves: &[LinkedShelf], ranked: &mut RankedShelves, shelf: usize) -> usize
     requires order { AreInOrder shelves.now ranked.old.items }
     requires stands { 1 ≤ times shelf (spec.ranked_numbers ranked.old.items) }
     ensures within { result < length ranked.old.items }
@@ -137,7 +137,7 @@ fn position_of(shelves: &[ShelfRecord], ranked: &mut RankedShelves, shelf: usize
 /// Where a shelf stands, found by binary search; the position is kept. Never inlined, so that `position_of` is small
 /// enough to be.
 #[inline(never)]
-fn position_by_halves(shelves: &[ShelfRecord], ranked: &mut RankedShelves, shelf: usize) -> usize
+fn position_by_halves(shelves: &[LinkedShelf], ranked: &mut RankedShelves, shelf: usize) -> usize
     requires order { AreInOrder shelves.now ranked.old.items }
     requires stands { 1 ≤ times shelf (spec.ranked_numbers ranked.old.items) }
     ensures within { result < length ranked.old.items }
@@ -150,7 +150,7 @@ fn position_by_halves(shelves: &[ShelfRecord], ranked: &mut RankedShelves, shelf
 }
 
 /// Takes a shelf out, and gives its bound.
-pub(crate) fn take_out(shelves: &[ShelfRecord], ranked: &mut RankedShelves, shelf: usize) -> u16
+pub(crate) fn take_out(shelves: &[LinkedShelf], ranked: &mut RankedShelves, shelf: usize) -> u16
     requires order { AreInOrder shelves.now ranked.old.items }
     requires stands { 1 ≤ times shelf (spec.ranked_numbers ranked.old.items) }
     ensures ranked { ranked.new.items ≡ spec.taken_out shelf ranked.old.items }
@@ -164,7 +164,7 @@ pub(crate) fn take_out(shelves: &[ShelfRecord], ranked: &mut RankedShelves, shel
 }
 
 /// Puts a shelf in where it stands in the order, for which there is room.
-pub(crate) fn put_in(shelves: &[ShelfRecord], ranked: &mut RankedShelves, one: RankedShelf)
+pub(crate) fn put_in(shelves: &[LinkedShelf], ranked: &mut RankedShelves, one: RankedShelf)
     requires order { AreInOrder shelves.now ranked.old.items }
     requires within { one.shelf < length shelves.now }
     requires room { length ranked.old.items < ranked.old.capacity }
@@ -179,7 +179,7 @@ pub(crate) fn put_in(shelves: &[ShelfRecord], ranked: &mut RankedShelves, one: R
 }
 
 /// Raises the bound of a shelf to this width, where it is less.
-pub(crate) fn raise(shelves: &[ShelfRecord], ranked: &mut RankedShelves, shelf: usize, width: u16)
+pub(crate) fn raise(shelves: &[LinkedShelf], ranked: &mut RankedShelves, shelf: usize, width: u16)
     requires order { AreInOrder shelves.now ranked.old.items }
     requires stands { 1 ≤ times shelf (spec.ranked_numbers ranked.old.items) }
     ensures { ranked.new.items ≡ spec.raised shelf width ranked.old.items }

@@ -16,7 +16,7 @@ ghost use Rattle.etagere_links.specs.Neighbours.{NamesOneOf};
 use crate::linked::fields;
 use crate::linked::heights::{put_in, raise, ranked_shelf, take_out};
 use crate::linked::ranked::RankedShelves;
-use etagere_links::{Chain, ItemRecord, Link, Records, ShelfRecord, next_of, previous_of};
+use etagere_links::{Chain, Link, LinkedItem, LinkedShelf, Records, next_of, previous_of};
 
 /// The item that remains where one was freed, and how many item records were put aside.
 #[derive(Drop)]
@@ -56,7 +56,7 @@ pub(crate) fn return_item(
 }
 
 /// How wide an item is that is there.
-fn width_of(items: &[ItemRecord], number: usize) -> u16
+fn width_of(items: &[LinkedItem], number: usize) -> u16
     requires { number < length items.now }
     ensures { result ≡ returned.width_of items.now number }
 {
@@ -64,7 +64,7 @@ fn width_of(items: &[ItemRecord], number: usize) -> u16
 }
 
 /// Whether an item stands alone in its shelf.
-fn is_alone(items: &[ItemRecord], number: usize) -> bool
+fn is_alone(items: &[LinkedItem], number: usize) -> bool
     requires { number < length items.now }
     ensures { result ≡ returned.is_alone items.now number }
 {
@@ -91,7 +91,7 @@ fn merge_item(records: &mut Records, shelf: usize, number: usize) -> Merged
 }
 
 /// The item that a link names, where that is free. If it names one, that is there.
-fn free_named(items: &[ItemRecord], link: Link) -> Option<usize>
+fn free_named(items: &[LinkedItem], link: Link) -> Option<usize>
     requires { NamesOneOf items.now link }
     ensures value { result ≡ returned.free_named items.now link }
     ensures small { IfSome result (λ number. number < no_link) }
@@ -168,7 +168,7 @@ fn merge_shelves(records: &mut Records, ranked: &mut RankedShelves, shelf: usize
     ensures few { result < 3 }
 {
     let one = merge_shelf(records, ranked, shelf);
-    let previous = previous_of::<Chain, ShelfRecord>(records.shelves(), shelf);
+    let previous = previous_of::<Chain, LinkedShelf>(records.shelves(), shelf);
     one + merge_named_shelf(records, ranked, previous)
 }
 
@@ -233,14 +233,14 @@ fn absorb_shelf(records: &mut Records, ranked: &mut RankedShelves, shelf: usize,
 }
 
 /// The shelf after one, where both are empty and stand in one column.
-fn empty_next(shelves: &[ShelfRecord], shelf: usize) -> Option<usize>
+fn empty_next(shelves: &[LinkedShelf], shelf: usize) -> Option<usize>
     ensures value { result ≡ returned.empty_next shelves.now shelf }
     ensures small { IfSome result (λ number. number < no_link) }
 {
     if !fields::is_empty(shelves, shelf) {
         return None;
     }
-    let next = next_of::<Chain, ShelfRecord>(shelves, shelf).number()?;
+    let next = next_of::<Chain, LinkedShelf>(shelves, shelf).number()?;
     if are_both_empty(shelves, shelf, next) {
         Some(next)
     } else {
@@ -249,7 +249,7 @@ fn empty_next(shelves: &[ShelfRecord], shelf: usize) -> Option<usize>
 }
 
 /// Whether two shelves are empty and stand in one column.
-fn are_both_empty(shelves: &[ShelfRecord], shelf: usize, next: usize) -> bool
+fn are_both_empty(shelves: &[LinkedShelf], shelf: usize, next: usize) -> bool
     ensures { result ≡ returned.are_both_empty shelves.now shelf next }
 {
     fields::along(shelves, shelf) == fields::along(shelves, next)

@@ -16,7 +16,7 @@ ghost use Rattle.etagere.specs.Private.Kept.{AreKept};
 use crate::linked::heights::ranked_shelf;
 use crate::linked::ranked::{RankedShelf, RankedShelves};
 use etagere_base::Frame;
-use etagere_links::{Chain, ItemRecord, Link, Records, ShelfRecord, next_of};
+use etagere_links::{Chain, Link, LinkedItem, LinkedShelf, Records, next_of};
 use std::alloc::{AllocError, Global};
 
 /// The generation of a record that was just made.
@@ -98,7 +98,7 @@ fn collect_shelves(frame: &Frame, records: &Records, ranked: &mut RankedShelves)
             break;
         };
         ranked.push(newly_ranked(frame, shelf));
-        at = next_of::<Chain, ShelfRecord>(records.shelves(), shelf).number();
+        at = next_of::<Chain, LinkedShelf>(records.shelves(), shelf).number();
     }
 }
 
@@ -127,12 +127,12 @@ pub(crate) fn reset_records(frame: &Frame, records: &mut Records)
 }
 
 /// The item of a column in a new atlas.
-fn fresh_item(frame: &Frame, column: u32) -> ItemRecord
+fn fresh_item(frame: &Frame, column: u32) -> LinkedItem
     requires frame { IsFrame longest_side frame.now }
     requires column { column < frame.now.columns }
     ensures { result ≡ spec.fresh_item frame.now column }
 {
-    ItemRecord {
+    LinkedItem {
         x: (column * frame.column_width) as u16,
         width: frame.column_width as u16,
         prev: Link::none(),
@@ -146,12 +146,12 @@ fn fresh_item(frame: &Frame, column: u32) -> ItemRecord
 }
 
 /// The shelf of a column in a new atlas.
-fn fresh_shelf(frame: &Frame, column: u32) -> ShelfRecord
+fn fresh_shelf(frame: &Frame, column: u32) -> LinkedShelf
     requires frame { IsFrame longest_side frame.now }
     requires column { column < frame.now.columns }
     ensures { result ≡ spec.fresh_shelf frame.now column }
 {
-    ShelfRecord {
+    LinkedShelf {
         x: (column * frame.column_width) as u16,
         y: 0,
         height: frame.across_side() as u16,

@@ -14,7 +14,7 @@ use crate::linked::heights::{put_in, ranked_shelf, take_out};
 use crate::linked::ranked::RankedShelves;
 use crate::placements::Placement;
 use etagere_base::{AllocId, INDEX_MODULUS};
-use etagere_links::{ItemRecord, Link, Records, ShelfRecord};
+use etagere_links::{Link, LinkedItem, LinkedShelf, Records};
 use std::alloc::AllocError;
 
 /// Takes a placement, which names its shelf and its item by their records' numbers, and gives the id. An
@@ -145,7 +145,7 @@ fn write_item_rest(records: &mut Records, found: &Placement, rest: usize)
 }
 
 /// The id under which the item of this number is given.
-fn id_of(items: &[ItemRecord], number: usize) -> AllocId
+fn id_of(items: &[LinkedItem], number: usize) -> AllocId
     requires { number < no_link }
     ensures { result ≡ spec.id_of items.now number }
 {
@@ -154,7 +154,7 @@ fn id_of(items: &[ItemRecord], number: usize) -> AllocId
 }
 
 /// The record of the item of this number; a new one where there is no such item.
-fn item_record(items: &[ItemRecord], number: usize) -> ItemRecord
+fn item_record(items: &[LinkedItem], number: usize) -> LinkedItem
     ensures { result ≡ spec.item_record items.now number }
 {
     if number < items.len() {
@@ -165,7 +165,7 @@ fn item_record(items: &[ItemRecord], number: usize) -> ItemRecord
 }
 
 /// The record of the shelf of this number.
-fn shelf_record(shelves: &[ShelfRecord], number: usize) -> ShelfRecord
+fn shelf_record(shelves: &[LinkedShelf], number: usize) -> LinkedShelf
     requires { number < length shelves.now }
     ensures { result ≡ spec.shelf_record shelves.now number }
 {
@@ -173,10 +173,10 @@ fn shelf_record(shelves: &[ShelfRecord], number: usize) -> ShelfRecord
 }
 
 /// The record of a free item in no list.
-fn free_item(x: u16, width: u16, shelf: u16, generation: u16) -> ItemRecord
+fn free_item(x: u16, width: u16, shelf: u16, generation: u16) -> LinkedItem
     ensures { result ≡ spec.free_item x width shelf generation }
 {
-    ItemRecord {
+    LinkedItem {
         x,
         width,
         prev: Link::none(),
@@ -190,7 +190,7 @@ fn free_item(x: u16, width: u16, shelf: u16, generation: u16) -> ItemRecord
 }
 
 /// The record of the rest of an item beyond this width, in the shelf of this number.
-fn rest_item(whole: &ItemRecord, width: u16, shelf: u16, generation: u16) -> ItemRecord
+fn rest_item(whole: &LinkedItem, width: u16, shelf: u16, generation: u16) -> LinkedItem
     requires right { whole.now.x + width ≤ longest_side }
     requires narrower { width ≤ whole.now.width }
     ensures { result ≡ spec.rest_item whole.now width shelf generation }
@@ -199,13 +199,13 @@ fn rest_item(whole: &ItemRecord, width: u16, shelf: u16, generation: u16) -> Ite
 }
 
 /// The record of the rest of a shelf above this height, with this item.
-fn rest_shelf(whole: &ShelfRecord, height: u16, item: usize) -> ShelfRecord
+fn rest_shelf(whole: &LinkedShelf, height: u16, item: usize) -> LinkedShelf
     requires bottom { whole.now.y + height ≤ longest_side }
     requires shorter { height ≤ whole.now.height }
     requires item { item < no_link }
     ensures { result ≡ spec.rest_shelf whole.now height item }
 {
-    ShelfRecord {
+    LinkedShelf {
         x: whole.x,
         y: whole.y + height,
         height: whole.height - height,

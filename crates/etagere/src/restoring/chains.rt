@@ -19,7 +19,7 @@ use crate::linked::fields::first_item_link;
 use crate::restoring::LoadedAtlas;
 use crate::restoring::shelf_lists::chain_fault;
 use etagere_base::RestoreFault;
-use etagere_links::{Chain, ItemRecord, WalkRoom, all_marked, next_bits, unmarked, walk_marking};
+use etagere_links::{Chain, LinkedItem, WalkRoom, all_marked, next_bits, unmarked, walk_marking};
 use std::alloc::Global;
 
 /// What walks have met of the items: of each shelf in use, and what is unused.
@@ -50,7 +50,7 @@ pub(crate) fn walk_items(
     ensures each { IfOk result
         (λ walked. steps.old + length (item_numbers walked.shelves.items) ≤ steps.new) }
 {
-    let Ok(links) = next_bits::<Chain, ItemRecord>(alloc, atlas.records.items()) else {
+    let Ok(links) = next_bits::<Chain, LinkedItem>(alloc, atlas.records.items()) else {
         return Err(RestoreFault::Memory);
     };
     let Ok(mut room) = WalkRoom::new(alloc, links.len()) else {

@@ -20,7 +20,7 @@ use crate::judging::WalkedShelf;
 use crate::linked::fields::first_free_link;
 use crate::restoring::LoadedAtlas;
 use etagere_base::RestoreFault;
-use etagere_links::{FreeList, ItemRecord, WalkFault, WalkRoom, next_bits, unmarked, walk_marking};
+use etagere_links::{FreeList, LinkedItem, WalkFault, WalkRoom, next_bits, unmarked, walk_marking};
 use std::alloc::Global;
 
 /// The shelves with their items and their free lists, where no item is in two free lists. What comes in are
@@ -49,7 +49,7 @@ pub(crate) fn walk_free_lists(
     ensures bound { steps.new ≤ steps.old + 2 * length atlas.now.lists.items }
     ensures more { OnOk result (steps.old ≤ steps.new) }
 {
-    let Ok(links) = next_bits::<FreeList, ItemRecord>(alloc, atlas.records.items()) else {
+    let Ok(links) = next_bits::<FreeList, LinkedItem>(alloc, atlas.records.items()) else {
         return Err(RestoreFault::Memory);
     };
     let Ok(mut room) = WalkRoom::new(alloc, links.len()) else {

@@ -17,7 +17,7 @@ use crate::judging::spacing::{is_space, none_allocated};
 use crate::judging::stacking::has_shelves;
 use crate::restoring::chains::WalkedItems;
 use etagere_base::{Frame, RestoreFault};
-use etagere_links::{ItemRecord, ShelfRecord};
+use etagere_links::{LinkedItem, LinkedShelf};
 use std::alloc::Global;
 
 /// Judges what walks have met; returns the first rule that is broken.
@@ -26,8 +26,8 @@ use std::alloc::Global;
 pub(crate) fn judge_rules(
     alloc: Global,
     frame: &Frame,
-    shelves: &[ShelfRecord],
-    items: &[ItemRecord],
+    shelves: &[LinkedShelf],
+    items: &[LinkedItem],
     walked: &WalkedItems,
     allocated_space: i32,
 ) -> Result<(), RestoreFault>

@@ -16,7 +16,7 @@ ghost use Rattle.etagere.specs.Snapshots.{IsBroken};
 use crate::restoring::LoadedAtlas;
 use etagere_base::RestoreFault;
 use etagere_links::{
-    Chain, ShelfRecord, WalkFault, WalkRoom, all_marked, next_bits, unmarked, walk_marking,
+    Chain, LinkedShelf, WalkFault, WalkRoom, all_marked, next_bits, unmarked, walk_marking,
 };
 use std::alloc::Global;
 
@@ -36,7 +36,7 @@ pub(crate) fn walk_shelves(
     ensures bound { steps.new ≤ 2 * length atlas.now.lists.shelves }
     ensures each { IfOk result (λ numbers. length numbers.items ≤ steps.new) }
 {
-    let Ok(links) = next_bits::<Chain, ShelfRecord>(alloc, atlas.records.shelves()) else {
+    let Ok(links) = next_bits::<Chain, LinkedShelf>(alloc, atlas.records.shelves()) else {
         return Err(RestoreFault::Memory);
     };
     let Ok(mut room) = WalkRoom::new(alloc, links.len()) else {

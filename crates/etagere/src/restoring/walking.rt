@@ -16,7 +16,7 @@ use crate::restoring::chains::{WalkedItems, walk_items};
 use crate::restoring::free_lists::walk_free_lists;
 use crate::restoring::shelf_lists::walk_shelves;
 use etagere_base::RestoreFault;
-use etagere_links::{Chain, ShelfRecord};
+use etagere_links::{Chain, LinkedShelf};
 use std::alloc::Global;
 
 /// The shelves in use with their items and free lists, and the unused items, where each record is in one list,
@@ -42,7 +42,7 @@ pub(crate) fn walk_records(
     let numbers = walk_shelves(alloc, atlas, steps)?;
     let WalkedItems { shelves, unused } = walk_items(alloc, atlas, &numbers, steps)?;
     let shelves = walk_free_lists(alloc, atlas, shelves, steps)?;
-    if !links_back::<Chain, ShelfRecord>(atlas.records.shelves(), &numbers) {
+    if !links_back::<Chain, LinkedShelf>(atlas.records.shelves(), &numbers) {
         return Err(RestoreFault::Link);
     }
     Ok(WalkedItems { shelves, unused })

@@ -11,8 +11,8 @@ use Rattle.etagere_base.specs.Lists.{Each}
 use Rattle.etagere_base.specs.declared.drawing.Colour.TheVariants.{Allocated, Free}
 use Rattle.etagere_base.specs.declared.drawing.Drawn.{Drawn}
 use Rattle.etagere_base.specs.declared.frames.Frame.{Frame}
-use Rattle.etagere_bucketed.specs.declared.records.BucketRecord.{BucketRecord}
-use Rattle.etagere_bucketed.specs.declared.records.BucketShelfRecord.{BucketShelfRecord}
+use Rattle.etagere_bucketed.specs.declared.records.LinkedBucket.{LinkedBucket}
+use Rattle.etagere_bucketed.specs.declared.records.LinkedBucketShelf.{LinkedBucketShelf}
 use Rattle.etagere_bucketed.specs.Private.DrawnRecords.{AreKept, FitAlong, FitsIn, bucket_lines, linked_from, recorded_lines, shelf_lines}
 use Rattle.etagere_bucketed.specs.Private.Store.{AreBucketsSpelled, AreShelvesSpelled, Stored, first_link, kept_shelf, kept_shelves, record_of, stored_state}
 use Rattle.etagere_bucketed.specs.State.{Bucket, BucketShelf, buckets_in_use, column_height, most_buckets}
@@ -25,9 +25,9 @@ line-or-none : (t : Bool) (drawn : Drawn) → (if t then drawn_line drawn else [
 line-or-none true drawn = sym (append-nil (drawn_line drawn))
 line-or-none false drawn = refl
 
-module _ (frame : Frame) (records : List BucketRecord) (before : List BucketShelf) (shelf : BucketShelf) where
+module _ (frame : Frame) (records : List LinkedBucket) (before : List BucketShelf) (shelf : BucketShelf) where
   -- the record of the shelf
-  abbrev own : BucketShelfRecord
+  abbrev own : LinkedBucketShelf
   own = (kept_shelf frame before shelf).shelf
 
   -- where it lies across
@@ -75,7 +75,7 @@ module _ (frame : Frame) (records : List BucketRecord) (before : List BucketShel
       (omega arith, along-fits number steps bs (omega (arith, few)) spelled.1)
 
 -- the lines of shelves that stand after others
-after-spelled : (frame : Frame) (records : List BucketRecord) (number : ℕ) (before shelves : List BucketShelf) → Each (IsShelf frame) shelves → buckets_in_use shelves ≤ most_buckets
+after-spelled : (frame : Frame) (records : List LinkedBucket) (number : ℕ) (before shelves : List BucketShelf) → Each (IsShelf frame) shelves → buckets_in_use shelves ≤ most_buckets
     → AreShelvesSpelled records number shelves
     → flat_map (shelf_lines frame records) (kept_shelves frame before shelves) ≡ drawn_lines (drawn_after frame before shelves)
 after-spelled frame records number before [] each few spelled = refl
@@ -89,7 +89,7 @@ after-spelled frame records number before (s ∷ ss) each few spelled =
     ∙ sym (flat_map-append drawn_line first others)
 
 -- no more of the buckets of shelves is free than they are wide
-after-fits : (frame : Frame) (records : List BucketRecord) (number : ℕ) (before shelves : List BucketShelf) → buckets_in_use shelves ≤ most_buckets
+after-fits : (frame : Frame) (records : List LinkedBucket) (number : ℕ) (before shelves : List BucketShelf) → buckets_in_use shelves ≤ most_buckets
     → AreShelvesSpelled records number shelves → Each (FitAlong records) (kept_shelves frame before shelves)
 after-fits frame records number before [] few spelled = tt
 after-fits frame records number before (s ∷ ss) few spelled = (

@@ -11,7 +11,7 @@ use Rattle.etagere_base.specs.Lists.{times}
 use Rattle.etagere_links.specs.Edits.{changed_by}
 use Rattle.etagere_links.proofs.Chains.{Leads-frame}
 use Rattle.etagere_links.proofs.RecordChanges.{length-changed_by, link_at-same, map-changed_by}
-use Rattle.etagere_bucketed.specs.declared.records.BucketRecord.{BucketRecord}
+use Rattle.etagere_bucketed.specs.declared.records.LinkedBucket.{LinkedBucket}
 use Rattle.etagere_bucketed.specs.BucketRecords.{next_of}
 use Rattle.etagere_bucketed.specs.Private.Returns.{emptied_record, item_returned, lessened_record, returned_kept, returned_record, width_of}
 use Rattle.etagere_bucketed.specs.Private.Store.{AreShelvesSpelled, IsPool, KeptShelf, Spells, Stored, first_link, kept_shelf, kept_shelves, live_items, record_of, widest_room}
@@ -36,7 +36,7 @@ changed-middle change (y ∷ front) x back zero long = absurd (omega (arith, lon
 changed-middle change (y ∷ front) x back (suc n) long = ap (λ (zs : List _). y ∷ zs) (changed-middle change front x back n (omega (arith, long)))
 
 -- no record gets more live items
-live-le : (edit : BucketRecord → BucketRecord) → ((r : BucketRecord) → (edit r).refcount ≤ r.refcount) → (records : List BucketRecord) (n k : ℕ)
+live-le : (edit : LinkedBucket → LinkedBucket) → ((r : LinkedBucket) → (edit r).refcount ≤ r.refcount) → (records : List LinkedBucket) (n k : ℕ)
     → live_of (changed_by (Some n) edit records) k ≤ live_of records k
 live-le edit less [] n k = omega arith
 live-le edit less (r ∷ rs) zero zero = less r
@@ -45,14 +45,14 @@ live-le edit less (r ∷ rs) (suc n) zero = omega arith
 live-le edit less (r ∷ rs) (suc n) (suc k) = live-le edit less rs n k
 
 -- a return leaves the link of a record, and no more of it live
-next-returned : (width : ℕ) (r : BucketRecord) → (returned_record width r).next ≡ r.next
-next-returned width r = cond_both (nat_le r.refcount 1) (emptied_record width r) (lessened_record r) (λ (s : BucketRecord). s.next ≡ r.next) (λ _. refl) (λ _. refl)
+next-returned : (width : ℕ) (r : LinkedBucket) → (returned_record width r).next ≡ r.next
+next-returned width r = cond_both (nat_le r.refcount 1) (emptied_record width r) (lessened_record r) (λ (s : LinkedBucket). s.next ≡ r.next) (λ _. refl) (λ _. refl)
 
-less-returned : (width : ℕ) (r : BucketRecord) → (returned_record width r).refcount ≤ r.refcount
-less-returned width r = cond_both (nat_le r.refcount 1) (emptied_record width r) (lessened_record r) (λ (s : BucketRecord). s.refcount ≤ r.refcount) (λ _. omega arith) (λ _. omega arith)
+less-returned : (width : ℕ) (r : LinkedBucket) → (returned_record width r).refcount ≤ r.refcount
+less-returned width r = cond_both (nat_le r.refcount 1) (emptied_record width r) (lessened_record r) (λ (s : LinkedBucket). s.refcount ≤ r.refcount) (λ _. omega arith) (λ _. omega arith)
 
 -- the records in use and the unused ones after a return
-pool-returned : (records : List BucketRecord) (top : Option ℕ) (used unused : List ℕ) (width n : ℕ) → IsPool records top used unused
+pool-returned : (records : List LinkedBucket) (top : Option ℕ) (used unused : List ℕ) (width n : ℕ) → IsPool records top used unused
     → IsPool (changed_by (Some n) (returned_record width) records) top used unused
 pool-returned records top used unused width n pool =
     let edit = returned_record width in
@@ -60,7 +60,7 @@ pool-returned records top used unused width n pool =
     let long : length new ≡ length records = length-changed_by edit records (Some n) in
     record {
       pile = Leads-frame (next_of records) (next_of new) unused top None
-          (λ k stands. link_at-same (λ (r : BucketRecord). r.next) records new k (map-changed_by (λ (r : BucketRecord). r.next) edit records (Some n) (next-returned width))) pool.pile;
+          (λ k stands. link_at-same (λ (r : LinkedBucket). r.next) records new k (map-changed_by (λ (r : LinkedBucket). r.next) edit records (Some n) (next-returned width))) pool.pile;
       once = rw long pool.once;
       count = long ∙ pool.count;
       few = rw long pool.few;
@@ -108,8 +108,8 @@ item-spells frame stored unused xs number has once some spells =
     let width = width_of stored.shelves (shelf_of records n) in
     let at : slice_get records n ≡ Some (record_of i x.bucket_width (first_link has.right) b) =
     subst (λ (m : ℕ). slice_get records m ≡ Some (record_of i x.bucket_width (first_link has.right) b)) (sym has.same) (record-at records number xs has spells.buckets) in
-    let shelf : shelf_of records n ≡ i = ap (λ (r : Option BucketRecord). option_map_or (λ (s : BucketRecord). s.shelf) r 0) at in
-    let live : live_of records n ≡ b.live = ap (λ (r : Option BucketRecord). option_map_or (λ (s : BucketRecord). s.refcount) r 0) at in
+    let shelf : shelf_of records n ≡ i = ap (λ (r : Option LinkedBucket). option_map_or (λ (s : LinkedBucket). s.shelf) r 0) at in
+    let live : live_of records n ≡ b.live = ap (λ (r : Option LinkedBucket). option_map_or (λ (s : LinkedBucket). s.refcount) r 0) at in
     let A = kept_shelves frame [] has.front in
     let kept = kept_shelf frame has.front x in
     let B = kept_shelves frame (has.front ++ x ∷ []) has.back in

@@ -9,7 +9,7 @@ use Rattle.std.specs.Prelude.{slice_get, nat_lt}
 use Rattle.etagere_base.proofs.EachLemmas.{Each-weaken, list_any-none}
 use Rattle.etagere_base.proofs.TimesLemmas.{times-append}
 use Rattle.etagere_base.specs.Lists.{Each, times}
-use Rattle.etagere_bucketed.specs.declared.records.BucketRecord.{BucketRecord}
+use Rattle.etagere_bucketed.specs.declared.records.LinkedBucket.{LinkedBucket}
 use Rattle.etagere_bucketed.specs.Private.Returns.{gives_item, is_known_in}
 use Rattle.etagere_bucketed.specs.Private.Store.{AreShelvesSpelled, IsPool, first_link, record_of}
 use Rattle.etagere_bucketed.specs.Returning.{is_giver, tag_of}
@@ -53,7 +53,7 @@ each-times P (n ∷ ns) k each stands = by_test (n == k) refl stands (each-times
     by_test false e h rest = rest (omega (arith, h))
 
 -- a record with nothing live has given no item that is known
-idle-gives : (id : ℕ) (r : BucketRecord) → r.refcount ≡ 0 → gives_item id r ≡ false
+idle-gives : (id : ℕ) (r : LinkedBucket) → r.refcount ≡ 0 → gives_item id r ≡ false
 idle-gives id r none = rw none (no (id / generation_unit == r.generation))
   where
     no : (t : Bool) → (t && false) ≡ false
@@ -65,18 +65,18 @@ once-there : (k count n : ℕ) → k < count → n ≡ cond (nat_lt k count) 1 0
 once-there k count n within once = grind arith
 
 -- a record of none of the shelves' buckets is no known one
-pub unused-knows : (records : List BucketRecord) (top : Option ℕ) (used unused : List ℕ) (id : ℕ) → IsPool records top used unused
+pub unused-knows : (records : List LinkedBucket) (top : Option ℕ) (used unused : List ℕ) (id : ℕ) → IsPool records top used unused
     → times (tag_of id).number used ≡ 0 → is_known_in records id ≡ false
 unused-knows records top used unused id pool none = by_record (slice_get records (tag_of id).number) refl
   where
-    by_record : (r : Option BucketRecord) → slice_get records (tag_of id).number ≡ r → option_map_or (gives_item id) r false ≡ false
+    by_record : (r : Option LinkedBucket) → slice_get records (tag_of id).number ≡ r → option_map_or (gives_item id) r false ≡ false
     by_record None e = refl
     by_record (Some r) e =
         let k = (tag_of id).number in
         let within : k < length records = slice_get_within records k r e in
         let stands = once-there k (length records) (times k (used ++ unused)) within (pool.once k) in
         let idle = each-times (λ (n : ℕ). live_of records n ≡ 0) unused k pool.idle (omega (arith, stands, none, times-append k used unused)) in
-        let count : live_of records k ≡ r.refcount = ap (λ (o : Option BucketRecord). option_map_or (λ (s : BucketRecord). s.refcount) o 0) e in
+        let count : live_of records k ≡ r.refcount = ap (λ (o : Option LinkedBucket). option_map_or (λ (s : LinkedBucket). s.refcount) o 0) e in
         idle-gives id r (omega (arith, count, idle))
 
 -- a bucket's record has given what the bucket has
@@ -97,7 +97,7 @@ any-middle test front x back none_front none_back =
     or-false false = refl
 
 -- an id is known where its record has given its item
-pub known-records : (records : List BucketRecord) (top : Option ℕ) (unused : List ℕ) (xs : List BucketShelf) (id : ℕ) → AreShelvesSpelled records 0 xs
+pub known-records : (records : List LinkedBucket) (top : Option ℕ) (unused : List ℕ) (xs : List BucketShelf) (id : ℕ) → AreShelvesSpelled records 0 xs
     → IsPool records top (bucket_numbers xs) unused → ((n : ℕ) → times n (bucket_numbers xs) ≤ 1)
     → is_known_in records id ≡ list_any (gives_in id) xs
 known-records records top unused xs id spelled pool once = by_count (times (tag_of id).number (bucket_numbers xs)) refl
@@ -118,6 +118,6 @@ known-records records top unused xs id spelled pool once = by_count (times (tag_
         let around = any-middle (gives_in id) has.front has.shelf has.back
         (others-know id has.front (others-shelves k has.front (turn (bucket_numbers has.front) alone.before)))
         (others-know id has.back (others-shelves k has.back (turn (bucket_numbers has.back) alone.behind))) in
-        ap (λ (o : Option BucketRecord). option_map_or (gives_item id) o false) at
+        ap (λ (o : Option LinkedBucket). option_map_or (gives_item id) o false) at
         ∙ sym (record-gives id (length has.front) has.shelf.bucket_width (first_link has.right) has.bucket has.same)
         ∙ sym (ap (list_any (gives_in id)) has.whole ∙ around ∙ ap (list_any (is_giver id)) has.buckets ∙ inside)

@@ -8,7 +8,7 @@ use Rattle.std.specs.Option.{option_map_or}
 use Rattle.std.specs.Prelude.{slice_get, nat_le, nat_lt}
 use Rattle.etagere_base.proofs.ReplacedLists.{slice_get-append}
 use Rattle.etagere_base.specs.Lists.{times}
-use Rattle.etagere_bucketed.specs.declared.records.BucketRecord.{BucketRecord}
+use Rattle.etagere_bucketed.specs.declared.records.LinkedBucket.{LinkedBucket}
 use Rattle.etagere_bucketed.specs.Private.Returns.{Dropping, dropping_of, end_dropped, gives_item, is_known_in, item_returned, returned_area, width_of}
 use Rattle.etagere_bucketed.specs.Private.Store.{KeptShelf, Spells, Stored, kept_shelf, kept_shelves}
 use Rattle.etagere_bucketed.specs.Private.StoreEdits.{height_of}
@@ -48,7 +48,7 @@ giver-of stored unused state id witnessed known = by_count (times (tag_of id).nu
     by_count (suc n) e =
         let has : HasBucket (tag_of id).number state.shelves = has-bucket (tag_of id).number state.shelves (omega (arith, e)) in
         let at = record-at stored.buckets (tag_of id).number state.shelves has witnessed.spells.buckets in
-        let gives = sym (ap (λ (o : Option BucketRecord). option_map_or (gives_item id) o false) at) ∙ known in
+        let gives = sym (ap (λ (o : Option LinkedBucket). option_map_or (gives_item id) o false) at) ∙ known in
         let live = and_parts _ _ (and_parts _ _ gives).1 in
         record { has = has; live = some has.bucket.live live.0 }
 
@@ -106,9 +106,9 @@ returned-is stored unused state id witnessed known =
     let i = length has.front in
     let spot = is-spot number xs has in
     let at = record-at records number xs has spells.buckets in
-    let shelf : shelf_of records number ≡ i = ap (λ (r : Option BucketRecord). option_map_or (λ (s : BucketRecord). s.shelf) r 0) at in
-    let live : live_of records number ≡ b.live = ap (λ (r : Option BucketRecord). option_map_or (λ (s : BucketRecord). s.refcount) r 0) at in
-    let free : free_of records number ≡ x.bucket_width - b.used = ap (λ (r : Option BucketRecord). option_map_or (λ (s : BucketRecord). s.free_space) r 0) at in
+    let shelf : shelf_of records number ≡ i = ap (λ (r : Option LinkedBucket). option_map_or (λ (s : LinkedBucket). s.shelf) r 0) at in
+    let live : live_of records number ≡ b.live = ap (λ (r : Option LinkedBucket). option_map_or (λ (s : LinkedBucket). s.refcount) r 0) at in
+    let free : free_of records number ≡ x.bucket_width - b.used = ap (λ (r : Option LinkedBucket). option_map_or (λ (s : LinkedBucket). s.free_space) r 0) at in
     let A = kept_shelves state.frame [] has.front in
     let kept = kept_shelf state.frame has.front x in
     let B = kept_shelves state.frame (has.front ++ x ∷ []) has.back in

@@ -15,7 +15,7 @@ use Rattle.etagere_links.specs.Edits.{changed_by}
 use Rattle.etagere_links.proofs.AllLists.LinkedWalks.{once-part}
 use Rattle.etagere_links.proofs.FirstLinks.{field_at-kept}
 use Rattle.etagere_links.proofs.RecordChanges.{get-changed_by-other, length-changed_by, link_at-changed, link_at-other}
-use Rattle.etagere_bucketed.specs.declared.records.BucketRecord.{BucketRecord}
+use Rattle.etagere_bucketed.specs.declared.records.LinkedBucket.{LinkedBucket}
 use Rattle.etagere_bucketed.specs.BucketRecords.{next_of}
 use Rattle.etagere_bucketed.specs.Picking.{or_else}
 use Rattle.etagere_bucketed.specs.Private.Returns.{Dropping, RowEnd, end_dropped, last_dropped, last_kept, linked_to, row_aside, row_count, row_end, row_from}
@@ -29,7 +29,7 @@ use Rattle.etagere_bucketed.proofs.Spelling.KeptShelves.{kept-append, last-kept}
 use Rattle.etagere_bucketed.proofs.Spelling.ReadBack.{spelled-pile}
 
 -- where a list that links spell ends, and how many stand in it
-row-is : (records : List BucketRecord) (steps count x : ℕ) (xs : List ℕ) (start : Option ℕ) → length xs ≤ steps → Leads (next_of records) start (x ∷ xs) None
+row-is : (records : List LinkedBucket) (steps count x : ℕ) (xs : List ℕ) (start : Option ℕ) → length xs ≤ steps → Leads (next_of records) start (x ∷ xs) None
     → row_from steps records count x ≡ record { last = last_of x xs; count = count + length xs }
 row-is records zero count x [] start enough leads = ap (λ (n : ℕ). record { last = x; count = n }) (omega arith)
 row-is records (suc steps) count x [] start enough leads = rw leads.1 (ap (λ (n : ℕ). record { last = x; count = n }) (omega arith))
@@ -46,23 +46,23 @@ numbers-append (x ∷ xs) ys =
     ap (λ (ns : List ℕ). numbers_of x.buckets ++ ns) (numbers-append xs ys) ∙ sym (append_assoc (numbers_of x.buckets) (bucket_numbers xs) (bucket_numbers ys))
 
 -- buckets that hold nothing live have records that say so
-idle-lives : (records : List BucketRecord) (shelf width : ℕ) (bs : List Bucket) → AreBucketsSpelled records shelf width bs → list_all is_idle_bucket bs ≡ true
+idle-lives : (records : List LinkedBucket) (shelf width : ℕ) (bs : List Bucket) → AreBucketsSpelled records shelf width bs → list_all is_idle_bucket bs ≡ true
     → Each (λ (k : ℕ). live_of records k ≡ 0) (numbers_of bs)
 idle-lives records shelf width [] spelled idle = tt
 idle-lives records shelf width (b ∷ bs) spelled idle =
     let parts = and_parts (is_idle_bucket b) (list_all is_idle_bucket bs) idle in (
-      ap (λ (r : Option BucketRecord). option_map_or (λ (bucket : BucketRecord). bucket.refcount) r 0) spelled.0 ∙ eqb-true b.live 0 parts.0,
+      ap (λ (r : Option LinkedBucket). option_map_or (λ (bucket : LinkedBucket). bucket.refcount) r 0) spelled.0 ∙ eqb-true b.live 0 parts.0,
       idle-lives records shelf width bs spelled.1 parts.1,
     )
 
 -- the records after a list of idle buckets was put aside: which stay, and which are unused
-pub record IsAside (records : List BucketRecord) (top : Option ℕ) (front unused : List ℕ) (bs : List Bucket) : Type 0 where
+pub record IsAside (records : List LinkedBucket) (top : Option ℕ) (front unused : List ℕ) (bs : List Bucket) : Type 0 where
   pub stays : (k : ℕ) → 1 ≤ times k front → slice_get (row_aside (first_link bs) top records) k ≡ slice_get records k
   pub pool : IsPool (row_aside (first_link bs) top records) (or_else (first_link bs) top) front (numbers_of bs ++ unused)
   pub count : row_count records (first_link bs) ≡ length bs
 
 -- idle buckets are put aside
-pub row-set_aside : (records : List BucketRecord) (top : Option ℕ) (front unused : List ℕ) (shelf width : ℕ) (bs : List Bucket)
+pub row-set_aside : (records : List LinkedBucket) (top : Option ℕ) (front unused : List ℕ) (shelf width : ℕ) (bs : List Bucket)
     → AreBucketsSpelled records shelf width bs → list_all is_idle_bucket bs ≡ true → IsPool records top (front ++ numbers_of bs) unused
     → IsAside records top front unused bs
 row-set_aside records top front unused shelf width [] spelled idle pool =
@@ -84,10 +84,10 @@ row-set_aside records top front unused shelf width (b ∷ bs) spelled idle pool 
     let new = changed_by (Some end) (linked_to top) records in
     let same : changed_by (Some (row_end records n).last) (linked_to top) records ≡ new = ap (λ (e : RowEnd). changed_by (Some e.last) (linked_to top) records) row in
     let other : (k : ℕ) → end ≢ k → Some end ≢ Some k = λ k differs e. (let equal : end ≡ k = cc in differs equal) in
-    let kept : (k : ℕ) → live_of new k ≡ live_of records k = λ k. field_at-kept (λ (r : BucketRecord). r.refcount) 0 (linked_to top) records end k (λ r. refl) in
+    let kept : (k : ℕ) → live_of new k ≡ live_of records k = λ k. field_at-kept (λ (r : LinkedBucket). r.refcount) 0 (linked_to top) records end k (λ r. refl) in
     let pile = spliced (next_of records) (next_of new) n ns unused (Some n) top (λ k. omega (arith, once k))
-    (λ k differs. link_at-other (λ (r : BucketRecord). r.next) (linked_to top) records (Some end) k (other k differs))
-    (link_at-changed (λ (r : BucketRecord). r.next) (linked_to top) records (Some end) top end refl within (λ r. refl))
+    (λ k differs. link_at-other (λ (r : LinkedBucket). r.next) (linked_to top) records (Some end) k (other k differs))
+    (link_at-changed (λ (r : LinkedBucket). r.next) (linked_to top) records (Some end) top end refl within (λ r. refl))
     leads pool.pile in
     let after : IsPool new (Some n) front ((n ∷ ns) ++ unused) = record {
       pile = pile;
@@ -102,7 +102,7 @@ row-set_aside records top front unused shelf width (b ∷ bs) spelled idle pool 
     record {
       stays = λ k stands. rw same (get-changed_by-other (linked_to top) records (Some end) k
           (other k (λ e. (let here : 1 ≤ times k (n ∷ ns) = subst (λ (j : ℕ). 1 ≤ times j (n ∷ ns)) e (last_of-stands n ns) in omega (arith, once k, stands, here)))));
-      pool = subst (λ (rs : List BucketRecord). IsPool rs (Some n) front ((n ∷ ns) ++ unused)) (sym same) after;
+      pool = subst (λ (rs : List LinkedBucket). IsPool rs (Some n) front ((n ∷ ns) ++ unused)) (sym same) after;
       count = ap (λ (e : RowEnd). e.count) row ∙ ap suc (length-map bs (λ (bucket : Bucket). bucket.tag.number));
     }
 
@@ -140,7 +140,7 @@ drops-last frame done unused xs x spells idle =
     }
 
 -- a list goes on by a link
-pub row-step : (records : List BucketRecord) (steps rest count at next : ℕ) → steps ≡ suc rest → next_of records at ≡ Some next
+pub row-step : (records : List LinkedBucket) (steps rest count at next : ℕ) → steps ≡ suc rest → next_of records at ≡ Some next
     → row_from steps records count at ≡ row_from rest records (count + 1) next
 row-step records steps rest count at next e link = rw (e, link) (ap (λ (n : ℕ). row_from rest records n next) (omega arith))
 
@@ -169,6 +169,6 @@ end-idle steps rest done kept e last idle =
     is-zero n h = grind arith
 
 -- putting aside keeps the number of records
-pub length-aside : (first top : Option ℕ) (records : List BucketRecord) → length (row_aside first top records) ≡ length records
+pub length-aside : (first top : Option ℕ) (records : List LinkedBucket) → length (row_aside first top records) ≡ length records
 length-aside None top records = refl
 length-aside (Some first) top records = length-changed_by (linked_to top) records (Some (row_end records first).last)

@@ -5,7 +5,7 @@ use Rattle.std.proofs.lemmas.Bool.{eqb-true}
 use Rattle.std.specs.Prelude.{slice_get}
 use Rattle.etagere_base.proofs.TimesLemmas.{times-append}
 use Rattle.etagere_base.specs.Lists.{times}
-use Rattle.etagere_bucketed.specs.declared.records.BucketRecord.{BucketRecord}
+use Rattle.etagere_bucketed.specs.declared.records.LinkedBucket.{LinkedBucket}
 use Rattle.etagere_bucketed.specs.Picking.{Spot}
 use Rattle.etagere_bucketed.specs.Private.Store.{AreBucketsSpelled, AreShelvesSpelled, first_link, record_of}
 use Rattle.etagere_bucketed.specs.State.{Bucket, BucketShelf, bucket_numbers}
@@ -97,20 +97,20 @@ is-spot number shelves has = record {
 }
 
 -- the record of a bucket that stands between others
-bucket-spelled : (records : List BucketRecord) (shelf width : ℕ) (left : List Bucket) (b : Bucket) (right : List Bucket)
+bucket-spelled : (records : List LinkedBucket) (shelf width : ℕ) (left : List Bucket) (b : Bucket) (right : List Bucket)
     → AreBucketsSpelled records shelf width (left ++ b ∷ right) → slice_get records b.tag.number ≡ Some (record_of shelf width (first_link right) b)
 bucket-spelled records shelf width [] b right spelled = spelled.0
 bucket-spelled records shelf width (x ∷ left) b right spelled = bucket-spelled records shelf width left b right spelled.1
 
 -- the records of a shelf that stands between others
-pub shelf-spelled : (records : List BucketRecord) (number : ℕ) (front : List BucketShelf) (x : BucketShelf) (back : List BucketShelf)
+pub shelf-spelled : (records : List LinkedBucket) (number : ℕ) (front : List BucketShelf) (x : BucketShelf) (back : List BucketShelf)
     → AreShelvesSpelled records number (front ++ x ∷ back) → AreBucketsSpelled records (number + length front) x.bucket_width x.buckets
 shelf-spelled records number [] x back spelled = rw (add-zero number) spelled.0
 shelf-spelled records number (y ∷ front) x back spelled =
     subst (λ (n : ℕ). AreBucketsSpelled records n x.bucket_width x.buckets) (omega arith) (shelf-spelled records (suc number) front x back spelled.1)
 
 -- the record of a bucket that stands in shelves
-pub record-at : (records : List BucketRecord) (number : ℕ) (shelves : List BucketShelf) (has : HasBucket number shelves) → AreShelvesSpelled records 0 shelves
+pub record-at : (records : List LinkedBucket) (number : ℕ) (shelves : List BucketShelf) (has : HasBucket number shelves) → AreShelvesSpelled records 0 shelves
     → slice_get records number ≡ Some (record_of (length has.front) has.shelf.bucket_width (first_link has.right) has.bucket)
 record-at records number shelves has spelled =
     let shelf : AreBucketsSpelled records (length has.front) has.shelf.bucket_width has.shelf.buckets =
@@ -121,7 +121,7 @@ record-at records number shelves has spelled =
     subst (λ (n : ℕ). slice_get records n ≡ Some (record_of (length has.front) has.shelf.bucket_width (first_link has.right) has.bucket)) has.same bucket
 
 -- buckets whose records stay are spelled as before
-pub buckets-frame : (records new : List BucketRecord) (shelf width : ℕ) (bs : List Bucket)
+pub buckets-frame : (records new : List LinkedBucket) (shelf width : ℕ) (bs : List Bucket)
     → ((k : ℕ) → 1 ≤ times k (numbers_of bs) → slice_get new k ≡ slice_get records k) → AreBucketsSpelled records shelf width bs → AreBucketsSpelled new shelf width bs
 buckets-frame records new shelf width [] stays spelled = tt
 buckets-frame records new shelf width (b ∷ bs) stays spelled = (
@@ -133,7 +133,7 @@ buckets-frame records new shelf width (b ∷ bs) stays spelled = (
     here n k = grind arith
 
 -- shelves whose records stay are spelled as before
-pub shelves-frame : (records new : List BucketRecord) (number : ℕ) (xs : List BucketShelf)
+pub shelves-frame : (records new : List LinkedBucket) (number : ℕ) (xs : List BucketShelf)
     → ((k : ℕ) → 1 ≤ times k (bucket_numbers xs) → slice_get new k ≡ slice_get records k) → AreShelvesSpelled records number xs → AreShelvesSpelled new number xs
 shelves-frame records new number [] stays spelled = tt
 shelves-frame records new number (x ∷ xs) stays spelled =
@@ -143,6 +143,6 @@ shelves-frame records new number (x ∷ xs) stays spelled =
     )
 
 -- the shelves of a front are spelled
-pub shelves-front-spelled : (records : List BucketRecord) (number : ℕ) (front back : List BucketShelf) → AreShelvesSpelled records number (front ++ back) → AreShelvesSpelled records number front
+pub shelves-front-spelled : (records : List LinkedBucket) (number : ℕ) (front back : List BucketShelf) → AreShelvesSpelled records number (front ++ back) → AreShelvesSpelled records number front
 shelves-front-spelled records number [] back spelled = tt
 shelves-front-spelled records number (x ∷ front) back spelled = (spelled.0, shelves-front-spelled records (suc number) front back spelled.1)

@@ -5,7 +5,7 @@ use Rattle.std.specs.Prelude.{slice_get, option_map, nat_le, nat_lt}
 use Rattle.etagere_base.specs.Lists.{Each}
 use Rattle.etagere_links.specs.Edits.{changed_by}
 use Rattle.etagere_links.proofs.RecordChanges.{get-changed_by, get-changed_by-other}
-use Rattle.etagere_bucketed.specs.declared.records.BucketRecord.{BucketRecord}
+use Rattle.etagere_bucketed.specs.declared.records.LinkedBucket.{LinkedBucket}
 use Rattle.etagere_bucketed.specs.Private.Returns.{returned_record}
 use Rattle.etagere_bucketed.specs.Private.Store.{AreBucketsSpelled, AreShelvesSpelled, first_link, live_items, record_of, room_of, widest_room}
 use Rattle.etagere_bucketed.specs.Returning.{emptied_bucket, lessened_bucket, returned_bucket}
@@ -13,7 +13,7 @@ use Rattle.etagere_bucketed.specs.State.{Bucket, BucketShelf, changed_at, change
 use Rattle.etagere_bucketed.proofs.Validity.Changed.{EachBucket, Keeps}
 
 -- an edit of a bucket's record spells the changed bucket
-abbrev pub SpellsChange : ℕ → (BucketRecord → BucketRecord) → (Bucket → Bucket) → BucketShelf → Bucket → Type 0
+abbrev pub SpellsChange : ℕ → (LinkedBucket → LinkedBucket) → (Bucket → Bucket) → BucketShelf → Bucket → Type 0
 SpellsChange number edit change shelf bucket =
     bucket.tag.number ≡ number → (n : ℕ) (next : Option ℕ)
     → edit (record_of n shelf.bucket_width next bucket) ≡ record_of n shelf.bucket_width next (change bucket)
@@ -25,7 +25,7 @@ first-changed number change keeps (b ∷ bs) =
     cond_both (b.tag.number == number) (change b) b (λ (c : Bucket). Some c.tag.number ≡ Some b.tag.number) (λ _. ap (λ (n : ℕ). Some n) (keeps.number b)) (λ _. refl)
 
 -- records spell the buckets of a shelf where one was changed
-buckets-changed : (records : List BucketRecord) (n number : ℕ) (edit : BucketRecord → BucketRecord) (change : Bucket → Bucket) (x : BucketShelf) → Keeps change → (bs : List Bucket)
+buckets-changed : (records : List LinkedBucket) (n number : ℕ) (edit : LinkedBucket → LinkedBucket) (change : Bucket → Bucket) (x : BucketShelf) → Keeps change → (bs : List Bucket)
     → Each (SpellsChange number edit change x) bs → AreBucketsSpelled records n x.bucket_width bs
     → AreBucketsSpelled (changed_by (Some number) edit records) n x.bucket_width (map (changed_at number change) bs)
 buckets-changed records n number edit change x keeps [] each spelled = tt
@@ -44,7 +44,7 @@ buckets-changed records n number edit change x keeps (b ∷ bs) each spelled = (
         ap (slice_get (changed_by (Some number) edit records)) (keeps.number b)
         ∙ get-changed_by edit records (Some number) b.tag.number (ap (λ (k : ℕ). Some k) (sym same))
         ∙ ap (option_map edit) spelled.0
-        ∙ ap (λ (r : BucketRecord). Some r) (each.0 same n (first_link bs))
+        ∙ ap (λ (r : LinkedBucket). Some r) (each.0 same n (first_link bs))
         ∙ ap (λ (l : Option ℕ). Some (record_of n x.bucket_width l (change b))) (sym link)
     by_test false e =
         let other : Some number ≢ Some b.tag.number = λ same. (let equal : number ≡ b.tag.number = cc in differs number b.tag.number equal e) in
@@ -56,7 +56,7 @@ buckets-changed records n number edit change x keeps (b ∷ bs) each spelled = (
         differs i j same h = grind arith
 
 -- records spell shelves where a bucket was changed
-pub shelves-changed-spelled : (records : List BucketRecord) (n number : ℕ) (edit : BucketRecord → BucketRecord) (change : Bucket → Bucket) → Keeps change → (xs : List BucketShelf)
+pub shelves-changed-spelled : (records : List LinkedBucket) (n number : ℕ) (edit : LinkedBucket → LinkedBucket) (change : Bucket → Bucket) → Keeps change → (xs : List BucketShelf)
     → EachBucket (SpellsChange number edit change) xs → AreShelvesSpelled records n xs
     → AreShelvesSpelled (changed_by (Some number) edit records) n (changed_bucket number change xs)
 shelves-changed-spelled records n number edit change keeps [] each spelled = tt

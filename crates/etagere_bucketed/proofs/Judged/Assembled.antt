@@ -11,8 +11,8 @@ use Rattle.etagere_base.specs.declared.faults.RestoreFault.TheVariants as faults
 use Rattle.etagere_base.specs.Lists.{Each}
 use Rattle.etagere_links.specs.Links.{no_link}
 use Rattle.etagere_links.specs.Walks.{Walked}
-use Rattle.etagere_bucketed.specs.declared.records.BucketRecord.{BucketRecord}
-use Rattle.etagere_bucketed.specs.declared.records.BucketShelfRecord.{BucketShelfRecord}
+use Rattle.etagere_bucketed.specs.declared.records.LinkedBucket.{LinkedBucket}
+use Rattle.etagere_bucketed.specs.declared.records.LinkedBucketShelf.{LinkedBucketShelf}
 use Rattle.etagere_bucketed.specs.BucketRecords.{BucketRecords, bucket_at, bucket_walk, next_of, spelled_shelf}
 use Rattle.etagere_bucketed.specs.Private.Judging as idle
 use Rattle.etagere_bucketed.specs.Private.Searching.{is_kept_idle}
@@ -36,36 +36,36 @@ stops : (count : ℕ) (walked : Walked) → walked.end ≡ no_link → StopsInRa
 stops count walked ends = rw ends refl
 
 -- what was judged of each shelf
-links-judged : (frame : Frame) (buckets : List BucketRecord) (number : ℕ) (shelves : List BucketShelfRecord) → AreJudged frame buckets number shelves → AreLinked buckets number shelves
+links-judged : (frame : Frame) (buckets : List LinkedBucket) (number : ℕ) (shelves : List LinkedBucketShelf) → AreJudged frame buckets number shelves → AreLinked buckets number shelves
 links-judged frame buckets number [] judged = tt
 links-judged frame buckets number (s ∷ ss) judged =
     (stops (length buckets) (bucket_walk buckets s.first_bucket) judged.0.ends, judged.0.owned, links-judged frame buckets (suc number) ss judged.1)
 
-buckets-judged : (atlas : BucketRecords) (number : ℕ) (shelves : List BucketShelfRecord) → AreJudged atlas.frame atlas.buckets number shelves → Each (HasBuckets atlas) shelves
+buckets-judged : (atlas : BucketRecords) (number : ℕ) (shelves : List LinkedBucketShelf) → AreJudged atlas.frame atlas.buckets number shelves → Each (HasBuckets atlas) shelves
 buckets-judged atlas number [] judged = tt
 buckets-judged atlas number (s ∷ ss) judged = (judged.0.has, buckets-judged atlas (suc number) ss judged.1)
 
-ages-judged : (atlas : BucketRecords) (number : ℕ) (shelves : List BucketShelfRecord) → AreJudged atlas.frame atlas.buckets number shelves → Each (HasGenerations atlas) shelves
+ages-judged : (atlas : BucketRecords) (number : ℕ) (shelves : List LinkedBucketShelf) → AreJudged atlas.frame atlas.buckets number shelves → Each (HasGenerations atlas) shelves
 ages-judged atlas number [] judged = tt
 ages-judged atlas number (s ∷ ss) judged = (judged.0.generations, ages-judged atlas (suc number) ss judged.1)
 
-ends-judged : (frame : Frame) (buckets : List BucketRecord) (number : ℕ) (shelves : List BucketShelfRecord) → AreJudged frame buckets number shelves
-    → Each (λ (shelf : BucketShelfRecord). (bucket_walk buckets shelf.first_bucket).end ≡ no_link) shelves
+ends-judged : (frame : Frame) (buckets : List LinkedBucket) (number : ℕ) (shelves : List LinkedBucketShelf) → AreJudged frame buckets number shelves
+    → Each (λ (shelf : LinkedBucketShelf). (bucket_walk buckets shelf.first_bucket).end ≡ no_link) shelves
 ends-judged frame buckets number [] judged = tt
 ends-judged frame buckets number (s ∷ ss) judged = (judged.0.ends, ends-judged frame buckets (suc number) ss judged.1)
 
-fits-judged : (frame : Frame) (buckets : List BucketRecord) (number : ℕ) (shelves : List BucketShelfRecord) → AreJudged frame buckets number shelves
-    → Each (λ (shelf : BucketShelfRecord). LinkFits shelf.first_bucket) shelves
+fits-judged : (frame : Frame) (buckets : List LinkedBucket) (number : ℕ) (shelves : List LinkedBucketShelf) → AreJudged frame buckets number shelves
+    → Each (λ (shelf : LinkedBucketShelf). LinkFits shelf.first_bucket) shelves
 fits-judged frame buckets number [] judged = tt
 fits-judged frame buckets number (s ∷ ss) judged = (judged.0.fits, fits-judged frame buckets (suc number) ss judged.1)
 
 -- the link of each record fits its bits
-next-fits : (buckets : List BucketRecord) → Each (λ (bucket : BucketRecord). LinkFits bucket.next) buckets → (n : ℕ) → LinkFits (next_of buckets n)
+next-fits : (buckets : List LinkedBucket) → Each (λ (bucket : LinkedBucket). LinkFits bucket.next) buckets → (n : ℕ) → LinkFits (next_of buckets n)
 next-fits buckets fits n =
     ⊎_elim
-    (λ found. subst (λ (o : Option BucketRecord). LinkFits (option_and_then (λ (b : BucketRecord). b.next) o)) (sym found.2)
-    (Each-get (λ (bucket : BucketRecord). LinkFits bucket.next) buckets n found.0 found.2 fits))
-    (λ none. subst (λ (o : Option BucketRecord). LinkFits (option_and_then (λ (b : BucketRecord). b.next) o)) (sym none.1) refl)
+    (λ found. subst (λ (o : Option LinkedBucket). LinkFits (option_and_then (λ (b : LinkedBucket). b.next) o)) (sym found.2)
+    (Each-get (λ (bucket : LinkedBucket). LinkFits bucket.next) buckets n found.0 found.2 fits))
+    (λ none. subst (λ (o : Option LinkedBucket). LinkFits (option_and_then (λ (b : LinkedBucket). b.next) o)) (sym none.1) refl)
     (slice_get_cases buckets n).1
 
 -- the area that lists have used is that of rule 10
@@ -113,8 +113,8 @@ module _ (atlas : BucketRecords) (all : List KeptShelf) (used area : ℕ) (lists
       }
 
   -- what is kept of shelves is kept of the shelves that they spell
-  kept-judged : (number : ℕ) (before ss : List BucketShelfRecord) → AreJudged atlas.frame atlas.buckets number ss
-      → Each (λ (s : BucketShelfRecord). s.x % atlas.frame.column_width ≡ 0) ss → AreStacked atlas.frame.column_width before ss
+  kept-judged : (number : ℕ) (before ss : List LinkedBucketShelf) → AreJudged atlas.frame atlas.buckets number ss
+      → Each (λ (s : LinkedBucketShelf). s.x % atlas.frame.column_width ≡ 0) ss → AreStacked atlas.frame.column_width before ss
       → map (kept_of atlas.buckets) ss ≡ kept_shelves atlas.frame (map (spelled_shelf atlas.frame atlas.buckets) before) (map (spelled_shelf atlas.frame atlas.buckets) ss)
   kept-judged number before [] judged along across = refl
   kept-judged number before (s ∷ ss) judged along across =
@@ -123,7 +123,7 @@ module _ (atlas : BucketRecords) (all : List KeptShelf) (used area : ℕ) (lists
       let y : s.y ≡ column_height (s.x / atlas.frame.column_width) (map spelled before) = across.0 ∙ sym (height-spelled atlas.frame atlas.buckets (s.x / atlas.frame.column_width) before) in
       let link : first_link (map (bucket_at atlas.buckets s.bucket_width) (bucket_walk atlas.buckets s.first_bucket).met) ≡ s.first_bucket =
       first-spelled atlas.buckets s.bucket_width s.first_bucket (bucket_walk atlas.buckets s.first_bucket).met
-      (walk_by-leads (λ (bucket : BucketRecord). bucket.next) atlas.buckets s.first_bucket fit.next judged.0.fits (omega (arith, counts.buckets)) judged.0.ends) in
+      (walk_by-leads (λ (bucket : LinkedBucket). bucket.next) atlas.buckets s.first_bucket fit.next judged.0.fits (omega (arith, counts.buckets)) judged.0.ends) in
       let one : kept_of atlas.buckets s ≡ kept_shelf atlas.frame (map spelled before) (spelled s) =
       ap (λ (n : ℕ). let kept : KeptShelf = record (kept_of atlas.buckets s) { shelf = record s { x = n } } in kept) x
       ∙ ap (λ (n : ℕ). let kept : KeptShelf = record (kept_of atlas.buckets s) { shelf = record s { x = column_place atlas.frame (s.x / atlas.frame.column_width); y = n } } in kept) y
@@ -143,23 +143,23 @@ module _ (atlas : BucketRecords) (all : List KeptShelf) (used area : ℕ) (lists
       (sym kept) (stands-witnessed atlas (state_of atlas) fit assembled)
 
 -- lists of the same frame and records
-pub same-lists : (atlas : BucketRecords) (frame : Frame) (buckets : List BucketRecord) (shelves : List BucketShelfRecord) (all : List KeptShelf) (used area : ℕ)
+pub same-lists : (atlas : BucketRecords) (frame : Frame) (buckets : List LinkedBucket) (shelves : List LinkedBucketShelf) (all : List KeptShelf) (used area : ℕ)
     → frame ≡ atlas.frame → buckets ≡ atlas.buckets → shelves ≡ atlas.shelves → AreLists frame buckets shelves atlas.unused all used area
     → AreLists atlas.frame atlas.buckets atlas.shelves atlas.unused all used area
 same-lists atlas frame buckets shelves all used area same_frame same_buckets same_shelves lists =
-    subst (λ (ss : List BucketShelfRecord). AreLists atlas.frame atlas.buckets ss atlas.unused all used area) same_shelves
-    (subst (λ (bs : List BucketRecord). AreLists atlas.frame bs shelves atlas.unused all used area) same_buckets
+    subst (λ (ss : List LinkedBucketShelf). AreLists atlas.frame atlas.buckets ss atlas.unused all used area) same_shelves
+    (subst (λ (bs : List LinkedBucket). AreLists atlas.frame bs shelves atlas.unused all used area) same_buckets
     (subst (λ (f : Frame). AreLists f buckets shelves atlas.unused all used area) same_frame lists))
 
 -- the columns of shelves by their records
-pub columns-said : (frame : Frame) (buckets : List BucketRecord) (shelves : List BucketShelfRecord)
+pub columns-said : (frame : Frame) (buckets : List LinkedBucket) (shelves : List LinkedBucketShelf)
     → Each (λ (shelf : BucketShelf). shelf.column < frame.columns) (map (spelled_shelf frame buckets) shelves)
-    → Each (λ (shelf : BucketShelfRecord). shelf.x / frame.column_width < frame.columns) shelves
+    → Each (λ (shelf : LinkedBucketShelf). shelf.x / frame.column_width < frame.columns) shelves
 columns-said frame buckets [] each = tt
 columns-said frame buckets (s ∷ ss) each = (each.0, columns-said frame buckets ss each.1)
 
 -- what is kept of the last shelf tells whether it holds nothing live
-pub idle-kept : (frame : Frame) (buckets : List BucketRecord) (shelves : List BucketShelfRecord)
+pub idle-kept : (frame : Frame) (buckets : List LinkedBucket) (shelves : List LinkedBucketShelf)
     → idle.ends_idle (map (kept_of buckets) shelves) ≡ ends_idle (map (spelled_shelf frame buckets) shelves)
 idle-kept frame buckets [] = refl
 idle-kept frame buckets (s ∷ []) = live-idle (map (bucket_at buckets s.bucket_width) (bucket_walk buckets s.first_bucket).met)

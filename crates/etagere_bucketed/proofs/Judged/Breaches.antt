@@ -11,8 +11,8 @@ use Rattle.etagere_links.proofs.WalkChains.{walk-leads}
 use Rattle.etagere_links.specs.Links.{bits_of, no_link}
 use Rattle.etagere_links.specs.Marks.{IsMarkedBy}
 use Rattle.etagere_links.specs.Walks.{walk}
-use Rattle.etagere_bucketed.specs.declared.records.BucketRecord.{BucketRecord}
-use Rattle.etagere_bucketed.specs.declared.records.BucketShelfRecord.{BucketShelfRecord}
+use Rattle.etagere_bucketed.specs.declared.records.LinkedBucket.{LinkedBucket}
+use Rattle.etagere_bucketed.specs.declared.records.LinkedBucketShelf.{LinkedBucketShelf}
 use Rattle.etagere_bucketed.specs.BucketRecords.{BucketRecords, bucket_walk}
 use Rattle.etagere_bucketed.specs.Private.Walking.{BreaksShelf, BreaksUnused, BreaksWalk, links_of}
 use Rattle.etagere_bucketed.specs.Restoring.{Breaks}
@@ -21,17 +21,17 @@ use Rattle.etagere_bucketed.specs.State.{most_buckets}
 use Rattle.etagere_bucketed.proofs.Spelling.StandsKept.{each-within}
 
 -- so many links as records
-pub links-length : (buckets : List BucketRecord) → length (links_of buckets) ≡ length buckets
-links-length buckets = length-map buckets (λ (bucket : BucketRecord). bits_of bucket.next)
+pub links-length : (buckets : List LinkedBucket) → length (links_of buckets) ≡ length buckets
+links-length buckets = length-map buckets (λ (bucket : LinkedBucket). bits_of bucket.next)
 
 -- the walk through these links
-pub walk-same : (buckets : List BucketRecord) (links : List ℕ) (first : ℕ) (link : Option ℕ) → links ≡ links_of buckets → first ≡ bits_of link
+pub walk-same : (buckets : List LinkedBucket) (links : List ℕ) (first : ℕ) (link : Option ℕ) → links ≡ links_of buckets → first ≡ bits_of link
     → walk links first ≡ bucket_walk buckets link
 walk-same buckets links first link same_links same_first =
     ap (λ (ls : List ℕ). walk ls first) same_links ∙ ap (walk (links_of buckets)) same_first
 
 -- what it meets are records
-pub walk-within : (buckets : List BucketRecord) (link : Option ℕ) → length buckets ≤ most_buckets
+pub walk-within : (buckets : List LinkedBucket) (link : Option ℕ) → length buckets ≤ most_buckets
     → Each (λ (n : ℕ). n < length buckets) (bucket_walk buckets link).met
 walk-within buckets link few =
     let long : length (links_of buckets) ≤ no_link = omega (arith, few, links-length buckets) in
@@ -39,7 +39,7 @@ walk-within buckets link few =
     (λ n is. omega (arith, is, links-length buckets))
     (each-within (length (links_of buckets)) (bucket_walk buckets link).met (walk-leads (links_of buckets) (bits_of link) long).within)
 
-pub walk-breaks : (frame : Frame) (buckets : List BucketRecord) (marks : List Bool) (number : ℕ) (shelf : BucketShelfRecord) (fault : RestoreFault)
+pub walk-breaks : (frame : Frame) (buckets : List LinkedBucket) (marks : List Bool) (number : ℕ) (shelf : LinkedBucketShelf) (fault : RestoreFault)
     → BreaksWalk (links_of buckets) marks (bucket_walk buckets shelf.first_bucket) fault → BreaksShelf frame buckets marks number shelf fault
 walk-breaks frame buckets marks number shelf Link h =
     λ stops _. h (subst (λ (n : ℕ). StopsInRange n (bucket_walk buckets shelf.first_bucket)) (sym (links-length buckets)) stops)
@@ -47,7 +47,7 @@ walk-breaks frame buckets marks number shelf Sharing h = h
 walk-breaks frame buckets marks number shelf Memory h = h
 walk-breaks frame buckets marks number shelf _ h = absurd h
 
-pub walk-breaks-unused : (buckets : List BucketRecord) (marks : List Bool) (unused : Option ℕ) (fault : RestoreFault)
+pub walk-breaks-unused : (buckets : List LinkedBucket) (marks : List Bool) (unused : Option ℕ) (fault : RestoreFault)
     → BreaksWalk (links_of buckets) marks (bucket_walk buckets unused) fault → BreaksUnused buckets marks unused fault
 walk-breaks-unused buckets marks unused Link h =
     λ stops. h (subst (λ (n : ℕ). StopsInRange n (bucket_walk buckets unused)) (sym (links-length buckets)) stops)
@@ -59,14 +59,14 @@ walk-breaks-unused buckets marks unused Memory h = h
 walk-breaks-unused buckets marks unused _ h = absurd h
 
 -- a rule that is broken by the records put aside is broken
-pub unused-breaks : (frame : Frame) (buckets : List BucketRecord) (shelves : List BucketShelfRecord) (atlas : BucketRecords) (marks : List Bool) (unused : Option ℕ) (fault : RestoreFault)
+pub unused-breaks : (frame : Frame) (buckets : List LinkedBucket) (shelves : List LinkedBucketShelf) (atlas : BucketRecords) (marks : List Bool) (unused : Option ℕ) (fault : RestoreFault)
     → IsMarkedBy marks (walked_numbers buckets shelves) → BreaksUnused buckets marks unused fault
     → atlas.frame ≡ frame → atlas.shelves ≡ shelves → atlas.buckets ≡ buckets → atlas.unused ≡ unused → Breaks atlas fault
 unused-breaks frame buckets shelves atlas marks unused fault marked h same_frame same_shelves same_buckets same_unused =
     of_atlas fault
-    (subst (λ (bs : List BucketRecord). IsMarkedBy marks (walked_numbers bs atlas.shelves)) (sym same_buckets)
-    (subst (λ (ss : List BucketShelfRecord). IsMarkedBy marks (walked_numbers buckets ss)) (sym same_shelves) marked))
-    (subst (λ (bs : List BucketRecord). BreaksUnused bs marks atlas.unused fault) (sym same_buckets)
+    (subst (λ (bs : List LinkedBucket). IsMarkedBy marks (walked_numbers bs atlas.shelves)) (sym same_buckets)
+    (subst (λ (ss : List LinkedBucketShelf). IsMarkedBy marks (walked_numbers buckets ss)) (sym same_shelves) marked))
+    (subst (λ (bs : List LinkedBucket). BreaksUnused bs marks atlas.unused fault) (sym same_buckets)
     (subst (λ (link : Option ℕ). BreaksUnused buckets marks link fault) (sym same_unused) h))
   where
     of_atlas : (f : RestoreFault) → IsMarkedBy marks (walked_numbers atlas.buckets atlas.shelves) → BreaksUnused atlas.buckets marks atlas.unused f → Breaks atlas f

@@ -13,8 +13,8 @@ use Rattle.etagere_links.specs.Links.{no_link}
 use Rattle.etagere_links.specs.Marks.{IsMarkedBy}
 use Rattle.etagere_links.proofs.AllLists.LinkedWalks.{part-of}
 use Rattle.etagere_links.proofs.Tallies.{length-once}
-use Rattle.etagere_bucketed.specs.declared.records.BucketRecord.{BucketRecord}
-use Rattle.etagere_bucketed.specs.declared.records.BucketShelfRecord.{BucketShelfRecord}
+use Rattle.etagere_bucketed.specs.declared.records.LinkedBucket.{LinkedBucket}
+use Rattle.etagere_bucketed.specs.declared.records.LinkedBucketShelf.{LinkedBucketShelf}
 use Rattle.etagere_bucketed.specs.BucketRecords.{BucketRecords, bucket_walk, spelled_shelf}
 use Rattle.etagere_bucketed.specs.Private.Judging.{Judged}
 use Rattle.etagere_bucketed.specs.Private.Store.{KeptShelf}
@@ -25,7 +25,7 @@ use Rattle.etagere_bucketed.specs.StandsFor.{AreLinked, HasBuckets, StopsInRange
 use Rattle.etagere_bucketed.specs.State.{BucketShelf}
 
 -- the numbers of shelves end to end
-pub walked-append : (buckets : List BucketRecord) (xs ys : List BucketShelfRecord) → walked_numbers buckets (xs ++ ys) ≡ walked_numbers buckets xs ++ walked_numbers buckets ys
+pub walked-append : (buckets : List LinkedBucket) (xs ys : List LinkedBucketShelf) → walked_numbers buckets (xs ++ ys) ≡ walked_numbers buckets xs ++ walked_numbers buckets ys
 walked-append buckets [] ys = refl
 walked-append buckets (x ∷ xs) ys =
     ap (λ (ns : List ℕ). (bucket_walk buckets x.first_bucket).met ++ ns) (walked-append buckets xs ys)
@@ -37,7 +37,7 @@ space-append [] ys = omega arith
 space-append (x ∷ xs) ys = omega (arith, space-append xs ys)
 
 -- one more shelf that was judged
-judged-append : (frame : Frame) (buckets : List BucketRecord) (number : ℕ) (xs : List BucketShelfRecord) (x : BucketShelfRecord)
+judged-append : (frame : Frame) (buckets : List LinkedBucket) (number : ℕ) (xs : List LinkedBucketShelf) (x : LinkedBucketShelf)
     → AreJudged frame buckets number xs → IsJudged frame buckets (number + length xs) x → AreJudged frame buckets number (xs ++ x ∷ [])
 judged-append frame buckets number [] x all one =
     let same : number + 0 ≡ number = omega arith in
@@ -47,11 +47,11 @@ judged-append frame buckets number (y ∷ ys) x all one =
     (all.0, judged-append frame buckets (suc number) ys x all.1 (subst (λ (n : ℕ). IsJudged frame buckets n x) same one))
 
 -- no shelf was judged yet
-pub none-kept : (frame : Frame) (buckets : List BucketRecord) (marks : List Bool) → IsMarkedBy marks [] → AreKeptSoFar frame buckets [] [] marks 0 0
+pub none-kept : (frame : Frame) (buckets : List LinkedBucket) (marks : List Bool) → IsMarkedBy marks [] → AreKeptSoFar frame buckets [] [] marks 0 0
 none-kept frame buckets marks none = record { judged = tt; kept = refl; marked = none; counted = refl; space = refl }
 
 -- one more shelf was judged
-pub more-kept : (frame : Frame) (buckets : List BucketRecord) (xs : List BucketShelfRecord) (x : BucketShelfRecord) (kept : List KeptShelf) (told : Judged) (marks more : List Bool) (steps area : ℕ)
+pub more-kept : (frame : Frame) (buckets : List LinkedBucket) (xs : List LinkedBucketShelf) (x : LinkedBucketShelf) (kept : List KeptShelf) (told : Judged) (marks more : List Bool) (steps area : ℕ)
     → AreKeptSoFar frame buckets xs kept marks steps area → IsShelfJudged frame buckets (length xs) x told
     → ((numbers : List ℕ) → IsMarkedBy marks numbers → IsMarkedBy more (numbers ++ (bucket_walk buckets x.first_bucket).met))
     → AreKeptSoFar frame buckets (xs ++ x ∷ []) (kept ++ told.kept ∷ []) more (steps + length (bucket_walk buckets x.first_bucket).met) (area + told.space)
@@ -70,7 +70,7 @@ more-kept frame buckets xs x kept told marks more steps area so_far one marks-mo
     }
 
 -- the links of the shelf behind others
-linked-middle : (buckets : List BucketRecord) (number : ℕ) (xs : List BucketShelfRecord) (x : BucketShelfRecord) (ys : List BucketShelfRecord)
+linked-middle : (buckets : List LinkedBucket) (number : ℕ) (xs : List LinkedBucketShelf) (x : LinkedBucketShelf) (ys : List LinkedBucketShelf)
     → AreLinked buckets number (xs ++ x ∷ ys)
     → StopsInRange (length buckets) (bucket_walk buckets x.first_bucket) × Each (λ (n : ℕ). shelf_of buckets n ≡ number + length xs) (bucket_walk buckets x.first_bucket).met
 linked-middle buckets number [] x ys linked =
@@ -82,7 +82,7 @@ linked-middle buckets number (z ∷ zs) x ys linked =
     (rest.0, subst (λ (k : ℕ). Each (λ (n : ℕ). shelf_of buckets n ≡ k) (bucket_walk buckets x.first_bucket).met) same rest.1)
 
 -- a shelf behind others that breaks a rule breaks it for all
-pub shelf-breaks : (atlas : BucketRecords) (xs : List BucketShelfRecord) (x : BucketShelfRecord) (ys : List BucketShelfRecord) (marks : List Bool) (fault : RestoreFault)
+pub shelf-breaks : (atlas : BucketRecords) (xs : List LinkedBucketShelf) (x : LinkedBucketShelf) (ys : List LinkedBucketShelf) (marks : List Bool) (fault : RestoreFault)
     → atlas.shelves ≡ xs ++ x ∷ ys → IsMarkedBy marks (walked_numbers atlas.buckets xs)
     → BreaksShelf atlas.frame atlas.buckets marks (length xs) x fault → Breaks atlas fault
 shelf-breaks atlas xs x ys marks Link all marked h = λ links.
@@ -96,13 +96,13 @@ shelf-breaks atlas xs x ys marks Sharing all marked h = λ shared.
     let met = (bucket_walk atlas.buckets x.first_bucket).met in
     let unused = (bucket_walk atlas.buckets atlas.unused).met in
     let numbers = walked_numbers atlas.buckets in
-    let end = Each-middle (λ (shelf : BucketShelfRecord). (bucket_walk atlas.buckets shelf.first_bucket).end ≡ no_link) xs x ys
-    (subst (Each (λ (shelf : BucketShelfRecord). (bucket_walk atlas.buckets shelf.first_bucket).end ≡ no_link)) all shared.ends) in
+    let end = Each-middle (λ (shelf : LinkedBucketShelf). (bucket_walk atlas.buckets shelf.first_bucket).end ≡ no_link) xs x ys
+    (subst (Each (λ (shelf : LinkedBucketShelf). (bucket_walk atlas.buckets shelf.first_bucket).end ≡ no_link)) all shared.ends) in
     let twice = h end (numbers xs) marked in
     let k : ℕ = twice.0 in
     let part = part-of (length atlas.buckets) (numbers atlas.shelves ++ unused) (numbers atlas.shelves ++ unused) shared.once (λ n. omega arith) in
     let split : times k (numbers atlas.shelves) ≡ times k (numbers xs) + times k (numbers (x ∷ ys)) =
-    ap (λ (ss : List BucketShelfRecord). times k (numbers ss)) all ∙ ap (times k) (walked-append atlas.buckets xs (x ∷ ys)) ∙ times-append k (numbers xs) (numbers (x ∷ ys)) in
+    ap (λ (ss : List LinkedBucketShelf). times k (numbers ss)) all ∙ ap (times k) (walked-append atlas.buckets xs (x ∷ ys)) ∙ times-append k (numbers xs) (numbers (x ∷ ys)) in
     omega (arith, part.once k, twice.1, split, times-append k (numbers atlas.shelves) unused, times-append k (numbers xs) met, times-append k met (numbers ys))
 shelf-breaks atlas xs x ys marks Memory all marked h = h
 shelf-breaks atlas xs x ys marks _ all marked h = absurd h
@@ -124,7 +124,7 @@ marked-few marks ns marked = length-once (length marks) ns (λ k. once k (slice_
     within k stands true e = grind (arith, e)
 
 -- so many steps as records at most
-pub steps-few : (frame : Frame) (buckets : List BucketRecord) (xs : List BucketShelfRecord) (kept : List KeptShelf) (marks : List Bool) (steps area : ℕ)
+pub steps-few : (frame : Frame) (buckets : List LinkedBucket) (xs : List LinkedBucketShelf) (kept : List KeptShelf) (marks : List Bool) (steps area : ℕ)
     → AreKeptSoFar frame buckets xs kept marks steps area → steps ≤ length marks
 steps-few frame buckets xs kept marks steps area so_far = omega (arith, so_far.counted, marked-few marks (walked_numbers buckets xs) so_far.marked)
 
@@ -150,14 +150,14 @@ length_of_take (y ∷ ys) zero within = refl
 length_of_take (y ∷ ys) (suc n) within = omega (arith, length_of_take ys n (omega (arith, within)))
 
 -- a shelf that breaks a rule breaks it for all
-pub breaks-at : (frame : Frame) (buckets : List BucketRecord) (shelves : List BucketShelfRecord) (atlas : BucketRecords) (n : ℕ) (x : BucketShelfRecord) (marks : List Bool) (fault : RestoreFault)
+pub breaks-at : (frame : Frame) (buckets : List LinkedBucket) (shelves : List LinkedBucketShelf) (atlas : BucketRecords) (n : ℕ) (x : LinkedBucketShelf) (marks : List Bool) (fault : RestoreFault)
     → slice_get shelves n ≡ Some x → IsMarkedBy marks (walked_numbers buckets (take n shelves)) → BreaksShelf frame buckets marks n x fault
     → atlas.frame ≡ frame → atlas.shelves ≡ shelves → atlas.buckets ≡ buckets → Breaks atlas fault
 breaks-at frame buckets shelves atlas n x marks fault here marked h same_frame same_shelves same_buckets =
     let within : n < length shelves = slice_get_within shelves n x here in
     let before : n ≡ length (take n shelves) = sym (length_of_take shelves n within) in
     shelf-breaks atlas (take n shelves) x (drop (suc n) shelves) marks fault (same_shelves ∙ split-at shelves n x here)
-    (subst (λ (bs : List BucketRecord). IsMarkedBy marks (walked_numbers bs (take n shelves))) (sym same_buckets) marked)
+    (subst (λ (bs : List LinkedBucket). IsMarkedBy marks (walked_numbers bs (take n shelves))) (sym same_buckets) marked)
     (subst (λ (k : ℕ). BreaksShelf atlas.frame atlas.buckets marks k x fault) before
-    (subst (λ (bs : List BucketRecord). BreaksShelf atlas.frame bs marks n x fault) (sym same_buckets)
+    (subst (λ (bs : List LinkedBucket). BreaksShelf atlas.frame bs marks n x fault) (sym same_buckets)
     (subst (λ (f : Frame). BreaksShelf f buckets marks n x fault) (sym same_frame) h)))

@@ -10,8 +10,8 @@ use Rattle.etagere_base.specs.declared.frames.Frame.{Frame}
 use Rattle.etagere_base.specs.Deciding.{Decides}
 use Rattle.etagere_base.specs.Frames.{alignment_along}
 use Rattle.etagere_base.specs.Lists.{Each}
-use Rattle.etagere_bucketed.specs.declared.records.BucketRecord.{BucketRecord}
-use Rattle.etagere_bucketed.specs.declared.records.BucketShelfRecord.{BucketShelfRecord}
+use Rattle.etagere_bucketed.specs.declared.records.LinkedBucket.{LinkedBucket}
+use Rattle.etagere_bucketed.specs.declared.records.LinkedBucketShelf.{LinkedBucketShelf}
 use Rattle.etagere_bucketed.specs.BucketRecords.{bucket_at, spelled_bucket}
 use Rattle.etagere_bucketed.specs.Private.Judging.{begins_at, begins_by, has_buckets, is_filled, is_filled_at, is_owned, is_unused, last_stand, live_by, stand_at, stand_by, stand_together, used_by, widest_by}
 use Rattle.etagere_bucketed.specs.Private.Searching.{record_room}
@@ -22,41 +22,41 @@ use Rattle.etagere_bucketed.specs.State.{Bucket, most_given}
 use Rattle.etagere_bucketed.proofs.Judged.FrameTests.{decides-eq, decides-le}
 
 -- a record that is there
-pub record IsThere (buckets : List BucketRecord) (n : ℕ) : Type 0 where
-  pub bucket : BucketRecord
+pub record IsThere (buckets : List LinkedBucket) (n : ℕ) : Type 0 where
+  pub bucket : LinkedBucket
   pub here : slice_get buckets n ≡ Some bucket
 
-pub there : (buckets : List BucketRecord) (n : ℕ) → n < length buckets → IsThere buckets n
+pub there : (buckets : List LinkedBucket) (n : ℕ) → n < length buckets → IsThere buckets n
 there buckets n within =
     ⊎_elim (λ found. record { bucket = found.0; here = found.2 }) (λ none. absurd (omega (arith, within, none.0))) (slice_get_cases buckets n).1
 
 -- a test of each of some numbers, where a test of the record decides a fact
-pub all-decided : (buckets : List BucketRecord) (test : ℕ → Bool) (P : ℕ → Type 0) (ns : List ℕ) → ((n : ℕ) → n < length buckets → Decides (test n) (P n))
+pub all-decided : (buckets : List LinkedBucket) (test : ℕ → Bool) (P : ℕ → Type 0) (ns : List ℕ) → ((n : ℕ) → n < length buckets → Decides (test n) (P n))
     → Each (λ (n : ℕ). n < length buckets) ns → Decides (list_all test ns) (Each P ns)
 all-decided buckets test P [] one within = tt
 all-decided buckets test P (n ∷ ns) one within =
     decides-both (test n) (list_all test ns) (P n) (Each P ns) (one n within.0) (all-decided buckets test P ns one within.1)
 
 -- the record of a number names a shelf
-owned-one : (buckets : List BucketRecord) (shelf n : ℕ) → n < length buckets → Decides (is_owned buckets shelf n) (shelf_of buckets n ≡ shelf)
+owned-one : (buckets : List LinkedBucket) (shelf n : ℕ) → n < length buckets → Decides (is_owned buckets shelf n) (shelf_of buckets n ≡ shelf)
 owned-one buckets shelf n within =
     let is = there buckets n within in
-    subst (λ (o : Option BucketRecord). Decides (option_map_or (λ (b : BucketRecord). b.shelf == shelf) o false) (option_map_or (λ (b : BucketRecord). b.shelf) o 0 ≡ shelf))
+    subst (λ (o : Option LinkedBucket). Decides (option_map_or (λ (b : LinkedBucket). b.shelf == shelf) o false) (option_map_or (λ (b : LinkedBucket). b.shelf) o 0 ≡ shelf))
     (sym is.here) (decides-eq is.bucket.shelf shelf)
 
 -- those of some numbers do
-pub owned-decided : (buckets : List BucketRecord) (shelf : ℕ) (ns : List ℕ) → Each (λ (n : ℕ). n < length buckets) ns
+pub owned-decided : (buckets : List LinkedBucket) (shelf : ℕ) (ns : List ℕ) → Each (λ (n : ℕ). n < length buckets) ns
     → Decides (list_all (is_owned buckets shelf) ns) (Each (λ (n : ℕ). shelf_of buckets n ≡ shelf) ns)
 owned-decided buckets shelf ns within = all-decided buckets (is_owned buckets shelf) (λ (n : ℕ). shelf_of buckets n ≡ shelf) ns (owned-one buckets shelf) within
 
 -- nothing of the record of a number is live
-unused-one : (buckets : List BucketRecord) (n : ℕ) → n < length buckets → Decides (is_unused buckets n) (live_of buckets n ≡ 0)
+unused-one : (buckets : List LinkedBucket) (n : ℕ) → n < length buckets → Decides (is_unused buckets n) (live_of buckets n ≡ 0)
 unused-one buckets n within =
     let is = there buckets n within in
-    subst (λ (o : Option BucketRecord). Decides (option_map_or (λ (b : BucketRecord). b.refcount == 0) o false) (option_map_or (λ (b : BucketRecord). b.refcount) o 0 ≡ 0))
+    subst (λ (o : Option LinkedBucket). Decides (option_map_or (λ (b : LinkedBucket). b.refcount == 0) o false) (option_map_or (λ (b : LinkedBucket). b.refcount) o 0 ≡ 0))
     (sym is.here) (decides-eq is.bucket.refcount 0)
 
-pub unused-decided : (buckets : List BucketRecord) (ns : List ℕ) → Each (λ (n : ℕ). n < length buckets) ns
+pub unused-decided : (buckets : List LinkedBucket) (ns : List ℕ) → Each (λ (n : ℕ). n < length buckets) ns
     → Decides (list_all (is_unused buckets) ns) (Each (λ (n : ℕ). live_of buckets n ≡ 0) ns)
 unused-decided buckets ns within = all-decided buckets (is_unused buckets) (λ (n : ℕ). live_of buckets n ≡ 0) ns (unused-one buckets) within
 
@@ -83,7 +83,7 @@ uses-decided alignment height live given used = by_test (live == 0) refl
         (decides-both (nat_le (given * alignment) used) (nat_le 1 height) (given * alignment ≤ used) (1 ≤ height) (decides-le (given * alignment) used) (decides-le 1 height))
 
 -- what the tests of a bucket record tell
-filled-record : (alignment width height : ℕ) (r : BucketRecord) → Decides (is_filled alignment width height r) (IsFilled alignment width height r)
+filled-record : (alignment width height : ℕ) (r : LinkedBucket) → Decides (is_filled alignment width height r) (IsFilled alignment width height r)
 filled-record alignment width height r =
     let used : ℕ = width - r.free_space in
     let uses : Type 0 = (r.refcount ≡ 0 → (r.item_count ≡ 0) × (used ≡ 0)) × (1 ≤ r.refcount → (r.item_count * alignment ≤ used) × (1 ≤ height)) in
@@ -98,12 +98,12 @@ filled-record alignment width height r =
     (decides-both (nat_le r.refcount r.item_count) (nat_le r.item_count most_given) (r.refcount ≤ r.item_count) (r.item_count ≤ most_given) (decides-le r.refcount r.item_count) (decides-le r.item_count most_given))
     (uses-decided alignment height r.refcount r.item_count used))))
 
-module _ (buckets : List BucketRecord) where
+module _ (buckets : List LinkedBucket) where
   filled-one : (alignment width height n : ℕ) → n < length buckets
       → Decides (is_filled_at alignment width height buckets n) (IfSome (slice_get buckets n) (IsFilled alignment width height))
   filled-one alignment width height n within =
       let is = there buckets n within in
-      subst (λ (o : Option BucketRecord). Decides (option_map_or (is_filled alignment width height) o false) (IfSome o (IsFilled alignment width height)))
+      subst (λ (o : Option LinkedBucket). Decides (option_map_or (is_filled alignment width height) o false) (IfSome o (IsFilled alignment width height)))
       (sym is.here) (filled-record alignment width height is.bucket)
 
   -- the last bucket stands at the begin
@@ -113,8 +113,8 @@ module _ (buckets : List BucketRecord) where
       let is = there buckets n within in
       let r = is.bucket in
       subst
-      (λ (o : Option BucketRecord). Decides (option_map_or (begins_at width begin end) o false)
-      ((option_map_or (λ (b : BucketRecord). b.x) o 0 ≡ begin) × (option_map_or (λ (b : BucketRecord). b.x) o 0 + width ≤ end)))
+      (λ (o : Option LinkedBucket). Decides (option_map_or (begins_at width begin end) o false)
+      ((option_map_or (λ (b : LinkedBucket). b.x) o 0 ≡ begin) × (option_map_or (λ (b : LinkedBucket). b.x) o 0 + width ≤ end)))
       (sym is.here)
       (decides-both (r.x == begin) (nat_le (r.x + width) end) (r.x ≡ begin) (r.x + width ≤ end) (decides-eq r.x begin) (decides-le (r.x + width) end))
 
@@ -128,8 +128,8 @@ module _ (buckets : List BucketRecord) where
       let r = is.bucket in
       let Rest : ℕ → Type 0 = λ place. StandDown alignment width begin place (map (place_of buckets) (m ∷ ms)) in
       subst
-      (λ (o : Option BucketRecord). Decides (option_map_or (λ (place : ℕ). stand_together alignment width buckets begin place (m ∷ ms)) (option_and_then (stand_at alignment width end) o) false)
-      ((option_map_or (λ (b : BucketRecord). b.x) o 0 % alignment ≡ 0) × (option_map_or (λ (b : BucketRecord). b.x) o 0 + width ≤ end) × Rest (option_map_or (λ (b : BucketRecord). b.x) o 0)))
+      (λ (o : Option LinkedBucket). Decides (option_map_or (λ (place : ℕ). stand_together alignment width buckets begin place (m ∷ ms)) (option_and_then (stand_at alignment width end) o) false)
+      ((option_map_or (λ (b : LinkedBucket). b.x) o 0 % alignment ≡ 0) × (option_map_or (λ (b : LinkedBucket). b.x) o 0 + width ≤ end) × Rest (option_map_or (λ (b : LinkedBucket). b.x) o 0)))
       (sym is.here)
       (by_test r.x (r.x % alignment == 0 && nat_le (r.x + width) end) refl
       (decides-both (r.x % alignment == 0) (nat_le (r.x + width) end) (r.x % alignment ≡ 0) (r.x + width ≤ end) (decides-eq (r.x % alignment) 0) (decides-le (r.x + width) end))
@@ -158,7 +158,7 @@ module _ (buckets : List BucketRecord) where
       by_test false e = λ same. let here : (columns == 1) ≡ true = rw same refl in absurd (cc)
 
   -- the tests decide whether these are the buckets of a shelf
-  pub buckets-decided : (frame : Frame) (shelf : BucketShelfRecord) (ns : List ℕ) → Each (λ (n : ℕ). n < length buckets) ns
+  pub buckets-decided : (frame : Frame) (shelf : LinkedBucketShelf) (ns : List ℕ) → Each (λ (n : ℕ). n < length buckets) ns
       → Decides (has_buckets frame buckets shelf ns) (AreBuckets frame buckets shelf ns)
   buckets-decided frame shelf ns within =
       let al : ℕ = alignment_along frame in
@@ -196,34 +196,34 @@ module _ (buckets : List BucketRecord) where
       (λ place. stand-last alignment width begin place (o ∷ os) last)
 
 -- what records have used is what their buckets have used
-pub used-spelled : (buckets : List BucketRecord) (width : ℕ) (ns : List ℕ) → used_by width buckets ns ≡ used_width (map (bucket_at buckets width) ns)
+pub used-spelled : (buckets : List LinkedBucket) (width : ℕ) (ns : List ℕ) → used_by width buckets ns ≡ used_width (map (bucket_at buckets width) ns)
 used-spelled buckets width [] = refl
 used-spelled buckets width (n ∷ ns) = omega (arith, one (slice_get buckets n), used-spelled buckets width ns)
   where
-    one : (o : Option BucketRecord) → option_map_or (λ (b : BucketRecord). width - b.free_space) o 0
+    one : (o : Option LinkedBucket) → option_map_or (λ (b : LinkedBucket). width - b.free_space) o 0
         ≡ (option_map_or (spelled_bucket width n) o (record { place = 0; used = 0; live = 0; given = 0; tag = record { number = n; generation = 0 } })).used
     one None = refl
     one (Some r) = refl
 
 -- so many are live
-pub live-spelled : (buckets : List BucketRecord) (width : ℕ) (ns : List ℕ) → live_by buckets ns ≡ live_items (map (bucket_at buckets width) ns)
+pub live-spelled : (buckets : List LinkedBucket) (width : ℕ) (ns : List ℕ) → live_by buckets ns ≡ live_items (map (bucket_at buckets width) ns)
 live-spelled buckets width [] = refl
 live-spelled buckets width (n ∷ ns) = omega (arith, one (slice_get buckets n), live-spelled buckets width ns)
   where
-    one : (o : Option BucketRecord) → option_map_or (λ (b : BucketRecord). b.refcount) o 0
+    one : (o : Option LinkedBucket) → option_map_or (λ (b : LinkedBucket). b.refcount) o 0
         ≡ (option_map_or (spelled_bucket width n) o (record { place = 0; used = 0; live = 0; given = 0; tag = record { number = n; generation = 0 } })).live
     one None = refl
     one (Some r) = refl
 
 -- and so much one of them can give
-pub widest-spelled : (buckets : List BucketRecord) (width : ℕ) (ns : List ℕ) → Each (λ (n : ℕ). n < length buckets) ns → Each (λ (n : ℕ). free_of buckets n ≤ width) ns
+pub widest-spelled : (buckets : List LinkedBucket) (width : ℕ) (ns : List ℕ) → Each (λ (n : ℕ). n < length buckets) ns → Each (λ (n : ℕ). free_of buckets n ≤ width) ns
     → widest_by buckets ns ≡ widest_room width (map (bucket_at buckets width) ns)
 widest-spelled buckets width [] within frees = refl
 widest-spelled buckets width (n ∷ ns) within frees =
     let is = there buckets n within.0 in
     ap (λ (m : ℕ). max m (widest_by buckets ns))
     (subst
-    (λ (o : Option BucketRecord). option_map_or (λ (b : BucketRecord). b.free_space) o 0 ≤ width → option_map_or record_room o 0
+    (λ (o : Option LinkedBucket). option_map_or (λ (b : LinkedBucket). b.free_space) o 0 ≤ width → option_map_or record_room o 0
     ≡ room_of width (option_map_or (spelled_bucket width n) o (record { place = 0; used = 0; live = 0; given = 0; tag = record { number = n; generation = 0 } })))
     (sym is.here) (λ fits. same is.bucket.item_count is.bucket.free_space fits) frees.0)
     ∙ ap (λ (m : ℕ). max (room_of width (bucket_at buckets width n)) m) (widest-spelled buckets width ns within.1 frees.1)

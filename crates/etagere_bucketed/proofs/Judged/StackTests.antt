@@ -9,8 +9,8 @@ use Rattle.etagere_base.specs.declared.frames.Frame.{Frame}
 use Rattle.etagere_base.specs.Deciding.{Decides}
 use Rattle.etagere_base.specs.Frames.{across_side}
 use Rattle.etagere_base.specs.Lists.{Each}
-use Rattle.etagere_bucketed.specs.declared.records.BucketRecord.{BucketRecord}
-use Rattle.etagere_bucketed.specs.declared.records.BucketShelfRecord.{BucketShelfRecord}
+use Rattle.etagere_bucketed.specs.declared.records.LinkedBucket.{LinkedBucket}
+use Rattle.etagere_bucketed.specs.declared.records.LinkedBucketShelf.{LinkedBucketShelf}
 use Rattle.etagere_bucketed.specs.BucketRecords.{BucketRecords, spelled_shelf, spelled_state}
 use Rattle.etagere_bucketed.specs.Private.Judging.{Stack, is_stacked, stack_end}
 use Rattle.etagere_bucketed.specs.StandsFor.{AreStacked, HasShelves, height_before}
@@ -25,51 +25,51 @@ decides-or true c P Q p q = inl p
 decides-or false true P Q p q = inr q
 decides-or false false P Q p q = λ one. ⊎_elim p q one
 
-module _ (frame : Frame) (buckets : List BucketRecord) where
-  abbrev spelled : List BucketShelfRecord → List BucketShelf
+module _ (frame : Frame) (buckets : List LinkedBucket) where
+  abbrev spelled : List LinkedBucketShelf → List BucketShelf
   spelled shelves = map (spelled_shelf frame buckets) shelves
 
   -- how tall the shelves of a column are that stand so far
-  abbrev so_far : List BucketShelfRecord → ℕ → ℕ
+  abbrev so_far : List LinkedBucketShelf → ℕ → ℕ
   so_far before column = height_before frame.column_width column before
 
   -- the heights of a column by what records spell
-  pub height-spelled : (column : ℕ) (shelves : List BucketShelfRecord) → column_height column (spelled shelves) ≡ so_far shelves column
+  pub height-spelled : (column : ℕ) (shelves : List LinkedBucketShelf) → column_height column (spelled shelves) ≡ so_far shelves column
   height-spelled column [] = refl
   height-spelled column (s ∷ ss) = ap (λ (h : ℕ). cond (s.x / frame.column_width == column) s.height 0 + h) (height-spelled column ss)
 
   -- one more shelf
-  far-append : (column : ℕ) (xs : List BucketShelfRecord) (x : BucketShelfRecord)
+  far-append : (column : ℕ) (xs : List LinkedBucketShelf) (x : LinkedBucketShelf)
       → so_far (xs ++ x ∷ []) column ≡ so_far xs column + cond (x.x / frame.column_width == column) x.height 0
   far-append column [] x = omega arith
   far-append column (y ∷ ys) x = omega (arith, far-append column ys x)
 
   -- so many columns are opened by the shelves so far, the last one so tall
-  record IsSoFar (before : List BucketShelfRecord) (stack : Stack) : Type 0 where
+  record IsSoFar (before : List LinkedBucketShelf) (stack : Stack) : Type 0 where
     pub later : (c : ℕ) → stack.opened ≤ c → so_far before c ≡ 0
     pub last : (c : ℕ) → suc c ≡ stack.opened → so_far before c ≡ stack.height
     pub low : (c : ℕ) → so_far before c ≤ across_side frame
     pub none : stack.opened ≡ 0 → stack.height ≡ 0
 
   -- the rest keeps the rule of shelves behind those
-  record IsRest (before shelves : List BucketShelfRecord) (opened : ℕ) : Type 0 where
+  record IsRest (before shelves : List LinkedBucketShelf) (opened : ℕ) : Type 0 where
     pub columns : Each (λ (shelf : BucketShelf). shelf.column < frame.columns) (spelled shelves)
     pub opens : OpenColumns opened (spelled shelves)
-    pub along : Each (λ (shelf : BucketShelfRecord). shelf.x % frame.column_width ≡ 0) shelves
+    pub along : Each (λ (shelf : LinkedBucketShelf). shelf.x % frame.column_width ≡ 0) shelves
     pub across : AreStacked frame.column_width before shelves
     pub heights : (c : ℕ) → so_far before c + column_height c (spelled shelves) ≤ across_side frame
 
   -- what the pass found, where it found anything
-  record IsEnd (before shelves : List BucketShelfRecord) (opened : ℕ) (end : Stack) : Type 0 where
+  record IsEnd (before shelves : List LinkedBucketShelf) (opened : ℕ) (end : Stack) : Type 0 where
     pub rest : IsRest before shelves opened
     pub far : IsSoFar (before ++ shelves) end
     pub opened_end : opened_by opened (spelled shelves) ≡ end.opened
 
-  abbrev Told : List BucketShelfRecord → List BucketShelfRecord → ℕ → Option Stack → Type 0
+  abbrev Told : List LinkedBucketShelf → List LinkedBucketShelf → ℕ → Option Stack → Type 0
   Told before shelves opened None = IsRest before shelves opened → ⊥
   Told before shelves opened (Some end) = IsEnd before shelves opened end
 
-  module _ (before : List BucketShelfRecord) (stack : Stack) (s : BucketShelfRecord) (far : IsSoFar before stack) where
+  module _ (before : List LinkedBucketShelf) (stack : Stack) (s : LinkedBucketShelf) (far : IsSoFar before stack) where
     abbrev column : ℕ
     column = s.x / frame.column_width
 
@@ -138,7 +138,7 @@ module _ (frame : Frame) (buckets : List BucketRecord) where
         }
 
     -- the rule of the shelf and of the rest behind it
-    rest-to : (ss : List BucketShelfRecord) → Along → GoesOn → Across → IsRest (before ++ s ∷ []) ss (column + 1) → IsRest before (s ∷ ss) stack.opened
+    rest-to : (ss : List LinkedBucketShelf) → Along → GoesOn → Across → IsRest (before ++ s ∷ []) ss (column + 1) → IsRest before (s ∷ ss) stack.opened
     rest-to ss along goes across rest =
         let one : column + 1 ≡ suc column = omega arith in
         record {
@@ -149,7 +149,7 @@ module _ (frame : Frame) (buckets : List BucketRecord) where
           heights = λ c. omega (arith, rest.heights c, far-append c before s);
         }
 
-    rest-from : (ss : List BucketShelfRecord) → IsRest before (s ∷ ss) stack.opened → IsRest (before ++ s ∷ []) ss (column + 1)
+    rest-from : (ss : List LinkedBucketShelf) → IsRest before (s ∷ ss) stack.opened → IsRest (before ++ s ∷ []) ss (column + 1)
     rest-from ss rest =
         let one : column + 1 ≡ suc column = omega arith in
         record {
@@ -161,7 +161,7 @@ module _ (frame : Frame) (buckets : List BucketRecord) where
         }
 
     -- a shelf that keeps the rule passes the test
-    passes : (ss : List BucketShelfRecord) → IsRest before (s ∷ ss) stack.opened → Along × (GoesOn × Across)
+    passes : (ss : List LinkedBucketShelf) → IsRest before (s ∷ ss) stack.opened → Along × (GoesOn × Across)
     passes ss rest =
         let goes : GoesOn = rest.opens.0 in
         let own : (column == column) ≡ true = eq-eqb column column refl in
@@ -170,22 +170,22 @@ module _ (frame : Frame) (buckets : List BucketRecord) where
         ((rest.along.0, rest.columns.0), (goes, (rest.across.0 ∙ begins goes, omega (arith, tall, begins goes))))
 
     -- what the pass tells from the shelf on
-    told-on : (ss : List BucketShelfRecord) (end : Option Stack) → Along → GoesOn → Across → Told (before ++ s ∷ []) ss (column + 1) end → Told before (s ∷ ss) stack.opened end
+    told-on : (ss : List LinkedBucketShelf) (end : Option Stack) → Along → GoesOn → Across → Told (before ++ s ∷ []) ss (column + 1) end → Told before (s ∷ ss) stack.opened end
     told-on ss None along goes across told = λ rest. told (rest-from ss rest)
     told-on ss (Some end) along goes across told =
         let one : column + 1 ≡ suc column = omega arith in
         record {
           rest = rest-to ss along goes across told.rest;
-          far = subst (λ (xs : List BucketShelfRecord). IsSoFar xs end) (append_assoc before (s ∷ []) ss) told.far;
+          far = subst (λ (xs : List LinkedBucketShelf). IsSoFar xs end) (append_assoc before (s ∷ []) ss) told.far;
           opened_end = ap (λ (n : ℕ). opened_by n (spelled ss)) (sym one) ∙ told.opened_end;
         }
 
   -- the pass tells whether the rest keeps the rule
-  told : (shelves before : List BucketShelfRecord) (stack : Stack) → IsSoFar before stack → Told before shelves stack.opened (stack_end frame stack shelves)
+  told : (shelves before : List LinkedBucketShelf) (stack : Stack) → IsSoFar before stack → Told before shelves stack.opened (stack_end frame stack shelves)
   told [] before stack far =
       record {
         rest = record { columns = tt; opens = tt; along = tt; across = tt; heights = λ c. omega (arith, far.low c) };
-        far = subst (λ (xs : List BucketShelfRecord). IsSoFar xs stack) (sym (append-nil before)) far;
+        far = subst (λ (xs : List LinkedBucketShelf). IsSoFar xs stack) (sym (append-nil before)) far;
         opened_end = refl;
       }
   told (s ∷ ss) before stack far =
@@ -210,7 +210,7 @@ module _ (frame : Frame) (buckets : List BucketRecord) where
   far-none = record { later = λ c _. refl; last = λ c is. absurd (omega (arith, is)); low = λ c. omega arith; none = λ _. refl }
 
   -- the current column and the height that it leaves, by what the pass found
-  ends : (shelves : List BucketShelfRecord) (end : Stack) → IsEnd [] shelves 0 end
+  ends : (shelves : List LinkedBucketShelf) (end : Stack) → IsEnd [] shelves 0 end
       → (end.opened - 1 ≡ current_column (spelled shelves)) × (across_side frame - end.height ≡ available_height frame (spelled shelves))
   ends [] end is =
       let none : end.opened ≡ 0 = sym is.opened_end in

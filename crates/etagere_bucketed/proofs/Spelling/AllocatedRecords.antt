@@ -11,7 +11,7 @@ use Rattle.etagere_base.specs.declared.ids.Allocation.{Allocation}
 use Rattle.etagere_base.specs.declared.sides.Sides.{Sides}
 use Rattle.etagere_base.specs.Frames.{asked}
 use Rattle.etagere_base.specs.Lists.{times}
-use Rattle.etagere_bucketed.specs.declared.records.BucketRecord.{BucketRecord}
+use Rattle.etagere_bucketed.specs.declared.records.LinkedBucket.{LinkedBucket}
 use Rattle.etagere_bucketed.specs.Adding.{left_to}
 use Rattle.etagere_bucketed.specs.Atlas.{Allocates, NeedsShelf}
 use Rattle.etagere_bucketed.specs.Placing.{BucketPlace, BucketPlacement, bucket_place, placement_of}
@@ -115,7 +115,7 @@ pub record IsAllocation (state : BucketedState) (size : Size) (sides : Sides) (s
   pub new : BucketedState
   pub unused : List ℕ
   pub allocates : (allocation : Allocation)
-      → ((kept : KeptShelf) (bucket : BucketRecord) → slice_get (stored_ready state.frame place stored).shelves found.shelf ≡ Some kept
+      → ((kept : KeptShelf) (bucket : LinkedBucket) → slice_get (stored_ready state.frame place stored).shelves found.shelf ≡ Some kept
       → slice_get (stored_ready state.frame place stored).buckets found.bucket ≡ Some bucket → allocation ≡ kept_allocation state.frame sides.along found kept bucket)
       → Allocates state size allocation new
   pub witnessed : Witnessed (taken_from state.frame sides place found stored) unused (stored_state state.frame (taken_from state.frame sides place found stored))

@@ -4,7 +4,7 @@ use Rattle.std.proofs.lemmas.Bool.Decides.{nat_tests}
 use Rattle.std.specs.List.{list_all}
 use Rattle.std.specs.Option.{option_map_or}
 use Rattle.std.specs.Prelude.{find, is_some, max, nat_le, nat_lt, option_and_then, option_map, ◌&&◌, ◌==◌}
-use Rattle.etagere_bucketed.specs.declared.records.BucketRecord.{BucketRecord}
+use Rattle.etagere_bucketed.specs.declared.records.LinkedBucket.{LinkedBucket}
 use Rattle.etagere_bucketed.specs.Picking.{has_room, is_exact}
 use Rattle.etagere_bucketed.specs.Private.Searching.{Wanted, first_from, is_wanted, record_room, widest_from}
 use Rattle.etagere_bucketed.specs.Private.Store.{AreBucketsSpelled, first_link, live_items, record_of, room_of, widest_room}
@@ -15,7 +15,7 @@ abbrev pub number_of : Bucket → ℕ
 number_of bucket = bucket.tag.number
 
 -- the first record that is wanted is that of the first bucket that passes the test
-pub first-found : (wanted : Wanted) (test : Bucket → Bool) (records : List BucketRecord) (number width : ℕ)
+pub first-found : (wanted : Wanted) (test : Bucket → Bool) (records : List LinkedBucket) (number width : ℕ)
     → ((next : Option ℕ) (b : Bucket) → is_wanted wanted (record_of number width next b) ≡ test b)
     → (steps : ℕ) (bs : List Bucket) → length bs ≤ steps → AreBucketsSpelled records number width bs
     → first_from steps wanted records (first_link bs) ≡ option_map number_of (find test bs)
@@ -23,7 +23,7 @@ first-found wanted test records number width same zero [] enough h = refl
 first-found wanted test records number width same (suc steps) [] enough h = refl
 first-found wanted test records number width same zero (b ∷ bs) enough h = absurd (omega arith)
 first-found wanted test records number width same (suc steps) (b ∷ bs) enough h =
-    ap (λ (r : Option BucketRecord). option_and_then (λ (bucket : BucketRecord). cond (is_wanted wanted bucket) (Some b.tag.number) (first_from steps wanted records bucket.next)) r) h.0
+    ap (λ (r : Option LinkedBucket). option_and_then (λ (bucket : LinkedBucket). cond (is_wanted wanted bucket) (Some b.tag.number) (first_from steps wanted records bucket.next)) r) h.0
     ∙ ap (λ (t : Bool). cond t (Some b.tag.number) (first_from steps wanted records (first_link bs))) (same (first_link bs) b)
     ∙ by_test (test b) (first_from steps wanted records (first_link bs)) (first-found wanted test records number width same steps bs (omega arith) h.1)
   where
@@ -32,13 +32,13 @@ first-found wanted test records number width same (suc steps) (b ∷ bs) enough 
     by_test false rest e = e
 
 -- the widest room by links is that of the buckets
-pub widest-read : (records : List BucketRecord) (number width steps : ℕ) (bs : List Bucket) → length bs ≤ steps → AreBucketsSpelled records number width bs
+pub widest-read : (records : List LinkedBucket) (number width steps : ℕ) (bs : List Bucket) → length bs ≤ steps → AreBucketsSpelled records number width bs
     → widest_from steps records (first_link bs) ≡ widest_room width bs
 widest-read records number width zero [] enough h = refl
 widest-read records number width (suc steps) [] enough h = refl
 widest-read records number width zero (b ∷ bs) enough h = absurd (omega arith)
 widest-read records number width (suc steps) (b ∷ bs) enough h =
-    ap (λ (r : Option BucketRecord). option_map_or (λ (bucket : BucketRecord). max (record_room bucket) (widest_from steps records bucket.next)) r 0) h.0
+    ap (λ (r : Option LinkedBucket). option_map_or (λ (bucket : LinkedBucket). max (record_room bucket) (widest_from steps records bucket.next)) r 0) h.0
     ∙ ap (λ (w : ℕ). max (room_of width b) w) (widest-read records number width steps bs (omega arith) h.1)
 
 -- a width fits the widest room where some bucket has room for it
@@ -80,6 +80,6 @@ live-idle (b ∷ bs) = sum b.live (live_items bs) ∙ ap (λ (t : Bool). (b.live
     sum one rest = grind arith
 
 -- the records of the last buckets
-pub spelled-back : (records : List BucketRecord) (number width : ℕ) (front back : List Bucket) → AreBucketsSpelled records number width (front ++ back) → AreBucketsSpelled records number width back
+pub spelled-back : (records : List LinkedBucket) (number width : ℕ) (front back : List Bucket) → AreBucketsSpelled records number width (front ++ back) → AreBucketsSpelled records number width back
 spelled-back records number width [] back h = h
 spelled-back records number width (b ∷ front) back h = spelled-back records number width front back h.1

@@ -10,7 +10,7 @@ use Rattle.etagere_base.specs.declared.frames.Frame.{Frame}
 use Rattle.etagere_base.specs.declared.sides.Sides.{Sides}
 use Rattle.etagere_base.specs.Least.{first_least}
 use Rattle.etagere_base.specs.Least.{Found as Least}
-use Rattle.etagere_bucketed.specs.declared.records.BucketRecord.{BucketRecord}
+use Rattle.etagere_bucketed.specs.declared.records.LinkedBucket.{LinkedBucket}
 use Rattle.etagere_bucketed.specs.declared.searching.Wanted.TheVariants.{Roomy, Exact}
 use Rattle.etagere_bucketed.specs.Picking.{Spot, exact_bucket, exact_or, first_spot, has_room, is_eligible, is_exact, or_else, pick, roomy_bucket, spot_in, waste}
 use Rattle.etagere_bucketed.specs.Private.Searching.{Found, exact_from, exact_in, exact_or_found, first_wanted, found_in, kept_waste, picked}
@@ -55,7 +55,7 @@ kept-drop frame before (s ∷ ss) (suc n) =
     ∙ ap (λ (bs : List BucketShelf). kept_shelves frame bs (drop n ss)) (append_assoc before (s ∷ []) (take n ss))
 
 -- the records of the buckets of a shelf
-pub spelled-at : (records : List BucketRecord) (number : ℕ) (ss : List BucketShelf) (n : ℕ) (s : BucketShelf) → AreShelvesSpelled records number ss
+pub spelled-at : (records : List LinkedBucket) (number : ℕ) (ss : List BucketShelf) (n : ℕ) (s : BucketShelf) → AreShelvesSpelled records number ss
     → slice_get ss n ≡ Some s → AreBucketsSpelled records (number + n) s.bucket_width s.buckets
 spelled-at records number [] n s h at = absurd (cc)
 spelled-at records number (x ∷ ss) zero s h at =
@@ -67,7 +67,7 @@ spelled-at records number (x ∷ ss) (suc n) s h at =
     rw later (spelled-at records (suc number) ss n s h.1 at)
 
 -- the records of the shelves behind some
-pub spelled-drop : (records : List BucketRecord) (number n : ℕ) (ss : List BucketShelf) → AreShelvesSpelled records number ss → AreShelvesSpelled records (number + n) (drop n ss)
+pub spelled-drop : (records : List LinkedBucket) (number n : ℕ) (ss : List BucketShelf) → AreShelvesSpelled records number ss → AreShelvesSpelled records (number + n) (drop n ss)
 spelled-drop records number zero ss h = let here : number + 0 ≡ number = omega arith in rw here h
 spelled-drop records number (suc n) [] h = tt
 spelled-drop records number (suc n) (s ∷ ss) h = let later : number + suc n ≡ suc number + n = omega arith in rw later (spelled-drop records (suc number) n ss h.1)
@@ -104,7 +104,7 @@ wastes-kept adds sides frame before (s ∷ ss) some =
     ∙ ap (λ (ws : List (Option ℕ)). waste adds sides s ∷ ws) (wastes-kept adds sides frame (before ++ s ∷ []) ss some)
 
 -- the exact bucket of a kept shelf is that of the shelf
-exact-kept : (sides : Sides) (records : List BucketRecord) (number : ℕ) (frame : Frame) (before : List BucketShelf) (s : BucketShelf) → 1 ≤ sides.along
+exact-kept : (sides : Sides) (records : List LinkedBucket) (number : ℕ) (frame : Frame) (before : List BucketShelf) (s : BucketShelf) → 1 ≤ sides.along
     → length s.buckets ≤ most_buckets → AreBucketsSpelled records number s.bucket_width s.buckets
     → exact_in sides records number (kept_shelf frame before s)
     ≡ option_map (λ (b : Bucket). found_seen (spot_at number s b)) (exact_bucket sides s)
@@ -132,7 +132,7 @@ exact-kept sides records number frame before s some few h =
         rw (exact-roomy sides.along s s.buckets unroomy) refl
 
 -- of kept shelves the first exact bucket is that of the shelves
-exact-from : (sides : Sides) (records : List BucketRecord) (number : ℕ) (frame : Frame) (before ss : List BucketShelf) → 1 ≤ sides.along
+exact-from : (sides : Sides) (records : List LinkedBucket) (number : ℕ) (frame : Frame) (before ss : List BucketShelf) → 1 ≤ sides.along
     → AreFew ss → AreShelvesSpelled records number ss
     → exact_from sides records number (kept_shelves frame before ss) ≡ option_map found_seen (first_spot (exact_bucket sides) number ss)
 exact-from sides records number frame before [] some few h = refl
@@ -149,22 +149,22 @@ exact-from sides records number frame before (s ∷ ss) some few h =
     either (Some b) later = refl
 
 -- the width that the record of a bucket has left
-free-read : (records : List BucketRecord) (number width item : ℕ) (s : BucketShelf) (bs : List Bucket) (b : Bucket) → find (has_room item s) bs ≡ Some b
+free-read : (records : List LinkedBucket) (number width item : ℕ) (s : BucketShelf) (bs : List Bucket) (b : Bucket) → find (has_room item s) bs ≡ Some b
     → AreBucketsSpelled records number width bs → free_of records b.tag.number ≡ width - b.used
 free-read records number width item s bs b found h =
     let stands = find-found (has_room item s) bs b found in
     let here = spelled-back records number width stands.front (b ∷ stands.back) (subst (AreBucketsSpelled records number width) stands.whole h) in
-    ap (λ (r : Option BucketRecord). option_map_or (λ (bucket : BucketRecord). bucket.free_space) r 0) here.0
+    ap (λ (r : Option LinkedBucket). option_map_or (λ (bucket : LinkedBucket). bucket.free_space) r 0) here.0
 
 -- what is picked among kept shelves where one wastes least
-abbrev picked_in : Sides → List KeptShelf → List BucketRecord → Least → Option Found
+abbrev picked_in : Sides → List KeptShelf → List LinkedBucket → Least → Option Found
 picked_in sides kept records least =
     option_and_then
     (λ (one : KeptShelf). option_map (exact_or_found sides kept records least) (first_wanted (Roomy sides.along) records one))
     (slice_get kept least.number)
 
 -- what is picked among records is what is picked among the shelves that they spell
-pub picked-is : (adds : Bool) (sides : Sides) (records : List BucketRecord) (frame : Frame) (ss : List BucketShelf) → 1 ≤ sides.along → AreFew ss → AreShelvesSpelled records 0 ss
+pub picked-is : (adds : Bool) (sides : Sides) (records : List LinkedBucket) (frame : Frame) (ss : List BucketShelf) → 1 ≤ sides.along → AreFew ss → AreShelvesSpelled records 0 ss
     → picked adds sides (kept_shelves frame [] ss) records ≡ option_map found_seen (pick adds sides ss)
 picked-is adds sides records frame ss some few h =
     ap (λ (ws : List (Option ℕ)). option_and_then (picked_in sides (kept_shelves frame [] ss) records) (first_least ws)) (wastes-kept adds sides frame [] ss some)

@@ -12,7 +12,7 @@ use Rattle.etagere_links.proofs.Chains.{Leads-frame}
 use Rattle.etagere_links.proofs.FirstLinks.{field_at-other}
 use Rattle.etagere_links.proofs.ListEnds.{times-here, times-other}
 use Rattle.etagere_links.proofs.RecordChanges.{get-changed_by, get-changed_by-other, length-changed_by, link_at-other}
-use Rattle.etagere_bucketed.specs.declared.records.BucketRecord.{BucketRecord}
+use Rattle.etagere_bucketed.specs.declared.records.LinkedBucket.{LinkedBucket}
 use Rattle.etagere_bucketed.specs.Adding.{IsTag, new_bucket, new_buckets}
 use Rattle.etagere_bucketed.specs.BucketRecords.{next_of}
 use Rattle.etagere_bucketed.specs.Private.Store.{AreBucketsSpelled, AreShelvesSpelled, IsPool, first_link, record_of}
@@ -34,9 +34,9 @@ get-some (x ∷ xs) zero within = (x, refl)
 get-some (x ∷ xs) (suc k) within = get-some xs k (omega arith)
 
 -- what of records stays where one of a number was put to use
-abbrev pub StaysBut : List ℕ → List BucketRecord → List BucketRecord → Type 0
+abbrev pub StaysBut : List ℕ → List LinkedBucket → List LinkedBucket → Type 0
 StaysBut numbers old new =
-    (k : ℕ) (record_ : BucketRecord) → times k numbers ≡ 0 → slice_get old k ≡ Some record_ → slice_get new k ≡ Some record_
+    (k : ℕ) (record_ : LinkedBucket) → times k numbers ≡ 0 → slice_get old k ≡ Some record_ → slice_get new k ≡ Some record_
 
 -- a bucket was made: its number and generation, and what is in use and unused now
 pub record IsMade (new : NewBuckets) (made after : Made) (used : List ℕ) : Type 0 where
@@ -52,7 +52,7 @@ pub record IsMade (new : NewBuckets) (made after : Made) (used : List ℕ) : Typ
   pub grows : length after.buckets ≡ max (length made.buckets) (length used + 1)
 
 -- a number that is counted once in all, and stands among the unused, is not in use
-not-used : (records : List BucketRecord) (first : Option ℕ) (used : List ℕ) (u : ℕ) (us : List ℕ) → IsPool records first used (u ∷ us) → (u < length records) × (times u used ≡ 0) × (times u us ≡ 0)
+not-used : (records : List LinkedBucket) (first : Option ℕ) (used : List ℕ) (u : ℕ) (us : List ℕ) → IsPool records first used (u ∷ us) → (u < length records) × (times u used ≡ 0) × (times u us ≡ 0)
 not-used records first used u us pool = by_test (nat_lt u (length records)) refl (pool.once u)
   where
     counts : times u (used ++ u ∷ us) ≡ times u used + suc (times u us)
@@ -63,12 +63,12 @@ not-used records first used u us pool = by_test (nat_lt u (length records)) refl
     by_test false e h = absurd (omega (arith, counts, h))
 
 -- unused records hold nothing live after another one was changed
-pub idle-kept : (change : BucketRecord → BucketRecord) (records : List BucketRecord) (u : ℕ) (us : List ℕ) → times u us ≡ 0
+pub idle-kept : (change : LinkedBucket → LinkedBucket) (records : List LinkedBucket) (u : ℕ) (us : List ℕ) → times u us ≡ 0
     → Each (λ (n : ℕ). live_of records n ≡ 0) us → Each (λ (n : ℕ). live_of (changed_by (Some u) change records) n ≡ 0) us
 idle-kept change records u [] fresh idle = tt
 idle-kept change records u (x ∷ us) fresh idle =
     let other : Some u ≢ Some x = λ e. let same : x ≡ u = cc in omega (arith, fresh, ap (λ (n : ℕ). times u (n ∷ us)) same, times-here u us) in
-    (field_at-other (λ (bucket : BucketRecord). bucket.refcount) 0 change records (Some u) x other ∙ idle.0, idle-kept change records u us (omega (arith, fresh)) idle.1)
+    (field_at-other (λ (bucket : LinkedBucket). bucket.refcount) 0 change records (Some u) x other ∙ idle.0, idle-kept change records u us (omega (arith, fresh)) idle.1)
 
 -- the count of all with one more
 once-more : (n k : ℕ) (b : Bool) → (n == k) ≡ b → cond b 1 0 + cond (nat_lt k n) 1 0 ≡ cond (nat_lt k (suc n)) 1 0
@@ -108,14 +108,14 @@ made_new-is new made used pool few =
         omega (arith, times-append (length made.buckets) used [], rw past at h)
 
 -- a bucket in an unused record
-made_again-is : (new : NewBuckets) (made : Made) (used : List ℕ) (u : ℕ) (us : List ℕ) (old : BucketRecord) → IsPool made.buckets made.unused used (u ∷ us)
+made_again-is : (new : NewBuckets) (made : Made) (used : List ℕ) (u : ℕ) (us : List ℕ) (old : LinkedBucket) → IsPool made.buckets made.unused used (u ∷ us)
     → slice_get made.buckets u ≡ Some old → IsMade new made (made_again new made u old) used
 made_again-is new made used u us old pool at =
-    let change : BucketRecord → BucketRecord = λ _. new_record new made.first ((old.generation + 1) % 256) in
+    let change : LinkedBucket → LinkedBucket = λ _. new_record new made.first ((old.generation + 1) % 256) in
     let records = changed_by (Some u) change made.buckets in
     let long : length records ≡ length made.buckets = length-changed_by change made.buckets (Some u) in
     let parts = not-used made.buckets made.unused used u us pool in
-    let next : next_of made.buckets u ≡ old.next = ap (λ (r : Option BucketRecord). option_and_then (λ (bucket : BucketRecord). bucket.next) r) at in
+    let next : next_of made.buckets u ≡ old.next = ap (λ (r : Option LinkedBucket). option_and_then (λ (bucket : LinkedBucket). bucket.next) r) at in
     record {
       number = u;
       generation = (old.generation + 1) % 256;
@@ -125,14 +125,14 @@ made_again-is new made used u us old pool at =
       fresh = parts.1;
       pool = record {
         pile = Leads-frame (next_of made.buckets) (next_of records) us old.next None
-            (λ k stands. link_at-other (λ (bucket : BucketRecord). bucket.next) change made.buckets (Some u) k (λ e. let same : k ≡ u = cc in omega (arith, parts.2, ap (λ (n : ℕ). times n us) same, stands)))
+            (λ k stands. link_at-other (λ (bucket : LinkedBucket). bucket.next) change made.buckets (Some u) k (λ e. let same : k ≡ u = cc in omega (arith, parts.2, ap (λ (n : ℕ). times n us) same, stands)))
             (rw next at pool.pile.1);
         once = λ k. rw long (omega (arith, times-append k used (u ∷ us), times-append k (u ∷ used) us, pool.once k));
         count = omega (arith, long, pool.count);
         few = omega (arith, long, pool.few);
         idle = idle-kept change made.buckets u us parts.2 pool.idle.1;
       };
-      here = get-changed_by change made.buckets (Some u) u refl ∙ ap (λ (r : Option BucketRecord). option_map change r) at;
+      here = get-changed_by change made.buckets (Some u) u refl ∙ ap (λ (r : Option LinkedBucket). option_map change r) at;
       stays = λ k record_ other h. get-changed_by-other change made.buckets (Some u) k (λ e. let same : u ≡ k = cc in omega (arith, other, ap (λ (n : ℕ). times k (n ∷ [])) same, times-here k [])) ∙ h;
       grows = omega (arith, long, pool.count);
     }
@@ -148,11 +148,11 @@ made_one-is new made used (u ∷ us) pool few =
     let found = get-some made.buckets u within in
     let same : made_one new made ≡ made_again new made u found.0 =
     ap (λ (link : Option ℕ). option_map_or (λ (number : ℕ). option_map_or (made_again new made number) (slice_get made.buckets number) (made_new new made)) link (made_new new made)) pool.pile.0
-    ∙ ap (λ (r : Option BucketRecord). option_map_or (made_again new made u) r (made_new new made)) found.1 in
+    ∙ ap (λ (r : Option LinkedBucket). option_map_or (made_again new made u) r (made_new new made)) found.1 in
     subst (λ (after : Made). IsMade new made after used) (sym same) (made_again-is new made used u us found.0 pool found.1)
 
 -- buckets stay spelled where none of their records is put to use
-pub buckets-stay : (old new : List BucketRecord) (numbers : List ℕ) (number width : ℕ) (bs : List Bucket) → StaysBut numbers old new
+pub buckets-stay : (old new : List LinkedBucket) (numbers : List ℕ) (number width : ℕ) (bs : List Bucket) → StaysBut numbers old new
     → ((k : ℕ) → 1 ≤ times k (numbers_of bs) → times k numbers ≡ 0) → AreBucketsSpelled old number width bs → AreBucketsSpelled new number width bs
 buckets-stay old new numbers number width [] stays apart h = tt
 buckets-stay old new numbers number width (b ∷ bs) stays apart h = (
@@ -161,7 +161,7 @@ buckets-stay old new numbers number width (b ∷ bs) stays apart h = (
 )
 
 -- shelves stay spelled where none of their buckets' records is put to use
-pub shelves-stay : (old new : List BucketRecord) (numbers : List ℕ) (number : ℕ) (ss : List BucketShelf) → StaysBut numbers old new
+pub shelves-stay : (old new : List LinkedBucket) (numbers : List ℕ) (number : ℕ) (ss : List BucketShelf) → StaysBut numbers old new
     → ((k : ℕ) → 1 ≤ times k (bucket_numbers ss) → times k numbers ≡ 0) → AreShelvesSpelled old number ss → AreShelvesSpelled new number ss
 shelves-stay old new numbers number [] stays apart h = tt
 shelves-stay old new numbers number (s ∷ ss) stays apart h = (
@@ -170,7 +170,7 @@ shelves-stay old new numbers number (s ∷ ss) stays apart h = (
 )
 
 -- the pool of numbers in another order
-pub pool-same : (records : List BucketRecord) (first : Option ℕ) (used other unused : List ℕ) → ((k : ℕ) → times k other ≡ times k used) → length other ≡ length used
+pub pool-same : (records : List LinkedBucket) (first : Option ℕ) (used other unused : List ℕ) → ((k : ℕ) → times k other ≡ times k used) → length other ≡ length used
     → IsPool records first used unused → IsPool records first other unused
 pool-same records first used other unused same long pool = record {
   pile = pool.pile;
@@ -213,7 +213,7 @@ pub record AreMade (count shelf width place : ℕ) (before after : Made) (used :
   pub grows : length after.buckets ≡ max (length before.buckets) (length used + count)
 
 -- what is in use stands once at most
-used-once : (records : List BucketRecord) (first : Option ℕ) (used unused : List ℕ) → IsPool records first used unused → (k : ℕ) → times k used ≤ 1
+used-once : (records : List LinkedBucket) (first : Option ℕ) (used unused : List ℕ) → IsPool records first used unused → (k : ℕ) → times k used ≤ 1
 used-once records first used unused pool k = by_test (nat_lt k (length records)) (pool.once k)
   where
     by_test : (b : Bool) → times k (used ++ unused) ≡ cond b 1 0 → times k used ≤ 1
@@ -246,7 +246,7 @@ made_many-are (suc count) shelf width place before used unused bs first spelled 
     let here : slice_get middle.buckets one.number ≡ Some (record_of shelf width (first_link bs) (new_bucket place tag)) =
     one.here
     ∙ ap (λ (link : Option ℕ). Some (new_record new link one.generation)) first
-    ∙ ap (λ (free : ℕ). let r : BucketRecord = record { x = place; free_space = free; next = first_link bs; refcount = 0; item_count = 0; shelf = shelf; generation = one.generation } in Some r) (sym full) in
+    ∙ ap (λ (free : ℕ). let r : LinkedBucket = record { x = place; free_space = free; next = first_link bs; refcount = 0; item_count = 0; shelf = shelf; generation = one.generation } in Some r) (sym full) in
     let kept : AreBucketsSpelled middle.buckets shelf width bs =
     buckets-stay before.buckets middle.buckets (one.number ∷ []) shelf width bs one.stays
     (λ k stands. apart k one.number (omega (arith, stands, part k)) one.fresh) spelled in

@@ -4,7 +4,7 @@ use Rattle.std.specs.Option.{option_map_or}
 use Rattle.std.specs.Prelude.{slice_get}
 use Rattle.etagere_base.specs.declared.frames.Frame.{Frame}
 use Rattle.etagere_links.proofs.RecordChanges.{length-changed_by}
-use Rattle.etagere_bucketed.specs.declared.records.BucketRecord.{BucketRecord}
+use Rattle.etagere_bucketed.specs.declared.records.LinkedBucket.{LinkedBucket}
 use Rattle.etagere_bucketed.specs.Adding.{NewShelf, NewShelves, news_of, width_of_share}
 use Rattle.etagere_bucketed.specs.Private.Growths.{first_of, share, shelf_widened, shelves_widened}
 use Rattle.etagere_bucketed.specs.Private.Returns.{width_of}
@@ -16,10 +16,10 @@ use Rattle.etagere_bucketed.specs.Private.StoreEdits.{Made, NewBuckets, after_fi
 pub made_one-keeps : (new : NewBuckets) (made : Made) → length made.buckets ≤ length (made_one new made).buckets
 made_one-keeps new made = by_link made.unused
   where
-    by_record : (number : ℕ) (found : Option BucketRecord) → length made.buckets ≤ length (option_map_or (made_again new made number) found (made_new new made)).buckets
+    by_record : (number : ℕ) (found : Option LinkedBucket) → length made.buckets ≤ length (option_map_or (made_again new made number) found (made_new new made)).buckets
     by_record number None = omega (arith, length-append made.buckets (new_record new made.first 0 ∷ []))
     by_record number (Some old) =
-        omega (arith, length-changed_by (λ (_ : BucketRecord). new_record new made.first ((old.generation + 1) % 256)) made.buckets (Some number))
+        omega (arith, length-changed_by (λ (_ : LinkedBucket). new_record new made.first ((old.generation + 1) % 256)) made.buckets (Some number))
 
     by_link : (link : Option ℕ)
         → length made.buckets ≤ length (option_map_or (λ (number : ℕ). option_map_or (made_again new made number) (slice_get made.buckets number) (made_new new made)) link (made_new new made)).buckets

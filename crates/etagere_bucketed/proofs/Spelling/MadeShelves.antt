@@ -9,7 +9,7 @@ use Rattle.etagere_base.proofs.TimesLemmas.{times-append}
 use Rattle.etagere_base.specs.declared.frames.Frame.{Frame}
 use Rattle.etagere_base.specs.declared.sides.Sides.{Sides}
 use Rattle.etagere_base.specs.Lists.{Each, times}
-use Rattle.etagere_bucketed.specs.declared.records.BucketRecord.{BucketRecord}
+use Rattle.etagere_bucketed.specs.declared.records.LinkedBucket.{LinkedBucket}
 use Rattle.etagere_bucketed.specs.Adding.{AreNewTags, IsTag, NewShelf, NewShelves, made_shelf, made_shelves, new_buckets, news_of, total_count, width_of_share}
 use Rattle.etagere_bucketed.specs.Frames.{IsBucketedFrame}
 use Rattle.etagere_bucketed.specs.Private.Store.{AreBucketsSpelled, AreShelvesSpelled, KeptShelf, Spells, Stored, first_link, kept_shelf, kept_shelves, live_items, widest_room}
@@ -24,7 +24,7 @@ use Rattle.etagere_bucketed.proofs.Spelling.KeptShelves.{Ends, ends-of, kept-app
 use Rattle.etagere_bucketed.proofs.Spelling.MadeBuckets.{AreMade, made_many-are, pool-same, shelves-stay, tags-length}
 
 -- the records of shelves and of one more at their end
-pub spelled-append : (records : List BucketRecord) (number : ℕ) (ss : List BucketShelf) (s : BucketShelf) → AreShelvesSpelled records number ss
+pub spelled-append : (records : List LinkedBucket) (number : ℕ) (ss : List BucketShelf) (s : BucketShelf) → AreShelvesSpelled records number ss
     → AreBucketsSpelled records (number + length ss) s.bucket_width s.buckets → AreShelvesSpelled records number (ss ++ s ∷ [])
 spelled-append records number [] s h own = let here : number + 0 ≡ number = omega arith in (rw here at own, tt)
 spelled-append records number (x ∷ ss) s h own =

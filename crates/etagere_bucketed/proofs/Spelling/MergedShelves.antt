@@ -9,7 +9,7 @@ use Rattle.etagere_base.specs.declared.frames.Frame.{Frame}
 use Rattle.etagere_base.specs.declared.sides.Sides.{Sides}
 use Rattle.etagere_base.specs.Lists.{Each}
 use Rattle.etagere_links.specs.Edits.{changed_by}
-use Rattle.etagere_bucketed.specs.declared.records.BucketRecord.{BucketRecord}
+use Rattle.etagere_bucketed.specs.declared.records.LinkedBucket.{LinkedBucket}
 use Rattle.etagere_bucketed.specs.Merging.{Group, is_idle_in, merged_shelves, mergeable_shelves, serves, total_height}
 use Rattle.etagere_bucketed.specs.Private.Searching.{is_kept_idle_in, kept_height, kept_mergeable, kept_serves}
 use Rattle.etagere_bucketed.specs.Private.Store.{AreShelvesSpelled, IsPool, KeptShelf, Spells, Stored, kept_shelf, kept_shelves, live_items}
@@ -284,13 +284,13 @@ merged-kept frame group ss (inr e) row =
     ∙ merge-two frame group.first [] ss r) row
 
 -- shelves without heights have the records that they had
-spelled-flat : (records : List BucketRecord) (number n : ℕ) (ss : List BucketShelf) → AreShelvesSpelled records number ss → AreShelvesSpelled records number (map (with_height 0) (take n ss) ++ drop n ss)
+spelled-flat : (records : List LinkedBucket) (number n : ℕ) (ss : List BucketShelf) → AreShelvesSpelled records number ss → AreShelvesSpelled records number (map (with_height 0) (take n ss) ++ drop n ss)
 spelled-flat records number zero ss h = h
 spelled-flat records number (suc n) [] h = tt
 spelled-flat records number (suc n) (s ∷ ss) h = (h.0, spelled-flat records (suc number) n ss h.1)
 
 -- merged shelves have the records that they had
-spelled-merged : (records : List BucketRecord) (number first others : ℕ) (ss : List BucketShelf) → AreShelvesSpelled records number ss → AreShelvesSpelled records number (merged_shelves first others ss)
+spelled-merged : (records : List LinkedBucket) (number first others : ℕ) (ss : List BucketShelf) → AreShelvesSpelled records number ss → AreShelvesSpelled records number (merged_shelves first others ss)
 spelled-merged records number first others [] h = tt
 spelled-merged records number zero others (s ∷ ss) h = (h.0, spelled-flat records (suc number) others ss h.1)
 spelled-merged records number (suc first) others (s ∷ ss) h = (h.0, spelled-merged records (suc number) first others ss h.1)

@@ -12,7 +12,7 @@ use Rattle.etagere_links.specs.Chains.{IsPile}
 use Rattle.etagere_links.specs.Links.{no_link}
 use Rattle.etagere_links.specs.Walks.{Walked}
 use Rattle.etagere_links.proofs.AllLists.LinkedWalks.{IsPart, part-of, walk_by-spelled}
-use Rattle.etagere_bucketed.specs.declared.records.BucketRecord.{BucketRecord}
+use Rattle.etagere_bucketed.specs.declared.records.LinkedBucket.{LinkedBucket}
 use Rattle.etagere_bucketed.specs.BucketRecords.{bucket_at, bucket_walk, next_of, spelled_bucket, spelled_shelf, spelled_state}
 use Rattle.etagere_bucketed.specs.Private.Store.{AreBucketsSpelled, AreShelvesSpelled, IsPool, KeptShelf, Spells, Stored, first_link, kept_shelf, kept_shelves, record_of, shelf_record, stored_state}
 use Rattle.etagere_bucketed.specs.State.{Bucket, BucketShelf, BucketedState, bucket_numbers}
@@ -20,23 +20,23 @@ use Rattle.etagere_bucketed.specs.Valid.{AreShelves, IsBucket, IsShelf}
 use Rattle.etagere_bucketed.proofs.Shelving.Shelves.{numbers_of}
 
 -- following links from the first of some buckets meets their numbers
-pub spelled-pile : (records : List BucketRecord) (number width : ℕ) (bs : List Bucket) → AreBucketsSpelled records number width bs → IsPile (next_of records) (first_link bs) (numbers_of bs)
+pub spelled-pile : (records : List LinkedBucket) (number width : ℕ) (bs : List Bucket) → AreBucketsSpelled records number width bs → IsPile (next_of records) (first_link bs) (numbers_of bs)
 spelled-pile records number width [] h = refl
 spelled-pile records number width (b ∷ bs) h =
-    let link : next_of records b.tag.number ≡ first_link bs = ap (λ (r : Option BucketRecord). option_and_then (λ (bucket : BucketRecord). bucket.next) r) h.0 in
+    let link : next_of records b.tag.number ≡ first_link bs = ap (λ (r : Option LinkedBucket). option_and_then (λ (bucket : LinkedBucket). bucket.next) r) h.0 in
     (refl, rw link (spelled-pile records number width bs h.1))
 
 -- the bucket of a number is the one that its record spells
-bucket-read : (records : List BucketRecord) (number width : ℕ) (next : Option ℕ) (b : Bucket) → b.used ≤ width
+bucket-read : (records : List LinkedBucket) (number width : ℕ) (next : Option ℕ) (b : Bucket) → b.used ≤ width
     → slice_get records b.tag.number ≡ Some (record_of number width next b) → bucket_at records width b.tag.number ≡ b
 bucket-read records number width next b fits h =
     let used : width - (width - b.used) ≡ b.used = omega (arith, fits) in
-    ap (λ (r : Option BucketRecord). option_map_or (spelled_bucket width b.tag.number) r
+    ap (λ (r : Option LinkedBucket). option_map_or (spelled_bucket width b.tag.number) r
     (record { place = 0; used = 0; live = 0; given = 0; tag = record { number = b.tag.number; generation = 0 } })) h
     ∙ ap (λ (u : ℕ). let same : Bucket = record { place = b.place; used = u; live = b.live; given = b.given; tag = b.tag } in same) used
 
 -- the buckets of numbers are those that the records spell
-buckets-read : (records : List BucketRecord) (number width : ℕ) (bs : List Bucket) → Each (λ (b : Bucket). b.used ≤ width) bs
+buckets-read : (records : List LinkedBucket) (number width : ℕ) (bs : List Bucket) → Each (λ (b : Bucket). b.used ≤ width) bs
     → AreBucketsSpelled records number width bs → map (bucket_at records width) (numbers_of bs) ≡ bs
 buckets-read records number width [] fits h = refl
 buckets-read records number width (b ∷ bs) fits h =
@@ -44,13 +44,13 @@ buckets-read records number width (b ∷ bs) fits h =
     ∙ ap (λ (cs : List Bucket). b ∷ cs) (buckets-read records number width bs fits.1 h.1)
 
 -- the walk along the buckets of a shelf
-pub walk-read : (records : List BucketRecord) (number width : ℕ) (bs : List Bucket) → length records ≤ no_link → IsPart (length records) (numbers_of bs)
+pub walk-read : (records : List LinkedBucket) (number width : ℕ) (bs : List Bucket) → length records ≤ no_link → IsPart (length records) (numbers_of bs)
     → AreBucketsSpelled records number width bs → bucket_walk records (first_link bs) ≡ record { met = numbers_of bs; end = no_link }
 walk-read records number width bs few part h =
-    walk_by-spelled (λ (bucket : BucketRecord). bucket.next) records (first_link bs) (numbers_of bs) few part.once part.within (spelled-pile records number width bs h)
+    walk_by-spelled (λ (bucket : LinkedBucket). bucket.next) records (first_link bs) (numbers_of bs) few part.once part.within (spelled-pile records number width bs h)
 
 -- the shelf that a record spells
-pub shelf-read : (frame : Frame) (records : List BucketRecord) (number : ℕ) (before : List BucketShelf) (s : BucketShelf) → 1 ≤ frame.column_width → length records ≤ no_link
+pub shelf-read : (frame : Frame) (records : List LinkedBucket) (number : ℕ) (before : List BucketShelf) (s : BucketShelf) → 1 ≤ frame.column_width → length records ≤ no_link
     → IsPart (length records) (numbers_of s.buckets) → IsShelf frame s → AreBucketsSpelled records number s.bucket_width s.buckets
     → spelled_shelf frame records (kept_shelf frame before s).shelf ≡ s
 shelf-read frame records number before s wide few part is_shelf h =
@@ -64,7 +64,7 @@ shelf-read frame records number before s wide few part is_shelf h =
     ∙ ap (λ (bs : List Bucket). let same : BucketShelf = record { column = s.column; height = s.height; bucket_width = s.bucket_width; buckets = bs } in same) read
 
 -- the shelves that records spell
-shelves-read : (frame : Frame) (records : List BucketRecord) (number : ℕ) (before ss : List BucketShelf) → 1 ≤ frame.column_width → length records ≤ no_link
+shelves-read : (frame : Frame) (records : List LinkedBucket) (number : ℕ) (before ss : List BucketShelf) → 1 ≤ frame.column_width → length records ≤ no_link
     → IsPart (length records) (bucket_numbers ss) → Each (IsShelf frame) ss → AreShelvesSpelled records number ss
     → map (spelled_shelf frame records) (map shelf_record (kept_shelves frame before ss)) ≡ ss
 shelves-read frame records number before [] wide few part each h = refl
@@ -79,7 +79,7 @@ shelves-read frame records number before (s ∷ ss) wide few part each h =
     ∙ ap (λ (ts : List BucketShelf). s ∷ ts) (shelves-read frame records (suc number) (before ++ s ∷ []) ss wide few others each.1 h.1)
 
 -- the numbers in use are part of all
-pub used-part : (records : List BucketRecord) (first : Option ℕ) (used unused : List ℕ) → IsPool records first used unused → IsPart (length records) used
+pub used-part : (records : List LinkedBucket) (first : Option ℕ) (used unused : List ℕ) → IsPool records first used unused → IsPart (length records) used
 used-part records first used unused pool = part-of (length records) (used ++ unused) used pool.once (λ k. omega (arith, times-append k used unused))
 
 -- the state that is read back

@@ -12,7 +12,7 @@ use Rattle.etagere_base.specs.Frames.{alignment_along}
 use Rattle.etagere_base.specs.Lists.{Each, times}
 use Rattle.etagere_base.specs.declared.ids.Allocation.{Allocation}
 use Rattle.etagere_base.specs.Places.{rectangle_at}
-use Rattle.etagere_bucketed.specs.declared.records.BucketRecord.{BucketRecord}
+use Rattle.etagere_bucketed.specs.declared.records.LinkedBucket.{LinkedBucket}
 use Rattle.etagere_bucketed.specs.Frames.{IsBucketedFrame}
 use Rattle.etagere_bucketed.specs.Picking.{Spot}
 use Rattle.etagere_bucketed.specs.Private.Store.{AreBucketsSpelled, IsPool, KeptShelf, Spells, Stored, first_link, kept_shelf, kept_shelves, live_items, record_of}
@@ -167,7 +167,7 @@ spot-given frame shelves spot item number next fits =
     } in given) used
 
 -- a number in use is not unused
-pub used-not_unused : (records : List BucketRecord) (first : Option ℕ) (used unused : List ℕ) (n : ℕ) → IsPool records first used unused → 1 ≤ times n used → times n unused ≡ 0
+pub used-not_unused : (records : List LinkedBucket) (first : Option ℕ) (used unused : List ℕ) (n : ℕ) → IsPool records first used unused → 1 ≤ times n used → times n unused ≡ 0
 used-not_unused records first used unused n pool stands = by_test (nat_lt n (length records)) (pool.once n)
   where
     by_test : (b : Bool) → times n (used ++ unused) ≡ cond b 1 0 → times n unused ≡ 0

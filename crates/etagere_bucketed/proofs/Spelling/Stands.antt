@@ -14,8 +14,8 @@ use Rattle.etagere_links.specs.Links.{no_link}
 use Rattle.etagere_links.specs.RecordLists.{HasEachOnce}
 use Rattle.etagere_links.specs.Walks.{Walked}
 use Rattle.etagere_links.proofs.AllLists.LinkedWalks.{IsPart, part-of, walk_by-spelled}
-use Rattle.etagere_bucketed.specs.declared.records.BucketRecord.{BucketRecord}
-use Rattle.etagere_bucketed.specs.declared.records.BucketShelfRecord.{BucketShelfRecord}
+use Rattle.etagere_bucketed.specs.declared.records.LinkedBucket.{LinkedBucket}
+use Rattle.etagere_bucketed.specs.declared.records.LinkedBucketShelf.{LinkedBucketShelf}
 use Rattle.etagere_bucketed.specs.BucketRecords.{bucket_walk}
 use Rattle.etagere_bucketed.specs.Private.Store.{AreBucketsSpelled, AreShelvesSpelled, KeptShelf, Stored, first_link, kept_shelf, kept_shelves, record_of, shelf_record}
 use Rattle.etagere_bucketed.specs.Private.Witnessed.{HasTotals, Witnessed, records_of}
@@ -48,17 +48,17 @@ stops : (count : ℕ) (walked : Walked) → walked.end ≡ no_link → StopsInRa
 stops count walked ends = rw ends refl
 
 -- buckets name their shelf
-owners : (records : List BucketRecord) (number width : ℕ) (bs : List Bucket) → AreBucketsSpelled records number width bs → Each (λ (n : ℕ). shelf_of records n ≡ number) (numbers_of bs)
+owners : (records : List LinkedBucket) (number width : ℕ) (bs : List Bucket) → AreBucketsSpelled records number width bs → Each (λ (n : ℕ). shelf_of records n ≡ number) (numbers_of bs)
 owners records number width [] h = tt
 owners records number width (b ∷ bs) h =
-    (ap (λ (r : Option BucketRecord). option_map_or (λ (bucket : BucketRecord). bucket.shelf) r 0) h.0, owners records number width bs h.1)
+    (ap (λ (r : Option LinkedBucket). option_map_or (λ (bucket : LinkedBucket). bucket.shelf) r 0) h.0, owners records number width bs h.1)
 
 -- buckets are filled as their records say
-fills : (records : List BucketRecord) (number al width height : ℕ) (bs : List Bucket) → AreBucketsSpelled records number width bs → Each (IsBucket al width height) bs
+fills : (records : List LinkedBucket) (number al width height : ℕ) (bs : List Bucket) → AreBucketsSpelled records number width bs → Each (IsBucket al width height) bs
     → Each (λ (n : ℕ). IfSome (slice_get records n) (IsFilled al width height)) (numbers_of bs)
 fills records number al width height [] h each = tt
 fills records number al width height (b ∷ bs) h each =
-    (subst (λ (o : Option BucketRecord). IfSome o (IsFilled al width height)) (sym h.0) (filled b each.0), fills records number al width height bs h.1 each.1)
+    (subst (λ (o : Option LinkedBucket). IfSome o (IsFilled al width height)) (sym h.0) (filled b each.0), fills records number al width height bs h.1 each.1)
   where
     filled : (b : Bucket) → IsBucket al width height b → IsFilled al width height (record_of number width (first_link bs) b)
     filled b is =
@@ -73,11 +73,11 @@ fills records number al width height (b ∷ bs) h each =
         }
 
 -- they stand where their records say
-places : (records : List BucketRecord) (number width : ℕ) (bs : List Bucket) → AreBucketsSpelled records number width bs
+places : (records : List LinkedBucket) (number width : ℕ) (bs : List Bucket) → AreBucketsSpelled records number width bs
     → map (place_of records) (numbers_of bs) ≡ map (λ (b : Bucket). b.place) bs
 places records number width [] h = refl
 places records number width (b ∷ bs) h =
-    ap (λ (r : Option BucketRecord). option_map_or (λ (bucket : BucketRecord). bucket.x) r 0 ∷ map (place_of records) (numbers_of bs)) h.0
+    ap (λ (r : Option LinkedBucket). option_map_or (λ (bucket : LinkedBucket). bucket.x) r 0 ∷ map (place_of records) (numbers_of bs)) h.0
     ∙ ap (λ (ps : List ℕ). b.place ∷ ps) (places records number width bs h.1)
 
 -- buckets that stand between two places stand from the later one down
@@ -92,16 +92,16 @@ stand-down al width begin end [] some stand = omega (arith, some, stand)
 stand-down al width begin end (b ∷ bs) some stand = stand-first al width begin end b bs stand
 
 -- their generations have 8 bits
-ages : (records : List BucketRecord) (number al width height : ℕ) (bs : List Bucket) → AreBucketsSpelled records number width bs → Each (IsBucket al width height) bs
+ages : (records : List LinkedBucket) (number al width height : ℕ) (bs : List Bucket) → AreBucketsSpelled records number width bs → Each (IsBucket al width height) bs
     → Each (λ (n : ℕ). generation_of records n < generations) (numbers_of bs)
 ages records number al width height [] h each = tt
 ages records number al width height (b ∷ bs) h each = (
-  omega (arith, ap (λ (r : Option BucketRecord). option_map_or (λ (bucket : BucketRecord). bucket.generation) r 0) h.0, each.0.tag.generation),
+  omega (arith, ap (λ (r : Option LinkedBucket). option_map_or (λ (bucket : LinkedBucket). bucket.generation) r 0) h.0, each.0.tag.generation),
   ages records number al width height bs h.1 each.1,
 )
 
 -- the links of shelves
-linked : (frame : Frame) (records : List BucketRecord) (number : ℕ) (before ss : List BucketShelf) → length records ≤ no_link → IsPart (length records) (bucket_numbers ss)
+linked : (frame : Frame) (records : List LinkedBucket) (number : ℕ) (before ss : List BucketShelf) → length records ≤ no_link → IsPart (length records) (bucket_numbers ss)
     → AreShelvesSpelled records number ss → AreLinked records number (map shelf_record (kept_shelves frame before ss))
 linked frame records number before [] few part h = tt
 linked frame records number before (s ∷ ss) few part h =
@@ -146,10 +146,10 @@ ages-in frame stored column height space number before (s ∷ ss) few part each 
     )
 
 -- the numbers and ends that walks meet
-numbers-in : (frame : Frame) (records : List BucketRecord) (number : ℕ) (before ss : List BucketShelf) → length records ≤ no_link → IsPart (length records) (bucket_numbers ss)
+numbers-in : (frame : Frame) (records : List LinkedBucket) (number : ℕ) (before ss : List BucketShelf) → length records ≤ no_link → IsPart (length records) (bucket_numbers ss)
     → AreShelvesSpelled records number ss
     → (walked_numbers records (map shelf_record (kept_shelves frame before ss)) ≡ bucket_numbers ss)
-    × Each (λ (shelf : BucketShelfRecord). (bucket_walk records shelf.first_bucket).end ≡ no_link) (map shelf_record (kept_shelves frame before ss))
+    × Each (λ (shelf : LinkedBucketShelf). (bucket_walk records shelf.first_bucket).end ≡ no_link) (map shelf_record (kept_shelves frame before ss))
 numbers-in frame records number before [] few part h = (refl, tt)
 numbers-in frame records number before (s ∷ ss) few part h =
     let walked = walk-read records number s.bucket_width s.buckets few (part-own (length records) s ss part) h.0 in
@@ -178,11 +178,11 @@ stacked frame before (s ∷ ss) wide =
     let longer : map shelf_record (kept_shelves frame [] (before ++ s ∷ [])) ≡ map shelf_record (kept_shelves frame [] before) ++ (kept_shelf frame before s).shelf ∷ [] =
     ap (map shelf_record) (kept-append frame [] before (s ∷ [])) ∙ map-append shelf_record (kept_shelves frame [] before) (kept_shelf frame before s ∷ []) in (
       sym (ap (λ (c : ℕ). height_before frame.column_width c (map shelf_record (kept_shelves frame [] before))) (column-of frame s.column wide) ∙ heights-before frame s.column [] before wide),
-      subst (λ (rs : List BucketShelfRecord). AreStacked frame.column_width rs (map shelf_record (kept_shelves frame (before ++ s ∷ []) ss))) longer (stacked frame (before ++ s ∷ []) ss wide),
+      subst (λ (rs : List LinkedBucketShelf). AreStacked frame.column_width rs (map shelf_record (kept_shelves frame (before ++ s ∷ []) ss))) longer (stacked frame (before ++ s ∷ []) ss wide),
     )
 
 -- shelves begin where columns do
-alongs : (frame : Frame) (before ss : List BucketShelf) → Each (λ (shelf : BucketShelfRecord). shelf.x % frame.column_width ≡ 0) (map shelf_record (kept_shelves frame before ss))
+alongs : (frame : Frame) (before ss : List BucketShelf) → Each (λ (shelf : LinkedBucketShelf). shelf.x % frame.column_width ≡ 0) (map shelf_record (kept_shelves frame before ss))
 alongs frame before [] = tt
 alongs frame before (s ∷ ss) = (mul-mod_left _ _, alongs frame (before ++ s ∷ []) ss)
 
@@ -200,9 +200,9 @@ witnessed-stands state stored unused column height in_use space witnessed totals
     let idle_part : IsPart (length stored.buckets) unused =
     part-of (length stored.buckets) (bucket_numbers ss ++ unused) unused spells.pool.once (λ k. omega (arith, times-append k (bucket_numbers ss) unused)) in
     let walked : bucket_walk stored.buckets stored.unused ≡ record { met = unused; end = no_link } =
-    walk_by-spelled (λ (bucket : BucketRecord). bucket.next) stored.buckets stored.unused unused few idle_part.once idle_part.within spells.pool.pile in
+    walk_by-spelled (λ (bucket : LinkedBucket). bucket.next) stored.buckets stored.unused unused few idle_part.once idle_part.within spells.pool.pile in
     let kept : map shelf_record (kept_shelves frame [] ss) ≡ map shelf_record stored.shelves = ap (map shelf_record) (sym spells.shelves) in
-    let each : (P : BucketShelfRecord → Type 0) → Each P (map shelf_record (kept_shelves frame [] ss)) → Each P (map shelf_record stored.shelves) =
+    let each : (P : LinkedBucketShelf → Type 0) → Each P (map shelf_record (kept_shelves frame [] ss)) → Each P (map shelf_record stored.shelves) =
     λ P ps. subst (Each P) kept ps in
     let met = numbers-in frame stored.buckets 0 [] ss few part spells.buckets in
     let records = records_of frame stored column height space in

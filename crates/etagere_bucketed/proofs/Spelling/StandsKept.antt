@@ -15,8 +15,8 @@ use Rattle.etagere_links.proofs.Tallies.{length-each}
 use Rattle.etagere_links.specs.Chains.{IsPile}
 use Rattle.etagere_links.specs.Links.{no_link}
 use Rattle.etagere_links.specs.RecordLists.{HasEachOnce}
-use Rattle.etagere_bucketed.specs.declared.records.BucketRecord.{BucketRecord}
-use Rattle.etagere_bucketed.specs.declared.records.BucketShelfRecord.{BucketShelfRecord}
+use Rattle.etagere_bucketed.specs.declared.records.LinkedBucket.{LinkedBucket}
+use Rattle.etagere_bucketed.specs.declared.records.LinkedBucketShelf.{LinkedBucketShelf}
 use Rattle.etagere_bucketed.specs.BucketRecords.{BucketRecords, bucket_at, bucket_walk, next_of, spelled_bucket, spelled_shelf, spelled_state}
 use Rattle.etagere_bucketed.specs.Private.Restored.{LinkFits, LinksFit, stored_from}
 use Rattle.etagere_bucketed.specs.Private.Store.{AreBucketsSpelled, AreShelvesSpelled, IsPool, first_link, record_of}
@@ -31,23 +31,23 @@ use Rattle.etagere_bucketed.proofs.Spelling.MadeShelves.{in-use-length}
 use Rattle.etagere_bucketed.proofs.Spelling.UsedAreas.{frees-filled}
 
 -- the bucket of a number has that number
-bucket_at-number : (buckets : List BucketRecord) (width n : ℕ) → (bucket_at buckets width n).tag.number ≡ n
+bucket_at-number : (buckets : List LinkedBucket) (width n : ℕ) → (bucket_at buckets width n).tag.number ≡ n
 bucket_at-number buckets width n = by_record (slice_get buckets n)
   where
-    by_record : (r : Option BucketRecord) → (option_map_or (spelled_bucket width n) r
+    by_record : (r : Option LinkedBucket) → (option_map_or (spelled_bucket width n) r
         (record { place = 0; used = 0; live = 0; given = 0; tag = record { number = n; generation = 0 } })).tag.number ≡ n
     by_record None = refl
     by_record (Some r) = refl
 
 -- the buckets of numbers have these numbers
-numbers-spelled : (buckets : List BucketRecord) (width : ℕ) (ns : List ℕ) → numbers_of (map (bucket_at buckets width) ns) ≡ ns
+numbers-spelled : (buckets : List LinkedBucket) (width : ℕ) (ns : List ℕ) → numbers_of (map (bucket_at buckets width) ns) ≡ ns
 numbers-spelled buckets width [] = refl
 numbers-spelled buckets width (n ∷ ns) =
     ap (λ (m : ℕ). m ∷ numbers_of (map (bucket_at buckets width) ns)) (bucket_at-number buckets width n)
     ∙ ap (λ (ms : List ℕ). n ∷ ms) (numbers-spelled buckets width ns)
 
 -- so do those of shelves
-pub all-numbers : (frame : Frame) (buckets : List BucketRecord) (shelves : List BucketShelfRecord)
+pub all-numbers : (frame : Frame) (buckets : List LinkedBucket) (shelves : List LinkedBucketShelf)
     → bucket_numbers (map (spelled_shelf frame buckets) shelves) ≡ walked_numbers buckets shelves
 all-numbers frame buckets [] = refl
 all-numbers frame buckets (shelf ∷ shelves) =
@@ -56,26 +56,26 @@ all-numbers frame buckets (shelf ∷ shelves) =
     ∙ ap (λ (ns : List ℕ). (bucket_walk buckets shelf.first_bucket).met ++ ns) (all-numbers frame buckets shelves)
 
 -- the first bucket that links spell
-pub first-spelled : (buckets : List BucketRecord) (width : ℕ) (link : Option ℕ) (ns : List ℕ) → IsPile (next_of buckets) link ns
+pub first-spelled : (buckets : List LinkedBucket) (width : ℕ) (link : Option ℕ) (ns : List ℕ) → IsPile (next_of buckets) link ns
     → first_link (map (bucket_at buckets width) ns) ≡ link
 first-spelled buckets width link [] pile = sym pile
 first-spelled buckets width link (n ∷ ns) pile = ap (λ (m : ℕ). Some m) (bucket_at-number buckets width n) ∙ sym pile.0
 
 -- a record is that of the bucket that it spells
-record-kept : (buckets : List BucketRecord) (number width n : ℕ) (next : Option ℕ) → n < length buckets → shelf_of buckets n ≡ number → free_of buckets n ≤ width
+record-kept : (buckets : List LinkedBucket) (number width n : ℕ) (next : Option ℕ) → n < length buckets → shelf_of buckets n ≡ number → free_of buckets n ≤ width
     → next_of buckets n ≡ next → slice_get buckets n ≡ Some (record_of number width next (bucket_at buckets width n))
 record-kept buckets number width n next within owner fits link =
     ⊎_elim (λ found. by_record found.0 found.2 (slice_get_cases buckets n).0) (λ none. absurd (omega (arith, within, none.0))) (slice_get_cases buckets n).1
   where
-    by_record : (r : BucketRecord) → slice_get buckets n ≡ Some r → slice_get buckets n ≡ slice_get buckets n
+    by_record : (r : LinkedBucket) → slice_get buckets n ≡ Some r → slice_get buckets n ≡ slice_get buckets n
         → slice_get buckets n ≡ Some (record_of number width next (bucket_at buckets width n))
     by_record r here _ =
-        let owns : r.shelf ≡ number = sym (ap (λ (o : Option BucketRecord). option_map_or (λ (b : BucketRecord). b.shelf) o 0) here) ∙ owner in
-        let left : free_of buckets n ≡ r.free_space = ap (λ (o : Option BucketRecord). option_map_or (λ (b : BucketRecord). b.free_space) o 0) here in
-        let leads : r.next ≡ next = sym (ap (λ (o : Option BucketRecord). option_and_then (λ (b : BucketRecord). b.next) o) here) ∙ link in
+        let owns : r.shelf ≡ number = sym (ap (λ (o : Option LinkedBucket). option_map_or (λ (b : LinkedBucket). b.shelf) o 0) here) ∙ owner in
+        let left : free_of buckets n ≡ r.free_space = ap (λ (o : Option LinkedBucket). option_map_or (λ (b : LinkedBucket). b.free_space) o 0) here in
+        let leads : r.next ≡ next = sym (ap (λ (o : Option LinkedBucket). option_and_then (λ (b : LinkedBucket). b.next) o) here) ∙ link in
         let free : r.free_space ≡ width - (width - r.free_space) = omega (arith, left, fits) in
         let spelled : bucket_at buckets width n ≡ spelled_bucket width n r =
-        ap (λ (o : Option BucketRecord). option_map_or (spelled_bucket width n) o
+        ap (λ (o : Option LinkedBucket). option_map_or (spelled_bucket width n) o
         (record { place = 0; used = 0; live = 0; given = 0; tag = record { number = n; generation = 0 } })) here in
         here
         ∙ ap (λ (f : ℕ). Some (record r { free_space = f })) free
@@ -84,7 +84,7 @@ record-kept buckets number width n next within owner fits link =
         ∙ ap (λ (b : Bucket). Some (record_of number width next b)) (sym spelled)
 
 -- records spell the buckets that links lead to
-buckets-spelled : (buckets : List BucketRecord) (number width : ℕ) (link : Option ℕ) (ns : List ℕ) → Each (λ (n : ℕ). n < length buckets) ns
+buckets-spelled : (buckets : List LinkedBucket) (number width : ℕ) (link : Option ℕ) (ns : List ℕ) → Each (λ (n : ℕ). n < length buckets) ns
     → Each (λ (n : ℕ). shelf_of buckets n ≡ number) ns → Each (λ (n : ℕ). free_of buckets n ≤ width) ns → IsPile (next_of buckets) link ns
     → AreBucketsSpelled buckets number width (map (bucket_at buckets width) ns)
 buckets-spelled buckets number width link [] within owners frees pile = tt
@@ -102,10 +102,10 @@ each-within count (n ∷ ns) within =
     (within n (omega (arith, times-here n ns)), each-within count ns (λ k stands. within k (omega (arith, stands))))
 
 -- records spell the buckets of the shelves that they spell
-shelves-spelled : (atlas : BucketRecords) (number : ℕ) (shelves : List BucketShelfRecord) → length atlas.buckets ≤ no_link
-    → ((k : ℕ) → LinkFits (next_of atlas.buckets k)) → Each (λ (shelf : BucketShelfRecord). LinkFits shelf.first_bucket) shelves
+shelves-spelled : (atlas : BucketRecords) (number : ℕ) (shelves : List LinkedBucketShelf) → length atlas.buckets ≤ no_link
+    → ((k : ℕ) → LinkFits (next_of atlas.buckets k)) → Each (λ (shelf : LinkedBucketShelf). LinkFits shelf.first_bucket) shelves
     → AreLinked atlas.buckets number shelves → Each (HasBuckets atlas) shelves
-    → Each (λ (shelf : BucketShelfRecord). (bucket_walk atlas.buckets shelf.first_bucket).end ≡ no_link) shelves
+    → Each (λ (shelf : LinkedBucketShelf). (bucket_walk atlas.buckets shelf.first_bucket).end ≡ no_link) shelves
     → Each (λ (n : ℕ). n < length atlas.buckets) (walked_numbers atlas.buckets shelves)
     → AreShelvesSpelled atlas.buckets number (map (spelled_shelf atlas.frame atlas.buckets) shelves)
 shelves-spelled atlas number [] few fit firsts linked has ends within = tt
@@ -114,24 +114,24 @@ shelves-spelled atlas number (shelf ∷ shelves) few fit firsts linked has ends 
       buckets-spelled atlas.buckets number shelf.bucket_width shelf.first_bucket walked.met
           (Each-front (λ (n : ℕ). n < length atlas.buckets) walked.met (walked_numbers atlas.buckets shelves) within)
           linked.1 (frees-filled atlas.buckets (alignment_along atlas.frame) shelf.bucket_width shelf.height walked.met has.0.filled)
-          (walk_by-leads (λ (bucket : BucketRecord). bucket.next) atlas.buckets shelf.first_bucket fit firsts.0 few ends.0),
+          (walk_by-leads (λ (bucket : LinkedBucket). bucket.next) atlas.buckets shelf.first_bucket fit firsts.0 few ends.0),
       shelves-spelled atlas (suc number) shelves few fit firsts.1 linked.2 has.1 ends.1
           (Each-back (λ (n : ℕ). n < length atlas.buckets) walked.met (walked_numbers atlas.buckets shelves) within),
     )
 
-module _ (buckets : List BucketRecord) (al width : ℕ) where
+module _ (buckets : List LinkedBucket) (al width : ℕ) where
   -- the bucket that a record spells is as a bucket must be
   bucket-kept : (height n : ℕ) → length buckets ≤ most_buckets → n < length buckets → IfSome (slice_get buckets n) (IsFilled al width height)
       → generation_of buckets n < generations → IsBucket al width height (bucket_at buckets width n)
   bucket-kept height n few within filled age =
       ⊎_elim (λ found. of_record found.0 found.2) (λ none. absurd (omega (arith, within, none.0))) (slice_get_cases buckets n).1
     where
-      of_record : (r : BucketRecord) → slice_get buckets n ≡ Some r → IsBucket al width height (bucket_at buckets width n)
+      of_record : (r : LinkedBucket) → slice_get buckets n ≡ Some r → IsBucket al width height (bucket_at buckets width n)
       of_record r here =
-          let is : IsFilled al width height r = subst (λ (o : Option BucketRecord). IfSome o (IsFilled al width height)) here filled in
-          let young : r.generation < generations = subst (λ (o : Option BucketRecord). option_map_or (λ (b : BucketRecord). b.generation) o 0 < generations) here age in
+          let is : IsFilled al width height r = subst (λ (o : Option LinkedBucket). IfSome o (IsFilled al width height)) here filled in
+          let young : r.generation < generations = subst (λ (o : Option LinkedBucket). option_map_or (λ (b : LinkedBucket). b.generation) o 0 < generations) here age in
           subst
-          (λ (o : Option BucketRecord). IsBucket al width height (option_map_or (spelled_bucket width n) o
+          (λ (o : Option LinkedBucket). IsBucket al width height (option_map_or (spelled_bucket width n) o
           (record { place = 0; used = 0; live = 0; given = 0; tag = record { number = n; generation = 0 } })))
           (sym here)
           (record {
@@ -156,8 +156,8 @@ module _ (buckets : List BucketRecord) (al width : ℕ) where
   place-same : (n : ℕ) → (bucket_at buckets width n).place ≡ place_of buckets n
   place-same n = by_record (slice_get buckets n)
     where
-      by_record : (r : Option BucketRecord) → (option_map_or (spelled_bucket width n) r
-          (record { place = 0; used = 0; live = 0; given = 0; tag = record { number = n; generation = 0 } })).place ≡ option_map_or (λ (b : BucketRecord). b.x) r 0
+      by_record : (r : Option LinkedBucket) → (option_map_or (spelled_bucket width n) r
+          (record { place = 0; used = 0; live = 0; given = 0; tag = record { number = n; generation = 0 } })).place ≡ option_map_or (λ (b : LinkedBucket). b.x) r 0
       by_record None = refl
       by_record (Some r) = refl
 
@@ -172,7 +172,7 @@ module _ (buckets : List BucketRecord) (al width : ℕ) where
       (stand.0, stand.1, stand-between begin (place_of buckets n) (m ∷ ms) even stand.2)
 
 -- the shelf that a record spells is as a shelf must be
-one-shelf : (frame : Frame) (buckets : List BucketRecord) (shelf : BucketShelfRecord) (ns : List ℕ) → IsBucketedFrame frame → length buckets ≤ most_buckets
+one-shelf : (frame : Frame) (buckets : List LinkedBucket) (shelf : LinkedBucketShelf) (ns : List ℕ) → IsBucketedFrame frame → length buckets ≤ most_buckets
     → shelf.x % frame.column_width ≡ 0 → shelf.x / frame.column_width < frame.columns → Each (λ (n : ℕ). n < length buckets) ns
     → AreBuckets frame buckets shelf ns → Each (λ (n : ℕ). generation_of buckets n < generations) ns
     → IsShelf frame (record { column = shelf.x / frame.column_width; height = shelf.height; bucket_width = shelf.bucket_width; buckets = map (bucket_at buckets shelf.bucket_width) ns })
@@ -191,8 +191,8 @@ one-shelf frame buckets shelf ns is_frame few along column within has ages =
     }
 
 -- so are the shelves that records spell
-each-shelf : (atlas : BucketRecords) (shelves : List BucketShelfRecord) → IsBucketedFrame atlas.frame → length atlas.buckets ≤ most_buckets
-    → Each (λ (shelf : BucketShelfRecord). shelf.x % atlas.frame.column_width ≡ 0) shelves
+each-shelf : (atlas : BucketRecords) (shelves : List LinkedBucketShelf) → IsBucketedFrame atlas.frame → length atlas.buckets ≤ most_buckets
+    → Each (λ (shelf : LinkedBucketShelf). shelf.x % atlas.frame.column_width ≡ 0) shelves
     → Each (λ (shelf : BucketShelf). shelf.column < atlas.frame.columns) (map (spelled_shelf atlas.frame atlas.buckets) shelves)
     → Each (λ (n : ℕ). n < length atlas.buckets) (walked_numbers atlas.buckets shelves) → Each (HasBuckets atlas) shelves → Each (HasGenerations atlas) shelves
     → Each (IsShelf atlas.frame) (map (spelled_shelf atlas.frame atlas.buckets) shelves)
@@ -238,7 +238,7 @@ module _ (atlas : BucketRecords) (fit : LinksFit atlas) (stands : StandsFor atla
   pool : IsPool atlas.buckets atlas.unused (bucket_numbers spelled) unused
   pool =
       record {
-        pile = walk_by-leads (λ (bucket : BucketRecord). bucket.next) atlas.buckets atlas.unused fit.next fit.unused few stands.sharing.unused_end;
+        pile = walk_by-leads (λ (bucket : LinkedBucket). bucket.next) atlas.buckets atlas.unused fit.next fit.unused few stands.sharing.unused_end;
         once = once;
         count = sym all-count;
         few = stands.counts.buckets;

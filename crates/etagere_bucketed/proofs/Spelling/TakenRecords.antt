@@ -9,7 +9,7 @@ use Rattle.etagere_base.specs.Lists.{times}
 use Rattle.etagere_links.specs.Edits.{changed_by}
 use Rattle.etagere_links.proofs.Chains.{Leads-frame}
 use Rattle.etagere_links.proofs.RecordChanges.{get-changed_by, get-changed_by-other, length-changed_by, link_at-same, map-changed_by}
-use Rattle.etagere_bucketed.specs.declared.records.BucketRecord.{BucketRecord}
+use Rattle.etagere_bucketed.specs.declared.records.LinkedBucket.{LinkedBucket}
 use Rattle.etagere_bucketed.specs.BucketRecords.{next_of}
 use Rattle.etagere_bucketed.specs.Private.Searching.{widest_from}
 use Rattle.etagere_bucketed.specs.Private.Store.{AreBucketsSpelled, AreShelvesSpelled, IsPool, KeptShelf, Spells, Stored, first_link, kept_shelf, kept_shelves, live_items, record_of, widest_room}
@@ -28,7 +28,7 @@ use Rattle.etagere_bucketed.proofs.Validity.Taken.{take-keeps}
 record-taken : (number width item : ℕ) (next : Option ℕ) (b : Bucket) → taken_record item (record_of number width next b) ≡ record_of number width next (taken_bucket item b)
 record-taken number width item next b =
     let free : width - b.used - item ≡ width - (b.used + item) = omega arith in
-    ap (λ (f : ℕ). let r : BucketRecord = record { x = b.place; free_space = f; next = next; refcount = b.live + 1; item_count = b.given + 1; shelf = number; generation = b.tag.generation } in r) free
+    ap (λ (f : ℕ). let r : LinkedBucket = record { x = b.place; free_space = f; next = next; refcount = b.live + 1; item_count = b.given + 1; shelf = number; generation = b.tag.generation } in r) free
 
 -- the first of buckets of which one may have changed
 first-taken : (n item : ℕ) (bs : List Bucket) → first_link (map (changed_at n (taken_bucket item)) bs) ≡ first_link bs
@@ -40,7 +40,7 @@ first-taken n item (b ∷ bs) = by_test (b.tag.number == n)
     by_test false = refl
 
 -- the record of a bucket that may have changed
-bucket-taken : (records : List BucketRecord) (n item number width : ℕ) (next : Option ℕ) (b : Bucket) → slice_get records b.tag.number ≡ Some (record_of number width next b)
+bucket-taken : (records : List LinkedBucket) (n item number width : ℕ) (next : Option ℕ) (b : Bucket) → slice_get records b.tag.number ≡ Some (record_of number width next b)
     → slice_get (changed_by (Some n) (taken_record item) records) (changed_at n (taken_bucket item) b).tag.number ≡ Some (record_of number width next (changed_at n (taken_bucket item) b))
 bucket-taken records n item number width next b h = by_test (b.tag.number == n) refl
   where
@@ -50,7 +50,7 @@ bucket-taken records n item number width next b h = by_test (b.tag.number == n) 
         let same : b.tag.number ≡ n = eqb-true b.tag.number n e in
         get-changed_by (taken_record item) records (Some n) b.tag.number (ap (λ (k : ℕ). Some k) (sym same))
         ∙ ap (option_map (taken_record item)) h
-        ∙ ap (λ (r : BucketRecord). Some r) (record-taken number width item next b)
+        ∙ ap (λ (r : LinkedBucket). Some r) (record-taken number width item next b)
     by_test false e =
         get-changed_by-other (taken_record item) records (Some n) b.tag.number (λ (k : Some n ≡ Some b.tag.number). let same : b.tag.number ≡ n = cc in absurd (other same)) ∙ h
       where
@@ -58,7 +58,7 @@ bucket-taken records n item number width next b h = by_test (b.tag.number == n) 
         other same = grind (arith, e)
 
 -- the records of buckets of which one may have changed
-buckets-taken : (records : List BucketRecord) (n item number width : ℕ) (bs : List Bucket) → AreBucketsSpelled records number width bs
+buckets-taken : (records : List LinkedBucket) (n item number width : ℕ) (bs : List Bucket) → AreBucketsSpelled records number width bs
     → AreBucketsSpelled (changed_by (Some n) (taken_record item) records) number width (map (changed_at n (taken_bucket item)) bs)
 buckets-taken records n item number width [] h = tt
 buckets-taken records n item number width (b ∷ bs) h = (
@@ -67,7 +67,7 @@ buckets-taken records n item number width (b ∷ bs) h = (
 )
 
 -- the records of shelves of which one bucket may have changed
-shelves-taken : (records : List BucketRecord) (n item number : ℕ) (ss : List BucketShelf) → AreShelvesSpelled records number ss
+shelves-taken : (records : List LinkedBucket) (n item number : ℕ) (ss : List BucketShelf) → AreShelvesSpelled records number ss
     → AreShelvesSpelled (changed_by (Some n) (taken_record item) records) number (changed_bucket n (taken_bucket item) ss)
 shelves-taken records n item number [] h = tt
 shelves-taken records n item number (s ∷ ss) h =
@@ -172,7 +172,7 @@ spells-taken frame stored unused ss number n item s at here once few fresh spell
       buckets = spelled;
       pool = subst (λ (ns : List ℕ). IsPool records stored.unused ns unused) (sym numbers) (record {
         pile = Leads-frame (next_of stored.buckets) (next_of records) unused stored.unused None
-            (λ k stands. link_at-same (λ (bucket : BucketRecord). bucket.next) stored.buckets records k (map-changed_by (λ (bucket : BucketRecord). bucket.next) (taken_record item) stored.buckets (Some n) (λ x. refl)))
+            (λ k stands. link_at-same (λ (bucket : LinkedBucket). bucket.next) stored.buckets records k (map-changed_by (λ (bucket : LinkedBucket). bucket.next) (taken_record item) stored.buckets (Some n) (λ x. refl)))
             spells.pool.pile;
         once = λ k. rw long (spells.pool.once k);
         count = omega (arith, long, spells.pool.count);

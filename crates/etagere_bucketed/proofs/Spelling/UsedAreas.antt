@@ -6,38 +6,38 @@ use Rattle.std.specs.Prelude.{◌+ℤ◌, ◌-ℤ◌, ◌*ℤ◌, IfSome, slice_
 use Rattle.etagere_base.specs.declared.frames.Frame.{Frame}
 use Rattle.etagere_base.specs.Frames.{alignment_along}
 use Rattle.etagere_base.specs.Lists.{Each}
-use Rattle.etagere_bucketed.specs.declared.records.BucketRecord.{BucketRecord}
-use Rattle.etagere_bucketed.specs.declared.records.BucketShelfRecord.{BucketShelfRecord}
+use Rattle.etagere_bucketed.specs.declared.records.LinkedBucket.{LinkedBucket}
+use Rattle.etagere_bucketed.specs.declared.records.LinkedBucketShelf.{LinkedBucketShelf}
 use Rattle.etagere_bucketed.specs.BucketRecords.{BucketRecords, bucket_at, bucket_walk, spelled_bucket, spelled_shelf}
 use Rattle.etagere_bucketed.specs.Space.{space_in, used_width}
 use Rattle.etagere_bucketed.specs.StandsFor.{HasBuckets, IsFilled, all_used, free_of, used_area}
 
 -- a bucket that is filled has no more left than it is wide
-pub frees-filled : (buckets : List BucketRecord) (alignment width height : ℕ) (ns : List ℕ)
+pub frees-filled : (buckets : List LinkedBucket) (alignment width height : ℕ) (ns : List ℕ)
     → Each (λ (n : ℕ). IfSome (slice_get buckets n) (IsFilled alignment width height)) ns → Each (λ (n : ℕ). free_of buckets n ≤ width) ns
 frees-filled buckets alignment width height [] each = tt
 frees-filled buckets alignment width height (n ∷ ns) each = (one (slice_get buckets n) each.0, frees-filled buckets alignment width height ns each.1)
   where
-    one : (o : Option BucketRecord) → IfSome o (IsFilled alignment width height) → option_map_or (λ (b : BucketRecord). b.free_space) o 0 ≤ width
+    one : (o : Option LinkedBucket) → IfSome o (IsFilled alignment width height) → option_map_or (λ (b : LinkedBucket). b.free_space) o 0 ≤ width
     one None h = omega arith
     one (Some r) h = h.free
 
 -- what buckets have used of their width
-used-all : (buckets : List BucketRecord) (width : ℕ) (ns : List ℕ) → Each (λ (n : ℕ). free_of buckets n ≤ width) ns
+used-all : (buckets : List LinkedBucket) (width : ℕ) (ns : List ℕ) → Each (λ (n : ℕ). free_of buckets n ≤ width) ns
     → all_used width buckets ns ≡ pos (used_width (map (bucket_at buckets width) ns))
 used-all buckets width [] frees = refl
 used-all buckets width (n ∷ ns) frees =
     ap (λ (z : ℤ). z +ℤ all_used width buckets ns) (one (slice_get buckets n) frees.0)
     ∙ ap (λ (z : ℤ). pos (bucket_at buckets width n).used +ℤ z) (used-all buckets width ns frees.1)
   where
-    one : (o : Option BucketRecord) → option_map_or (λ (b : BucketRecord). b.free_space) o 0 ≤ width
-        → option_map_or (λ (b : BucketRecord). pos width -ℤ pos b.free_space) o (pos 0)
+    one : (o : Option LinkedBucket) → option_map_or (λ (b : LinkedBucket). b.free_space) o 0 ≤ width
+        → option_map_or (λ (b : LinkedBucket). pos width -ℤ pos b.free_space) o (pos 0)
         ≡ pos (option_map_or (spelled_bucket width n) o (record { place = 0; used = 0; live = 0; given = 0; tag = record { number = n; generation = 0 } })).used
     one None fits = refl
     one (Some r) fits = omega (arith, ints, fits)
 
 -- what the buckets of shelves have used
-pub area-used : (atlas : BucketRecords) (shelves : List BucketShelfRecord) → Each (HasBuckets atlas) shelves
+pub area-used : (atlas : BucketRecords) (shelves : List LinkedBucketShelf) → Each (HasBuckets atlas) shelves
     → used_area atlas.buckets shelves ≡ pos (space_in (map (spelled_shelf atlas.frame atlas.buckets) shelves))
 area-used atlas [] has = refl
 area-used atlas (s ∷ ss) has =

@@ -8,7 +8,7 @@ use Rattle.etagere_base.proofs.TimesLemmas.{times-append}
 use Rattle.etagere_base.specs.declared.frames.Frame.{Frame}
 use Rattle.etagere_base.specs.Lists.{Each, times}
 use Rattle.etagere_links.specs.Edits.{changed_by}
-use Rattle.etagere_bucketed.specs.declared.records.BucketRecord.{BucketRecord}
+use Rattle.etagere_bucketed.specs.declared.records.LinkedBucket.{LinkedBucket}
 use Rattle.etagere_bucketed.specs.Adding.{IsTag, new_bucket, new_buckets}
 use Rattle.etagere_bucketed.specs.Private.Growths.{first_of, shelf_made, shelf_widened, widened_kept}
 use Rattle.etagere_bucketed.specs.Private.Returns.{width_of}
@@ -50,7 +50,7 @@ kept-wider frame front x place count tags first long e =
     rw (e, widest-new place x.bucket_width count tags x.buckets long, live-new place x.bucket_width tags x.buckets) refl
 
 -- the shelves are spelled where one got further buckets, and the records of the others stay
-spelled-wider : (old new : List BucketRecord) (numbers : List ℕ) (n : ℕ) (front : List BucketShelf) (x other : BucketShelf) (back : List BucketShelf) → StaysBut numbers old new
+spelled-wider : (old new : List LinkedBucket) (numbers : List ℕ) (n : ℕ) (front : List BucketShelf) (x other : BucketShelf) (back : List BucketShelf) → StaysBut numbers old new
     → ((k : ℕ) → 1 ≤ times k (bucket_numbers (front ++ x ∷ back)) → times k numbers ≡ 0)
     → AreBucketsSpelled new (n + length front) other.bucket_width other.buckets
     → AreShelvesSpelled old n (front ++ x ∷ back) → AreShelvesSpelled new n (front ++ other ∷ back)

@@ -2,7 +2,7 @@
 use Rattle.std.specs.Prelude.{◌≡◌, ℕ, zero, suc, ◌-◌, ◌/◌, min, max, Option, None, Some, List, [], ◌∷◌, length, slice_get, ◌==◌, if◌then◌else◌}
 use Rattle.std.specs.Option.{option_map_or}
 use Rattle.etagere_links.specs.Edits.{changed_by}
-use Rattle.etagere_bucketed.specs.declared.records.BucketRecord.{BucketRecord}
+use Rattle.etagere_bucketed.specs.declared.records.LinkedBucket.{LinkedBucket}
 use Rattle.etagere_bucketed.specs.Private.Returns.{width_of}
 use Rattle.etagere_bucketed.specs.Private.Store.{KeptShelf, Stored}
 use Rattle.etagere_bucketed.specs.Private.StoreEdits.{Made, made_many}
@@ -32,7 +32,7 @@ abbrev pub first_of : List KeptShelf → ℕ → Option ℕ
 first_of shelves number =
     option_map_or (λ (kept : KeptShelf). kept.shelf.first_bucket) (slice_get shelves number) None
 
-abbrev pub stored_of : List KeptShelf → List BucketRecord → Option ℕ → Stored
+abbrev pub stored_of : List KeptShelf → List LinkedBucket → Option ℕ → Stored
 stored_of shelves buckets unused = record { shelves = shelves; buckets = buckets; unused = unused }
 
 -- so many buckets made from a place on in front of those of the shelf of a number

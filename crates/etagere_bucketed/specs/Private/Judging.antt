@@ -10,8 +10,8 @@ use Rattle.etagere_base.specs.Lists.{Each, total}
 use Rattle.etagere_links.specs.RecordLists.{field_at}
 pub use Rattle.etagere_bucketed.specs.declared.judging.Judged.{Judged}
 pub use Rattle.etagere_bucketed.specs.declared.judging.Stack.{Stack}
-use Rattle.etagere_bucketed.specs.declared.records.BucketRecord.{BucketRecord}
-use Rattle.etagere_bucketed.specs.declared.records.BucketShelfRecord.{BucketShelfRecord}
+use Rattle.etagere_bucketed.specs.declared.records.LinkedBucket.{LinkedBucket}
+use Rattle.etagere_bucketed.specs.declared.records.LinkedBucketShelf.{LinkedBucketShelf}
 use Rattle.etagere_bucketed.specs.BucketRecords.{bucket_at}
 use Rattle.etagere_bucketed.specs.Frames.{longest_bucketed_side}
 use Rattle.etagere_bucketed.specs.Private.Searching.{is_kept_idle, record_room}
@@ -44,15 +44,15 @@ abbrev pub is_frame : Frame → Bool
 is_frame frame = has_sides frame && (has_alignments frame && has_columns frame)
 
 -- the record of this number names this shelf
-abbrev pub is_owned : List BucketRecord → ℕ → ℕ → Bool
-is_owned buckets shelf number = field_at (λ (bucket : BucketRecord). bucket.shelf == shelf) false buckets number
+abbrev pub is_owned : List LinkedBucket → ℕ → ℕ → Bool
+is_owned buckets shelf number = field_at (λ (bucket : LinkedBucket). bucket.shelf == shelf) false buckets number
 
 -- nothing of the record of this number is live
-abbrev pub is_unused : List BucketRecord → ℕ → Bool
-is_unused buckets number = field_at (λ (bucket : BucketRecord). bucket.refcount == 0) false buckets number
+abbrev pub is_unused : List LinkedBucket → ℕ → Bool
+is_unused buckets number = field_at (λ (bucket : LinkedBucket). bucket.refcount == 0) false buckets number
 
 -- a record of a bucket this wide, in a shelf this tall, is filled as a bucket must be
-abbrev pub is_filled : ℕ → ℕ → ℕ → BucketRecord → Bool
+abbrev pub is_filled : ℕ → ℕ → ℕ → LinkedBucket → Bool
 is_filled alignment width height bucket =
     nat_le bucket.free_space width
     && ((width - bucket.free_space) % alignment == 0
@@ -61,35 +61,35 @@ is_filled alignment width height bucket =
     else nat_le (bucket.item_count * alignment) (width - bucket.free_space) && nat_le 1 height)))
 
 -- so is the record of this number
-abbrev pub is_filled_at : ℕ → ℕ → ℕ → List BucketRecord → ℕ → Bool
+abbrev pub is_filled_at : ℕ → ℕ → ℕ → List LinkedBucket → ℕ → Bool
 is_filled_at alignment width height buckets number = field_at (is_filled alignment width height) false buckets number
 
 -- where a bucket this wide stands that is to end by there at most; none where it is not aligned or ends later
-abbrev pub stand_at : ℕ → ℕ → ℕ → BucketRecord → Option ℕ
+abbrev pub stand_at : ℕ → ℕ → ℕ → LinkedBucket → Option ℕ
 stand_at alignment width end bucket =
     if bucket.x % alignment == 0 && nat_le (bucket.x + width) end then Some bucket.x else None
 
 -- the same for the record of this number
-abbrev pub stand_by : ℕ → ℕ → List BucketRecord → ℕ → ℕ → Option ℕ
+abbrev pub stand_by : ℕ → ℕ → List LinkedBucket → ℕ → ℕ → Option ℕ
 stand_by alignment width buckets end number = option_and_then (stand_at alignment width end) (slice_get buckets number)
 
 -- where the last of the records of these numbers stands, each of them ending where the one before it stands at most
-abbrev pub last_stand : ℕ → ℕ → List BucketRecord → ℕ → List ℕ → Option ℕ
+abbrev pub last_stand : ℕ → ℕ → List LinkedBucket → ℕ → List ℕ → Option ℕ
 last_stand alignment width buckets end [] = Some end
 last_stand alignment width buckets end (number ∷ numbers) =
     option_and_then (λ (place : ℕ). last_stand alignment width buckets place numbers)
     (stand_by alignment width buckets end number)
 
 -- a bucket this wide stands at the begin, and ends by there at most
-abbrev pub begins_at : ℕ → ℕ → ℕ → BucketRecord → Bool
+abbrev pub begins_at : ℕ → ℕ → ℕ → LinkedBucket → Bool
 begins_at width begin end bucket = bucket.x == begin && nat_le (bucket.x + width) end
 
 -- the same for the record of this number
-abbrev pub begins_by : ℕ → ℕ → ℕ → List BucketRecord → ℕ → Bool
+abbrev pub begins_by : ℕ → ℕ → ℕ → List LinkedBucket → ℕ → Bool
 begins_by width begin end buckets number = field_at (begins_at width begin end) false buckets number
 
 -- the records of these numbers stand one before the other, the last one at the begin
-abbrev pub stand_together : ℕ → ℕ → List BucketRecord → ℕ → ℕ → List ℕ → Bool
+abbrev pub stand_together : ℕ → ℕ → List LinkedBucket → ℕ → ℕ → List ℕ → Bool
 stand_together alignment width buckets begin end [] = false
 stand_together alignment width buckets begin end (number ∷ []) = begins_by width begin end buckets number
 stand_together alignment width buckets begin end (number ∷ next ∷ numbers) =
@@ -97,7 +97,7 @@ stand_together alignment width buckets begin end (number ∷ next ∷ numbers) =
     (stand_by alignment width buckets end number) false
 
 -- the records of these numbers are those of the buckets of a shelf
-abbrev pub has_buckets : Frame → List BucketRecord → BucketShelfRecord → List ℕ → Bool
+abbrev pub has_buckets : Frame → List LinkedBucket → LinkedBucketShelf → List ℕ → Bool
 has_buckets frame buckets shelf numbers =
     let alignment = alignment_along frame in
     let width = shelf.bucket_width in
@@ -106,7 +106,7 @@ has_buckets frame buckets shelf numbers =
     && stand_together alignment width buckets shelf.x (shelf.x + frame.column_width) numbers)
 
 -- the shelf that a record spells with the buckets of these numbers
-abbrev pub row_shelf : Frame → List BucketRecord → BucketShelfRecord → List ℕ → BucketShelf
+abbrev pub row_shelf : Frame → List LinkedBucket → LinkedBucketShelf → List ℕ → BucketShelf
 row_shelf frame buckets shelf numbers =
     record {
       column = shelf.x / frame.column_width;
@@ -116,28 +116,28 @@ row_shelf frame buckets shelf numbers =
     }
 
 -- how much the record of this number has used of a width
-abbrev pub used_at : ℕ → List BucketRecord → ℕ → ℕ
-used_at width buckets number = field_at (λ (bucket : BucketRecord). width - bucket.free_space) 0 buckets number
+abbrev pub used_at : ℕ → List LinkedBucket → ℕ → ℕ
+used_at width buckets number = field_at (λ (bucket : LinkedBucket). width - bucket.free_space) 0 buckets number
 
 -- how much the records of these numbers have used of it
-abbrev pub used_by : ℕ → List BucketRecord → List ℕ → ℕ
+abbrev pub used_by : ℕ → List LinkedBucket → List ℕ → ℕ
 used_by width buckets numbers = total (used_at width buckets) numbers
 
 -- how many items of them are live
-abbrev pub live_by : List BucketRecord → List ℕ → ℕ
+abbrev pub live_by : List LinkedBucket → List ℕ → ℕ
 live_by buckets numbers = total (live_of buckets) numbers
 
 -- the width that the record of this number can give
-abbrev pub room_at : List BucketRecord → ℕ → ℕ
+abbrev pub room_at : List LinkedBucket → ℕ → ℕ
 room_at buckets number = field_at record_room 0 buckets number
 
 -- the greatest width that one of them can give
-abbrev pub widest_by : List BucketRecord → List ℕ → ℕ
+abbrev pub widest_by : List LinkedBucket → List ℕ → ℕ
 widest_by buckets [] = 0
 widest_by buckets (number ∷ numbers) = max (room_at buckets number) (widest_by buckets numbers)
 
 -- what is opened, and how tall the last column is, once a shelf stands there too; none where it breaks the rule
-abbrev pub stacked_on : Frame → Stack → BucketShelfRecord → Option Stack
+abbrev pub stacked_on : Frame → Stack → LinkedBucketShelf → Option Stack
 stacked_on frame stack shelf =
     let column = shelf.x / frame.column_width in
     let height = if column + 1 == stack.opened then stack.height else 0 in
@@ -148,13 +148,13 @@ stacked_on frame stack shelf =
     else None
 
 -- the same once these shelves stand there
-abbrev pub stack_end : Frame → Stack → List BucketShelfRecord → Option Stack
+abbrev pub stack_end : Frame → Stack → List LinkedBucketShelf → Option Stack
 stack_end frame stack [] = Some stack
 stack_end frame stack (shelf ∷ shelves) =
     option_and_then (λ (next : Stack). stack_end frame next shelves) (stacked_on frame stack shelf)
 
 -- the shelves stand as they must, and leave what is said
-abbrev pub is_stacked : Frame → List BucketShelfRecord → ℕ → ℕ → Bool
+abbrev pub is_stacked : Frame → List LinkedBucketShelf → ℕ → ℕ → Bool
 is_stacked frame shelves column height =
     option_map_or (λ (stack : Stack). stack.opened - 1 == column && across_side frame - stack.height == height)
     (stack_end frame (record { opened = 0; height = 0 }) shelves) false
@@ -164,7 +164,7 @@ abbrev pub ends_idle : List KeptShelf → Bool
 ends_idle shelves = option_map_or is_kept_idle (slice_get shelves (length shelves - 1)) false
 
 -- what is kept of a shelf with the buckets of these numbers
-abbrev pub row_kept : BucketShelfRecord → List BucketRecord → List ℕ → KeptShelf
+abbrev pub row_kept : LinkedBucketShelf → List LinkedBucket → List ℕ → KeptShelf
 row_kept shelf buckets numbers =
     record {
       shelf = shelf;
@@ -173,7 +173,7 @@ row_kept shelf buckets numbers =
     }
 
 -- the buckets of these numbers are those of the shelf of a number, and this is what is kept of it
-pub record IsRow (frame : Frame) (buckets : List BucketRecord) (number : ℕ) (shelf : BucketShelfRecord) (numbers : List ℕ) (judged : Judged) : Type 0 where
+pub record IsRow (frame : Frame) (buckets : List LinkedBucket) (number : ℕ) (shelf : LinkedBucketShelf) (numbers : List ℕ) (judged : Judged) : Type 0 where
   pub owned : Each (λ bucket. shelf_of buckets bucket ≡ number) numbers
   pub has : AreBuckets frame buckets shelf numbers
   pub generations : Each (λ bucket. generation_of buckets bucket < generations) numbers
@@ -181,7 +181,7 @@ pub record IsRow (frame : Frame) (buckets : List BucketRecord) (number : ℕ) (s
   pub space : judged.space ≡ used_width (row_shelf frame buckets shelf numbers).buckets * shelf.height
 
 -- the rule that a fault names is broken by them
-abbrev pub BreaksRow : Frame → List BucketRecord → ℕ → BucketShelfRecord → List ℕ → RestoreFault → Type 0
+abbrev pub BreaksRow : Frame → List LinkedBucket → ℕ → LinkedBucketShelf → List ℕ → RestoreFault → Type 0
 BreaksRow frame buckets number shelf numbers Link = Each (λ bucket. shelf_of buckets bucket ≡ number) numbers → ⊥
 BreaksRow frame buckets number shelf numbers Runs = AreBuckets frame buckets shelf numbers → ⊥
 BreaksRow frame buckets number shelf numbers fault = ⊥

@@ -3,7 +3,7 @@ use Rattle.std.specs.Prelude.{◌≡◌, ℕ, Option, List, []}
 use Rattle.etagere_base.specs.declared.frames.Frame.{Frame}
 use Rattle.etagere_base.specs.Lists.{Each}
 use Rattle.etagere_links.specs.Links.{bits_of, link_of}
-use Rattle.etagere_bucketed.specs.declared.records.BucketShelfRecord.{BucketShelfRecord}
+use Rattle.etagere_bucketed.specs.declared.records.LinkedBucketShelf.{LinkedBucketShelf}
 use Rattle.etagere_bucketed.specs.BucketRecords.{BucketRecords, bucket_walk, next_of}
 use Rattle.etagere_bucketed.specs.Private.Store.{KeptShelf, Stored, kept_shelves}
 use Rattle.etagere_bucketed.specs.Private.Witnessed.{HasTotals, Witnessed}
@@ -18,7 +18,7 @@ LinkFits link = link_of (bits_of link) ≡ link
 -- the links of these records fit their bits
 pub record LinksFit (atlas : BucketRecords) : Type 0 where
   pub next : (number : ℕ) → LinkFits (next_of atlas.buckets number)
-  pub first : Each (λ (shelf : BucketShelfRecord). LinkFits shelf.first_bucket) atlas.shelves
+  pub first : Each (λ (shelf : LinkedBucketShelf). LinkFits shelf.first_bucket) atlas.shelves
   pub unused : LinkFits atlas.unused
 
 -- these records, with what is kept beside the shelves of a state

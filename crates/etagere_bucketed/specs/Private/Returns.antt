@@ -3,7 +3,7 @@ use Rattle.std.specs.Prelude.{ℕ, zero, suc, ◌+◌, ◌-◌, ◌*◌, ◌/◌
 use Rattle.std.specs.Option.{option_map_or}
 use Rattle.etagere_links.specs.Edits.{changed_by}
 use Rattle.etagere_links.specs.RecordLists.{field_at}
-use Rattle.etagere_bucketed.specs.declared.records.BucketRecord.{BucketRecord}
+use Rattle.etagere_bucketed.specs.declared.records.LinkedBucket.{LinkedBucket}
 pub use Rattle.etagere_bucketed.specs.declared.dropping.RowEnd.{RowEnd}
 use Rattle.etagere_bucketed.specs.BucketRecords.{next_of}
 use Rattle.etagere_bucketed.specs.Picking.{or_else}
@@ -14,18 +14,18 @@ use Rattle.etagere_bucketed.specs.StandsFor.{free_of, live_of, shelf_of}
 use Rattle.etagere_bucketed.specs.State.{generation_unit, generations}
 
 -- a record holds something live and has given the item of an id
-abbrev pub gives_item : ℕ → BucketRecord → Bool
+abbrev pub gives_item : ℕ → LinkedBucket → Bool
 gives_item id bucket =
     id / generation_unit == bucket.generation
     && (nat_lt 0 bucket.refcount
     && (nat_lt 0 (given_of id) && nat_le (given_of id) bucket.item_count))
 
 -- the record that an id names has given its item
-abbrev pub is_known_in : List BucketRecord → ℕ → Bool
+abbrev pub is_known_in : List LinkedBucket → ℕ → Bool
 is_known_in buckets id = field_at (gives_item id) false buckets (tag_of id).number
 
 -- a record of a bucket this wide that was emptied, under the next generation
-abbrev pub emptied_record : ℕ → BucketRecord → BucketRecord
+abbrev pub emptied_record : ℕ → LinkedBucket → LinkedBucket
 emptied_record width bucket =
     record bucket {
       free_space = width;
@@ -35,11 +35,11 @@ emptied_record width bucket =
     }
 
 -- a record with one item less that is live
-abbrev pub lessened_record : BucketRecord → BucketRecord
+abbrev pub lessened_record : LinkedBucket → LinkedBucket
 lessened_record bucket = record bucket { refcount = bucket.refcount - 1 }
 
 -- a record of a bucket this wide after one of its items was returned
-abbrev pub returned_record : ℕ → BucketRecord → BucketRecord
+abbrev pub returned_record : ℕ → LinkedBucket → LinkedBucket
 returned_record width bucket =
     if nat_le bucket.refcount 1 then emptied_record width bucket else lessened_record bucket
 
@@ -70,7 +70,7 @@ item_returned number stored =
     }
 
 -- the area that a return to the bucket of a number gives back
-abbrev pub returned_area : ℕ → List KeptShelf → List BucketRecord → ℕ
+abbrev pub returned_area : ℕ → List KeptShelf → List LinkedBucket → ℕ
 returned_area number shelves buckets =
     let shelf = shelf_of buckets number in
     if nat_le (live_of buckets number) 1
@@ -79,18 +79,18 @@ returned_area number shelves buckets =
 
 -- where the links end from a record on, in so many steps, and how many records stand up to there,
 -- where these were met
-abbrev pub row_from : ℕ → List BucketRecord → ℕ → ℕ → RowEnd
+abbrev pub row_from : ℕ → List LinkedBucket → ℕ → ℕ → RowEnd
 row_from zero buckets count at = record { last = at; count = count }
 row_from (suc steps) buckets count at =
     option_map_or (row_from steps buckets (suc count)) (next_of buckets at)
     (record { last = at; count = count })
 
 -- where the list of a bucket ends, and how many stand in it
-abbrev pub row_end : List BucketRecord → ℕ → RowEnd
+abbrev pub row_end : List LinkedBucket → ℕ → RowEnd
 row_end buckets first = row_from (length buckets) buckets 1 first
 
 -- a record with another link
-abbrev pub linked_to : Option ℕ → BucketRecord → BucketRecord
+abbrev pub linked_to : Option ℕ → LinkedBucket → LinkedBucket
 linked_to next bucket = record bucket { next = next }
 
 -- records from which shelves at the end are dropped, and how many buckets that put aside
@@ -98,7 +98,7 @@ pub record Dropping : Type 0 where
   pub stored : Stored
   pub count : ℕ
 
-abbrev pub dropping_of : List KeptShelf → List BucketRecord → Option ℕ → ℕ → Dropping
+abbrev pub dropping_of : List KeptShelf → List LinkedBucket → Option ℕ → ℕ → Dropping
 dropping_of shelves buckets unused count =
     record {
       stored = record { shelves = shelves; buckets = buckets; unused = unused };
@@ -110,13 +110,13 @@ abbrev pub dropping_from : Stored → ℕ → Dropping
 dropping_from stored count = dropping_of stored.shelves stored.buckets stored.unused count
 
 -- the list of a bucket put in front of the unused ones
-abbrev pub row_aside : Option ℕ → Option ℕ → List BucketRecord → List BucketRecord
+abbrev pub row_aside : Option ℕ → Option ℕ → List LinkedBucket → List LinkedBucket
 row_aside None unused buckets = buckets
 row_aside (Some first) unused buckets =
     changed_by (Some (row_end buckets first).last) (linked_to unused) buckets
 
 -- how many buckets stand in a list
-abbrev pub row_count : List BucketRecord → Option ℕ → ℕ
+abbrev pub row_count : List LinkedBucket → Option ℕ → ℕ
 row_count buckets None = 0
 row_count buckets (Some first) = (row_end buckets first).count
 

@@ -6,7 +6,7 @@ use Rattle.etagere_base.specs.declared.frames.Frame.{Frame}
 use Rattle.etagere_base.specs.declared.sides.Sides.{Sides}
 use Rattle.etagere_base.specs.Least.{first_least}
 use Rattle.etagere_base.specs.Least.{Found as Least}
-use Rattle.etagere_bucketed.specs.declared.records.BucketRecord.{BucketRecord}
+use Rattle.etagere_bucketed.specs.declared.records.LinkedBucket.{LinkedBucket}
 pub use Rattle.etagere_bucketed.specs.declared.searching.Wanted.{Wanted}
 use Rattle.etagere_bucketed.specs.declared.searching.Wanted.TheVariants.{Roomy, Exact}
 pub use Rattle.etagere_bucketed.specs.declared.searching.Found.{Found}
@@ -32,7 +32,7 @@ place_seen (places.InAdded news) = InAdded (news_of news)
 place_seen (places.InMerged group) = InMerged group
 
 -- a bucket record is what is wanted
-abbrev pub is_wanted : Wanted → BucketRecord → Bool
+abbrev pub is_wanted : Wanted → LinkedBucket → Bool
 is_wanted (Roomy width) bucket =
     nat_le width bucket.free_space && nat_lt bucket.item_count most_given
 is_wanted (Exact width) bucket =
@@ -40,30 +40,30 @@ is_wanted (Exact width) bucket =
     && bucket.free_space == width
 
 -- the number of the first record that is wanted, in so many steps from a link on
-abbrev pub first_from : ℕ → Wanted → List BucketRecord → Option ℕ → Option ℕ
+abbrev pub first_from : ℕ → Wanted → List LinkedBucket → Option ℕ → Option ℕ
 first_from zero wanted buckets at = None
 first_from (suc steps) wanted buckets None = None
 first_from (suc steps) wanted buckets (Some number) =
     option_and_then
-    (λ (bucket : BucketRecord). if is_wanted wanted bucket then Some number
+    (λ (bucket : LinkedBucket). if is_wanted wanted bucket then Some number
     else first_from steps wanted buckets bucket.next)
     (slice_get buckets number)
 
 -- the number of the first bucket of a shelf that is wanted
-abbrev pub first_wanted : Wanted → List BucketRecord → KeptShelf → Option ℕ
+abbrev pub first_wanted : Wanted → List LinkedBucket → KeptShelf → Option ℕ
 first_wanted wanted buckets kept = first_from most_buckets wanted buckets kept.shelf.first_bucket
 
 -- the width that a bucket record can give to one item
-abbrev pub record_room : BucketRecord → ℕ
+abbrev pub record_room : LinkedBucket → ℕ
 record_room bucket = if nat_lt bucket.item_count most_given then bucket.free_space else 0
 
 -- the greatest width that a record can give, in so many steps from a link on
-abbrev pub widest_from : ℕ → List BucketRecord → Option ℕ → ℕ
+abbrev pub widest_from : ℕ → List LinkedBucket → Option ℕ → ℕ
 widest_from zero buckets at = 0
 widest_from (suc steps) buckets None = 0
 widest_from (suc steps) buckets (Some number) =
     option_map_or
-    (λ (bucket : BucketRecord). max (record_room bucket) (widest_from steps buckets bucket.next))
+    (λ (bucket : LinkedBucket). max (record_room bucket) (widest_from steps buckets bucket.next))
     (slice_get buckets number) 0
 
 -- the height that a shelf wastes where it is eligible and has room
@@ -77,26 +77,26 @@ kept_waste adds sides kept =
     else None
 
 -- the number of a shelf and that of its first bucket that is wanted
-abbrev pub found_in : Wanted → List BucketRecord → ℕ → KeptShelf → Option Found
+abbrev pub found_in : Wanted → List LinkedBucket → ℕ → KeptShelf → Option Found
 found_in wanted buckets number kept =
     option_map (λ bucket. record { shelf = number; bucket = bucket })
     (first_wanted wanted buckets kept)
 
 -- the first exact bucket of a shelf that wastes no height
-abbrev pub exact_in : Sides → List BucketRecord → ℕ → KeptShelf → Option Found
+abbrev pub exact_in : Sides → List LinkedBucket → ℕ → KeptShelf → Option Found
 exact_in sides buckets number kept =
     if kept.shelf.height == sides.across && nat_le sides.along kept.widest_room
     then found_in (Exact sides.along) buckets number kept
     else None
 
 -- the first exact bucket of shelves that waste no height, of which the first has this number
-abbrev pub exact_from : Sides → List BucketRecord → ℕ → List KeptShelf → Option Found
+abbrev pub exact_from : Sides → List LinkedBucket → ℕ → List KeptShelf → Option Found
 exact_from sides buckets number [] = None
 exact_from sides buckets number (kept ∷ shelves) =
     or_else (exact_in sides buckets number kept) (exact_from sides buckets (suc number) shelves)
 
 -- what was found, unless it wastes width alone, and there is an exact bucket in a later shelf
-abbrev pub exact_or_found : Sides → List KeptShelf → List BucketRecord → Least → ℕ → Found
+abbrev pub exact_or_found : Sides → List KeptShelf → List LinkedBucket → Least → ℕ → Found
 exact_or_found sides shelves buckets least bucket =
     let found : Found = record { shelf = least.number; bucket = bucket } in
     if least.rank == 0 && not (free_of buckets bucket == sides.along)
@@ -105,7 +105,7 @@ exact_or_found sides shelves buckets least bucket =
     else found
 
 -- the bucket that is picked for these sides
-abbrev pub picked : Bool → Sides → List KeptShelf → List BucketRecord → Option Found
+abbrev pub picked : Bool → Sides → List KeptShelf → List LinkedBucket → Option Found
 picked adds sides shelves buckets =
     option_and_then
     (λ (least : Least). option_and_then
@@ -152,7 +152,7 @@ serves_at sides others (kept ∷ shelves) = kept_serves sides others kept shelve
 
 -- the place for these sides: the bucket that is picked, else shelves to be added, else shelves to
 -- be merged
-abbrev pub kept_place : Frame → Left → Sides → List KeptShelf → List BucketRecord → Option Place
+abbrev pub kept_place : Frame → Left → Sides → List KeptShelf → List LinkedBucket → Option Place
 kept_place frame left sides shelves buckets =
     let adds = can_add frame left sides.across in
     or_else

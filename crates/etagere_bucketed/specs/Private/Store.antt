@@ -5,8 +5,8 @@ use Rattle.etagere_base.specs.declared.frames.Frame.{Frame}
 use Rattle.etagere_base.specs.Lists.{Each}
 use Rattle.etagere_links.specs.Chains.{IsPile}
 use Rattle.etagere_links.specs.RecordLists.{HasEachOnce}
-use Rattle.etagere_bucketed.specs.declared.records.BucketRecord.{BucketRecord}
-use Rattle.etagere_bucketed.specs.declared.records.BucketShelfRecord.{BucketShelfRecord}
+use Rattle.etagere_bucketed.specs.declared.records.LinkedBucket.{LinkedBucket}
+use Rattle.etagere_bucketed.specs.declared.records.LinkedBucketShelf.{LinkedBucketShelf}
 pub use Rattle.etagere_bucketed.specs.declared.store.KeptShelf.{KeptShelf}
 use Rattle.etagere_bucketed.specs.BucketRecords.{next_of, spelled_state}
 use Rattle.etagere_bucketed.specs.State.{Bucket, BucketShelf, BucketedState, bucket_numbers, column_height, column_place, most_buckets, most_given}
@@ -16,11 +16,11 @@ use Rattle.etagere_bucketed.specs.StandsFor.{live_of}
 -- begin
 pub record Stored : Type 0 where
   pub shelves : List KeptShelf
-  pub buckets : List BucketRecord
+  pub buckets : List LinkedBucket
   pub unused : Option ℕ
 
 -- the record of a kept shelf
-abbrev pub shelf_record : KeptShelf → BucketShelfRecord
+abbrev pub shelf_record : KeptShelf → LinkedBucketShelf
 shelf_record kept = kept.shelf
 
 -- the state that what is stored spells
@@ -69,7 +69,7 @@ kept_shelves frame before (shelf ∷ shelves) =
 
 -- the record of a bucket in the shelf of a number, whose buckets are this wide, that links to
 -- another
-abbrev pub record_of : ℕ → ℕ → Option ℕ → Bucket → BucketRecord
+abbrev pub record_of : ℕ → ℕ → Option ℕ → Bucket → LinkedBucket
 record_of shelf width next bucket =
     record {
       x = bucket.place;
@@ -83,14 +83,14 @@ record_of shelf width next bucket =
 
 -- records spell buckets of the shelf of a number, whose buckets are this wide: each stands under
 -- its number, and links to the next one
-abbrev pub AreBucketsSpelled : List BucketRecord → ℕ → ℕ → List Bucket → Type 0
+abbrev pub AreBucketsSpelled : List LinkedBucket → ℕ → ℕ → List Bucket → Type 0
 AreBucketsSpelled records shelf width [] = Unit {0}
 AreBucketsSpelled records shelf width (bucket ∷ buckets) =
     (slice_get records bucket.tag.number ≡ Some (record_of shelf width (first_link buckets) bucket))
     × AreBucketsSpelled records shelf width buckets
 
 -- records spell the buckets of shelves, of which the first has this number
-abbrev pub AreShelvesSpelled : List BucketRecord → ℕ → List BucketShelf → Type 0
+abbrev pub AreShelvesSpelled : List LinkedBucket → ℕ → List BucketShelf → Type 0
 AreShelvesSpelled records number [] = Unit {0}
 AreShelvesSpelled records number (shelf ∷ shelves) =
     AreBucketsSpelled records number shelf.bucket_width shelf.buckets
@@ -98,7 +98,7 @@ AreShelvesSpelled records number (shelf ∷ shelves) =
 
 -- the records in use have these numbers; the others are the unused ones, in the order of their
 -- links, and hold nothing live
-pub record IsPool (records : List BucketRecord) (first : Option ℕ) (used unused : List ℕ)
+pub record IsPool (records : List LinkedBucket) (first : Option ℕ) (used unused : List ℕ)
     : Type 0 where
   pub pile : IsPile (next_of records) first unused
   pub once : HasEachOnce (length records) (used ++ unused)

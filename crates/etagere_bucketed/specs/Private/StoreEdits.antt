@@ -9,7 +9,7 @@ use Rattle.etagere_base.specs.Lists.{Each}
 use Rattle.etagere_base.specs.Places.{rectangle_at}
 use Rattle.etagere_links.specs.Links.{no_link}
 use Rattle.etagere_links.specs.Edits.{changed_by}
-pub use Rattle.etagere_bucketed.specs.declared.records.BucketRecord.{BucketRecord}
+pub use Rattle.etagere_bucketed.specs.declared.records.LinkedBucket.{LinkedBucket}
 use Rattle.etagere_bucketed.specs.Adding.{NewShelf, total_count, width_of_share}
 use Rattle.etagere_bucketed.specs.Merging.{Group}
 use Rattle.etagere_bucketed.specs.Private.Searching.{Found, Place, InBucket, InAdded, InMerged, kept_height, widest_from}
@@ -23,12 +23,12 @@ pub use Rattle.etagere_bucketed.specs.declared.making.NewBuckets.{NewBuckets}
 
 -- bucket records, where the unused ones begin, and the first bucket of a shelf
 pub record Made : Type 0 where
-  pub buckets : List BucketRecord
+  pub buckets : List LinkedBucket
   pub unused : Option ℕ
   pub first : Option ℕ
 
 -- the record of a bucket that has given nothing yet
-abbrev pub new_record : NewBuckets → Option ℕ → ℕ → BucketRecord
+abbrev pub new_record : NewBuckets → Option ℕ → ℕ → LinkedBucket
 new_record new next generation =
     record {
       x = new.x;
@@ -50,7 +50,7 @@ made_new new made =
     }
 
 -- one more bucket in front of a shelf, in an unused record, under its next generation
-abbrev pub made_again : NewBuckets → Made → ℕ → BucketRecord → Made
+abbrev pub made_again : NewBuckets → Made → ℕ → LinkedBucket → Made
 made_again new made number old =
     record {
       buckets =
@@ -145,7 +145,7 @@ pub record IsGroupIn (group : Group) (shelves : List KeptShelf) : Type 0 where
   pub short : across_of shelves group.first + group_height group shelves < 2 ^ 16
 
 -- a record of a bucket after it gave an item this wide
-abbrev pub taken_record : ℕ → BucketRecord → BucketRecord
+abbrev pub taken_record : ℕ → LinkedBucket → LinkedBucket
 taken_record width bucket =
     record bucket {
       free_space = bucket.free_space - width;
@@ -173,7 +173,7 @@ live_items_of shelves number =
     option_map_or (λ (kept : KeptShelf). kept.live_items) (slice_get shelves number) 0
 
 -- the shelves after one of these buckets gave an item, which lies in the shelf of this number
-abbrev pub shelves_given : ℕ → List KeptShelf → List BucketRecord → List KeptShelf
+abbrev pub shelves_given : ℕ → List KeptShelf → List LinkedBucket → List KeptShelf
 shelves_given shelf shelves buckets =
     changed_by (Some shelf)
     (given_from (widest_from most_buckets buckets (first_bucket_of shelves shelf))) shelves
@@ -197,8 +197,8 @@ pub record IsNewShelf (frame : Frame) (new : NewShelf) : Type 0 where
   pub count : 1 ≤ new.count
 
 -- the bucket of a number can give an item this wide
-pub record CanTake (number width : ℕ) (buckets : List BucketRecord) : Type 0 where
-  pub bucket : BucketRecord
+pub record CanTake (number width : ℕ) (buckets : List LinkedBucket) : Type 0 where
+  pub bucket : LinkedBucket
   pub here : slice_get buckets number ≡ Some bucket
   pub narrow : width < 2 ^ 16
   pub free : width ≤ bucket.free_space
@@ -268,7 +268,7 @@ CanPrepare frame (InMerged group) in_use stored =
     IsGroupIn group stored.shelves × HasFirst group.first (kept_merged group stored.shelves)
 
 -- what a bucket of a shelf gives next, that wide
-abbrev pub kept_allocation : Frame → ℕ → Found → KeptShelf → BucketRecord → Allocation
+abbrev pub kept_allocation : Frame → ℕ → Found → KeptShelf → LinkedBucket → Allocation
 kept_allocation frame width found kept bucket =
     record {
       id = id_of (record { number = found.bucket; generation = bucket.generation })
@@ -300,7 +300,7 @@ IsAdding (InAdded news) = Unit {0}
 IsAdding (InMerged group) = ⊥
 
 -- a bucket of a shelf can give an item this wide, which lies within the atlas
-pub record CanGiveFrom (width : ℕ) (found : Found) (kept : KeptShelf) (bucket : BucketRecord)
+pub record CanGiveFrom (width : ℕ) (found : Found) (kept : KeptShelf) (bucket : LinkedBucket)
     : Type 0 where
   pub number : found.bucket < most_buckets
   pub given : bucket.item_count < most_given
@@ -312,6 +312,6 @@ pub record CanGiveFrom (width : ℕ) (found : Found) (kept : KeptShelf) (bucket 
 pub record CanGive (frame : Frame) (width : ℕ) (found : Found) (stored : Stored) : Type 0 where
   pub kept : KeptShelf
   pub shelf : slice_get stored.shelves found.shelf ≡ Some kept
-  pub bucket : BucketRecord
+  pub bucket : LinkedBucket
   pub here : slice_get stored.buckets found.bucket ≡ Some bucket
   pub can : CanGiveFrom width found kept bucket

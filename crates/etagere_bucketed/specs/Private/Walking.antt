@@ -8,8 +8,8 @@ use Rattle.etagere_links.specs.Links.{bits_of, no_link}
 use Rattle.etagere_links.specs.Marks.{HasTwice, IsMarkedBy}
 use Rattle.etagere_links.specs.RecordLists.{HasEachOnce}
 use Rattle.etagere_links.specs.Walks.{Walked}
-use Rattle.etagere_bucketed.specs.declared.records.BucketRecord.{BucketRecord}
-use Rattle.etagere_bucketed.specs.declared.records.BucketShelfRecord.{BucketShelfRecord}
+use Rattle.etagere_bucketed.specs.declared.records.LinkedBucket.{LinkedBucket}
+use Rattle.etagere_bucketed.specs.declared.records.LinkedBucketShelf.{LinkedBucketShelf}
 use Rattle.etagere_bucketed.specs.BucketRecords.{bucket_walk, spelled_shelf}
 use Rattle.etagere_bucketed.specs.Private.Judging.{Judged, row_kept}
 use Rattle.etagere_bucketed.specs.Private.Restored.{LinkFits}
@@ -19,8 +19,8 @@ use Rattle.etagere_bucketed.specs.StandsFor.{AreBuckets, StopsInRange, generatio
 use Rattle.etagere_bucketed.specs.State.{generations}
 
 -- the links of bucket records, as bits
-abbrev pub links_of : List BucketRecord → List ℕ
-links_of buckets = map (λ (bucket : BucketRecord). bits_of bucket.next) buckets
+abbrev pub links_of : List LinkedBucket → List ℕ
+links_of buckets = map (λ (bucket : LinkedBucket). bits_of bucket.next) buckets
 
 -- the rule that a fault names is broken by a walk, where these records were marked before
 abbrev pub BreaksWalk : List ℕ → List Bool → Walked → RestoreFault → Type 0
@@ -31,7 +31,7 @@ BreaksWalk links marks walked Memory = Unit {0}
 BreaksWalk links marks walked fault = ⊥
 
 -- a shelf of this number was judged: its list ends, and has its buckets
-pub record IsJudged (frame : Frame) (buckets : List BucketRecord) (number : ℕ) (shelf : BucketShelfRecord) : Type 0 where
+pub record IsJudged (frame : Frame) (buckets : List LinkedBucket) (number : ℕ) (shelf : LinkedBucketShelf) : Type 0 where
   pub ends : (bucket_walk buckets shelf.first_bucket).end ≡ no_link
   pub fits : LinkFits shelf.first_bucket
   pub owned : Each (λ bucket. shelf_of buckets bucket ≡ number) (bucket_walk buckets shelf.first_bucket).met
@@ -39,17 +39,17 @@ pub record IsJudged (frame : Frame) (buckets : List BucketRecord) (number : ℕ)
   pub generations : Each (λ bucket. generation_of buckets bucket < generations) (bucket_walk buckets shelf.first_bucket).met
 
 -- so were shelves, of which the first has this number
-abbrev pub AreJudged : Frame → List BucketRecord → ℕ → List BucketShelfRecord → Type 0
+abbrev pub AreJudged : Frame → List LinkedBucket → ℕ → List LinkedBucketShelf → Type 0
 AreJudged frame buckets number [] = Unit {0}
 AreJudged frame buckets number (shelf ∷ shelves) =
     IsJudged frame buckets number shelf × AreJudged frame buckets (suc number) shelves
 
 -- what is kept of a shelf
-abbrev pub kept_of : List BucketRecord → BucketShelfRecord → KeptShelf
+abbrev pub kept_of : List LinkedBucket → LinkedBucketShelf → KeptShelf
 kept_of buckets shelf = row_kept shelf buckets (bucket_walk buckets shelf.first_bucket).met
 
 -- these shelves were judged, and this is what is kept of them, marked, counted and added up
-pub record AreKeptSoFar (frame : Frame) (buckets : List BucketRecord) (shelves : List BucketShelfRecord) (all : List KeptShelf) (marks : List Bool) (steps area : ℕ) : Type 0 where
+pub record AreKeptSoFar (frame : Frame) (buckets : List LinkedBucket) (shelves : List LinkedBucketShelf) (all : List KeptShelf) (marks : List Bool) (steps area : ℕ) : Type 0 where
   pub judged : AreJudged frame buckets 0 shelves
   pub kept : all ≡ map (kept_of buckets) shelves
   pub marked : IsMarkedBy marks (walked_numbers buckets shelves)
@@ -57,13 +57,13 @@ pub record AreKeptSoFar (frame : Frame) (buckets : List BucketRecord) (shelves :
   pub space : area ≡ space_in (map (spelled_shelf frame buckets) shelves)
 
 -- what was told of a shelf of this number, where it was judged
-pub record IsShelfJudged (frame : Frame) (buckets : List BucketRecord) (number : ℕ) (shelf : BucketShelfRecord) (told : Judged) : Type 0 where
+pub record IsShelfJudged (frame : Frame) (buckets : List LinkedBucket) (number : ℕ) (shelf : LinkedBucketShelf) (told : Judged) : Type 0 where
   pub judged : IsJudged frame buckets number shelf
   pub kept : told.kept ≡ kept_of buckets shelf
   pub space : told.space ≡ used_width (spelled_shelf frame buckets shelf).buckets * shelf.height
 
 -- the rule that a fault names is broken by a shelf, where these records were marked before
-abbrev pub BreaksShelf : Frame → List BucketRecord → List Bool → ℕ → BucketShelfRecord → RestoreFault → Type 0
+abbrev pub BreaksShelf : Frame → List LinkedBucket → List Bool → ℕ → LinkedBucketShelf → RestoreFault → Type 0
 BreaksShelf frame buckets marks number shelf Link =
     StopsInRange (length buckets) (bucket_walk buckets shelf.first_bucket)
     → Each (λ bucket. shelf_of buckets bucket ≡ number) (bucket_walk buckets shelf.first_bucket).met → ⊥
@@ -76,7 +76,7 @@ BreaksShelf frame buckets marks number shelf Memory = Unit {0}
 BreaksShelf frame buckets marks number shelf fault = ⊥
 
 -- the rule that a fault names is broken by the records put aside, where these were marked before
-abbrev pub BreaksUnused : List BucketRecord → List Bool → Option ℕ → RestoreFault → Type 0
+abbrev pub BreaksUnused : List LinkedBucket → List Bool → Option ℕ → RestoreFault → Type 0
 BreaksUnused buckets marks unused Link = StopsInRange (length buckets) (bucket_walk buckets unused) → ⊥
 BreaksUnused buckets marks unused Sharing =
     (bucket_walk buckets unused).end ≡ no_link → (numbers : List ℕ) → IsMarkedBy marks numbers
@@ -86,12 +86,12 @@ BreaksUnused buckets marks unused Memory = Unit {0}
 BreaksUnused buckets marks unused fault = ⊥
 
 -- all lists of records were judged: this is kept of the shelves, so many buckets are in use, and they have used this area
-pub record AreLists (frame : Frame) (buckets : List BucketRecord) (shelves : List BucketShelfRecord) (unused : Option ℕ) (all : List KeptShelf) (used area : ℕ) : Type 0 where
+pub record AreLists (frame : Frame) (buckets : List LinkedBucket) (shelves : List LinkedBucketShelf) (unused : Option ℕ) (all : List KeptShelf) (used area : ℕ) : Type 0 where
   pub judged : AreJudged frame buckets 0 shelves
   pub kept : all ≡ map (kept_of buckets) shelves
   pub count : used ≡ length (walked_numbers buckets shelves)
   pub space : area ≡ space_in (map (spelled_shelf frame buckets) shelves)
-  pub next : Each (λ (bucket : BucketRecord). LinkFits bucket.next) buckets
+  pub next : Each (λ (bucket : LinkedBucket). LinkFits bucket.next) buckets
   pub first : LinkFits unused
   pub ends : (bucket_walk buckets unused).end ≡ no_link
   pub once : HasEachOnce (length buckets) (walked_numbers buckets shelves ++ (bucket_walk buckets unused).met)

@@ -4,8 +4,8 @@ use Rattle.std.proofs.Common.{◌≡◌, ◌≢◌, ℕ, zero, suc, ◌+◌, ◌
 use Rattle.std.specs.Prelude.{slice_get, nat_lt, ◌==◌, if◌then◌else◌}
 use Rattle.std.specs.Option.{option_map_or}
 use Rattle.etagere_base.specs.Lists.{Each, times}
-use Rattle.etagere_links.specs.declared.records.ItemRecord.{ItemRecord}
-use Rattle.etagere_links.specs.declared.records.ShelfRecord.{ShelfRecord}
+use Rattle.etagere_links.specs.declared.records.LinkedItem.{LinkedItem}
+use Rattle.etagere_links.specs.declared.records.LinkedShelf.{LinkedShelf}
 use Rattle.etagere_links.specs.Edits.{changed_by, link_at}
 use Rattle.etagere_links.specs.RecordEdits.{item_changed, shelf_changed, item_made, shelf_made}
 use Rattle.etagere_links.specs.RecordLists.{Records, Entry, first_item_of, first_free_of, shelf_numbers, item_numbers, HasEachOnce, IsEntry, IsLinkedBut}
@@ -18,25 +18,25 @@ use Rattle.etagere_links.proofs.ListEnds.{times-here, times-other}
 use Rattle.etagere_links.proofs.RecordChanges.{get-changed_by-other, length-changed_by, map-changed_by, link_at-same}
 
 -- a change of an item record that keeps its links
-pub record KeepsItemLinks (change : ItemRecord → ItemRecord) : Type 0 where
-  pub next : (item : ItemRecord) → (change item).next ≡ item.next
-  pub prev : (item : ItemRecord) → (change item).prev ≡ item.prev
-  pub next_unallocated : (item : ItemRecord) → (change item).next_unallocated ≡ item.next_unallocated
-  pub prev_unallocated : (item : ItemRecord) → (change item).prev_unallocated ≡ item.prev_unallocated
+pub record KeepsItemLinks (change : LinkedItem → LinkedItem) : Type 0 where
+  pub next : (item : LinkedItem) → (change item).next ≡ item.next
+  pub prev : (item : LinkedItem) → (change item).prev ≡ item.prev
+  pub next_unallocated : (item : LinkedItem) → (change item).next_unallocated ≡ item.next_unallocated
+  pub prev_unallocated : (item : LinkedItem) → (change item).prev_unallocated ≡ item.prev_unallocated
 
 -- a change of a shelf record that keeps its links
-pub record KeepsShelfLinks (change : ShelfRecord → ShelfRecord) : Type 0 where
-  pub next : (shelf : ShelfRecord) → (change shelf).next ≡ shelf.next
-  pub prev : (shelf : ShelfRecord) → (change shelf).prev ≡ shelf.prev
-  pub first_item : (shelf : ShelfRecord) → (change shelf).first_item ≡ shelf.first_item
-  pub first_unallocated : (shelf : ShelfRecord) → (change shelf).first_unallocated ≡ shelf.first_unallocated
+pub record KeepsShelfLinks (change : LinkedShelf → LinkedShelf) : Type 0 where
+  pub next : (shelf : LinkedShelf) → (change shelf).next ≡ shelf.next
+  pub prev : (shelf : LinkedShelf) → (change shelf).prev ≡ shelf.prev
+  pub first_item : (shelf : LinkedShelf) → (change shelf).first_item ≡ shelf.first_item
+  pub first_unallocated : (shelf : LinkedShelf) → (change shelf).first_unallocated ≡ shelf.first_unallocated
 
 -- the lists of shelves where the links of items are the same everywhere
-entries-same : (records : Records) (number : ℕ) (change : ItemRecord → ItemRecord) → KeepsItemLinks change → (entries : List Entry) → Each (IsEntry records) entries → Each (IsEntry (item_changed number change records)) entries
+entries-same : (records : Records) (number : ℕ) (change : LinkedItem → LinkedItem) → KeepsItemLinks change → (entries : List Entry) → Each (IsEntry records) entries → Each (IsEntry (item_changed number change records)) entries
 entries-same records number change keeps [] are = tt
 entries-same records number change keeps (entry ∷ entries) are =
-    let items : List ItemRecord = records.items in
-    let new : List ItemRecord = changed_by (Some number) change items in (
+    let items : List LinkedItem = records.items in
+    let new : List LinkedItem = changed_by (Some number) change items in (
       record {
         items = chain-same item_chain items new (first_item_of records.shelves entry.number) entry.items
             (λ k. link_at-same item_chain.next items new k (map-changed_by item_chain.next change items (Some number) keeps.next))
@@ -50,10 +50,10 @@ entries-same records number change keeps (entry ∷ entries) are =
     )
 
 -- a field of an item record was changed that is no link
-pub item_changed-linked : (records : Records) (number : ℕ) (change : ItemRecord → ItemRecord) (entries : List Entry) (unused_items unused_shelves loose loose_shelves : List ℕ) → KeepsItemLinks change → IsLinkedBut records (lists_of entries unused_items unused_shelves) loose loose_shelves → IsLinkedBut (item_changed number change records) (lists_of entries unused_items unused_shelves) loose loose_shelves
+pub item_changed-linked : (records : Records) (number : ℕ) (change : LinkedItem → LinkedItem) (entries : List Entry) (unused_items unused_shelves loose loose_shelves : List ℕ) → KeepsItemLinks change → IsLinkedBut records (lists_of entries unused_items unused_shelves) loose loose_shelves → IsLinkedBut (item_changed number change records) (lists_of entries unused_items unused_shelves) loose loose_shelves
 item_changed-linked records number change entries unused_items unused_shelves loose loose_shelves keeps linked =
-    let items : List ItemRecord = records.items in
-    let new : List ItemRecord = changed_by (Some number) change items in
+    let items : List LinkedItem = records.items in
+    let new : List LinkedItem = changed_by (Some number) change items in
     record {
       shelves = linked.shelves;
       entries = entries-same records number change keeps entries linked.entries;
@@ -64,10 +64,10 @@ item_changed-linked records number change entries unused_items unused_shelves lo
     }
 
 -- a field of a shelf record was changed that is no link
-pub shelf_changed-linked : (records : Records) (number : ℕ) (change : ShelfRecord → ShelfRecord) (entries : List Entry) (unused_items unused_shelves loose loose_shelves : List ℕ) → KeepsShelfLinks change → IsLinkedBut records (lists_of entries unused_items unused_shelves) loose loose_shelves → IsLinkedBut (shelf_changed number change records) (lists_of entries unused_items unused_shelves) loose loose_shelves
+pub shelf_changed-linked : (records : Records) (number : ℕ) (change : LinkedShelf → LinkedShelf) (entries : List Entry) (unused_items unused_shelves loose loose_shelves : List ℕ) → KeepsShelfLinks change → IsLinkedBut records (lists_of entries unused_items unused_shelves) loose loose_shelves → IsLinkedBut (shelf_changed number change records) (lists_of entries unused_items unused_shelves) loose loose_shelves
 shelf_changed-linked records number change entries unused_items unused_shelves loose loose_shelves keeps linked =
-    let shelves : List ShelfRecord = records.shelves in
-    let new : List ShelfRecord = changed_by (Some number) change shelves in
+    let shelves : List LinkedShelf = records.shelves in
+    let new : List LinkedShelf = changed_by (Some number) change shelves in
     let next : (k : ℕ) → link_at shelf_chain.next new k ≡ link_at shelf_chain.next shelves k =
     λ k. link_at-same shelf_chain.next shelves new k (map-changed_by shelf_chain.next change shelves (Some number) keeps.next) in
     record {
@@ -75,8 +75,8 @@ shelf_changed-linked records number change entries unused_items unused_shelves l
           (λ k. link_at-same shelf_chain.previous shelves new k (map-changed_by shelf_chain.previous change shelves (Some number) keeps.prev)) linked.shelves;
       entries = entries-frame records (shelf_changed number change records) entries (λ k stands. refl)
           (λ k stands. (
-            field_at-kept (λ (x : ShelfRecord). x.first_item) None change shelves number k keeps.first_item,
-            field_at-kept (λ (x : ShelfRecord). x.first_unallocated) None change shelves number k keeps.first_unallocated,
+            field_at-kept (λ (x : LinkedShelf). x.first_item) None change shelves number k keeps.first_item,
+            field_at-kept (λ (x : LinkedShelf). x.first_unallocated) None change shelves number k keeps.first_unallocated,
           )) linked.entries;
       unused_items = linked.unused_items;
       unused_shelves = pile-same shelf_chain shelves new records.free_shelves unused_shelves next linked.unused_shelves;
@@ -92,10 +92,10 @@ differs n k xs absent stands e =
     omega (arith, absent)
 
 -- an item record in no list was written anew
-pub item_written-linked : (records : Records) (number : ℕ) (change : ItemRecord → ItemRecord) (entries : List Entry) (unused_items unused_shelves loose loose_shelves : List ℕ) → IsLinkedBut records (lists_of entries unused_items unused_shelves) (number ∷ loose) loose_shelves → IsLinkedBut (item_changed number change records) (lists_of entries unused_items unused_shelves) (number ∷ loose) loose_shelves
+pub item_written-linked : (records : Records) (number : ℕ) (change : LinkedItem → LinkedItem) (entries : List Entry) (unused_items unused_shelves loose loose_shelves : List ℕ) → IsLinkedBut records (lists_of entries unused_items unused_shelves) (number ∷ loose) loose_shelves → IsLinkedBut (item_changed number change records) (lists_of entries unused_items unused_shelves) (number ∷ loose) loose_shelves
 item_written-linked records number change entries unused_items unused_shelves loose loose_shelves linked =
-    let items : List ItemRecord = records.items in
-    let new : List ItemRecord = changed_by (Some number) change items in
+    let items : List LinkedItem = records.items in
+    let new : List LinkedItem = changed_by (Some number) change items in
     let is : IsLoose (length items) (item_numbers entries) unused_items number = loose-of (length items) (item_numbers entries) unused_items loose number linked.items_once in
     record {
       shelves = linked.shelves;
@@ -110,10 +110,10 @@ item_written-linked records number change entries unused_items unused_shelves lo
     }
 
 -- a shelf record in no list was written anew
-pub shelf_written-linked : (records : Records) (number : ℕ) (change : ShelfRecord → ShelfRecord) (entries : List Entry) (unused_items unused_shelves loose loose_shelves : List ℕ) → IsLinkedBut records (lists_of entries unused_items unused_shelves) loose (number ∷ loose_shelves) → IsLinkedBut (shelf_changed number change records) (lists_of entries unused_items unused_shelves) loose (number ∷ loose_shelves)
+pub shelf_written-linked : (records : Records) (number : ℕ) (change : LinkedShelf → LinkedShelf) (entries : List Entry) (unused_items unused_shelves loose loose_shelves : List ℕ) → IsLinkedBut records (lists_of entries unused_items unused_shelves) loose (number ∷ loose_shelves) → IsLinkedBut (shelf_changed number change records) (lists_of entries unused_items unused_shelves) loose (number ∷ loose_shelves)
 shelf_written-linked records number change entries unused_items unused_shelves loose loose_shelves linked =
-    let shelves : List ShelfRecord = records.shelves in
-    let new : List ShelfRecord = changed_by (Some number) change shelves in
+    let shelves : List LinkedShelf = records.shelves in
+    let new : List LinkedShelf = changed_by (Some number) change shelves in
     let used : List ℕ = shelf_numbers entries in
     let is : IsLoose (length shelves) used unused_shelves number = loose-of (length shelves) used unused_shelves loose_shelves number linked.shelves_once in
     record {
@@ -121,8 +121,8 @@ shelf_written-linked records number change entries unused_items unused_shelves l
           (λ k stands. get-changed_by-other change shelves (Some number) k (differs number k used is.no_used stands)) linked.shelves;
       entries = entries-frame records (shelf_changed number change records) entries (λ k stands. refl)
           (λ k stands. (
-            field_at-other (λ (x : ShelfRecord). x.first_item) None change shelves (Some number) k (differs number k used is.no_used stands),
-            field_at-other (λ (x : ShelfRecord). x.first_unallocated) None change shelves (Some number) k (differs number k used is.no_used stands),
+            field_at-other (λ (x : LinkedShelf). x.first_item) None change shelves (Some number) k (differs number k used is.no_used stands),
+            field_at-other (λ (x : LinkedShelf). x.first_unallocated) None change shelves (Some number) k (differs number k used is.no_used stands),
           )) linked.entries;
       unused_items = linked.unused_items;
       unused_shelves = pile-frame shelf_chain shelves new records.free_shelves unused_shelves
@@ -149,10 +149,10 @@ each-more count used unused loose once k =
     by_test false e = let other : count ≢ k = grind arith in let none : times k (count ∷ []) ≡ 0 = times-other k count [] other in grind (arith, none, once k)
 
 -- an item record was made: it stands in no list
-pub item_made-linked : (records : Records) (item : ItemRecord) (entries : List Entry) (unused_items unused_shelves loose loose_shelves : List ℕ) → IsLinkedBut records (lists_of entries unused_items unused_shelves) loose loose_shelves → IsLinkedBut (item_made item records) (lists_of entries unused_items unused_shelves) (length records.items ∷ loose) loose_shelves
+pub item_made-linked : (records : Records) (item : LinkedItem) (entries : List Entry) (unused_items unused_shelves loose loose_shelves : List ℕ) → IsLinkedBut records (lists_of entries unused_items unused_shelves) loose loose_shelves → IsLinkedBut (item_made item records) (lists_of entries unused_items unused_shelves) (length records.items ∷ loose) loose_shelves
 item_made-linked records item entries unused_items unused_shelves loose loose_shelves linked =
-    let items : List ItemRecord = records.items in
-    let new : List ItemRecord = items ++ item ∷ [] in
+    let items : List LinkedItem = records.items in
+    let new : List LinkedItem = items ++ item ∷ [] in
     let used : List ℕ = item_numbers entries in
     let all : List ℕ = used ++ unused_items ++ loose in
     let within : (k p : ℕ) → p ≤ times k all → 1 ≤ p → k < length items = λ k p less. (once-part (length items) all k p linked.items_once less).1 in
@@ -170,10 +170,10 @@ item_made-linked records item entries unused_items unused_shelves loose loose_sh
     }
 
 -- a shelf record was made: it stands in no list
-pub shelf_made-linked : (records : Records) (shelf : ShelfRecord) (entries : List Entry) (unused_items unused_shelves loose loose_shelves : List ℕ) → IsLinkedBut records (lists_of entries unused_items unused_shelves) loose loose_shelves → IsLinkedBut (shelf_made shelf records) (lists_of entries unused_items unused_shelves) loose (length records.shelves ∷ loose_shelves)
+pub shelf_made-linked : (records : Records) (shelf : LinkedShelf) (entries : List Entry) (unused_items unused_shelves loose loose_shelves : List ℕ) → IsLinkedBut records (lists_of entries unused_items unused_shelves) loose loose_shelves → IsLinkedBut (shelf_made shelf records) (lists_of entries unused_items unused_shelves) loose (length records.shelves ∷ loose_shelves)
 shelf_made-linked records shelf entries unused_items unused_shelves loose loose_shelves linked =
-    let shelves : List ShelfRecord = records.shelves in
-    let new : List ShelfRecord = shelves ++ shelf ∷ [] in
+    let shelves : List LinkedShelf = records.shelves in
+    let new : List LinkedShelf = shelves ++ shelf ∷ [] in
     let used : List ℕ = shelf_numbers entries in
     let all : List ℕ = used ++ unused_shelves ++ loose_shelves in
     let within : (k p : ℕ) → p ≤ times k all → 1 ≤ p → k < length shelves = λ k p less. (once-part (length shelves) all k p linked.shelves_once less).1 in
@@ -184,8 +184,8 @@ shelf_made-linked records shelf entries unused_items unused_shelves loose loose_
       shelves = chain-frame shelf_chain shelves new records.first_shelf used same linked.shelves;
       entries = entries-frame records (shelf_made shelf records) entries (λ k stands. refl)
           (λ k stands. (
-            ap (λ r. option_map_or (λ (x : ShelfRecord). x.first_item) r None) (same k stands),
-            ap (λ r. option_map_or (λ (x : ShelfRecord). x.first_unallocated) r None) (same k stands),
+            ap (λ r. option_map_or (λ (x : LinkedShelf). x.first_item) r None) (same k stands),
+            ap (λ r. option_map_or (λ (x : LinkedShelf). x.first_unallocated) r None) (same k stands),
           )) linked.entries;
       unused_items = linked.unused_items;
       unused_shelves = pile-frame shelf_chain shelves new records.free_shelves unused_shelves

@@ -4,7 +4,7 @@ use Rattle.std.specs.Prelude.{slice_get, option_and_then}
 use Rattle.etagere_base.proofs.TimesLemmas.{times-append}
 use Rattle.etagere_base.specs.Lists.{Each, times}
 use Rattle.etagere_links.specs.Chains.{IsPileIn, IsChainIn}
-use Rattle.etagere_links.specs.declared.records.ShelfRecord.{ShelfRecord}
+use Rattle.etagere_links.specs.declared.records.LinkedShelf.{LinkedShelf}
 use Rattle.etagere_links.specs.Edits.{link_at}
 use Rattle.etagere_links.specs.Families.{Family}
 use Rattle.etagere_links.specs.RecordLists.{Records, Entry, first_item_of, first_free_of, shelf_numbers, item_numbers, IsEntry}
@@ -38,7 +38,7 @@ chain-same family records new first xs next previous chain =
     }
 
 -- the shelves of these numbers begin with the same items and the same free ones
-abbrev pub SameFirsts : List ShelfRecord → List ShelfRecord → List ℕ → Type 0
+abbrev pub SameFirsts : List LinkedShelf → List LinkedShelf → List ℕ → Type 0
 SameFirsts shelves new numbers =
     (k : ℕ) → 1 ≤ times k numbers → (first_item_of new k ≡ first_item_of shelves k) × (first_free_of new k ≡ first_free_of shelves k)
 

@@ -4,8 +4,8 @@ use Rattle.std.specs.Prelude.{◌==◌}
 use Rattle.etagere_base.proofs.EachLemmas.{Each-middle}
 use Rattle.etagere_base.proofs.TimesLemmas.{times-append}
 use Rattle.etagere_base.specs.Lists.{times}
-use Rattle.etagere_links.specs.declared.records.ItemRecord.{ItemRecord}
-use Rattle.etagere_links.specs.declared.records.ShelfRecord.{ShelfRecord}
+use Rattle.etagere_links.specs.declared.records.LinkedItem.{LinkedItem}
+use Rattle.etagere_links.specs.declared.records.LinkedShelf.{LinkedShelf}
 use Rattle.etagere_links.specs.Chains.{IsChainIn}
 use Rattle.etagere_links.specs.Edits.{link_at, unlinked, first_without, linked_between}
 use Rattle.etagere_links.specs.Families.{IsUnchanged}
@@ -101,7 +101,7 @@ pub item_unlinked-linked : (records : Records) (before after : List Entry) (shel
 item_unlinked-linked records before after shelf number front back free unused_items unused_shelves loose loose_shelves absent linked =
     let entry : Entry = record { number = shelf; items = front ++ number ∷ back; free_list = free } in
     let edited : Entry = record { number = shelf; items = front ++ back; free_list = free } in
-    let items : List ItemRecord = records.items in
+    let items : List LinkedItem = records.items in
     let first : Option ℕ = first_item_of records.shelves shelf in
     let link : Option ℕ = first_without (link_at item_chain.previous items number) (link_at item_chain.next items number) first in
     let is : IsEntry records entry = Each-middle (IsEntry records) before entry after linked.entries in
@@ -113,9 +113,9 @@ item_unlinked-linked records before after shelf number front back free unused_it
     let spelled : IsChainIn item_chain (unlinked item_chain number items) (first_or None (front ++ back)) (front ++ back) =
     unlinked-spells item_chain item_chain-laws items first front back number apart.once apart.within is.items in
     let first_new : first_item_of (with_first_item shelf link records.shelves) shelf ≡ link =
-    field_at-changed (λ (x : ShelfRecord). x.first_item) None (to_first_item link) records.shelves shelf link apart.number (λ x. refl) in
+    field_at-changed (λ (x : LinkedShelf). x.first_item) None (to_first_item link) records.shelves shelf link apart.number (λ x. refl) in
     let free_same : first_free_of (with_first_item shelf link records.shelves) shelf ≡ first_free_of records.shelves shelf =
-    field_at-kept (λ (x : ShelfRecord). x.first_unallocated) None (to_first_item link) records.shelves shelf shelf (λ x. refl) in
+    field_at-kept (λ (x : LinkedShelf). x.first_unallocated) None (to_first_item link) records.shelves shelf shelf (λ x. refl) in
     entry-edited records (item_unlinked shelf number records) before after entry edited unused_items unused_shelves loose (number ∷ loose) loose_shelves
     (record {
       number = refl;
@@ -125,8 +125,8 @@ item_unlinked-linked records before after shelf number front back free unused_it
       shelf_next = shelf_next-item shelf link records.shelves;
       shelf_previous = shelf_previous-item shelf link records.shelves;
       firsts = λ k stands. (
-        field_at-other (λ (x : ShelfRecord). x.first_item) None (to_first_item link) records.shelves (Some shelf) k (apart.numbers k stands),
-        field_at-other (λ (x : ShelfRecord). x.first_unallocated) None (to_first_item link) records.shelves (Some shelf) k (apart.numbers k stands),
+        field_at-other (λ (x : LinkedShelf). x.first_item) None (to_first_item link) records.shelves (Some shelf) k (apart.numbers k stands),
+        field_at-other (λ (x : LinkedShelf). x.first_unallocated) None (to_first_item link) records.shelves (Some shelf) k (apart.numbers k stands),
       );
       first_shelf = refl;
       free_items = refl;
@@ -148,8 +148,8 @@ pub free_unlinked-linked : (records : Records) (before after : List Entry) (shel
 free_unlinked-linked records before after shelf number numbers front back unused_items unused_shelves loose loose_shelves linked =
     let entry : Entry = record { number = shelf; items = numbers; free_list = front ++ number ∷ back } in
     let edited : Entry = record { number = shelf; items = numbers; free_list = front ++ back } in
-    let items : List ItemRecord = records.items in
-    let new : List ItemRecord = unlinked free_list number items in
+    let items : List LinkedItem = records.items in
+    let new : List LinkedItem = unlinked free_list number items in
     let first : Option ℕ = first_free_of records.shelves shelf in
     let link : Option ℕ = first_without (link_at free_list.previous items number) (link_at free_list.next items number) first in
     let is : IsEntry records entry = Each-middle (IsEntry records) before entry after linked.entries in
@@ -161,9 +161,9 @@ free_unlinked-linked records before after shelf number numbers front back unused
     let spelled : IsChainIn free_list new (first_or None (front ++ back)) (front ++ back) =
     unlinked-spells free_list free_list-laws items first front back number apart.free_once apart.free_within is.free_list in
     let first_new : first_free_of (with_first_free shelf link records.shelves) shelf ≡ link =
-    field_at-changed (λ (x : ShelfRecord). x.first_unallocated) None (to_first_free link) records.shelves shelf link apart.number (λ x. refl) in
+    field_at-changed (λ (x : LinkedShelf). x.first_unallocated) None (to_first_free link) records.shelves shelf link apart.number (λ x. refl) in
     let item_same : first_item_of (with_first_free shelf link records.shelves) shelf ≡ first_item_of records.shelves shelf =
-    field_at-kept (λ (x : ShelfRecord). x.first_item) None (to_first_free link) records.shelves shelf shelf (λ x. refl) in
+    field_at-kept (λ (x : LinkedShelf). x.first_item) None (to_first_free link) records.shelves shelf shelf (λ x. refl) in
     let fewer : (k : ℕ) → times k (front ++ back) ≤ times k numbers =
     λ k. omega (arith, is.members k, times-append k front (number ∷ back), times-append k front back) in
     entry-edited records (free_unlinked shelf number records) before after entry edited unused_items unused_shelves loose loose loose_shelves
@@ -175,8 +175,8 @@ free_unlinked-linked records before after shelf number numbers front back unused
       shelf_next = shelf_next-free shelf link records.shelves;
       shelf_previous = shelf_previous-free shelf link records.shelves;
       firsts = λ k stands. (
-        field_at-other (λ (x : ShelfRecord). x.first_item) None (to_first_free link) records.shelves (Some shelf) k (apart.numbers k stands),
-        field_at-other (λ (x : ShelfRecord). x.first_unallocated) None (to_first_free link) records.shelves (Some shelf) k (apart.numbers k stands),
+        field_at-other (λ (x : LinkedShelf). x.first_item) None (to_first_free link) records.shelves (Some shelf) k (apart.numbers k stands),
+        field_at-other (λ (x : LinkedShelf). x.first_unallocated) None (to_first_free link) records.shelves (Some shelf) k (apart.numbers k stands),
       );
       first_shelf = refl;
       free_items = refl;
@@ -211,18 +211,18 @@ pub free_inserted_front-linked : (records : Records) (before after : List Entry)
 free_inserted_front-linked records before after shelf number numbers free unused_items unused_shelves loose loose_shelves stands absent linked =
     let entry : Entry = record { number = shelf; items = numbers; free_list = free } in
     let edited : Entry = record { number = shelf; items = numbers; free_list = number ∷ free } in
-    let items : List ItemRecord = records.items in
+    let items : List LinkedItem = records.items in
     let first : Option ℕ = first_free_of records.shelves shelf in
-    let new : List ItemRecord = linked_between free_list None first number items in
+    let new : List LinkedItem = linked_between free_list None first number items in
     let is : IsEntry records entry = Each-middle (IsEntry records) before entry after linked.entries in
     let apart : IsApart records before after unused_items loose entry = linked-apart records before after entry unused_items unused_shelves loose loose_shelves linked in
     let begins : first ≡ first_or None free = Leads-start (link_at free_list.next items) free first None is.free_list.forward in
     let spelled : IsChainIn free_list new (Some number) (number ∷ free) =
     inserted_front-spells free_list free_list-laws items first free number (apart.within number stands) absent apart.free_once apart.free_within is.free_list in
     let first_new : first_free_of (with_first_free shelf (Some number) records.shelves) shelf ≡ Some number =
-    field_at-changed (λ (x : ShelfRecord). x.first_unallocated) None (to_first_free (Some number)) records.shelves shelf (Some number) apart.number (λ x. refl) in
+    field_at-changed (λ (x : LinkedShelf). x.first_unallocated) None (to_first_free (Some number)) records.shelves shelf (Some number) apart.number (λ x. refl) in
     let item_same : first_item_of (with_first_free shelf (Some number) records.shelves) shelf ≡ first_item_of records.shelves shelf =
-    field_at-kept (λ (x : ShelfRecord). x.first_item) None (to_first_free (Some number)) records.shelves shelf shelf (λ x. refl) in
+    field_at-kept (λ (x : LinkedShelf). x.first_item) None (to_first_free (Some number)) records.shelves shelf shelf (λ x. refl) in
     entry-edited records (free_inserted_front shelf number records) before after entry edited unused_items unused_shelves loose loose loose_shelves
     (record {
       number = refl;
@@ -235,8 +235,8 @@ free_inserted_front-linked records before after shelf number numbers free unused
       shelf_next = shelf_next-free shelf (Some number) records.shelves;
       shelf_previous = shelf_previous-free shelf (Some number) records.shelves;
       firsts = λ k other. (
-        field_at-other (λ (x : ShelfRecord). x.first_item) None (to_first_free (Some number)) records.shelves (Some shelf) k (apart.numbers k other),
-        field_at-other (λ (x : ShelfRecord). x.first_unallocated) None (to_first_free (Some number)) records.shelves (Some shelf) k (apart.numbers k other),
+        field_at-other (λ (x : LinkedShelf). x.first_item) None (to_first_free (Some number)) records.shelves (Some shelf) k (apart.numbers k other),
+        field_at-other (λ (x : LinkedShelf). x.first_unallocated) None (to_first_free (Some number)) records.shelves (Some shelf) k (apart.numbers k other),
       );
       first_shelf = refl;
       free_items = refl;
@@ -260,10 +260,10 @@ free_inserted_after-linked records before after shelf previous number numbers fr
     let more : List ℕ = front ++ previous ∷ number ∷ back in
     let entry : Entry = record { number = shelf; items = numbers; free_list = free } in
     let edited : Entry = record { number = shelf; items = numbers; free_list = more } in
-    let items : List ItemRecord = records.items in
+    let items : List LinkedItem = records.items in
     let first : Option ℕ = first_free_of records.shelves shelf in
     let next : Option ℕ = link_at free_list.next items previous in
-    let new : List ItemRecord = linked_between free_list (Some previous) next number items in
+    let new : List LinkedItem = linked_between free_list (Some previous) next number items in
     let is : IsEntry records entry = Each-middle (IsEntry records) before entry after linked.entries in
     let apart : IsApart records before after unused_items loose entry = linked-apart records before after entry unused_items unused_shelves loose loose_shelves linked in
     let own_next : next ≡ first_or None back = next-is (link_at free_list.next items) front back previous first None is.free_list.forward in
@@ -304,10 +304,10 @@ item_inserted_after-linked records before after shelf previous number front back
     let more : List ℕ = front ++ previous ∷ number ∷ back in
     let entry : Entry = record { number = shelf; items = numbers; free_list = free } in
     let edited : Entry = record { number = shelf; items = more; free_list = free } in
-    let items : List ItemRecord = records.items in
+    let items : List LinkedItem = records.items in
     let first : Option ℕ = first_item_of records.shelves shelf in
     let next : Option ℕ = link_at item_chain.next items previous in
-    let new : List ItemRecord = linked_between item_chain (Some previous) next number items in
+    let new : List LinkedItem = linked_between item_chain (Some previous) next number items in
     let is : IsEntry records entry = Each-middle (IsEntry records) before entry after linked.entries in
     let apart : IsApart records before after unused_items (number ∷ loose) entry = linked-apart records before after entry unused_items unused_shelves (number ∷ loose) loose_shelves linked in
     let own_next : next ≡ first_or None back = next-is (link_at item_chain.next items) front back previous first None is.items.forward in

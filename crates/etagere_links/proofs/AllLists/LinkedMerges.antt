@@ -3,8 +3,8 @@ use Rattle.std.proofs.Common.{◌≡◌, ℕ, ◌≤◌, Bool, true, false, List
 use Rattle.etagere_base.proofs.EachLemmas.{Each-middle}
 use Rattle.etagere_base.proofs.TimesLemmas.{times-append}
 use Rattle.etagere_base.specs.Lists.{times}
-use Rattle.etagere_links.specs.declared.records.ItemRecord.{ItemRecord}
-use Rattle.etagere_links.specs.declared.records.ShelfRecord.{ShelfRecord}
+use Rattle.etagere_links.specs.declared.records.LinkedItem.{LinkedItem}
+use Rattle.etagere_links.specs.declared.records.LinkedShelf.{LinkedShelf}
 use Rattle.etagere_links.specs.RecordEdits.{item_unlinked, item_inserted_after, free_unlinked, free_inserted_after, item_put_aside, shelf_unlinked, shelf_put_aside, item_changed}
 use Rattle.etagere_links.specs.RecordLists.{Records, Entry, IsEntry, IsLinkedBut}
 use Rattle.etagere_links.specs.RecordMerges.{free_absorbed, allocated_absorbed, item_freed, shelf_absorbed, item_given, front_given}
@@ -19,19 +19,19 @@ abbrev pub entry_of : ℕ → List ℕ → List ℕ → Entry
 entry_of shelf items free_list = record { number = shelf; items = items; free_list = free_list }
 
 -- changing the width keeps the links
-keeps-width : (width : ℕ) → KeepsItemLinks (λ (item : ItemRecord). record item { width = width })
+keeps-width : (width : ℕ) → KeepsItemLinks (λ (item : LinkedItem). record item { width = width })
 keeps-width width = record { next = λ x. refl; prev = λ x. refl; next_unallocated = λ x. refl; prev_unallocated = λ x. refl }
 
 -- saying whether an item is allocated keeps the links
-keeps-allocated : (allocated : Bool) → KeepsItemLinks (λ (item : ItemRecord). record item { allocated = allocated })
+keeps-allocated : (allocated : Bool) → KeepsItemLinks (λ (item : LinkedItem). record item { allocated = allocated })
 keeps-allocated allocated = record { next = λ x. refl; prev = λ x. refl; next_unallocated = λ x. refl; prev_unallocated = λ x. refl }
 
 -- changing both keeps the links
-keeps-given : (width : ℕ) → KeepsItemLinks (λ (item : ItemRecord). record item { width = width; allocated = true })
+keeps-given : (width : ℕ) → KeepsItemLinks (λ (item : LinkedItem). record item { width = width; allocated = true })
 keeps-given width = record { next = λ x. refl; prev = λ x. refl; next_unallocated = λ x. refl; prev_unallocated = λ x. refl }
 
 -- changing the height keeps the links
-pub keeps-height : (height : ℕ) → KeepsShelfLinks (λ (shelf : ShelfRecord). record shelf { height = height })
+pub keeps-height : (height : ℕ) → KeepsShelfLinks (λ (shelf : LinkedShelf). record shelf { height = height })
 keeps-height height = record { next = λ x. refl; prev = λ x. refl; first_item = λ x. refl; first_unallocated = λ x. refl }
 
 -- a member that stands once in a list does not stand in the rest of it
@@ -57,14 +57,14 @@ free_absorbed-linked records before after shelf number next width front back fre
     (subst (λ (zs : List ℕ). IsLinkedBut one (lists_of (before ++ entry_of shelf zs free ∷ after) unused_items unused_shelves) loose loose_shelves) (sym (regrouped (next ∷ back))) unlinked) in
     let out : IsLinkedBut two (lists_of (before ++ entry_of shelf (front ++ number ∷ back) free ∷ after) unused_items unused_shelves) (next ∷ loose) loose_shelves =
     subst (λ (zs : List ℕ). IsLinkedBut two (lists_of (before ++ entry_of shelf zs free ∷ after) unused_items unused_shelves) (next ∷ loose) loose_shelves) (regrouped back) taken_out in
-    item_changed-linked three number (λ (item : ItemRecord). record item { width = width }) (before ++ entry_of shelf (front ++ number ∷ back) free ∷ after) (next ∷ unused_items) unused_shelves loose loose_shelves (keeps-width width)
+    item_changed-linked three number (λ (item : LinkedItem). record item { width = width }) (before ++ entry_of shelf (front ++ number ∷ back) free ∷ after) (next ∷ unused_items) unused_shelves loose loose_shelves (keeps-width width)
     (item_put_aside-linked two (before ++ entry_of shelf (front ++ number ∷ back) free ∷ after) next unused_items unused_shelves loose loose_shelves out)
 
 -- a free item took the place of the allocated one after it
 pub allocated_absorbed-linked : (records : Records) (before after : List Entry) (shelf number next width : ℕ) (front back free unused_items unused_shelves loose loose_shelves : List ℕ) → times next free ≡ 0 → IsLinkedBut records (lists_of (before ++ entry_of shelf (front ++ number ∷ next ∷ back) free ∷ after) unused_items unused_shelves) loose loose_shelves → IsLinkedBut (allocated_absorbed shelf number next width records) (lists_of (before ++ entry_of shelf (front ++ number ∷ back) free ∷ after) (next ∷ unused_items) unused_shelves) loose loose_shelves
 allocated_absorbed-linked records before after shelf number next width front back free unused_items unused_shelves loose loose_shelves absent linked =
     let one : Records = item_unlinked shelf next records in
-    let two : Records = item_changed next (λ (item : ItemRecord). record item { allocated = false }) one in
+    let two : Records = item_changed next (λ (item : LinkedItem). record item { allocated = false }) one in
     let three : Records = item_put_aside next two in
     let entries : List Entry = before ++ entry_of shelf (front ++ number ∷ back) free ∷ after in
     let regrouped : (zs : List ℕ) → (front ++ number ∷ []) ++ zs ≡ front ++ number ∷ zs = λ zs. append_assoc front (number ∷ []) zs in
@@ -74,18 +74,18 @@ allocated_absorbed-linked records before after shelf number next width front bac
     let out : IsLinkedBut one (lists_of entries unused_items unused_shelves) (next ∷ loose) loose_shelves =
     subst (λ (zs : List ℕ). IsLinkedBut one (lists_of (before ++ entry_of shelf zs free ∷ after) unused_items unused_shelves) (next ∷ loose) loose_shelves) (regrouped back) taken_out in
     let unmarked : IsLinkedBut two (lists_of entries unused_items unused_shelves) (next ∷ loose) loose_shelves =
-    item_changed-linked one next (λ (item : ItemRecord). record item { allocated = false }) entries unused_items unused_shelves (next ∷ loose) loose_shelves (keeps-allocated false) out in
-    item_changed-linked three number (λ (item : ItemRecord). record item { width = width }) entries (next ∷ unused_items) unused_shelves loose loose_shelves (keeps-width width)
+    item_changed-linked one next (λ (item : LinkedItem). record item { allocated = false }) entries unused_items unused_shelves (next ∷ loose) loose_shelves (keeps-allocated false) out in
+    item_changed-linked three number (λ (item : LinkedItem). record item { width = width }) entries (next ∷ unused_items) unused_shelves loose loose_shelves (keeps-width width)
     (item_put_aside-linked two entries next unused_items unused_shelves loose loose_shelves unmarked)
 
 -- an allocated item became free
 pub item_freed-linked : (records : Records) (before after : List Entry) (shelf number : ℕ) (front back free unused_items unused_shelves loose loose_shelves : List ℕ) → times number free ≡ 0 → IsLinkedBut records (lists_of (before ++ entry_of shelf (front ++ number ∷ back) free ∷ after) unused_items unused_shelves) loose loose_shelves → IsLinkedBut (item_freed shelf number records) (lists_of (before ++ entry_of shelf (front ++ number ∷ back) (number ∷ free) ∷ after) unused_items unused_shelves) loose loose_shelves
 item_freed-linked records before after shelf number front back free unused_items unused_shelves loose loose_shelves absent linked =
     let items : List ℕ = front ++ number ∷ back in
-    let one : Records = item_changed number (λ (item : ItemRecord). record item { allocated = false }) records in
+    let one : Records = item_changed number (λ (item : LinkedItem). record item { allocated = false }) records in
     free_inserted_front-linked one before after shelf number items free unused_items unused_shelves loose loose_shelves
     (omega (arith, times-append number front (number ∷ back), times-here number back)) absent
-    (item_changed-linked records number (λ (item : ItemRecord). record item { allocated = false }) (before ++ entry_of shelf items free ∷ after) unused_items unused_shelves loose loose_shelves (keeps-allocated false) linked)
+    (item_changed-linked records number (λ (item : LinkedItem). record item { allocated = false }) (before ++ entry_of shelf items free ∷ after) unused_items unused_shelves loose loose_shelves (keeps-allocated false) linked)
 
 -- an empty shelf took the place of the empty one after it
 pub shelf_absorbed-linked : (records : Records) (before after : List Entry) (entry : Entry) (next item height : ℕ) (free unused_items unused_shelves loose loose_shelves : List ℕ) → IsLinkedBut records (lists_of (before ++ entry ∷ entry_of next (item ∷ []) free ∷ after) unused_items unused_shelves) loose loose_shelves → IsLinkedBut (shelf_absorbed entry.number next item height records) (lists_of (before ++ entry ∷ after) (item ∷ unused_items) (next ∷ unused_shelves)) loose loose_shelves
@@ -100,14 +100,14 @@ shelf_absorbed-linked records before after entry next item height free unused_it
     (subst (λ (es : List Entry). IsLinkedBut records (lists_of es unused_items unused_shelves) loose loose_shelves) (sym (regrouped (gone ∷ after))) linked) in
     let out : IsLinkedBut one (lists_of (before ++ entry ∷ after) unused_items unused_shelves) (item ∷ loose) (next ∷ loose_shelves) =
     subst (λ (es : List Entry). IsLinkedBut one (lists_of es unused_items unused_shelves) (item ∷ loose) (next ∷ loose_shelves)) (regrouped after) taken_out in
-    shelf_changed-linked three entry.number (λ (here : ShelfRecord). record here { height = height }) (before ++ entry ∷ after) (item ∷ unused_items) (next ∷ unused_shelves) loose loose_shelves (keeps-height height)
+    shelf_changed-linked three entry.number (λ (here : LinkedShelf). record here { height = height }) (before ++ entry ∷ after) (item ∷ unused_items) (next ∷ unused_shelves) loose loose_shelves (keeps-height height)
     (shelf_put_aside-linked two (before ++ entry ∷ after) next (item ∷ unused_items) unused_shelves loose loose_shelves
     (item_put_aside-linked one (before ++ entry ∷ after) item unused_items unused_shelves loose (next ∷ loose_shelves) out))
 
 -- a free item was given whole
 pub item_given-linked : (records : Records) (before after : List Entry) (shelf number : ℕ) (items free_front free_back unused_items unused_shelves loose loose_shelves : List ℕ) → IsLinkedBut records (lists_of (before ++ entry_of shelf items (free_front ++ number ∷ free_back) ∷ after) unused_items unused_shelves) loose loose_shelves → IsLinkedBut (item_given shelf number records) (lists_of (before ++ entry_of shelf items (free_front ++ free_back) ∷ after) unused_items unused_shelves) loose loose_shelves
 item_given-linked records before after shelf number items free_front free_back unused_items unused_shelves loose loose_shelves linked =
-    item_changed-linked (free_unlinked shelf number records) number (λ (item : ItemRecord). record item { allocated = true }) (before ++ entry_of shelf items (free_front ++ free_back) ∷ after) unused_items unused_shelves loose loose_shelves (keeps-allocated true)
+    item_changed-linked (free_unlinked shelf number records) number (λ (item : LinkedItem). record item { allocated = true }) (before ++ entry_of shelf items (free_front ++ free_back) ∷ after) unused_items unused_shelves loose loose_shelves (keeps-allocated true)
     (free_unlinked-linked records before after shelf number items free_front free_back unused_items unused_shelves loose loose_shelves linked)
 
 -- the front of a free item was given, and the rest, which stood in no list, took its place in the free list
@@ -128,5 +128,5 @@ front_given-linked records before after shelf number rest width front back free_
     let listed : IsLinkedBut two (lists_of (before ++ entry_of shelf more (free_front ++ number ∷ rest ∷ free_back) ∷ after) unused_items unused_shelves) loose loose_shelves =
     free_inserted_after-linked one before after shelf number rest more free_front free_back unused_items unused_shelves loose loose_shelves
     (omega (arith, times-append rest front (number ∷ rest ∷ back), times-here rest back)) absent inserted in
-    item_changed-linked three number (λ (item : ItemRecord). record item { width = width; allocated = true }) (before ++ entry_of shelf more (free_front ++ rest ∷ free_back) ∷ after) unused_items unused_shelves loose loose_shelves (keeps-given width)
+    item_changed-linked three number (λ (item : LinkedItem). record item { width = width; allocated = true }) (before ++ entry_of shelf more (free_front ++ rest ∷ free_back) ∷ after) unused_items unused_shelves loose loose_shelves (keeps-given width)
     (free_unlinked-linked two before after shelf number more free_front (rest ∷ free_back) unused_items unused_shelves loose loose_shelves listed)

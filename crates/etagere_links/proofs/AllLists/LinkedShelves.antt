@@ -3,7 +3,7 @@ use Rattle.std.proofs.Common.{◌≡◌, ℕ, ◌+◌, ◌≤◌, Option, None, 
 use Rattle.etagere_base.proofs.EachLemmas.{Each-append, Each-front, Each-back}
 use Rattle.etagere_base.proofs.TimesLemmas.{times-append}
 use Rattle.etagere_base.specs.Lists.{Each, times}
-use Rattle.etagere_links.specs.declared.records.ShelfRecord.{ShelfRecord}
+use Rattle.etagere_links.specs.declared.records.LinkedShelf.{LinkedShelf}
 use Rattle.etagere_links.specs.Chains.{IsChainIn}
 use Rattle.etagere_links.specs.Edits.{link_at, unlinked, first_without, linked_between}
 use Rattle.etagere_links.specs.Families.{IsUnchanged}
@@ -22,10 +22,10 @@ use Rattle.etagere_links.proofs.RecordFrames.{map-unlinked, map-linked_between, 
 use Rattle.etagere_links.proofs.RecordLists.{without-first, unlinked-spells, inserted_after-spells}
 
 -- what shelves begin with is no part of the links between shelves
-shelves-keep_items : IsUnchanged shelf_chain (λ (x : ShelfRecord). x.first_item)
+shelves-keep_items : IsUnchanged shelf_chain (λ (x : LinkedShelf). x.first_item)
 shelves-keep_items = record { next = λ link x. refl; previous = λ link x. refl }
 
-shelves-keep_frees : IsUnchanged shelf_chain (λ (x : ShelfRecord). x.first_unallocated)
+shelves-keep_frees : IsUnchanged shelf_chain (λ (x : LinkedShelf). x.first_unallocated)
 shelves-keep_frees = record { next = λ link x. refl; previous = λ link x. refl }
 
 -- the shelves of three parts
@@ -35,9 +35,9 @@ numbers-of before after entry = shelf_numbers-append before (entry ∷ after)
 -- a shelf was taken out of the chain: neither it nor its items stand in a list
 pub shelf_unlinked-linked : (records : Records) (before after : List Entry) (entry : Entry) (unused_items unused_shelves loose loose_shelves : List ℕ) → IsLinkedBut records (lists_of (before ++ entry ∷ after) unused_items unused_shelves) loose loose_shelves → IsLinkedBut (shelf_unlinked entry.number records) (lists_of (before ++ after) unused_items unused_shelves) (entry.items ++ loose) (entry.number ∷ loose_shelves)
 shelf_unlinked-linked records before after entry unused_items unused_shelves loose loose_shelves linked =
-    let shelves : List ShelfRecord = records.shelves in
+    let shelves : List LinkedShelf = records.shelves in
     let number : ℕ = entry.number in
-    let new : List ShelfRecord = unlinked shelf_chain number shelves in
+    let new : List LinkedShelf = unlinked shelf_chain number shelves in
     let front : List ℕ = shelf_numbers before in
     let back : List ℕ = shelf_numbers after in
     let whole : shelf_numbers (before ++ entry ∷ after) ≡ front ++ number ∷ back = numbers-of before after entry in
@@ -59,8 +59,8 @@ shelf_unlinked-linked records before after entry unused_items unused_shelves loo
     let frame : (es : List Entry) → Each (IsEntry records) es → Each (IsEntry (shelf_unlinked number records)) es =
     λ es are. entries-frame records (shelf_unlinked number records) es (λ k stands. refl)
     (λ k stands. (
-      field_at-same (λ (x : ShelfRecord). x.first_item) None shelves new k (map-unlinked shelf_chain (λ (x : ShelfRecord). x.first_item) shelves-keep_items shelves number),
-      field_at-same (λ (x : ShelfRecord). x.first_unallocated) None shelves new k (map-unlinked shelf_chain (λ (x : ShelfRecord). x.first_unallocated) shelves-keep_frees shelves number),
+      field_at-same (λ (x : LinkedShelf). x.first_item) None shelves new k (map-unlinked shelf_chain (λ (x : LinkedShelf). x.first_item) shelves-keep_items shelves number),
+      field_at-same (λ (x : LinkedShelf). x.first_unallocated) None shelves new k (map-unlinked shelf_chain (λ (x : LinkedShelf). x.first_unallocated) shelves-keep_frees shelves number),
     )) are in
     let fewer : (k : ℕ) → times k (item_numbers (before ++ after) ++ unused_items ++ (entry.items ++ loose)) ≡ times k (item_numbers (before ++ entry ∷ after) ++ unused_items ++ loose) =
     λ k. omega (arith, three-count (item_numbers (before ++ after)) unused_items (entry.items ++ loose) k, three-count (item_numbers (before ++ entry ∷ after)) unused_items loose k, item_numbers-append before after k, item_numbers-append before (entry ∷ after) k, times-append k entry.items (item_numbers after), times-append k entry.items loose) in
@@ -83,11 +83,11 @@ shelf_unlinked-linked records before after entry unused_items unused_shelves loo
 -- a shelf that stood in no list, with an item that stood in none, was put after another one
 pub shelf_inserted_after-linked : (records : Records) (before after : List Entry) (entry added : Entry) (unused_items unused_shelves loose loose_shelves : List ℕ) → IsEntry records added → IsLinkedBut records (lists_of (before ++ entry ∷ after) unused_items unused_shelves) (added.items ++ loose) (added.number ∷ loose_shelves) → IsLinkedBut (shelf_inserted_after entry.number added.number records) (lists_of (before ++ entry ∷ added ∷ after) unused_items unused_shelves) loose loose_shelves
 shelf_inserted_after-linked records before after entry added unused_items unused_shelves loose loose_shelves is_entry linked =
-    let shelves : List ShelfRecord = records.shelves in
+    let shelves : List LinkedShelf = records.shelves in
     let number : ℕ = added.number in
     let previous : ℕ = entry.number in
     let next : Option ℕ = link_at shelf_chain.next shelves previous in
-    let new : List ShelfRecord = linked_between shelf_chain (Some previous) next number shelves in
+    let new : List LinkedShelf = linked_between shelf_chain (Some previous) next number shelves in
     let front : List ℕ = shelf_numbers before in
     let back : List ℕ = shelf_numbers after in
     let old : List ℕ = front ++ previous ∷ back in
@@ -108,8 +108,8 @@ shelf_inserted_after-linked records before after entry added unused_items unused
     let frame : (es : List Entry) → Each (IsEntry records) es → Each (IsEntry (shelf_inserted_after previous number records)) es =
     λ es are. entries-frame records (shelf_inserted_after previous number records) es (λ k stands. refl)
     (λ k stands. (
-      field_at-same (λ (x : ShelfRecord). x.first_item) None shelves new k (map-linked_between shelf_chain (λ (x : ShelfRecord). x.first_item) shelves-keep_items shelves (Some previous) next number),
-      field_at-same (λ (x : ShelfRecord). x.first_unallocated) None shelves new k (map-linked_between shelf_chain (λ (x : ShelfRecord). x.first_unallocated) shelves-keep_frees shelves (Some previous) next number),
+      field_at-same (λ (x : LinkedShelf). x.first_item) None shelves new k (map-linked_between shelf_chain (λ (x : LinkedShelf). x.first_item) shelves-keep_items shelves (Some previous) next number),
+      field_at-same (λ (x : LinkedShelf). x.first_unallocated) None shelves new k (map-linked_between shelf_chain (λ (x : LinkedShelf). x.first_unallocated) shelves-keep_frees shelves (Some previous) next number),
     )) are in
     let items_more : (k : ℕ) → times k (item_numbers (before ++ entry ∷ added ∷ after) ++ unused_items ++ loose) ≡ times k (item_numbers (before ++ entry ∷ after) ++ unused_items ++ (added.items ++ loose)) =
     λ k. omega (arith, three-count (item_numbers (before ++ entry ∷ added ∷ after)) unused_items loose k, three-count (item_numbers (before ++ entry ∷ after)) unused_items (added.items ++ loose) k, item_numbers-append before (entry ∷ added ∷ after) k, item_numbers-append before (entry ∷ after) k, times-append k entry.items (item_numbers (added ∷ after)), times-append k added.items (item_numbers after), times-append k entry.items (item_numbers after), times-append k added.items loose) in

@@ -1,7 +1,7 @@
 -- Linked records stay linked when a shelf is split.
 use Rattle.std.proofs.Common.{◌≡◌, ℕ, ◌<◌, None, Some, List, [], ◌∷◌, ◌++◌, length, refl, arith}
-use Rattle.etagere_links.specs.declared.records.ItemRecord.{ItemRecord}
-use Rattle.etagere_links.specs.declared.records.ShelfRecord.{ShelfRecord}
+use Rattle.etagere_links.specs.declared.records.LinkedItem.{LinkedItem}
+use Rattle.etagere_links.specs.declared.records.LinkedShelf.{LinkedShelf}
 use Rattle.etagere_links.specs.RecordEdits.{item_changed, shelf_changed, shelf_inserted_after}
 use Rattle.etagere_links.specs.RecordLists.{Records, Entry, shelf_numbers, item_numbers, IsEntry, IsLinkedBut}
 use Rattle.etagere_links.specs.RecordMerges.{shelf_split}
@@ -14,7 +14,7 @@ use Rattle.etagere_links.proofs.AllLists.LinkedUnused.{lists_of, IsLoose, loose-
 use Rattle.etagere_links.proofs.RecordChanges.{link_at-changed}
 
 -- records for a shelf of one free item, which stands in no list yet
-pub record IsAlone (item : ItemRecord) (shelf : ShelfRecord) (number : ℕ) : Type 0 where
+pub record IsAlone (item : LinkedItem) (shelf : LinkedShelf) (number : ℕ) : Type 0 where
   pub next : item.next ≡ None
   pub prev : item.prev ≡ None
   pub next_unallocated : item.next_unallocated ≡ None
@@ -23,21 +23,21 @@ pub record IsAlone (item : ItemRecord) (shelf : ShelfRecord) (number : ℕ) : Ty
   pub first_unallocated : shelf.first_unallocated ≡ Some number
 
 -- the records of an item and of a shelf were written so that they spell a shelf of one free item
-alone-entry : (records : Records) (shelf item : ℕ) (shelf_record : ShelfRecord) (item_record : ItemRecord) → IsAlone item_record shelf_record item → shelf < length records.shelves → item < length records.items → IsEntry (shelf_changed shelf (λ _. shelf_record) (item_changed item (λ _. item_record) records)) (entry_of shelf (item ∷ []) (item ∷ []))
+alone-entry : (records : Records) (shelf item : ℕ) (shelf_record : LinkedShelf) (item_record : LinkedItem) → IsAlone item_record shelf_record item → shelf < length records.shelves → item < length records.items → IsEntry (shelf_changed shelf (λ _. shelf_record) (item_changed item (λ _. item_record) records)) (entry_of shelf (item ∷ []) (item ∷ []))
 alone-entry records shelf item shelf_record item_record alone shelf_within item_within =
-    let items : List ItemRecord = records.items in
-    let shelves : List ShelfRecord = records.shelves in
+    let items : List LinkedItem = records.items in
+    let shelves : List LinkedShelf = records.shelves in
     record {
       items = record {
         forward = (
-          field_at-changed (λ (x : ShelfRecord). x.first_item) None (λ _. shelf_record) shelves shelf (Some item) shelf_within (λ x. alone.first_item),
+          field_at-changed (λ (x : LinkedShelf). x.first_item) None (λ _. shelf_record) shelves shelf (Some item) shelf_within (λ x. alone.first_item),
           link_at-changed item_chain.next (λ _. item_record) items (Some item) None item refl item_within (λ x. alone.next),
         );
         backward = (link_at-changed item_chain.previous (λ _. item_record) items (Some item) None item refl item_within (λ x. alone.prev), tt);
       };
       free_list = record {
         forward = (
-          field_at-changed (λ (x : ShelfRecord). x.first_unallocated) None (λ _. shelf_record) shelves shelf (Some item) shelf_within (λ x. alone.first_unallocated),
+          field_at-changed (λ (x : LinkedShelf). x.first_unallocated) None (λ _. shelf_record) shelves shelf (Some item) shelf_within (λ x. alone.first_unallocated),
           link_at-changed free_list.next (λ _. item_record) items (Some item) None item refl item_within (λ x. alone.next_unallocated),
         );
         backward = (link_at-changed free_list.previous (λ _. item_record) items (Some item) None item refl item_within (λ x. alone.prev_unallocated), tt);
@@ -46,7 +46,7 @@ alone-entry records shelf item shelf_record item_record alone shelf_within item_
     }
 
 -- a shelf was split: the rest stands after it, with one free item
-pub shelf_split-linked : (records : Records) (before after : List Entry) (entry : Entry) (rest rest_item height : ℕ) (rest_shelf : ShelfRecord) (item : ItemRecord) (unused_items unused_shelves loose loose_shelves : List ℕ) → IsAlone item rest_shelf rest_item → IsLinkedBut records (lists_of (before ++ entry ∷ after) unused_items unused_shelves) (rest_item ∷ loose) (rest ∷ loose_shelves) → IsLinkedBut (shelf_split entry.number rest rest_item height rest_shelf item records) (lists_of (before ++ entry ∷ entry_of rest (rest_item ∷ []) (rest_item ∷ []) ∷ after) unused_items unused_shelves) loose loose_shelves
+pub shelf_split-linked : (records : Records) (before after : List Entry) (entry : Entry) (rest rest_item height : ℕ) (rest_shelf : LinkedShelf) (item : LinkedItem) (unused_items unused_shelves loose loose_shelves : List ℕ) → IsAlone item rest_shelf rest_item → IsLinkedBut records (lists_of (before ++ entry ∷ after) unused_items unused_shelves) (rest_item ∷ loose) (rest ∷ loose_shelves) → IsLinkedBut (shelf_split entry.number rest rest_item height rest_shelf item records) (lists_of (before ++ entry ∷ entry_of rest (rest_item ∷ []) (rest_item ∷ []) ∷ after) unused_items unused_shelves) loose loose_shelves
 shelf_split-linked records before after entry rest rest_item height rest_shelf item unused_items unused_shelves loose loose_shelves alone linked =
     let entries : List Entry = before ++ entry ∷ after in
     let added : Entry = entry_of rest (rest_item ∷ []) (rest_item ∷ []) in
@@ -58,6 +58,6 @@ shelf_split-linked records before after entry rest rest_item height rest_shelf i
     let written : IsLinkedBut two (lists_of entries unused_items unused_shelves) (rest_item ∷ loose) (rest ∷ loose_shelves) =
     shelf_written-linked one rest (λ _. rest_shelf) entries unused_items unused_shelves (rest_item ∷ loose) loose_shelves
     (item_written-linked records rest_item (λ _. item) entries unused_items unused_shelves loose (rest ∷ loose_shelves) linked) in
-    shelf_changed-linked three entry.number (λ (here : ShelfRecord). record here { height = height }) (before ++ entry ∷ added ∷ after) unused_items unused_shelves loose loose_shelves (keeps-height height)
+    shelf_changed-linked three entry.number (λ (here : LinkedShelf). record here { height = height }) (before ++ entry ∷ added ∷ after) unused_items unused_shelves loose loose_shelves (keeps-height height)
     (shelf_inserted_after-linked two before after entry added unused_items unused_shelves loose loose_shelves
     (alone-entry records rest rest_item rest_shelf item alone loose_shelf.within loose_item.within) written)

@@ -2,8 +2,8 @@
 use Rattle.std.proofs.Common.{◌≡◌, ◌≢◌, ℕ, ◌+◌, ◌<◌, ◌≤◌, None, Some, List, ◌∷◌, ◌++◌, length, refl, arith, ◌∙◌}
 use Rattle.etagere_base.proofs.TimesLemmas.{times-append}
 use Rattle.etagere_base.specs.Lists.{times}
-use Rattle.etagere_links.specs.declared.records.ItemRecord.{ItemRecord}
-use Rattle.etagere_links.specs.declared.records.ShelfRecord.{ShelfRecord}
+use Rattle.etagere_links.specs.declared.records.LinkedItem.{LinkedItem}
+use Rattle.etagere_links.specs.declared.records.LinkedShelf.{LinkedShelf}
 use Rattle.etagere_links.specs.Edits.{put_aside}
 use Rattle.etagere_links.specs.RecordEdits.{item_put_aside, item_taken, shelf_put_aside, shelf_taken}
 use Rattle.etagere_links.specs.RecordLists.{Records, Entry, Lists, shelf_numbers, item_numbers, HasEachOnce, IsLinkedBut}
@@ -50,8 +50,8 @@ differs n k xs absent stands e = let again : 1 ≤ times n xs = rw e stands in o
 -- an item record in no list was put aside
 pub item_put_aside-linked : (records : Records) (entries : List Entry) (number : ℕ) (unused_items unused_shelves loose loose_shelves : List ℕ) → IsLinkedBut records (lists_of entries unused_items unused_shelves) (number ∷ loose) loose_shelves → IsLinkedBut (item_put_aside number records) (lists_of entries (number ∷ unused_items) unused_shelves) loose loose_shelves
 item_put_aside-linked records entries number unused_items unused_shelves loose loose_shelves linked =
-    let items : List ItemRecord = records.items in
-    let new : List ItemRecord = put_aside item_chain records.free_items number items in
+    let items : List LinkedItem = records.items in
+    let new : List LinkedItem = put_aside item_chain records.free_items number items in
     let used : List ℕ = item_numbers entries in
     let is : IsLoose (length items) used unused_items number = loose-of (length items) used unused_items loose number linked.items_once in
     record {
@@ -84,8 +84,8 @@ item_taken-linked records entries number unused_items unused_shelves loose loose
 -- a shelf record in no list was put aside
 pub shelf_put_aside-linked : (records : Records) (entries : List Entry) (number : ℕ) (unused_items unused_shelves loose loose_shelves : List ℕ) → IsLinkedBut records (lists_of entries unused_items unused_shelves) loose (number ∷ loose_shelves) → IsLinkedBut (shelf_put_aside number records) (lists_of entries unused_items (number ∷ unused_shelves)) loose loose_shelves
 shelf_put_aside-linked records entries number unused_items unused_shelves loose loose_shelves linked =
-    let shelves : List ShelfRecord = records.shelves in
-    let new : List ShelfRecord = put_aside shelf_chain records.free_shelves number shelves in
+    let shelves : List LinkedShelf = records.shelves in
+    let new : List LinkedShelf = put_aside shelf_chain records.free_shelves number shelves in
     let used : List ℕ = shelf_numbers entries in
     let is : IsLoose (length shelves) used unused_shelves number = loose-of (length shelves) used unused_shelves loose_shelves number linked.shelves_once in
     record {
@@ -93,8 +93,8 @@ shelf_put_aside-linked records entries number unused_items unused_shelves loose 
           (λ k stands. get-put_aside shelf_chain shelves records.free_shelves number k (differs number k used is.no_used stands)) linked.shelves;
       entries = entries-frame records (shelf_put_aside number records) entries (λ k stands. refl)
           (λ k stands. (
-            field_at-kept (λ (x : ShelfRecord). x.first_item) None (shelf_chain.with_next records.free_shelves) shelves number k (λ x. refl),
-            field_at-kept (λ (x : ShelfRecord). x.first_unallocated) None (shelf_chain.with_next records.free_shelves) shelves number k (λ x. refl),
+            field_at-kept (λ (x : LinkedShelf). x.first_item) None (shelf_chain.with_next records.free_shelves) shelves number k (λ x. refl),
+            field_at-kept (λ (x : LinkedShelf). x.first_unallocated) None (shelf_chain.with_next records.free_shelves) shelves number k (λ x. refl),
           ))
           linked.entries;
       unused_items = linked.unused_items;

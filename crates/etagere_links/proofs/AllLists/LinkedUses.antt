@@ -1,8 +1,8 @@
 -- Linked records stay linked when records are put to use: these then stand in no list.
 use Rattle.std.proofs.Common.{◌≡◌, ◌≢◌, ℕ, ◌+◌, ◌<◌, true, Option, None, Some, List, [], ◌∷◌, length, length-append, refl, subst, arith}
 use Rattle.std.specs.Prelude.{slice_get}
-use Rattle.etagere_links.specs.declared.records.ItemRecord.{ItemRecord}
-use Rattle.etagere_links.specs.declared.records.ShelfRecord.{ShelfRecord}
+use Rattle.etagere_links.specs.declared.records.LinkedItem.{LinkedItem}
+use Rattle.etagere_links.specs.declared.records.LinkedShelf.{LinkedShelf}
 use Rattle.etagere_links.specs.RecordEdits.{item_taken}
 use Rattle.etagere_links.specs.RecordLists.{Records, Entry, IsLinkedBut}
 use Rattle.etagere_links.specs.RecordUses.{number_used, new_item, new_shelf, used_again, item_used, shelf_used}
@@ -11,7 +11,7 @@ use Rattle.etagere_links.proofs.AllLists.LinkedUnused.{lists_of, item_taken-link
 use Rattle.etagere_links.proofs.RecordChanges.{get-changed_by-other, length-changed_by}
 
 -- records of these fields
-abbrev records_of : List ShelfRecord → List ItemRecord → Option ℕ → Option ℕ → Option ℕ → Records
+abbrev records_of : List LinkedShelf → List LinkedItem → Option ℕ → Option ℕ → Option ℕ → Records
 records_of shelves items first_shelf free_items free_shelves =
     record { shelves = shelves; items = items; first_shelf = first_shelf; free_items = free_items; free_shelves = free_shelves }
 
@@ -37,7 +37,7 @@ pub record UsesShelf (records : Records) (entries : List Entry) (unused_items un
   pub count : length (shelf_used true records).shelves + length unused_shelves ≡ length records.shelves + length (but_first unused_shelves) + 1
 
 -- an item record was put to use
-used-item : (shelves : List ShelfRecord) (items : List ItemRecord) (first_shelf free_items free_shelves : Option ℕ) (entries : List Entry) (unused_items unused_shelves loose loose_shelves : List ℕ) → IsLinkedBut (records_of shelves items first_shelf free_items free_shelves) (lists_of entries unused_items unused_shelves) loose loose_shelves → UsesItem (records_of shelves items first_shelf free_items free_shelves) entries unused_items unused_shelves loose loose_shelves
+used-item : (shelves : List LinkedShelf) (items : List LinkedItem) (first_shelf free_items free_shelves : Option ℕ) (entries : List Entry) (unused_items unused_shelves loose loose_shelves : List ℕ) → IsLinkedBut (records_of shelves items first_shelf free_items free_shelves) (lists_of entries unused_items unused_shelves) loose loose_shelves → UsesItem (records_of shelves items first_shelf free_items free_shelves) entries unused_items unused_shelves loose loose_shelves
 used-item shelves items first_shelf None free_shelves entries [] unused_shelves loose loose_shelves linked =
     let records : Records = records_of shelves items first_shelf None free_shelves in
     record {
@@ -68,7 +68,7 @@ used-item shelves items first_shelf (Some n) free_shelves entries (x ∷ xs) unu
     }
 
 -- a shelf record was put to use
-used-shelf : (shelves : List ShelfRecord) (items : List ItemRecord) (first_shelf free_items free_shelves : Option ℕ) (entries : List Entry) (unused_items unused_shelves loose loose_shelves : List ℕ) → IsLinkedBut (records_of shelves items first_shelf free_items free_shelves) (lists_of entries unused_items unused_shelves) loose loose_shelves → UsesShelf (records_of shelves items first_shelf free_items free_shelves) entries unused_items unused_shelves loose loose_shelves
+used-shelf : (shelves : List LinkedShelf) (items : List LinkedItem) (first_shelf free_items free_shelves : Option ℕ) (entries : List Entry) (unused_items unused_shelves loose loose_shelves : List ℕ) → IsLinkedBut (records_of shelves items first_shelf free_items free_shelves) (lists_of entries unused_items unused_shelves) loose loose_shelves → UsesShelf (records_of shelves items first_shelf free_items free_shelves) entries unused_items unused_shelves loose loose_shelves
 used-shelf shelves items first_shelf free_items None entries unused_items [] loose loose_shelves linked =
     let records : Records = records_of shelves items first_shelf free_items None in
     record {

@@ -1,5 +1,5 @@
 use Rattle.std.proofs.Common.{◌≡◌, false, ap, sym, ◌∙◌}
-use Rattle.etagere_links.specs.declared.records.ItemRecord.{ItemRecord}
+use Rattle.etagere_links.specs.declared.records.LinkedItem.{LinkedItem}
 use Rattle.etagere.specs.AtlasRecords.{is_allocated_at}
 use Rattle.etagere.proofs.Recorded.RecordedListing.{next-passed}
 use Rattle.etagere.proofs.Recorded.RecordsOfIds.{field_at-read}
@@ -10,6 +10,6 @@ loop-number-preserved c =
     let items = c.args.items.now in
     let number = c.loop-number.number in
     let fails : is_allocated_at items number ≡ false =
-    field_at-read (λ (x : ItemRecord). x.allocated) false items number c.index-items-number.result c.loop-number-test.true c.index-items-number.is
-    ∙ ap (λ (x : ItemRecord). x.allocated) c.index-items-number.is ∙ c.if-items-number.false in
+    field_at-read (λ (x : LinkedItem). x.allocated) false items number c.index-items-number.result c.loop-number-test.true c.index-items-number.is
+    ∙ ap (λ (x : LinkedItem). x.allocated) c.index-items-number.is ∙ c.if-items-number.false in
     sym (next-passed items number c.loop-number-test.true fails) ∙ c.loop-number.invariant

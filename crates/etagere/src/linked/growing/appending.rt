@@ -11,7 +11,7 @@ ghost use Rattle.etagere.specs.Private.RecordsGrown.{CanAppend};
 use crate::linked::growing::Made;
 use crate::linked::growing::inserting::{ShelfPlace, insert_shelf};
 use etagere_base::Frame;
-use etagere_links::{Chain, Records, ShelfRecord, next_of};
+use etagere_links::{Chain, LinkedShelf, Records, next_of};
 
 /// Appends the columns of a frame from this one on, each with an empty shelf.
 pub(crate) fn append_columns(records: &mut Records, made: &mut Made, frame: &Frame, first: u32)
@@ -49,7 +49,7 @@ fn last_shelf(records: &Records) -> Option<usize>
 {
     let mut last = records.first_shelf().number()?;
     for _step in 0..records.shelves().len() {
-        let Some(next) = next_of::<Chain, ShelfRecord>(records.shelves(), last).number() else {
+        let Some(next) = next_of::<Chain, LinkedShelf>(records.shelves(), last).number() else {
             return Some(last);
         };
         last = next;

@@ -9,7 +9,7 @@ ghost use Rattle.etagere.specs.Private.RecordsGrown as spec;
 use crate::linked::fields;
 use crate::linked::growing::Needed;
 use etagere_base::Frame;
-use etagere_links::{Chain, ItemRecord, Records, ShelfRecord, next_of};
+use etagere_links::{Chain, LinkedItem, LinkedShelf, Records, next_of};
 
 /// How many records a growth to a frame needs.
 pub(crate) fn needed_for(frame: &Frame, grown: &Frame, records: &Records) -> Needed
@@ -47,7 +47,7 @@ fn allocated_ends(records: &Records) -> u32
             return count;
         };
         count += one_if(!ends_free(records, shelf));
-        at = next_of::<Chain, ShelfRecord>(records.shelves(), shelf).number();
+        at = next_of::<Chain, LinkedShelf>(records.shelves(), shelf).number();
     }
     count
 }
@@ -77,7 +77,7 @@ pub(crate) fn last_item(records: &Records, shelf: usize) -> Option<usize>
     let items = records.items();
     let mut last = fields::first_item(records.shelves(), shelf)?;
     for _step in 0..items.len() {
-        let Some(next) = next_of::<Chain, ItemRecord>(items, last).number() else {
+        let Some(next) = next_of::<Chain, LinkedItem>(items, last).number() else {
             return Some(last);
         };
         last = next;
@@ -97,7 +97,7 @@ fn filled_ends(records: &Records) -> u32
         let Some(shelf) = at else {
             return count;
         };
-        at = next_of::<Chain, ShelfRecord>(records.shelves(), shelf).number();
+        at = next_of::<Chain, LinkedShelf>(records.shelves(), shelf).number();
         count += one_if(is_filled_end(records, shelf, at));
     }
     count
@@ -111,7 +111,7 @@ fn is_filled_end(records: &Records, shelf: usize, next: Option<usize>) -> bool
 }
 
 /// Whether a shelf is the last of its column, where this one comes after it.
-pub(crate) fn ends_column(shelves: &[ShelfRecord], shelf: usize, next: Option<usize>) -> bool
+pub(crate) fn ends_column(shelves: &[LinkedShelf], shelf: usize, next: Option<usize>) -> bool
     ensures { result ≡ spec.ends_column_at shelves.now shelf next }
 {
     match next {

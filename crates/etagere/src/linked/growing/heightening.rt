@@ -10,7 +10,7 @@ use crate::linked::fields;
 use crate::linked::growing::Made;
 use crate::linked::growing::counting::ends_column;
 use crate::linked::growing::inserting::{ShelfPlace, insert_shelf};
-use etagere_links::{Chain, Records, ShelfRecord, next_of};
+use etagere_links::{Chain, LinkedShelf, Records, next_of};
 
 /// Adds a height at the end of each column.
 pub(crate) fn heighten_columns(records: &mut Records, made: &mut Made, width: u16, height: u16)
@@ -28,7 +28,7 @@ pub(crate) fn heighten_columns(records: &mut Records, made: &mut Made, width: u1
         let Some(shelf) = at else {
             return;
         };
-        at = next_of::<Chain, ShelfRecord>(records.shelves(), shelf).number();
+        at = next_of::<Chain, LinkedShelf>(records.shelves(), shelf).number();
         heighten_end(records, made, width, shelf, at, height);
     }
 }

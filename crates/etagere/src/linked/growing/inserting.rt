@@ -8,7 +8,7 @@ ghost use Rattle.etagere.specs.Private.RecordsGrown as spec;
 ghost use Rattle.etagere.specs.Private.RecordsGrown.{CanInsert};
 
 use crate::linked::growing::Made;
-use etagere_links::{Link, Records, ShelfRecord};
+use etagere_links::{Link, LinkedShelf, Records};
 
 /// Where a shelf begins along and across, and how wide and tall it is.
 #[derive(Clone, Copy)]
@@ -85,12 +85,12 @@ pub(crate) fn insert_shelf(
 }
 
 /// The record of an empty shelf at a place, with this item.
-fn empty_shelf(place: &ShelfPlace, item: usize) -> ShelfRecord
+fn empty_shelf(place: &ShelfPlace, item: usize) -> LinkedShelf
     requires { item < no_link }
     ensures { result
         ≡ spec.empty_shelf_record place.now.along place.now.across place.now.height item }
 {
-    ShelfRecord {
+    LinkedShelf {
         x: place.along,
         y: place.across,
         height: place.height,

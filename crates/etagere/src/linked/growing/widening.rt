@@ -10,7 +10,7 @@ use crate::linked::fields;
 use crate::linked::growing::Made;
 use crate::linked::growing::counting::last_item;
 use crate::linked::growing::inserting::use_item;
-use etagere_links::{Chain, Records, ShelfRecord, next_of};
+use etagere_links::{Chain, LinkedShelf, Records, next_of};
 
 /// Adds a width at the end of each shelf, which is at this place.
 pub(crate) fn widen_shelves(records: &mut Records, made: &mut Made, place: u16, width: u16)
@@ -29,7 +29,7 @@ pub(crate) fn widen_shelves(records: &mut Records, made: &mut Made, place: u16, 
             return;
         };
         widen_shelf(records, made, shelf, place, width);
-        at = next_of::<Chain, ShelfRecord>(records.shelves(), shelf).number();
+        at = next_of::<Chain, LinkedShelf>(records.shelves(), shelf).number();
     }
 }
 

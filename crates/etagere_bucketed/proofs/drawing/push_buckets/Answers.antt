@@ -3,7 +3,7 @@ use Rattle.std.proofs.lemmas.Option.{slice_get_past, slice_get_read}
 use Rattle.std.specs.Prelude.{slice_get}
 use Rattle.etagere_base.specs.Lists.{Each}
 use Rattle.etagere_base.proofs.GatheringLemmas.{along-begun, along-ends, along-passed, on-err}
-use Rattle.etagere_bucketed.specs.declared.records.BucketRecord.{BucketRecord}
+use Rattle.etagere_bucketed.specs.declared.records.LinkedBucket.{LinkedBucket}
 use Rattle.etagere_bucketed.specs.Private.DrawnRecords.{FitsIn, bucket_lines, linked_buckets, linked_from}
 use Rattle.etagere_bucketed.specs.State.{most_buckets}
 use Rattle.etagere_bucketed.proofs.Drawn.DrawnLinks.{linked-here, linked-none, linked-past}
@@ -28,7 +28,7 @@ returns-then-number-buckets-clause-ok g c =
 -- no more of the bucket is free than it is wide
 pub push_bucket-requires : goal.push_bucket-requires
 push_bucket-requires g c =
-    let bucket : BucketRecord = c.index-buckets-number.result in
+    let bucket : LinkedBucket = c.index-buckets-number.result in
     let fewer = most_buckets - (c.loop-step._step + 1) in
     let here : slice_get c.args.buckets.now c.in-Some.number ≡ Some bucket =
     slice_get_read c.args.buckets.now (length c.args.buckets.now) c.in-Some.number bucket refl (omega arith) c.index-buckets-number.is in
@@ -39,7 +39,7 @@ push_bucket-requires g c =
 -- a beginning went out of the lines of the bucket
 pub returns-in_err-push_bucket-clause-err : goal.returns-in_err-push_bucket-clause-err
 returns-in_err-push_bucket-clause-err g c =
-    let bucket : BucketRecord = c.index-buckets-number.result in
+    let bucket : LinkedBucket = c.index-buckets-number.result in
     let left = most_buckets - c.loop-step._step in
     let fewer = most_buckets - (c.loop-step._step + 1) in
     let here : slice_get c.args.buckets.now c.in-Some.number ≡ Some bucket =
@@ -54,7 +54,7 @@ returns-in_err-push_bucket-clause-err g c =
 -- one more bucket was drawn
 pub loop-step-preserved : goal.loop-step-preserved
 loop-step-preserved g c =
-    let bucket : BucketRecord = c.index-buckets-number.result in
+    let bucket : LinkedBucket = c.index-buckets-number.result in
     let left = most_buckets - c.loop-step._step in
     let fewer = most_buckets - (c.loop-step._step + 1) in
     let here : slice_get c.args.buckets.now c.in-Some.number ≡ Some bucket =

@@ -6,7 +6,7 @@ use Rattle.etagere_base.specs.Drawing.{background, drawn_line, drawn_lines}
 use Rattle.etagere_bucketed.specs.Private.Store.{Stored, stored_state}
 use Rattle.std.specs.List.{flat_map}
 use Rattle.etagere_base.specs.Lists.{Each}
-use Rattle.etagere_bucketed.specs.declared.records.BucketRecord.{BucketRecord}
+use Rattle.etagere_bucketed.specs.declared.records.LinkedBucket.{LinkedBucket}
 use Rattle.etagere_bucketed.specs.Private.DrawnRecords.{FitAlong, shelf_lines}
 use Rattle.etagere_bucketed.specs.Svg.{drawn_buckets}
 use Rattle.etagere_bucketed.proofs.Drawn.DrawnLines.{kept-fits, kept-lines}
@@ -24,7 +24,7 @@ pub returns-clause-ok : goal.returns-clause-ok
 returns-clause-ok g c =
     on_ok_weaker c.push_shelves.result
     (λ out. (gathers-both (g.W.Write.contents c.args.writer.now) (g.W.Write.contents c.push_drawn.new.writer) (g.W.Write.contents c.push_shelves.new.writer) c.args.text.now c.push_drawn.new.text c.push_shelves.new.text (drawn_line (background c.args.frame.now)) (drawn_lines (drawn_buckets (stored_state c.args.frame.now c.args.store.now))) (subst (λ z. GathersMore (g.W.Write.contents c.args.writer.now) c.args.text.now (g.W.Write.contents c.push_drawn.new.writer) c.push_drawn.new.text (drawn_line z)) c.background.ensures c.in_ok-push_drawn.ensures.ok)
-    (subst (λ z. GathersMore (g.W.Write.contents c.push_drawn.new.writer) c.push_drawn.new.text (g.W.Write.contents c.push_shelves.new.writer) c.push_shelves.new.text z) (ap (λ (bs : List BucketRecord). flat_map (shelf_lines c.args.frame.now bs) c.deref.result.now) (c.deref-2.ensures.value ∙ ap (λ (s : Stored). s.buckets) c.store.view_is)
+    (subst (λ z. GathersMore (g.W.Write.contents c.push_drawn.new.writer) c.push_drawn.new.text (g.W.Write.contents c.push_shelves.new.writer) c.push_shelves.new.text z) (ap (λ (bs : List LinkedBucket). flat_map (shelf_lines c.args.frame.now bs) c.deref.result.now) (c.deref-2.ensures.value ∙ ap (λ (s : Stored). s.buckets) c.store.view_is)
     ∙ ap (flat_map (shelf_lines c.args.frame.now c.args.store.now.buckets)) (c.deref.ensures.value ∙ ap (λ (s : Stored). s.shelves) c.store.view_is)
     ∙ kept-lines c.args.frame.now c.args.store.now c.requires) out)))
     c.push_shelves.ensures.ok
@@ -34,7 +34,7 @@ pub returns-clause-err : goal.returns-clause-err
 returns-clause-err g c =
     on_err_weaker c.push_shelves.result
     (λ out. (begins-both (g.W.Write.contents c.args.writer.now) (g.W.Write.contents c.push_drawn.new.writer) (g.W.Write.contents c.push_shelves.new.writer) c.args.text.now c.push_drawn.new.text (drawn_line (background c.args.frame.now)) (drawn_lines (drawn_buckets (stored_state c.args.frame.now c.args.store.now))) (subst (λ z. GathersMore (g.W.Write.contents c.args.writer.now) c.args.text.now (g.W.Write.contents c.push_drawn.new.writer) c.push_drawn.new.text (drawn_line z)) c.background.ensures c.in_ok-push_drawn.ensures.ok)
-    (subst (λ z. SendsBeginning (g.W.Write.contents c.push_drawn.new.writer) c.push_drawn.new.text (g.W.Write.contents c.push_shelves.new.writer) z) (ap (λ (bs : List BucketRecord). flat_map (shelf_lines c.args.frame.now bs) c.deref.result.now) (c.deref-2.ensures.value ∙ ap (λ (s : Stored). s.buckets) c.store.view_is)
+    (subst (λ z. SendsBeginning (g.W.Write.contents c.push_drawn.new.writer) c.push_drawn.new.text (g.W.Write.contents c.push_shelves.new.writer) z) (ap (λ (bs : List LinkedBucket). flat_map (shelf_lines c.args.frame.now bs) c.deref.result.now) (c.deref-2.ensures.value ∙ ap (λ (s : Stored). s.buckets) c.store.view_is)
     ∙ ap (flat_map (shelf_lines c.args.frame.now c.args.store.now.buckets)) (c.deref.ensures.value ∙ ap (λ (s : Stored). s.shelves) c.store.view_is)
     ∙ kept-lines c.args.frame.now c.args.store.now c.requires) out)))
     c.push_shelves.ensures.err
@@ -42,5 +42,5 @@ returns-clause-err g c =
 -- no more of a bucket is free than it is wide
 pub push_shelves-requires : goal.push_shelves-requires
 push_shelves-requires g c =
-    subst (λ (bs : List BucketRecord). Each (FitAlong bs) c.deref.result.now) (sym (c.deref-2.ensures.value ∙ ap (λ (s : Stored). s.buckets) c.store.view_is))
+    subst (λ (bs : List LinkedBucket). Each (FitAlong bs) c.deref.result.now) (sym (c.deref-2.ensures.value ∙ ap (λ (s : Stored). s.buckets) c.store.view_is))
     (subst (Each (FitAlong c.args.store.now.buckets)) (sym (c.deref.ensures.value ∙ ap (λ (s : Stored). s.shelves) c.store.view_is)) (kept-fits c.args.frame.now c.args.store.now c.requires))

@@ -4,7 +4,7 @@ use Rattle.etagere_base.proofs.DecidingLemmas.{denied, granted}
 use Rattle.etagere_base.specs.declared.faults.RestoreFault.TheVariants as faults
 use Rattle.etagere_base.specs.declared.frames.Frame.{Frame}
 use Rattle.etagere_base.specs.Lists.{Each}
-use Rattle.etagere_bucketed.specs.declared.records.BucketShelfRecord.{BucketShelfRecord}
+use Rattle.etagere_bucketed.specs.declared.records.LinkedBucketShelf.{LinkedBucketShelf}
 use Rattle.etagere_bucketed.specs.BucketRecords.{BucketRecords}
 use Rattle.etagere_bucketed.specs.Private.Judging as judging
 use Rattle.etagere_bucketed.specs.Private.Judging.{is_frame, is_stacked}
@@ -19,11 +19,11 @@ use Rattle.etagere_bucketed.proofs.Judged.StackTests.{stacked-decided}
 use Rattle.etagere_bucketed.proofs.restoring.judged_snapshot.Goals as goal
 
 -- the pass over the shelves of a snapshot is that over its records
-pass : (atlas : BucketRecords) (frame : Frame) (shelves : List BucketShelfRecord) (result : Bool) → frame ≡ atlas.frame → shelves ≡ atlas.shelves
+pass : (atlas : BucketRecords) (frame : Frame) (shelves : List LinkedBucketShelf) (result : Bool) → frame ≡ atlas.frame → shelves ≡ atlas.shelves
     → result ≡ is_stacked frame shelves atlas.current_column atlas.available_height → is_stacked atlas.frame atlas.shelves atlas.current_column atlas.available_height ≡ result
 pass atlas frame shelves result same_frame same_shelves is =
     sym (is ∙ ap (λ (f : Frame). is_stacked f shelves atlas.current_column atlas.available_height) same_frame
-    ∙ ap (λ (ss : List BucketShelfRecord). is_stacked atlas.frame ss atlas.current_column atlas.available_height) same_shelves)
+    ∙ ap (λ (ss : List LinkedBucketShelf). is_stacked atlas.frame ss atlas.current_column atlas.available_height) same_shelves)
 
 -- a frame that passes keeps its rule
 framed : (atlas : BucketRecords) (frame : Frame) (result : Bool) → frame ≡ atlas.frame → result ≡ is_frame frame → result ≡ true → Keeps atlas faults.Frame
@@ -45,8 +45,8 @@ judged_lists-requires-clause-along c =
     let all : c.is_stacked.result ≡ true = grind (arith, c.if-not-is_stacked.false) in
     let has = granted (is_stacked atlas.frame atlas.shelves atlas.current_column atlas.available_height) (HasShelves atlas (state_of atlas)) (stacked-decided atlas frame.column_width)
     (pass atlas c.snapshot_frame-frame.result c.deref.result.now c.is_stacked.result c.snapshot_frame-frame.ensures.value c.deref.ensures.value c.is_stacked.ensures ∙ all) in
-    subst (λ (f : Frame). Each (λ (shelf : BucketShelfRecord). shelf.x % f.column_width ≡ 0) c.deref-3.result.now) (sym c.snapshot_frame-frame.ensures.value)
-    (subst (λ (ss : List BucketShelfRecord). Each (λ (shelf : BucketShelfRecord). shelf.x % atlas.frame.column_width ≡ 0) ss) (sym c.deref-3.ensures.value) has.along)
+    subst (λ (f : Frame). Each (λ (shelf : LinkedBucketShelf). shelf.x % f.column_width ≡ 0) c.deref-3.result.now) (sym c.snapshot_frame-frame.ensures.value)
+    (subst (λ (ss : List LinkedBucketShelf). Each (λ (shelf : LinkedBucketShelf). shelf.x % atlas.frame.column_width ≡ 0) ss) (sym c.deref-3.ensures.value) has.along)
 
 pub judged_lists-requires-clause-columns : goal.judged_lists-requires-clause-columns
 judged_lists-requires-clause-columns c =
@@ -55,8 +55,8 @@ judged_lists-requires-clause-columns c =
     let all : c.is_stacked.result ≡ true = grind (arith, c.if-not-is_stacked.false) in
     let has = granted (is_stacked atlas.frame atlas.shelves atlas.current_column atlas.available_height) (HasShelves atlas (state_of atlas)) (stacked-decided atlas frame.column_width)
     (pass atlas c.snapshot_frame-frame.result c.deref.result.now c.is_stacked.result c.snapshot_frame-frame.ensures.value c.deref.ensures.value c.is_stacked.ensures ∙ all) in
-    subst (λ (f : Frame). Each (λ (shelf : BucketShelfRecord). shelf.x / f.column_width < f.columns) c.deref-3.result.now) (sym c.snapshot_frame-frame.ensures.value)
-    (subst (λ (ss : List BucketShelfRecord). Each (λ (shelf : BucketShelfRecord). shelf.x / atlas.frame.column_width < atlas.frame.columns) ss) (sym c.deref-3.ensures.value)
+    subst (λ (f : Frame). Each (λ (shelf : LinkedBucketShelf). shelf.x / f.column_width < f.columns) c.deref-3.result.now) (sym c.snapshot_frame-frame.ensures.value)
+    (subst (λ (ss : List LinkedBucketShelf). Each (λ (shelf : LinkedBucketShelf). shelf.x / atlas.frame.column_width < atlas.frame.columns) ss) (sym c.deref-3.ensures.value)
     (columns-said atlas.frame atlas.buckets atlas.shelves has.columns))
 
 pub returns-in_err-lists-clause-fault : goal.returns-in_err-lists-clause-fault

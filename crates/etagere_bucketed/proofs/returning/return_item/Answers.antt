@@ -2,7 +2,7 @@ use Rattle.std.proofs.Common.{◌≡◌, ℕ, Some, Option, refl, sym, ◌∙◌
 use Rattle.std.proofs.lemmas.Option.{slice_get_read}
 use Rattle.std.specs.Option.{option_map_or}
 use Rattle.std.specs.Prelude.{slice_get, nat_le, length}
-use Rattle.etagere_bucketed.specs.declared.records.BucketRecord.{BucketRecord}
+use Rattle.etagere_bucketed.specs.declared.records.LinkedBucket.{LinkedBucket}
 use Rattle.etagere_bucketed.specs.Private.Returns.{returned_kept, returned_record, width_of}
 use Rattle.etagere_bucketed.specs.Private.Store.{KeptShelf}
 use Rattle.etagere_bucketed.specs.StandsFor.{live_of, shelf_of}
@@ -13,9 +13,9 @@ pub returns-clause-shelves : goal.returns-clause-shelves
 returns-clause-shelves c =
     let bucket = slice_get_read c.args.buckets.now (length c.args.buckets.now) c.args.number c.index-buckets-number.result refl c.requires.number c.index-buckets-number.is in
     let shelf : c.from-shelf.result ≡ shelf_of c.args.buckets.now c.args.number =
-    c.from-shelf.ensures ∙ sym (ap (λ (r : Option BucketRecord). option_map_or (λ (b : BucketRecord). b.shelf) r 0) bucket) in
+    c.from-shelf.ensures ∙ sym (ap (λ (r : Option LinkedBucket). option_map_or (λ (b : LinkedBucket). b.shelf) r 0) bucket) in
     let live : c.index-buckets-number.result.refcount ≡ live_of c.args.buckets.now c.args.number =
-    sym (ap (λ (r : Option BucketRecord). option_map_or (λ (b : BucketRecord). b.refcount) r 0) bucket) in
+    sym (ap (λ (r : Option LinkedBucket). option_map_or (λ (b : LinkedBucket). b.refcount) r 0) bucket) in
     set-changed_by (returned_kept (nat_le (live_of c.args.buckets.now c.args.number) 1)) c.args.shelves.now (Some (shelf_of c.args.buckets.now c.args.number))
     c.from-shelf.result c.returned_kept.result c.index-shelves-shelf.result (ap (λ (n : ℕ). Some n) (sym shelf)) (rw shelf c.requires.shelf)
     (c.returned_kept.ensures ∙ ap (λ (n : ℕ). returned_kept (nat_le n 1) c.index-shelves-shelf.result) live
@@ -25,7 +25,7 @@ pub returns-clause-buckets : goal.returns-clause-buckets
 returns-clause-buckets c =
     let bucket = slice_get_read c.args.buckets.now (length c.args.buckets.now) c.args.number c.index-buckets-number.result refl c.requires.number c.index-buckets-number.is in
     let shelf : c.from-shelf.result ≡ shelf_of c.args.buckets.now c.args.number =
-    c.from-shelf.ensures ∙ sym (ap (λ (r : Option BucketRecord). option_map_or (λ (b : BucketRecord). b.shelf) r 0) bucket) in
+    c.from-shelf.ensures ∙ sym (ap (λ (r : Option LinkedBucket). option_map_or (λ (b : LinkedBucket). b.shelf) r 0) bucket) in
     let kept : slice_get c.args.shelves.now (shelf_of c.args.buckets.now c.args.number) ≡ Some c.index-shelves-shelf.result =
     slice_get_read c.args.shelves.now (length c.args.shelves.now) (shelf_of c.args.buckets.now c.args.number) c.index-shelves-shelf.result refl c.requires.shelf
     (rw (← shelf) c.index-shelves-shelf.is) in

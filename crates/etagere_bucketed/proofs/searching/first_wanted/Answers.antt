@@ -1,21 +1,21 @@
 use Rattle.std.proofs.Common.{◌≡◌, ℕ, zero, suc, ◌+◌, ◌-◌, Bool, true, false, cond, Option, None, Some, List, length, refl, ap, sym, ◌∙◌, arith}
 use Rattle.std.proofs.lemmas.Option.{slice_get_past, slice_get_read}
 use Rattle.std.specs.Prelude.{option_and_then, slice_get}
-use Rattle.etagere_bucketed.specs.declared.records.BucketRecord.{BucketRecord}
+use Rattle.etagere_bucketed.specs.declared.records.LinkedBucket.{LinkedBucket}
 use Rattle.etagere_bucketed.specs.Private.Searching.{Wanted, first_from, is_wanted}
 use Rattle.etagere_bucketed.specs.State.{most_buckets}
 use Rattle.etagere_bucketed.proofs.searching.first_wanted.Goals as goal
 
 -- what a step finds at a link
-first-at : (wanted : Wanted) (buckets : List BucketRecord) (left fewer number : ℕ) (at : Option ℕ) (found : Option BucketRecord) → at ≡ Some number → left ≡ suc fewer → slice_get buckets number ≡ found
-    → first_from left wanted buckets at ≡ option_and_then (λ (bucket : BucketRecord). cond (is_wanted wanted bucket) (Some number) (first_from fewer wanted buckets bucket.next)) found
+first-at : (wanted : Wanted) (buckets : List LinkedBucket) (left fewer number : ℕ) (at : Option ℕ) (found : Option LinkedBucket) → at ≡ Some number → left ≡ suc fewer → slice_get buckets number ≡ found
+    → first_from left wanted buckets at ≡ option_and_then (λ (bucket : LinkedBucket). cond (is_wanted wanted bucket) (Some number) (first_from fewer wanted buckets bucket.next)) found
 first-at wanted buckets left fewer number at found names less here =
     ap (first_from left wanted buckets) names
     ∙ ap (λ (n : ℕ). first_from n wanted buckets (Some number)) less
-    ∙ ap (option_and_then (λ (bucket : BucketRecord). cond (is_wanted wanted bucket) (Some number) (first_from fewer wanted buckets bucket.next))) here
+    ∙ ap (option_and_then (λ (bucket : LinkedBucket). cond (is_wanted wanted bucket) (Some number) (first_from fewer wanted buckets bucket.next))) here
 
 -- nothing is found where no bucket is named
-first-none : (wanted : Wanted) (buckets : List BucketRecord) (left : ℕ) (at : Option ℕ) → at ≡ None → first_from left wanted buckets at ≡ None
+first-none : (wanted : Wanted) (buckets : List LinkedBucket) (left : ℕ) (at : Option ℕ) → at ≡ None → first_from left wanted buckets at ≡ None
 first-none wanted buckets left at names = ap (first_from left wanted buckets) names ∙ none left
   where
     none : (n : ℕ) → first_from n wanted buckets None ≡ None

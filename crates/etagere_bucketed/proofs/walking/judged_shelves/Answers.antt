@@ -2,7 +2,7 @@ use Rattle.std.proofs.Common.{◌≡◌, ◌+◌, ℕ, Some, List, [], ◌∷◌
 use Rattle.std.proofs.lemmas.Option.{slice_get_read}
 use Rattle.std.proofs.lemmas.Result.{err_from_is_err_and}
 use Rattle.std.specs.Prelude.{slice_get}
-use Rattle.etagere_bucketed.specs.declared.records.BucketShelfRecord.{BucketShelfRecord}
+use Rattle.etagere_bucketed.specs.declared.records.LinkedBucketShelf.{LinkedBucketShelf}
 use Rattle.etagere_bucketed.specs.Private.Store.{KeptShelf}
 use Rattle.etagere_bucketed.specs.Private.Walking.{AreKeptSoFar, IsShelfJudged}
 use Rattle.etagere_bucketed.proofs.Judged.JudgedShelves.{breaks-at, length_of_take, more-kept, none-kept, steps-few, take-next}
@@ -43,7 +43,7 @@ loop-number-preserved c =
     let all = more-kept frame buckets (take n shelves) x c.loop-number.kept.items told c.loop-number.marks marks c.loop-number.steps c.loop-number.space c.loop-number.invariant.0 one c.in_ok-told.ensures.marked in
     let counted = subst (λ (s : ℕ). AreKeptSoFar frame buckets (take n shelves ++ x ∷ []) (c.loop-number.kept.items ++ told.kept ∷ []) marks s area) (sym c.in_ok-told.ensures.steps) all in
     let kept = subst (λ (ks : List KeptShelf). AreKeptSoFar frame buckets (take n shelves ++ x ∷ []) ks marks c.judged_shelf.new.steps area) (sym c.in-Ok.ensures.items) counted in
-    let done = subst (λ (xs : List BucketShelfRecord). AreKeptSoFar frame buckets xs c.push.new.self.items marks c.judged_shelf.new.steps area) (sym (take-next shelves n x here)) kept in
+    let done = subst (λ (xs : List LinkedBucketShelf). AreKeptSoFar frame buckets xs c.push.new.self.items marks c.judged_shelf.new.steps area) (sym (take-next shelves n x here)) kept in
     let long : length marks ≡ length buckets = c.judged_shelf.auto.marks ∙ c.loop-number.invariant.2 in (
       done,
       c.judged_shelf.ensures.room ∙ c.loop-number.invariant.1,

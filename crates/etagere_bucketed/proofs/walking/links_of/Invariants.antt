@@ -1,6 +1,6 @@
 use Rattle.std.proofs.Common.{◌≡◌, ◌++◌, drop}
 use Rattle.etagere_base.specs.Lists.{Each}
-use Rattle.etagere_bucketed.specs.declared.records.BucketRecord.{BucketRecord}
+use Rattle.etagere_bucketed.specs.declared.records.LinkedBucket.{LinkedBucket}
 use Rattle.etagere_bucketed.specs.Private.Restored.{LinkFits}
 use Rattle.etagere_bucketed.specs.Private.Walking.{links_of}
 use Rattle.etagere_bucketed.proofs.walking.links_of.Given as goal
@@ -9,5 +9,5 @@ use Rattle.etagere_bucketed.proofs.walking.links_of.Given as goal
 abbrev pub invariant-loop-bucket : goal.invariant-loop-bucket
 invariant-loop-bucket l =
     (l.links.items ++ links_of (drop l.bucket-index l.buckets) ≡ links_of l.buckets)
-    × (Each (λ (bucket : BucketRecord). LinkFits bucket.next) (drop l.bucket-index l.buckets)
-    → Each (λ (bucket : BucketRecord). LinkFits bucket.next) l.buckets)
+    × (Each (λ (bucket : LinkedBucket). LinkFits bucket.next) (drop l.bucket-index l.buckets)
+    → Each (λ (bucket : LinkedBucket). LinkFits bucket.next) l.buckets)

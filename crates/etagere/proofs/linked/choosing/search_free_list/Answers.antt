@@ -1,6 +1,6 @@
 use Rattle.std.proofs.Common.{◌≡◌, None, refl, length, get_or, ap, sym, ◌∙◌, arith}
 use Rattle.etagere_links.specs.RecordLists.{first_free_of}
-use Rattle.etagere_links.specs.declared.records.ShelfRecord.{ShelfRecord}
+use Rattle.etagere_links.specs.declared.records.LinkedShelf.{LinkedShelf}
 use Rattle.etagere.proofs.Recorded.RecordsOfIds.{field_at-read}
 use Rattle.etagere.proofs.Searched.SearchSteps.{free-begins, free-ends, free-found, free-here, free-nearer, free-passed}
 use Rattle.etagere.proofs.linked.choosing.search_free_list.Goals as goal
@@ -8,12 +8,12 @@ use Rattle.etagere.proofs.linked.choosing.search_free_list.Goals as goal
 pub loop-number-init : goal.loop-number-init
 loop-number-init c =
     let records = c.args.records.now in
-    let shelf : ShelfRecord = c.index-shelves-shelf.result in
+    let shelf : LinkedShelf = c.index-shelves-shelf.result in
     let read : shelf ≡ get_or records.shelves c.args.shelf shelf = rw c.shelves.ensures at c.index-shelves-shelf.is in
     let first : first_free_of records.shelves c.args.shelf ≡ shelf.first_unallocated =
-    field_at-read (λ (s : ShelfRecord). s.first_unallocated) None records.shelves c.args.shelf shelf c.requires.within read in
+    field_at-read (λ (s : LinkedShelf). s.first_unallocated) None records.shelves c.args.shelf shelf c.requires.within read in
     free-begins records c.args.width c.args.shelf _ c.requires.linked c.requires.stands
-    (ap (λ (s : ShelfRecord). s.first_unallocated) (sym c.index-shelves-shelf.is) ∙ sym first)
+    (ap (λ (s : LinkedShelf). s.first_unallocated) (sym c.index-shelves-shelf.is) ∙ sym first)
 
 pub bounds-items-number : goal.bounds-items-number
 bounds-items-number c =

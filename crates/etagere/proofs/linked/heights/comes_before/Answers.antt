@@ -1,7 +1,7 @@
 use Rattle.std.proofs.Common.{◌≡◌, ℕ, ◌<◌, ◌≢◌, Bool, true, false, refl, ap, arith, sym, ◌∙◌}
 use Rattle.std.specs.Prelude.{◌*◌, nat_lt}
 use Rattle.std.proofs.lemmas.Bool.Decides.{nat_tests}
-use Rattle.etagere_links.specs.declared.records.ShelfRecord.{ShelfRecord}
+use Rattle.etagere_links.specs.declared.records.LinkedShelf.{LinkedShelf}
 use Rattle.etagere.specs.AtlasRecords.{across_of, along_of, height_of}
 use Rattle.etagere.specs.Private.ByHeight.{order_at, place_number}
 use Rattle.etagere.proofs.Recorded.RecordsOfIds.{field_at-read}
@@ -25,11 +25,11 @@ heights-decide own height here place other within below = by_test (nat_lt own he
 
 pub returns-else-own-height : goal.returns-else-own-height
 returns-else-own-height c =
-    let record_is : ShelfRecord = c.index-shelves-shelf.result in
+    let record_is : LinkedShelf = c.index-shelves-shelf.result in
     let own : c.from-own.result ≡ height_of c.args.shelves.now c.args.shelf =
-    c.from-own.ensures ∙ sym (field_at-read (λ (shelf : ShelfRecord). shelf.height) 0 c.args.shelves.now c.args.shelf record_is c.requires c.index-shelves-shelf.is) in
-    let along : along_of c.args.shelves.now c.args.shelf ≡ record_is.x = field_at-read (λ (shelf : ShelfRecord). shelf.x) 0 c.args.shelves.now c.args.shelf record_is c.requires c.index-shelves-shelf.is in
-    let across : across_of c.args.shelves.now c.args.shelf ≡ record_is.y = field_at-read (λ (shelf : ShelfRecord). shelf.y) 0 c.args.shelves.now c.args.shelf record_is c.requires c.index-shelves-shelf.is in
+    c.from-own.ensures ∙ sym (field_at-read (λ (shelf : LinkedShelf). shelf.height) 0 c.args.shelves.now c.args.shelf record_is c.requires c.index-shelves-shelf.is) in
+    let along : along_of c.args.shelves.now c.args.shelf ≡ record_is.x = field_at-read (λ (shelf : LinkedShelf). shelf.x) 0 c.args.shelves.now c.args.shelf record_is c.requires c.index-shelves-shelf.is in
+    let across : across_of c.args.shelves.now c.args.shelf ≡ record_is.y = field_at-read (λ (shelf : LinkedShelf). shelf.y) 0 c.args.shelves.now c.args.shelf record_is c.requires c.index-shelves-shelf.is in
     let within : place_number c.args.shelves.now c.args.shelf < 65536 * 65536 = omega (arith, along, across, c.place_number-here.ensures) in
     let below : c.args.place < 65536 * 65536 = omega arith in
     heights-decide c.from-own.result c.args.height (place_number c.args.shelves.now c.args.shelf) c.args.place c.if-own-height.false within below

@@ -2,7 +2,7 @@ use Rattle.std.proofs.Common.{◌≡◌, ℕ, suc, ◌+◌, ◌-◌, ◌<◌, �
 use Rattle.std.proofs.lemmas.Bool.Decides.{nat_tests}
 use Rattle.std.specs.Prelude.{nat_lt, ◌/◌}
 use Rattle.etagere_base.specs.Lists.{Each}
-use Rattle.etagere_links.specs.declared.records.ShelfRecord.{ShelfRecord}
+use Rattle.etagere_links.specs.declared.records.LinkedShelf.{LinkedShelf}
 use Rattle.etagere.specs.Private.ByHeight.{order_at, order_of}
 use Rattle.etagere.specs.declared.linked.ranked.RankedShelf.{RankedShelf}
 use Rattle.etagere.proofs.ByHeight.Positions.{HasDigits, after-probed, before-probed, digits-halved, read-number}
@@ -29,14 +29,14 @@ comes_before-requires c =
     (omega (arith, below c.loop-start.start.index c.loop-start.end c.loop-start-test.true, c.loop-start.invariant.within)) c.requires.within)
 
 -- the shelf that was read in the middle comes before the order
-before : (shelves : List ShelfRecord) (ranked : List RankedShelf) (middle number order : ℕ) → true ≡ nat_lt (order_of shelves number) order → number ≡ (get_or ranked middle none).shelf
+before : (shelves : List LinkedShelf) (ranked : List RankedShelf) (middle number order : ℕ) → true ≡ nat_lt (order_of shelves number) order → number ≡ (get_or ranked middle none).shelf
     → order_of shelves (get_or ranked middle none).shelf < order
 before shelves ranked middle number order is at =
     let less : order_of shelves number < order = grind (arith, nat_tests) in
     omega (arith, less, ap (order_of shelves) at)
 
 -- it doesn't
-after : (shelves : List ShelfRecord) (ranked : List RankedShelf) (middle number order : ℕ) → false ≡ nat_lt (order_of shelves number) order → number ≡ (get_or ranked middle none).shelf
+after : (shelves : List LinkedShelf) (ranked : List RankedShelf) (middle number order : ℕ) → false ≡ nat_lt (order_of shelves number) order → number ≡ (get_or ranked middle none).shelf
     → order ≤ order_of shelves (get_or ranked middle none).shelf
 after shelves ranked middle number order is at =
     let more : order ≤ order_of shelves number = grind (arith, nat_tests) in

@@ -1,6 +1,6 @@
 use Rattle.std.proofs.Common.{◌≡◌, ◌<◌, length, get_or, ap, sym, ◌∙◌, arith}
 use Rattle.etagere_base.specs.Places.{rectangle_at}
-use Rattle.etagere_links.specs.declared.records.ItemRecord.{ItemRecord}
+use Rattle.etagere_links.specs.declared.records.LinkedItem.{LinkedItem}
 use Rattle.etagere.specs.AtlasRecords.{shelf_of}
 use Rattle.etagere.proofs.Recorded.RecordsOfIds.{field_at-read, kept-shelf, marked-within, rectangle-read}
 use Rattle.etagere.proofs.linked.looking.recorded_rectangle.Goals as goal
@@ -8,10 +8,10 @@ use Rattle.etagere.proofs.linked.looking.recorded_rectangle.Goals as goal
 pub bounds-shelves-from : goal.bounds-shelves-from
 bounds-shelves-from c =
     let records = c.args.records.now in
-    let item : ItemRecord = c.index-items-number.result in
+    let item : LinkedItem = c.index-items-number.result in
     let within : c.args.number < length records.items = marked-within records.items c.args.number c.requires.allocated in
     let read : item ≡ get_or records.items c.args.number item = rw c.items.ensures at c.index-items-number.is in
-    let names : shelf_of records.items c.args.number ≡ item.shelf = field_at-read (λ (x : ItemRecord). x.shelf) 0 records.items c.args.number item within read in
+    let names : shelf_of records.items c.args.number ≡ item.shelf = field_at-read (λ (x : LinkedItem). x.shelf) 0 records.items c.args.number item within read in
     omega (arith, names, c.from.ensures, ap length c.shelves.ensures, kept-shelf c.args.frame.now records c.args.number c.requires.kept c.requires.allocated)
 
 pub returns : goal.returns
@@ -22,7 +22,7 @@ returns c =
     let within : c.args.number < length records.items = marked-within records.items c.args.number c.requires.allocated in
     let read : item ≡ get_or records.items c.args.number item = rw c.items.ensures at c.index-items-number.is in
     let names : shelf_of records.items c.args.number ≡ c.from.result =
-    field_at-read (λ (x : ItemRecord). x.shelf) 0 records.items c.args.number item within read ∙ sym c.from.ensures in
+    field_at-read (λ (x : LinkedItem). x.shelf) 0 records.items c.args.number item within read ∙ sym c.from.ensures in
     let shelf_within : c.from.result < length records.shelves =
     omega (arith, names, kept-shelf c.args.frame.now records c.args.number c.requires.kept c.requires.allocated) in
     c.rectangle_at.ensures

@@ -1,6 +1,6 @@
 use Rattle.std.proofs.Common.{◌≡◌, ℕ, Bool, true, false, List, refl, ap, sym, arith, ◌∙◌}
-use Rattle.etagere_links.specs.declared.records.ItemRecord.{ItemRecord}
-use Rattle.etagere_links.specs.declared.records.ShelfRecord.{ShelfRecord}
+use Rattle.etagere_links.specs.declared.records.LinkedItem.{LinkedItem}
+use Rattle.etagere_links.specs.declared.records.LinkedShelf.{LinkedShelf}
 use Rattle.etagere_links.specs.RecordEdits.{shelf_changed}
 use Rattle.etagere_links.specs.RecordLists.{Records}
 use Rattle.etagere.specs.AtlasRecords.{shelf_of}
@@ -31,10 +31,10 @@ is_alone-requires c =
 -- the bound that rises is that of the item's shelf, and it rises to what becomes free
 rises : (c : After-raise) → c.raise.new.ranked.items ≡ raised (shelf_of c.args.records.now.items c.args.number) (freed_width c.args.records.now.items c.args.number) c.args.ranked.now.items
 rises c =
-    let items : List ItemRecord = c.args.records.now.items in
+    let items : List LinkedItem = c.args.records.now.items in
     let wide : c.width_of-width.result ≡ merged_width c.args.shelf c.args.number c.args.records.now =
     c.width_of-width.ensures
-    ∙ ap (λ (is : List ItemRecord). width_of is c.merge_item-merged.result.item) (c.items.ensures ∙ ap (λ (r : Records). r.items) c.merge_item-merged.ensures.records)
+    ∙ ap (λ (is : List LinkedItem). width_of is c.merge_item-merged.result.item) (c.items.ensures ∙ ap (λ (r : Records). r.items) c.merge_item-merged.ensures.records)
     ∙ ap (width_of (item_merged c.args.shelf c.args.number c.args.records.now).records.items) c.merge_item-merged.ensures.item in
     c.raise.ensures
     ∙ ap (λ s. raised s c.width_of-width.result c.args.ranked.now.items) c.requires.shelf
@@ -53,7 +53,7 @@ said c is_empty =
     let shelf : ℕ = shelf_of c.args.records.now.items c.args.number in
     let merged : Records = (item_merged shelf c.args.number c.args.records.now).records in
     rw (c.set_empty.ensures, c.merge_item-merged.ensures.records, c.requires.shelf)
-    (ap (λ (b : Bool). shelf_changed shelf (λ (here : ShelfRecord). record here { is_empty = b }) merged) (sym is_empty))
+    (ap (λ (b : Bool). shelf_changed shelf (λ (here : LinkedShelf). record here { is_empty = b }) merged) (sym is_empty))
 
 pub merge_shelves-requires-clause-fits : goal.merge_shelves-requires-clause-fits
 merge_shelves-requires-clause-fits c =

@@ -1,6 +1,6 @@
 use Rattle.std.proofs.Common.{List, ap, map, subst, ◌∙◌}
 use Rattle.std.specs.List.Sorted.{IsNonDecreasingBy, IsPermutation}
-use Rattle.etagere_links.specs.declared.records.ShelfRecord.{ShelfRecord}
+use Rattle.etagere_links.specs.declared.records.LinkedShelf.{LinkedShelf}
 use Rattle.etagere.specs.Private.ByHeight.{order_of, ranked_numbers}
 use Rattle.etagere.specs.declared.linked.ranked.RankedShelf.{RankedShelf}
 use Rattle.etagere.proofs.ByHeight.NewlyRanked.{sorted-ranked}
@@ -11,5 +11,5 @@ returns c =
     let sorted = c.sort.new.self.items in
     sorted-ranked c.args.frame.now c.args.records.now sorted c.requires.kept
     (subst (λ (ranked : List RankedShelf). IsPermutation (ranked_numbers ranked) (ranked_numbers sorted)) c.collect_shelves.ensures c.sort.ensures.numbers)
-    (subst (λ (shelves : List ShelfRecord). IsNonDecreasingBy (order_of shelves) (ranked_numbers sorted)) c.shelves.ensures c.sort.ensures.sorted)
+    (subst (λ (shelves : List LinkedShelf). IsNonDecreasingBy (order_of shelves) (ranked_numbers sorted)) c.shelves.ensures c.sort.ensures.sorted)
     (c.sort.ensures.bounds ∙ ap (map (λ (one : RankedShelf). one.widest)) c.collect_shelves.ensures)

@@ -4,8 +4,8 @@ use Rattle.std.proofs.lemmas.Int.{to_z-of_z}
 use Rattle.std.proofs.lemmas.List.{length-map}
 use Rattle.std.proofs.lemmas.Result.{err_from_is_err_and}
 use Rattle.etagere_base.specs.declared.frames.Frame.{Frame}
-use Rattle.etagere_links.specs.declared.records.ItemRecord.{ItemRecord}
-use Rattle.etagere_links.specs.declared.records.ShelfRecord.{ShelfRecord}
+use Rattle.etagere_links.specs.declared.records.LinkedItem.{LinkedItem}
+use Rattle.etagere_links.specs.declared.records.LinkedShelf.{LinkedShelf}
 use Rattle.etagere_links.specs.RecordLists.{Entry, HasEachOnce, item_numbers, shelf_numbers, shelf_walk}
 use Rattle.etagere_links.proofs.AllLists.LinkedWalks.{walked-numbers}
 use Rattle.etagere.specs.AtlasRecords.{AtlasRecords, spelled_shelf, walked_entries}
@@ -20,13 +20,13 @@ use Rattle.etagere.proofs.restoring.restored.judge_atlas.Goals as goal
 use Rattle.etagere.proofs.restoring.restored.judge_atlas.Goals.{In_ok-judge_rules}
 
 -- what is said of the fields of an atlas is said of the atlas
-said : (P : Frame → List ShelfRecord → List ItemRecord → ℤ → Type 0) (fields atlas : AtlasRecords) (shelves : List ShelfRecord) (items : List ItemRecord)
+said : (P : Frame → List LinkedShelf → List LinkedItem → ℤ → Type 0) (fields atlas : AtlasRecords) (shelves : List LinkedShelf) (items : List LinkedItem)
     → fields ≡ atlas → shelves ≡ fields.lists.shelves → items ≡ fields.lists.items
     → P fields.frame shelves items fields.allocated_space → P atlas.frame atlas.lists.shelves atlas.lists.items atlas.allocated_space
 said P fields atlas shelves items same shelves_are items_are p =
     subst (λ (a : AtlasRecords). P a.frame a.lists.shelves a.lists.items a.allocated_space) same
-    (subst (λ (is : List ItemRecord). P fields.frame fields.lists.shelves is fields.allocated_space) items_are
-    (subst (λ (ss : List ShelfRecord). P fields.frame ss items fields.allocated_space) shelves_are p))
+    (subst (λ (is : List LinkedItem). P fields.frame fields.lists.shelves is fields.allocated_space) items_are
+    (subst (λ (ss : List LinkedShelf). P fields.frame ss items fields.allocated_space) shelves_are p))
 
 -- as many shelves as walks have met
 shelves-count : (atlas : AtlasRecords) (entries : List Entry) → entries ≡ walked_entries atlas → length entries ≡ length (state_spelled atlas).shelves
@@ -47,7 +47,7 @@ judge_rules-requires-clause-shelves c =
 pub judge_rules-requires-clause-items : goal.judge_rules-requires-clause-items
 judge_rules-requires-clause-items c =
     let same = c.items-items.ensures ∙ ap (λ (a : AtlasRecords). a.lists.items) c.atlas.view_is in
-    subst (λ (is : List ItemRecord). HasEachOnce (length is) (item_numbers c.in_ok-walked.walked.shelves.items ++ c.in_ok-walked.walked.unused.items)) (sym same)
+    subst (λ (is : List LinkedItem). HasEachOnce (length is) (item_numbers c.in_ok-walked.walked.shelves.items ++ c.in_ok-walked.walked.unused.items)) (sym same)
     (walked-items c.args.atlas.now c.in_ok-walked.walked.shelves.items c.in_ok-walked.walked.unused.items c.in_ok-walked.ensures.ok)
 
 pub judge_rules-requires-clause-once : goal.judge_rules-requires-clause-once

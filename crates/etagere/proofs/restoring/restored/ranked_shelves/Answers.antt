@@ -1,7 +1,7 @@
 use Rattle.std.proofs.Common.{◌≡◌, ◌∷◌, ◌++◌, ◌∙◌, [], List, ap, add-one, arith, drop, length, map, subst}
 use Rattle.std.proofs.lemmas.List.{drop_all}
 use Rattle.std.specs.List.Sorted.{IsNonDecreasingBy, IsPermutation}
-use Rattle.etagere_links.specs.declared.records.ShelfRecord.{ShelfRecord}
+use Rattle.etagere_links.specs.declared.records.LinkedShelf.{LinkedShelf}
 use Rattle.etagere_links.specs.RecordLists.{Entry}
 use Rattle.etagere.specs.Private.ByHeight.{newly_ranked, order_of, ranked_numbers}
 use Rattle.etagere.specs.declared.linked.ranked.RankedShelf.{RankedShelf}
@@ -54,5 +54,5 @@ returns c =
     ∙ ap (map (newly_ranked frame)) c.requires.met in
     sorted-ranked frame c.args.records.now sorted c.requires.kept
     (subst (λ (ranked : List RankedShelf). IsPermutation (ranked_numbers ranked) (ranked_numbers sorted)) all c.sort.ensures.numbers)
-    (subst (λ (shelves : List ShelfRecord). IsNonDecreasingBy (order_of shelves) (ranked_numbers sorted)) c.shelves-2.ensures c.sort.ensures.sorted)
+    (subst (λ (shelves : List LinkedShelf). IsNonDecreasingBy (order_of shelves) (ranked_numbers sorted)) c.shelves-2.ensures c.sort.ensures.sorted)
     (c.sort.ensures.bounds ∙ ap (map (λ (one : RankedShelf). one.widest)) all)

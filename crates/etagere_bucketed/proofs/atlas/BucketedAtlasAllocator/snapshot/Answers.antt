@@ -1,8 +1,8 @@
 use Rattle.std.proofs.Common.{pos, ◌≡◌, ◌∙◌, ◌*◌, ◌≤◌, ℕ, Option, List, ap, arith, map, subst, sym}
 use Rattle.std.proofs.Math.Nat.{mul-le-mul_left}
 use Rattle.etagere_base.proofs.FrameSides.{sides_low}
-use Rattle.etagere_bucketed.specs.declared.records.BucketRecord.{BucketRecord}
-use Rattle.etagere_bucketed.specs.declared.records.BucketShelfRecord.{BucketShelfRecord}
+use Rattle.etagere_bucketed.specs.declared.records.LinkedBucket.{LinkedBucket}
+use Rattle.etagere_bucketed.specs.declared.records.LinkedBucketShelf.{LinkedBucketShelf}
 use Rattle.etagere_bucketed.specs.BucketRecords.{BucketRecords}
 use Rattle.etagere_bucketed.specs.Private.Consistent.{state_in}
 use Rattle.etagere_bucketed.specs.Private.Store.{shelf_record}
@@ -33,7 +33,7 @@ returns c =
     let inside = c.self.inside in
     let inv = c.self.invariant in
     let stands = witnessed-stands (state_in inside) inside.store inv.unused inside.current_column inside.available_height inside.buckets_in_use inside.allocated_space inv.witnessed inv.totals in
-    let atlas = λ (unused : Option ℕ) (shelves : List BucketShelfRecord) (buckets : List BucketRecord). let same : BucketRecords = record {
+    let atlas = λ (unused : Option ℕ) (shelves : List LinkedBucketShelf) (buckets : List LinkedBucket). let same : BucketRecords = record {
       frame = inside.frame;
       shelves = shelves;
       buckets = buckets;
@@ -46,7 +46,7 @@ returns c =
     let buckets : c.in_ok-buckets.buckets.items ≡ inside.store.buckets = c.in_ok-buckets.ensures in
     let same : snapshot_records c.snapshot_of.result ≡ atlas inside.store.unused (map shelf_record inside.store.shelves) inside.store.buckets =
     c.snapshot_of.ensures ∙ ap (λ (link : Option ℕ). atlas link c.in_ok-shelves.shelves.items c.in_ok-buckets.buckets.items) c.first_unused-unused.ensures
-    ∙ ap (λ (ss : List BucketShelfRecord). atlas inside.store.unused ss c.in_ok-buckets.buckets.items) shelves
-    ∙ ap (λ (bs : List BucketRecord). atlas inside.store.unused (map shelf_record inside.store.shelves) bs) buckets in
+    ∙ ap (λ (ss : List LinkedBucketShelf). atlas inside.store.unused ss c.in_ok-buckets.buckets.items) shelves
+    ∙ ap (λ (bs : List LinkedBucket). atlas inside.store.unused (map shelf_record inside.store.shelves) bs) buckets in
     subst (λ (records : BucketRecords). StandsFor records c.args.self.now) (sym same)
     (subst (λ (state : BucketedState). StandsFor (atlas inside.store.unused (map shelf_record inside.store.shelves) inside.store.buckets) state) c.self.view_is stands)

@@ -1,7 +1,7 @@
 use Rattle.std.proofs.Common.{◌≡◌, List, ap, ◌∙◌, arith}
 use Rattle.std.proofs.lemmas.List.{with_items_is}
 use Rattle.std.specs.Vec.{with_items}
-use Rattle.etagere_bucketed.specs.declared.records.BucketRecord.{BucketRecord}
+use Rattle.etagere_bucketed.specs.declared.records.LinkedBucket.{LinkedBucket}
 use Rattle.etagere_bucketed.specs.Private.Store.{KeptShelf, Stored}
 use Rattle.etagere_bucketed.specs.Private.StoreEdits.{shelves_given}
 use Rattle.etagere_bucketed.proofs.store.Store.give_from.Goals as goal
@@ -15,6 +15,6 @@ returns c =
     items
     ∙ c.give_from.ensures
     ∙ ap (λ (xs : List KeptShelf). shelves_given c.args.shelf xs c.deref.result.now) c.deref_mut.ensures.value
-    ∙ ap (λ (bs : List BucketRecord). shelves_given c.args.shelf shelves.items bs) c.deref.ensures.value in
+    ∙ ap (λ (bs : List LinkedBucket). shelves_given c.args.shelf shelves.items bs) c.deref.ensures.value in
     ap (λ (xs : List KeptShelf). let stored : Stored = record { shelves = xs; buckets = c.self.inside.buckets.items; unused = c.self.inside.unused } in stored) given
     ∙ ap (λ (stored : Stored). record stored { shelves = shelves_given c.args.shelf stored.shelves stored.buckets }) c.self.view_is
