@@ -1,23 +1,18 @@
 -- Laws of the model, proved of all its states: the choice in the words of its rule, merging as a
--- normal form, what a return restores, what records stand for, and what a growth keeps.
+-- normal form, what a return restores, and what a growth keeps.
 use Rattle.std.specs.Prelude.{◌≡◌, ℕ, ◌+◌, ◌<◌, ◌≤◌, Bool, true, false, ◌&&◌, ◌||◌, Some, None, Option, List, ◌∷◌, ◌++◌, slice_get, nat_lt, ◌==◌, if◌then◌else◌}
-use Rattle.etagere_base.specs.declared.faults.RestoreFault.{RestoreFault}
-use Rattle.etagere_base.specs.declared.faults.RestoreFault.TheVariants.{Memory}
 use Rattle.etagere_base.specs.declared.frames.Frame.{Frame}
 use Rattle.etagere_base.specs.declared.geometry.Size.{Size}
 use Rattle.etagere_base.specs.declared.sides.Sides.{Sides}
 use Rattle.etagere.specs.Choice.{Placement, chosen, is_good_fit, placement_of, shelf_height, width_at}
 use Rattle.etagere.specs.Growing.{atlas_grown, grow_fault, records_needed}
 use Rattle.etagere.specs.Merging.{both_empty, both_free, merged, merged_items, merged_shelves}
-use Rattle.etagere.specs.AtlasRecords.{AtlasRecords}
 use Rattle.etagere.specs.Layout.{layout}
 use Rattle.etagere_base.specs.Least.{Found, IsFirstLeast, first_least}
 use Rattle.etagere_base.specs.Lists.{Each, NoNeighbours}
 use Rattle.etagere.specs.Places.{allocations, allocations_after, allocations_along, column_place, is_allocated}
 use Rattle.etagere.specs.Returning.{returned}
-use Rattle.etagere.specs.Snapshots.{IsBroken}
 use Rattle.etagere.specs.Space.{allocated_space}
-use Rattle.etagere.specs.StandsFor.{StandsFor}
 use Rattle.etagere.specs.State.{Item, Shelf, AtlasState, is_free, items_in_use}
 use Rattle.etagere.specs.Taking.{taken}
 use Rattle.etagere.specs.Valid.{IsValid}
@@ -133,18 +128,6 @@ MergingKeepsAllocated =
     → allocations_after frame before (merged_shelves shelves)
     ≡ allocations_after frame before shelves)
     × ((state : AtlasState) → allocations (merged state) ≡ allocations state)
-
--- two states that the same records stand for are one
-abbrev pub StandsForOne : Type 0
-StandsForOne =
-    (atlas : AtlasRecords) (state other : AtlasState) → StandsFor atlas state
-    → StandsFor atlas other → state ≡ other
-
--- records of which a rule is broken stand for no state
-abbrev pub BrokenStandsForNone : Type 0
-BrokenStandsForNone =
-    (atlas : AtlasRecords) (state : AtlasState) (fault : RestoreFault) → IsBroken atlas fault
-    → StandsFor atlas state → fault ≡ Memory
 
 -- a growth without a fault keeps the allocated space
 abbrev pub GrowthKeepsSpace : Type 0

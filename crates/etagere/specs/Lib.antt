@@ -13,6 +13,7 @@ pub mod Listing
 pub mod Merging
 pub mod Places
 pub mod Private
+pub mod RecordLaws
 pub mod RestoringSteps
 pub mod Returning
 pub mod Snapshots

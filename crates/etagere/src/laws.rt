@@ -3,7 +3,7 @@
 
 ghost use Rattle.std.specs.Prelude.{◌≡◌, IfErr, IfOk};
 ghost use Rattle.etagere_base.specs.declared.faults.RestoreFault.TheVariants as faults;
-ghost use Rattle.etagere.specs.Laws.{BrokenStandsForNone, StandsForOne};
+ghost use Rattle.etagere.specs.RecordLaws.{BrokenStandsForNone, StandsForOne};
 
 use crate::atlas::AtlasAllocator;
 pub use crate::restoring::restored::restore_atlas;

@@ -1,0 +1,20 @@
+-- Laws of records: what they stand for.
+use Rattle.std.specs.Prelude.{◌≡◌}
+use Rattle.etagere_base.specs.declared.faults.RestoreFault.{RestoreFault}
+use Rattle.etagere_base.specs.declared.faults.RestoreFault.TheVariants.{Memory}
+use Rattle.etagere.specs.AtlasRecords.{AtlasRecords}
+use Rattle.etagere.specs.Snapshots.{IsBroken}
+use Rattle.etagere.specs.StandsFor.{StandsFor}
+use Rattle.etagere.specs.State.{AtlasState}
+
+-- two states that the same records stand for are one
+abbrev pub StandsForOne : Type 0
+StandsForOne =
+    (atlas : AtlasRecords) (state other : AtlasState) → StandsFor atlas state
+    → StandsFor atlas other → state ≡ other
+
+-- records of which a rule is broken stand for no state
+abbrev pub BrokenStandsForNone : Type 0
+BrokenStandsForNone =
+    (atlas : AtlasRecords) (state : AtlasState) (fault : RestoreFault) → IsBroken atlas fault
+    → StandsFor atlas state → fault ≡ Memory
