@@ -54,6 +54,10 @@ spelled_item number item =
 abbrev pub item_at : List LinkedItem → ℕ → Item
 item_at items number = field_at (spelled_item number) (record { width = 0; id = None }) items number
 
+-- the width of the item of a number
+abbrev pub width_of : List LinkedItem → ℕ → ℕ
+width_of items number = (item_at items number).width
+
 -- the shelf that these lists of records spell
 abbrev pub spelled_shelf : AtlasRecords → Entry → Shelf
 spelled_shelf atlas entry =

@@ -1,11 +1,19 @@
 -- How often a number stands in a list, and in the list with a number replaced or left out.
-use Rattle.std.proofs.Common.{◌≡◌, ℕ, suc, ◌+◌, ◌≤◌, Bool, true, false, cond, Some, List, [], ◌∷◌, ◌++◌, refl, ap, arith, ◌∙◌, sym, ◌||◌}
+use Rattle.std.proofs.Common.{◌≡◌, ◌≢◌, ℕ, suc, ◌+◌, ◌≤◌, Bool, true, false, cond, Some, List, [], ◌∷◌, ◌++◌, refl, ap, arith, ◌∙◌, sym, ◌||◌}
 use Rattle.std.proofs.lemmas.Bool.{eq-eqb, eqb-true}
 use Rattle.std.specs.List.{flat_map, list_any}
 use Rattle.std.specs.Prelude.{find, not, ◌==◌, nat_lt}
 use Rattle.etagere_base.specs.Lists.{times, total}
 use Rattle.etagere_base.proofs.Totals.{total-append}
 use Rattle.etagere_base.specs.Lists.{remove_place, replace_place}
+
+-- a number stands in the list that it is put in front of
+pub times-here : (n : ℕ) (xs : List ℕ) → times n (n ∷ xs) ≡ 1 + times n xs
+times-here n xs = grind arith
+
+-- another number stands in a list as often as in the list after it
+pub times-other : (n x : ℕ) (xs : List ℕ) → x ≢ n → times n (x ∷ xs) ≡ times n xs
+times-other n x xs other = grind arith
 
 -- 1 where the two are equal, 0 where not
 abbrev pub hit : ℕ → ℕ → ℕ

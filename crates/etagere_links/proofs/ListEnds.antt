@@ -1,15 +1,8 @@
--- The ends of a list, and how often a number stands in it.
-use Rattle.std.proofs.Common.{◌≡◌, ◌≢◌, ℕ, ◌+◌, ◌≤◌, Option, None, Some, List, [], ◌∷◌, ◌++◌, refl, arith}
+-- The ends of a list.
+use Rattle.std.proofs.Common.{◌≡◌, ℕ, ◌+◌, ◌≤◌, Option, None, Some, List, [], ◌∷◌, ◌++◌, refl, arith}
 use Rattle.etagere_base.specs.Lists.{times}
+pub use Rattle.etagere_base.proofs.TimesLemmas.{times-here, times-other}
 use Rattle.etagere_links.specs.Lists.{first_or, last_or}
-
--- a number stands in the list that it is put in front of
-pub times-here : (n : ℕ) (xs : List ℕ) → times n (n ∷ xs) ≡ 1 + times n xs
-times-here n xs = grind arith
-
--- another number stands in a list as often as in the list after it
-pub times-other : (n x : ℕ) (xs : List ℕ) → x ≢ n → times n (x ∷ xs) ≡ times n xs
-times-other n x xs other = grind arith
 
 -- the last of a list stands in it
 pub last-stands : (xs : List ℕ) (x n : ℕ) → last_or (Some x) xs ≡ Some n → 1 ≤ times n (x ∷ xs)

@@ -2,9 +2,8 @@
 use Rattle.std.proofs.Common.{◌≡◌, ℕ, ◌≤◌, Bool, true, false, ◌==◌, List, [], ◌∷◌, ◌++◌, length, map, refl, ap, sym, arith}
 use Rattle.std.proofs.lemmas.Bool.{eqb-true}
 use Rattle.std.proofs.lemmas.List.{length-append, map-append}
-use Rattle.etagere_base.proofs.TimesLemmas.{times-append}
+use Rattle.etagere_base.proofs.TimesLemmas.{times-append, times-here}
 use Rattle.etagere_base.specs.Lists.{times}
-use Rattle.etagere_links.proofs.ListEnds.{times-here}
 
 -- where a number stands in a list
 record StandsAt (x : ℕ) (ys : List ℕ) : Type 0 where

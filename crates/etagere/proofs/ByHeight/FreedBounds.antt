@@ -13,9 +13,9 @@ use Rattle.etagere_links.specs.Records.{item_chain}
 use Rattle.etagere_links.proofs.AllLists.LinkedMerges.{entry_of}
 use Rattle.etagere_links.proofs.Chains.{next-is, previous-is}
 use Rattle.etagere_links.proofs.ListEnds.{last-append}
-use Rattle.etagere.specs.AtlasRecords.{AtlasRecords, is_allocated_at, item_at}
+use Rattle.etagere.specs.AtlasRecords.{AtlasRecords, is_allocated_at, item_at, width_of}
 use Rattle.etagere.specs.Merging.{both_free, combined_items, merged_items}
-use Rattle.etagere.specs.Private.ItemReturned.{free_named, width_of}
+use Rattle.etagere.specs.Private.ItemReturned.{free_named}
 use Rattle.etagere.specs.Private.RankedReturned.{freed_width, named_width}
 use Rattle.etagere.specs.Returning.{freed}
 use Rattle.etagere.specs.State.{Item, is_free}

@@ -8,8 +8,7 @@ use Rattle.etagere_links.specs.Edits.{link_at}
 use Rattle.etagere_links.specs.RecordEdits.{item_changed}
 use Rattle.etagere_links.specs.RecordLists.{Records}
 use Rattle.etagere_links.specs.Records.{shelf_chain}
-use Rattle.etagere.specs.AtlasRecords.{is_allocated_at}
-use Rattle.etagere.specs.Private.ItemReturned.{width_of}
+use Rattle.etagere.specs.AtlasRecords.{is_allocated_at, width_of}
 use Rattle.etagere.specs.declared.linked.growing.Made.{Made}
 use Rattle.etagere.specs.Private.RecordsGrown.{CanAppend, CanHeighten, CanHeightenAll, CanWiden, CanWidenAll, Growing, after_item, columns_appended, columns_heightened, counted_from, end_heightened, ends_column_at, last_from, last_item, next_shelf, shelf_inserted, shelf_widened, shelves_widened}
 

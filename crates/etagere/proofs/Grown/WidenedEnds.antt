@@ -5,7 +5,7 @@ use Rattle.std.specs.Prelude.{◌%◌}
 use Rattle.etagere_base.specs.declared.frames.Frame.{Frame}
 use Rattle.etagere_base.specs.Lists.{times}
 use Rattle.etagere_base.proofs.EachLemmas.{Each-middle}
-use Rattle.etagere_base.proofs.TimesLemmas.{times-append}
+use Rattle.etagere_base.proofs.TimesLemmas.{times-append, times-here}
 use Rattle.etagere_links.specs.declared.records.LinkedItem.{LinkedItem}
 use Rattle.etagere_links.specs.Edits.{changed_by}
 use Rattle.etagere_links.specs.RecordEdits.{item_changed, item_inserted_after}
@@ -18,12 +18,10 @@ use Rattle.etagere_links.proofs.AllLists.LinkedMerges.{entry_of}
 use Rattle.etagere_links.proofs.AllLists.LinkedUnused.{IsLoose, lists_of, loose-of}
 use Rattle.etagere_links.proofs.AllLists.LinkedUses.{but_first}
 use Rattle.etagere_links.proofs.FirstLinks.{field_at-kept}
-use Rattle.etagere_links.proofs.ListEnds.{times-here}
 use Rattle.etagere_links.proofs.RecordChanges.{length-changed_by}
-use Rattle.etagere.specs.AtlasRecords.{AtlasRecords, along_of, height_of, is_allocated_at, item_at, place_of, spelled_shelf}
+use Rattle.etagere.specs.AtlasRecords.{AtlasRecords, along_of, height_of, is_allocated_at, item_at, place_of, spelled_shelf, width_of}
 use Rattle.etagere.specs.Growing.{ends_free}
 use Rattle.etagere.specs.Places.{column_place}
-use Rattle.etagere.specs.Private.ItemReturned.{width_of}
 use Rattle.etagere.specs.Private.Kept.{IsPlaced, bare}
 use Rattle.etagere.specs.Private.RecordsGrown.{Growing, after_item, end_inserted, next_item}
 use Rattle.etagere.specs.State.{Shelf}

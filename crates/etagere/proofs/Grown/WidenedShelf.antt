@@ -12,9 +12,8 @@ use Rattle.etagere_links.proofs.AllLists.LinkedItems.{IsApart, linked-apart}
 use Rattle.etagere_links.proofs.AllLists.LinkedMerges.{entry_of}
 use Rattle.etagere_links.proofs.AllLists.LinkedUses.{but_first}
 use Rattle.etagere_links.proofs.Tallies.{length-once}
-use Rattle.etagere.specs.AtlasRecords.{along_of, is_allocated_at, item_at, spelled_shelf}
+use Rattle.etagere.specs.AtlasRecords.{along_of, is_allocated_at, item_at, spelled_shelf, width_of}
 use Rattle.etagere.specs.Growing.{ends_free}
-use Rattle.etagere.specs.Private.ItemReturned.{width_of}
 use Rattle.etagere.specs.Private.Kept.{IsPlaced, bare}
 use Rattle.etagere.specs.Private.RecordsGrown.{CanWiden, Growing, last_item, next_item, shelf_widened}
 use Rattle.etagere.specs.State.{total_width}

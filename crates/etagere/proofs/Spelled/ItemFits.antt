@@ -1,5 +1,6 @@
 -- What a return adds up of the widths of items fits 16 bits, and all that it reads of them is there.
 use Rattle.std.proofs.Common.{◌≡◌, ◌≢◌, ℕ, ◌+◌, ◌≤◌, Bool, true, false, ◌==◌, None, Some, List, [], ◌∷◌, ◌++◌, refl, ap, subst, arith, sym, ◌∙◌}
+use Rattle.etagere_base.proofs.TimesLemmas.{times-other}
 use Rattle.etagere_base.specs.Frames.{IsFrame}
 use Rattle.etagere_base.proofs.EachLemmas.{Each-middle}
 use Rattle.etagere_base.proofs.FrameSides.{column_width-le, sides_low}
@@ -12,9 +13,9 @@ use Rattle.etagere_links.specs.Records.{item_chain}
 use Rattle.etagere_links.proofs.Chains.{next-is, previous-is}
 use Rattle.etagere_links.proofs.AllLists.LinkedMerges.{entry_of}
 use Rattle.etagere_links.proofs.AllLists.LinkedUnused.{lists_of}
-use Rattle.etagere_links.proofs.ListEnds.{first-stands, last-stands-in, times-other}
-use Rattle.etagere.specs.AtlasRecords.{AtlasRecords, is_allocated_at, spelled_shelf}
-use Rattle.etagere.specs.Private.ItemReturned.{CanMergeItem, Step, free_next, next_absorbed, width_of}
+use Rattle.etagere_links.proofs.ListEnds.{first-stands, last-stands-in}
+use Rattle.etagere.specs.AtlasRecords.{AtlasRecords, is_allocated_at, spelled_shelf, width_of}
+use Rattle.etagere.specs.Private.ItemReturned.{CanMergeItem, Step, free_next, next_absorbed}
 use Rattle.etagere.specs.State.{total_width}
 use Rattle.etagere.specs.Valid.{IsShelf}
 use Rattle.etagere.proofs.Spelled.EntryValues.{widths}

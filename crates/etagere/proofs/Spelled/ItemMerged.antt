@@ -12,10 +12,10 @@ use Rattle.etagere_links.specs.declared.records.LinkedItem.{LinkedItem}
 use Rattle.etagere_links.specs.RecordLists.{Entry}
 use Rattle.etagere_links.proofs.AllLists.LinkedMerges.{entry_of}
 use Rattle.etagere_links.proofs.AllLists.LinkedUnused.{lists_of}
-use Rattle.etagere.specs.AtlasRecords.{AtlasRecords, along_of, height_of, is_allocated_at, place_of, item_at, spelled_shelf}
+use Rattle.etagere.specs.AtlasRecords.{AtlasRecords, along_of, height_of, is_allocated_at, place_of, item_at, spelled_shelf, width_of}
 use Rattle.etagere.specs.Merging.{both_free, combined_items, merged_shelf}
 use Rattle.etagere.specs.Places.{column_place}
-use Rattle.etagere.specs.Private.ItemReturned.{Step, free_next, free_previous, freed_after, item_merged, next_absorbed, width_of}
+use Rattle.etagere.specs.Private.ItemReturned.{Step, free_next, free_previous, freed_after, item_merged, next_absorbed}
 use Rattle.etagere.specs.Private.Kept.{IsPlaced}
 use Rattle.etagere.specs.Returning.{freed, freed_shelf, is_free_before, returned_free_list}
 use Rattle.etagere.specs.State.{Item, Shelf}

@@ -3,7 +3,7 @@
 use Rattle.std.proofs.Common.{◌≡◌, ◌≢◌, ℕ, ◌+◌, ◌≤◌, Bool, true, false, ◌==◌, Option, None, Some, List, [], ◌∷◌, ◌++◌, length, map, refl, ap, subst, arith, sym, ◌∙◌, append_assoc}
 use Rattle.std.specs.Prelude.{if◌then◌else◌}
 use Rattle.etagere_base.proofs.EachLemmas.{Each-middle}
-use Rattle.etagere_base.proofs.TimesLemmas.{times-append}
+use Rattle.etagere_base.proofs.TimesLemmas.{times-append, times-here}
 use Rattle.etagere_base.specs.Lists.{times, remove_place}
 use Rattle.etagere_base.specs.MergingAt.{merged_at}
 use Rattle.etagere_links.specs.declared.records.LinkedItem.{LinkedItem}
@@ -14,10 +14,9 @@ use Rattle.etagere_links.proofs.Chains.{next-is}
 use Rattle.etagere_links.proofs.AllLists.LinkedItems.{IsApart, linked-apart}
 use Rattle.etagere_links.proofs.AllLists.LinkedMerges.{entry_of}
 use Rattle.etagere_links.proofs.AllLists.LinkedUnused.{lists_of}
-use Rattle.etagere_links.proofs.ListEnds.{times-here}
-use Rattle.etagere.specs.AtlasRecords.{AtlasRecords, is_allocated_at, place_of, along_of, item_at, spelled_shelf}
+use Rattle.etagere.specs.AtlasRecords.{AtlasRecords, is_allocated_at, place_of, along_of, item_at, spelled_shelf, width_of}
 use Rattle.etagere.specs.Merging.{both_free, combined_items}
-use Rattle.etagere.specs.Private.ItemReturned.{Step, free_named, free_next, next_absorbed, width_of}
+use Rattle.etagere.specs.Private.ItemReturned.{Step, free_named, free_next, next_absorbed}
 use Rattle.etagere.specs.Private.Kept.{IsPlaced}
 use Rattle.etagere.specs.Private.RankedReturned.{named_width}
 use Rattle.etagere.specs.State.{Item}

@@ -4,7 +4,7 @@ use Rattle.std.proofs.Common.{◌≡◌, ◌≢◌, ℕ, ◌+◌, ◌≤◌, Boo
 use Rattle.std.specs.Prelude.{if◌then◌else◌}
 use Rattle.std.proofs.lemmas.List.{map-append}
 use Rattle.etagere_base.proofs.EachLemmas.{Each-middle}
-use Rattle.etagere_base.proofs.TimesLemmas.{times-append}
+use Rattle.etagere_base.proofs.TimesLemmas.{times-append, times-here}
 use Rattle.etagere_base.specs.Lists.{times}
 use Rattle.etagere_base.specs.MergingAt.{merged_before}
 use Rattle.etagere_links.specs.declared.records.LinkedItem.{LinkedItem}
@@ -16,10 +16,10 @@ use Rattle.etagere_links.proofs.Chains.{previous-is}
 use Rattle.etagere_links.proofs.AllLists.LinkedItems.{IsApart, linked-apart}
 use Rattle.etagere_links.proofs.AllLists.LinkedMerges.{entry_of}
 use Rattle.etagere_links.proofs.AllLists.LinkedUnused.{lists_of}
-use Rattle.etagere_links.proofs.ListEnds.{times-here, last-append}
-use Rattle.etagere.specs.AtlasRecords.{AtlasRecords, is_allocated_at, place_of, item_at, spelled_shelf}
+use Rattle.etagere_links.proofs.ListEnds.{last-append}
+use Rattle.etagere.specs.AtlasRecords.{AtlasRecords, is_allocated_at, place_of, item_at, spelled_shelf, width_of}
 use Rattle.etagere.specs.Merging.{both_free, combined_items}
-use Rattle.etagere.specs.Private.ItemReturned.{Step, free_named, free_previous, freed_after, remaining_item, width_of}
+use Rattle.etagere.specs.Private.ItemReturned.{Step, free_named, free_previous, freed_after, remaining_item}
 use Rattle.etagere.specs.Private.Kept.{IsPlaced}
 use Rattle.etagere.specs.Private.RankedReturned.{named_width}
 use Rattle.etagere.specs.Returning.{is_free_before}

@@ -4,7 +4,7 @@ use Rattle.std.proofs.Common.{◌≡◌, ℕ, ◌≤◌, Bool, true, false, ◌&
 use Rattle.std.proofs.lemmas.List.{map-append}
 use Rattle.std.specs.Prelude.{not}
 use Rattle.etagere_base.proofs.EachLemmas.{Each-middle}
-use Rattle.etagere_base.proofs.TimesLemmas.{times-append}
+use Rattle.etagere_base.proofs.TimesLemmas.{times-append, times-here}
 use Rattle.etagere_base.specs.Lists.{times}
 use Rattle.etagere_links.specs.declared.records.LinkedItem.{LinkedItem}
 use Rattle.etagere_links.specs.Chains.{IsChainIn}
@@ -16,9 +16,9 @@ use Rattle.etagere_links.proofs.Chains.{Leads-start, next-is, previous-is}
 use Rattle.etagere_links.proofs.AllLists.LinkedItems.{IsApart, linked-apart}
 use Rattle.etagere_links.proofs.AllLists.LinkedMerges.{entry_of}
 use Rattle.etagere_links.proofs.AllLists.LinkedUnused.{lists_of}
-use Rattle.etagere_links.proofs.ListEnds.{last-stands-in, times-here}
-use Rattle.etagere.specs.AtlasRecords.{AtlasRecords, is_allocated_at, is_empty_at, item_at, spelled_shelf}
-use Rattle.etagere.specs.Private.ItemReturned.{IsRemaining, Step, free_named, free_next, free_previous, freed_after, is_alone, item_merged, remaining_in, names_one_free, next_absorbed, width_of}
+use Rattle.etagere_links.proofs.ListEnds.{last-stands-in}
+use Rattle.etagere.specs.AtlasRecords.{AtlasRecords, is_allocated_at, is_empty_at, item_at, spelled_shelf, width_of}
+use Rattle.etagere.specs.Private.ItemReturned.{IsRemaining, Step, free_named, free_next, free_previous, freed_after, is_alone, item_merged, remaining_in, names_one_free, next_absorbed}
 use Rattle.etagere.specs.Private.Kept.{HasFlag}
 use Rattle.etagere.specs.Private.RankedReturned.{freed_width, named_width}
 use Rattle.etagere.specs.State.{Item, is_one_free}

@@ -3,8 +3,8 @@ use Rattle.std.proofs.Common.{◌≡◌, ℕ, Bool, true, false, Option, None, S
 use Rattle.etagere_links.specs.declared.records.LinkedItem.{LinkedItem}
 use Rattle.etagere_links.specs.declared.records.LinkedShelf.{LinkedShelf}
 use Rattle.etagere_links.specs.RecordLists.{Records, walked_lists}
-use Rattle.etagere.specs.AtlasRecords.{height_of, is_empty_at}
-use Rattle.etagere.specs.Private.ItemReturned.{item_returned, put_aside_by, width_of}
+use Rattle.etagere.specs.AtlasRecords.{height_of, is_empty_at, width_of}
+use Rattle.etagere.specs.Private.ItemReturned.{item_returned, put_aside_by}
 
 -- a shelf of 8 that begins there across, between two others
 abbrev shelf_at : ℕ → Option ℕ → Option ℕ → ℕ → Option ℕ → Bool → LinkedShelf

@@ -9,8 +9,8 @@ use Rattle.etagere_links.specs.Records.{item_chain, free_list, shelf_chain}
 use Rattle.etagere_links.proofs.FirstLinks.{to_first_item, to_first_free}
 use Rattle.etagere_links.proofs.RecordChanges.{length-changed_by}
 use Rattle.etagere_links.proofs.RecordFrames.{length-linked_between, length-put_aside, length-unlinked}
-use Rattle.etagere.specs.AtlasRecords.{height_of, shelf_of}
-use Rattle.etagere.specs.Private.ItemReturned.{empty_next, emptiness_said, free_next, free_previous, freed_after, item_merged, item_returned, named_shelf_merged, names_one_free, next_absorbed, shelf_merged, shelf_next_absorbed, shelf_of_item_absorbed, width_of}
+use Rattle.etagere.specs.AtlasRecords.{height_of, shelf_of, width_of}
+use Rattle.etagere.specs.Private.ItemReturned.{empty_next, emptiness_said, free_next, free_previous, freed_after, item_merged, item_returned, named_shelf_merged, names_one_free, next_absorbed, shelf_merged, shelf_next_absorbed, shelf_of_item_absorbed}
 
 -- there are as many records as before
 pub record SameLengths (old new : Records) : Type 0 where

@@ -9,16 +9,12 @@ use Rattle.etagere_links.specs.RecordEdits.{shelf_changed}
 use Rattle.etagere_links.specs.RecordLists.{Records, first_free_of, first_item_of}
 use Rattle.etagere_links.specs.RecordMerges.{free_absorbed, allocated_absorbed, item_freed, shelf_absorbed}
 use Rattle.etagere_links.specs.Records.{free_list, item_chain, shelf_chain}
-use Rattle.etagere.specs.AtlasRecords.{along_of, height_of, is_allocated_at, is_empty_at, item_at, shelf_of}
+use Rattle.etagere.specs.AtlasRecords.{along_of, height_of, is_allocated_at, is_empty_at, item_at, shelf_of, width_of}
 
 -- records after a step, and how many item records it put aside
 pub record Step : Type 0 where
   pub records : Records
   pub put_aside : ℕ
-
--- the width of the item of a number
-abbrev pub width_of : List LinkedItem → ℕ → ℕ
-width_of items number = (item_at items number).width
 
 -- the item that a link names, where that is free
 abbrev pub free_named : List LinkedItem → Option ℕ → Option ℕ

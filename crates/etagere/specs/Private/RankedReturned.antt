@@ -8,9 +8,9 @@ use Rattle.etagere_links.specs.Edits.{link_at}
 use Rattle.etagere_links.specs.Links.{no_link}
 use Rattle.etagere_links.specs.RecordLists.{Records, first_item_of}
 use Rattle.etagere_links.specs.Records.{shelf_chain}
-use Rattle.etagere.specs.AtlasRecords.{shelf_of}
+use Rattle.etagere.specs.AtlasRecords.{shelf_of, width_of}
 use Rattle.etagere.specs.Private.ByHeight.{AreInOrder, bound_of, put_in, raised, ranked_numbers, taken_out}
-use Rattle.etagere.specs.Private.ItemReturned.{emptiness_said, empty_next, free_next, free_previous, item_merged, merged_width, shelf_merged, shelf_of_item_absorbed, width_of}
+use Rattle.etagere.specs.Private.ItemReturned.{emptiness_said, empty_next, free_next, free_previous, item_merged, merged_width, shelf_merged, shelf_of_item_absorbed}
 use Rattle.etagere.specs.declared.linked.ranked.RankedShelf.{RankedShelf}
 
 -- the width of an item, where there is one

@@ -13,8 +13,7 @@ use Rattle.etagere_links.specs.RecordLists.{Records, first_item_of}
 use Rattle.etagere_links.specs.RecordMaking.{item_used_again, records_made, shelf_used_again, started}
 use Rattle.etagere_links.specs.RecordUses.{missing}
 use Rattle.etagere_links.specs.Records.{item_chain, shelf_chain}
-use Rattle.etagere.specs.AtlasRecords.{across_of, along_of, height_of, is_allocated_at, is_empty_at}
-use Rattle.etagere.specs.Private.ItemReturned.{width_of}
+use Rattle.etagere.specs.AtlasRecords.{across_of, along_of, height_of, is_allocated_at, is_empty_at, width_of}
 use Rattle.etagere.specs.declared.linked.growing.Made.{Made}
 use Rattle.etagere.specs.declared.linked.growing.Needed.{Needed}
 

@@ -5,7 +5,6 @@
 
 ghost use Rattle.std.specs.Prelude.{◌≡◌, ◌<◌, IfSome};
 ghost use Rattle.etagere.specs.AtlasRecords as spec;
-ghost use Rattle.etagere.specs.Private.ItemReturned as returned;
 ghost use Rattle.etagere_links.specs.Links.{no_link};
 ghost use Rattle.etagere_links.specs.RecordLists.{first_free_of, first_item_of};
 
@@ -31,7 +30,7 @@ pub(crate) fn place(items: &[LinkedItem], number: usize) -> u16
 
 /// How wide the item of this number is.
 pub(crate) fn width(items: &[LinkedItem], number: usize) -> u16
-    ensures { result ≡ returned.width_of items.now number }
+    ensures { result ≡ spec.width_of items.now number }
 {
     if number < items.len() {
         items[number].width

@@ -5,6 +5,7 @@
 //! stay so.
 
 ghost use Rattle.std.specs.Prelude.{◌≡◌, ℕ, ◌<◌, Some, IfSome, length};
+ghost use Rattle.etagere.specs.AtlasRecords as spec;
 ghost use Rattle.etagere.specs.AtlasRecords.{shelf_of};
 ghost use Rattle.etagere.specs.Private.ItemReturned as returned;
 ghost use Rattle.etagere.specs.Private.ItemReturned.{CanMergeItem, CanMergeShelves, CanReturn, FreeNextIsThere, HeightsFit, AreThere, WidthsFit};
@@ -58,7 +59,7 @@ pub(crate) fn return_item(
 /// How wide an item is that is there.
 fn width_of(items: &[LinkedItem], number: usize) -> u16
     requires { number < length items.now }
-    ensures { result ≡ returned.width_of items.now number }
+    ensures { result ≡ spec.width_of items.now number }
 {
     items[number].width
 }

@@ -3,9 +3,9 @@ use Rattle.etagere_links.specs.declared.records.LinkedItem.{LinkedItem}
 use Rattle.etagere_links.specs.declared.records.LinkedShelf.{LinkedShelf}
 use Rattle.etagere_links.specs.RecordEdits.{shelf_changed}
 use Rattle.etagere_links.specs.RecordLists.{Records}
-use Rattle.etagere.specs.AtlasRecords.{shelf_of}
+use Rattle.etagere.specs.AtlasRecords.{shelf_of, width_of}
 use Rattle.etagere.specs.Private.ByHeight.{raised}
-use Rattle.etagere.specs.Private.ItemReturned.{emptiness_said, has_one_free, item_merged, merged_width, width_of}
+use Rattle.etagere.specs.Private.ItemReturned.{emptiness_said, has_one_free, item_merged, merged_width}
 use Rattle.etagere.specs.Private.RankedReturned.{freed_width}
 use Rattle.etagere.proofs.Spelled.NotEmptied.{StaysInUse, stays-in-use}
 use Rattle.etagere.proofs.linked.returning.return_item.Goals as goal

@@ -1,6 +1,5 @@
 use Rattle.std.proofs.Common.{◌+◌, ap, sym, ◌∙◌}
-use Rattle.etagere.specs.AtlasRecords.{is_allocated_at}
-use Rattle.etagere.specs.Private.ItemReturned.{width_of}
+use Rattle.etagere.specs.AtlasRecords.{is_allocated_at, width_of}
 use Rattle.etagere.proofs.Grown.GrowthSteps.{widened-free}
 use Rattle.etagere.proofs.linked.growing.widening.widen_shelf.Goals as goal
 
