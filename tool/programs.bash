@@ -31,13 +31,20 @@ toolchain_sum() {
     { cat -- "${rt%/bin/rt}/KIT-ID" 2> /dev/null || rt version; } | sha256sum | cut -c 1-8
 }
 
-# Prints the crate $1 and those of the repository below it.
+# Prints the crate $1 and those of the repository below it, each once.
 with_those_below() {
-    local name
-    echo "$1"
-    for name in $(sed -n "s/^$1\b[^:]*://p" "$root/crates.txt"); do
-        [[ ! -d $root/crates/$name ]] || with_those_below "$name"
-    done
+    awk -F '[: ]+' -v crate="$1" '
+        !/^#/ && NF { needs[$1] = $0 }
+        END {
+            queue[last = 1] = crate
+            seen[crate] = 1
+            for (at = 1; at <= last; at++) {
+                print queue[at]
+                count = split(needs[queue[at]], names)
+                for (k = 1; k <= count; k++)
+                    if (names[k] in needs && !seen[names[k]]++) queue[++last] = names[k]
+            }
+        }' "$root/crates.txt"
 }
 
 # Prints a sum of what the program of the crate $1 is made of.

@@ -2,10 +2,10 @@
 use Rattle.std.specs.Prelude.{◌≡◌}
 use Rattle.etagere_base.specs.declared.faults.RestoreFault.{RestoreFault}
 use Rattle.etagere_base.specs.declared.faults.RestoreFault.TheVariants.{Memory}
-use Rattle.etagere.specs.AtlasRecords.{AtlasRecords}
-use Rattle.etagere.specs.Snapshots.{IsBroken}
-use Rattle.etagere.specs.StandsFor.{StandsFor}
-use Rattle.etagere.specs.State.{AtlasState}
+use Rattle.shelf_records.specs.AtlasRecords.{AtlasRecords}
+use Rattle.shelf_records.specs.Snapshots.{IsBroken}
+use Rattle.shelf_records.specs.StandsFor.{StandsFor}
+use Rattle.shelf_model.specs.State.{AtlasState}
 
 -- two states that the same records stand for are one
 abbrev pub StandsForOne : Type 0

@@ -11,46 +11,46 @@ ghost use Rattle.etagere_base.specs.Frames.{IsAccepted, longest_side, options_fa
 ghost use Rattle.etagere_base.specs.Options.{default_options};
 ghost use Rattle.etagere_base.specs.declared.faults.OptionsFault.TheVariants as faults;
 ghost use Rattle.etagere_base.specs.Sending.{AppendsBeginning};
-ghost use Rattle.etagere.specs.Atlas.{Adds, Allocates, KeepsPromises, NeedsSplit, Restores, without_id};
-ghost use Rattle.etagere.specs.ById.{IsClear, KeepsRectangles, TakesAway, Undoes};
-ghost use Rattle.etagere.specs.Callers.{AreTied};
-ghost use Rattle.etagere.specs.Choice.{IsRefused, placement_of};
-ghost use Rattle.etagere.specs.Fresh.{fresh};
-ghost use Rattle.etagere.specs.Growing.{atlas_grown, grow_fault, records_needed};
-ghost use Rattle.etagere.specs.declared.faults.AtlasGrowFault.TheVariants as grow_faults;
-ghost use Rattle.etagere.specs.Listing.{RiseFrom, listed};
-ghost use Rattle.etagere.specs.Places as places;
-ghost use Rattle.etagere.specs.Places.{allocations, is_allocated};
+ghost use Rattle.shelf_model.specs.Atlas.{Adds, Allocates, KeepsPromises, NeedsSplit, Restores, without_id};
+ghost use Rattle.shelf_model.specs.ById.{IsClear, KeepsRectangles, TakesAway, Undoes};
+ghost use Rattle.shelf_model.specs.Callers.{AreTied};
+ghost use Rattle.shelf_model.specs.Choice.{IsRefused, placement_of};
+ghost use Rattle.shelf_model.specs.Fresh.{fresh};
+ghost use Rattle.shelf_model.specs.Growing.{atlas_grown, grow_fault, records_needed};
+ghost use Rattle.shelf_model.specs.declared.faults.AtlasGrowFault.TheVariants as grow_faults;
+ghost use Rattle.shelf_model.specs.Listing.{RiseFrom, listed};
+ghost use Rattle.shelf_model.specs.Places as places;
+ghost use Rattle.shelf_model.specs.Places.{allocations, is_allocated};
 ghost use Rattle.etagere_base.specs.Rectangles.{IsLarge};
-ghost use Rattle.etagere.specs.Private.ByHeight.{AreRanked};
-ghost use Rattle.etagere.specs.Private.Kept.{AreKept};
-ghost use Rattle.etagere.specs.Returning.{returned};
-ghost use Rattle.etagere.specs.Snapshots.{IsBroken, snapshot_records, state_spelled};
-ghost use Rattle.etagere.specs.Space as space;
-ghost use Rattle.etagere.specs.StandsFor.{StandsFor};
-ghost use Rattle.etagere.specs.State as state;
-ghost use Rattle.etagere.specs.Svg.{svg, svg_into};
+ghost use Rattle.shelf_heights.specs.Private.ByHeight.{AreRanked};
+ghost use Rattle.shelf_records.specs.Private.Kept.{AreKept};
+ghost use Rattle.shelf_model.specs.Returning.{returned};
+ghost use Rattle.shelf_records.specs.Snapshots.{IsBroken, snapshot_records, state_spelled};
+ghost use Rattle.shelf_model.specs.Space as space;
+ghost use Rattle.shelf_records.specs.StandsFor.{StandsFor};
+ghost use Rattle.shelf_model.specs.State as state;
+ghost use Rattle.shelf_model.specs.Svg.{svg, svg_into};
 
-use crate::faults::AtlasGrowFault;
-use crate::linked::choosing::{MOST_ITEMS, fits_when_empty, placement_of};
-use crate::linked::drawing::{send_document, send_part, send_picture};
-use crate::linked::growing::counting::needed_for;
-use crate::linked::growing::framing::{grown_frame, size_fault};
-use crate::linked::growing::grow_shelves;
-use crate::linked::looking::{index_of, number_of, recorded_area, recorded_shelf, rectangle_of};
-use crate::linked::ranked::RankedShelves;
-use crate::linked::returning::return_item;
-use crate::linked::starting::{fresh_heights, fresh_records, reset_heights, reset_records};
-use crate::linked::taking::take_placement;
 use crate::listing::Iter;
-use crate::restoring::LoadedAtlas;
-use crate::restoring::restored::restore_atlas;
-use crate::snapshots::{AtlasSnapshot, snapshot_of};
+use crate::restored::restore_atlas;
 use etagere_base::{
     AllocId, Allocation, AllocatorOptions, DEFAULT_OPTIONS, Frame, LONGEST_SIDE, OptionsFault,
     Rectangle, RestoreFault, Size, UnknownId, atlas_frame, options_fault, side,
 };
 use etagere_links::Records;
+use shelf_heights::ranked::RankedShelves;
+use shelf_model::faults::AtlasGrowFault;
+use shelf_records::snapshots::{AtlasSnapshot, snapshot_of};
+use shelf_restoring::loaded_atlas::LoadedAtlas;
+use shelf_store::choosing::{MOST_ITEMS, fits_when_empty, placement_of};
+use shelf_store::drawing::{send_document, send_part, send_picture};
+use shelf_store::growing::counting::needed_for;
+use shelf_store::growing::framing::{grown_frame, size_fault};
+use shelf_store::growing::grow_shelves;
+use shelf_store::looking::{index_of, number_of, recorded_area, recorded_shelf, rectangle_of};
+use shelf_store::returning::return_item;
+use shelf_store::starting::{fresh_heights, fresh_records, reset_heights, reset_records};
+use shelf_store::taking::take_placement;
 use std::alloc::{AllocError, Global};
 use std::io::{self, Write};
 use std::marker::Model;
@@ -77,7 +77,7 @@ pub struct AtlasAllocator {
 }
 
 impl Model for AtlasAllocator {
-    ghost use Rattle.etagere.specs.State.{AtlasState};
+    ghost use Rattle.shelf_model.specs.State.{AtlasState};
 
     ghost Value = { AtlasState };
 

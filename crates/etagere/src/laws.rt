@@ -6,7 +6,7 @@ ghost use Rattle.etagere_base.specs.declared.faults.RestoreFault.TheVariants as 
 ghost use Rattle.etagere.specs.RecordLaws.{BrokenStandsForNone, StandsForOne};
 
 use crate::atlas::AtlasAllocator;
-pub use crate::restoring::restored::restore_atlas;
+pub use crate::restored::restore_atlas;
 use etagere_base::RestoreFault;
 pub use etagere_bucketed::laws::restore_bucketed;
 pub use etagere_links::{Walk, walk};

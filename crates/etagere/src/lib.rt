@@ -1,22 +1,15 @@
 //! A texture atlas allocator: rectangles are placed on shelves and given back in any order.
 //!
-//! The calls stand in `atlas`, those that count the steps of a restoring in `laws`, why a growth is refused in
-//! `faults`, what is saved in `snapshots`, and the iterator in `listing`. All else is private: `linked` has what calls
-//! do to the records, `placements` what was found out of a place, `restoring` follows the links of a snapshot, `judging`
-//! has the passes that judge its rules, and `model_laws` the laws of the model. The bucketed atlas of
-//! `etagere_bucketed` is re-exported.
+//! The calls stand in `atlas`, those that count the steps of a restoring in `laws`, and the iterator in `listing`. The
+//! layers below are crates of their own, not meant for users: `shelf_model` has the model and its laws, `shelf_records`
+//! what records spell and are saved as, `shelf_heights` the shelves by height, `shelf_store` what calls do to records, and
+//! `shelf_restoring` how a snapshot is judged. The bucketed atlas of `etagere_bucketed` is re-exported.
 #![tactic(auto)]
 
 mod atlas;
-mod faults;
-mod judging;
 pub mod laws;
-mod linked;
 mod listing;
-mod model_laws;
-mod placements;
-mod restoring;
-mod snapshots;
+mod restored;
 
 pub use atlas::AtlasAllocator;
 pub use etagere_base::{
@@ -28,6 +21,6 @@ pub use etagere_bucketed::{
     LinkedBucketShelf as BucketShelfRecord,
 };
 pub use etagere_links::{Link, LinkedItem as ItemRecord, LinkedShelf as ShelfRecord};
-pub use faults::AtlasGrowFault;
 pub use listing::Iter;
-pub use snapshots::AtlasSnapshot;
+pub use shelf_model::faults::AtlasGrowFault;
+pub use shelf_records::snapshots::AtlasSnapshot;

@@ -5,14 +5,14 @@
 
 ghost use Rattle.std.specs.Prelude.{◌≡◌, true};
 ghost use Rattle.std.specs.Iterator.{YieldsFirst, item_count};
-ghost use Rattle.etagere.specs.AtlasRecords.{is_allocated_at};
-ghost use Rattle.etagere.specs.Listing.{listed};
-ghost use Rattle.etagere.specs.Private.Kept.{AreKept, state_of};
-ghost use Rattle.etagere.specs.Private.Reading as reading;
+ghost use Rattle.shelf_records.specs.AtlasRecords.{is_allocated_at};
+ghost use Rattle.shelf_model.specs.Listing.{listed};
+ghost use Rattle.shelf_records.specs.Private.Kept.{AreKept, state_of};
+ghost use Rattle.shelf_records.specs.Private.Reading as reading;
 
-use crate::linked::looking::recorded_rectangle;
 use etagere_base::{AllocId, Allocation, Frame, INDEX_MODULUS};
 use etagere_links::{LinkedItem, Records};
+use shelf_store::looking::recorded_rectangle;
 use std::alloc::AllocError;
 use std::iter::FusedIterator;
 use std::marker::Model;

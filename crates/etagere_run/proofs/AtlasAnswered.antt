@@ -3,14 +3,14 @@ use Rattle.std.proofs.Common.{◌≡◌, ℕ, ◌%◌, Option, None, Some, List,
 use Rattle.etagere_base.specs.declared.geometry.Size.{Size}
 use Rattle.etagere_base.specs.declared.ids.Allocation.{Allocation}
 use Rattle.etagere_base.specs.Ids.{index_modulus}
-use Rattle.etagere.specs.Choice.{Placement, placement_of}
-use Rattle.etagere.specs.declared.faults.AtlasGrowFault.{AtlasGrowFault}
-use Rattle.etagere.specs.Faults.{grow_fault_number}
-use Rattle.etagere.specs.Fresh.{fresh}
-use Rattle.etagere.specs.Growing.{atlas_grown, grow_fault}
-use Rattle.etagere.specs.Returning.{returned}
-use Rattle.etagere.specs.State.{AtlasState}
-use Rattle.etagere.proofs.Callers.{allocated-grown, fresh-allocated, placed-can_allocate, promises-cleared, promises-grown, promises-returned, returned-allocated}
+use Rattle.shelf_model.specs.Choice.{Placement, placement_of}
+use Rattle.shelf_model.specs.declared.faults.AtlasGrowFault.{AtlasGrowFault}
+use Rattle.shelf_model.specs.Faults.{grow_fault_number}
+use Rattle.shelf_model.specs.Fresh.{fresh}
+use Rattle.shelf_model.specs.Growing.{atlas_grown, grow_fault}
+use Rattle.shelf_model.specs.Returning.{returned}
+use Rattle.shelf_model.specs.State.{AtlasState}
+use Rattle.shelf_model.proofs.Callers.{allocated-grown, fresh-allocated, placed-can_allocate, promises-cleared, promises-grown, promises-returned, returned-allocated}
 use Rattle.etagere_run.specs.declared.commands.AtlasCommand.{AtlasCommand}
 use Rattle.etagere_run.specs.declared.commands.AtlasCommand.TheVariants.{Allocate, Return, Look, Grow, Clear}
 use Rattle.etagere_run.specs.declared.commands.Reply.{Reply}

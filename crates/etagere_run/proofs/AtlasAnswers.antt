@@ -7,14 +7,14 @@ use Rattle.etagere_base.specs.declared.ids.Allocation.{Allocation}
 use Rattle.etagere_base.specs.Lists.{Each}
 use Rattle.etagere_base.specs.Rectangles.{IsAligned, IsInside, IsLarge}
 use Rattle.etagere_base.proofs.EachLemmas.{Each-middle, Each-weaken}
-use Rattle.etagere.specs.Atlas.{Adds, Allocates, KeepsPromises, without_id}
-use Rattle.etagere.specs.Callers.{AreTied, IsFound}
-use Rattle.etagere.specs.Fresh.{fresh}
-use Rattle.etagere.specs.Growing.{atlas_grown, grow_fault}
-use Rattle.etagere.specs.Places.{allocations, is_allocated, rectangle_of}
-use Rattle.etagere.specs.Returning.{returned}
-use Rattle.etagere.specs.State.{AtlasState}
-use Rattle.etagere.proofs.Callers.{allocated-grown, allocates-adds, columns-grown, fresh-allocated, found-allocated, found-new, found-rectangle, not_allocated-any, promises, promises-cleared, promises-returned, returned-allocated, tied-added, tied-apart, tied-each, tied-empty, tied-ids, tied-none, tied-returned}
+use Rattle.shelf_model.specs.Atlas.{Adds, Allocates, KeepsPromises, without_id}
+use Rattle.shelf_model.specs.Callers.{AreTied, IsFound}
+use Rattle.shelf_model.specs.Fresh.{fresh}
+use Rattle.shelf_model.specs.Growing.{atlas_grown, grow_fault}
+use Rattle.shelf_model.specs.Places.{allocations, is_allocated, rectangle_of}
+use Rattle.shelf_model.specs.Returning.{returned}
+use Rattle.shelf_model.specs.State.{AtlasState}
+use Rattle.shelf_model.proofs.Callers.{allocated-grown, allocates-adds, columns-grown, fresh-allocated, found-allocated, found-new, found-rectangle, not_allocated-any, promises, promises-cleared, promises-returned, returned-allocated, tied-added, tied-apart, tied-each, tied-empty, tied-ids, tied-none, tied-returned}
 use Rattle.etagere_run.specs.declared.commands.AtlasCommand.{AtlasCommand}
 use Rattle.etagere_run.specs.declared.commands.AtlasCommand.TheVariants.{Allocate, Return, Look, Grow, Clear}
 use Rattle.etagere_run.specs.declared.commands.Reply.{Reply}

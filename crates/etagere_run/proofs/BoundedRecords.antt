@@ -7,14 +7,14 @@ use Rattle.etagere_base.specs.declared.geometry.Size.{Size}
 use Rattle.etagere_base.specs.declared.ids.Allocation.{Allocation}
 use Rattle.etagere_base.specs.Lists.{Each}
 use Rattle.etagere_base.proofs.EachLemmas.{Each-middle, Each-weaken}
-use Rattle.etagere.specs.Bounds.{record_bound}
-use Rattle.etagere.specs.Choice.{Placement}
-use Rattle.etagere.specs.Fresh.{fresh}
-use Rattle.etagere.specs.Growing.{atlas_grown}
-use Rattle.etagere.specs.Places.{allocations, record_number}
-use Rattle.etagere.specs.State.{AtlasState, items_in_use}
-use Rattle.etagere.specs.Taking.{taken}
-use Rattle.etagere.proofs.Callers.{tied-each, tied-length}
+use Rattle.shelf_model.specs.Bounds.{record_bound}
+use Rattle.shelf_model.specs.Choice.{Placement}
+use Rattle.shelf_model.specs.Fresh.{fresh}
+use Rattle.shelf_model.specs.Growing.{atlas_grown}
+use Rattle.shelf_model.specs.Places.{allocations, record_number}
+use Rattle.shelf_model.specs.State.{AtlasState, items_in_use}
+use Rattle.shelf_model.specs.Taking.{taken}
+use Rattle.shelf_model.proofs.Callers.{tied-each, tied-length}
 use Rattle.etagere_run.specs.declared.commands.AtlasCommand.{AtlasCommand}
 use Rattle.etagere_run.specs.declared.commands.AtlasCommand.TheVariants.{Allocate, Return, Look, Grow, Clear}
 use Rattle.etagere_run.specs.declared.commands.Reply.{Reply}

@@ -10,9 +10,9 @@ use Rattle.etagere_bucketed.specs.Frames.{bucketed_frame, longest_bucketed_side}
 use Rattle.etagere_bucketed.specs.State as buckets
 use Rattle.etagere_bucketed.specs.State.{BucketedState}
 use Rattle.etagere_bucketed.proofs.Callers.{accepted-bucketed}
-use Rattle.etagere.specs.Fresh as atlas
-use Rattle.etagere.specs.State.{AtlasState}
-use Rattle.etagere.proofs.Callers.{fresh-allocated, promises-new}
+use Rattle.shelf_model.specs.Fresh as atlas
+use Rattle.shelf_model.specs.State.{AtlasState}
+use Rattle.shelf_model.proofs.Callers.{fresh-allocated, promises-new}
 use Rattle.etagere_run.specs.declared.commands.AtlasCommand.{AtlasCommand}
 use Rattle.etagere_run.specs.declared.commands.BucketedCommand.{BucketedCommand}
 use Rattle.etagere_run.specs.declared.commands.Reply.{Reply}

@@ -6,7 +6,7 @@ use Rattle.std.proofs.lemmas.List.{append-nil, map-append}
 use Rattle.etagere_base.specs.declared.ids.Allocation.{Allocation}
 use Rattle.etagere_base.specs.Lists.{Each}
 use Rattle.etagere_base.proofs.EachLemmas.{Each-append}
-use Rattle.etagere.specs.Atlas as atlas
+use Rattle.shelf_model.specs.Atlas as atlas
 use Rattle.etagere_run.specs.Live.{Effect, Adds, TakesOut, Empties, Keeps, Entry, allocation_at, live_after, live_allocations, live_from, peak_after, peak_from, without}
 
 -- the allocation of an entry that may be there

@@ -1,8 +1,8 @@
 -- What an atlas leaves after the commands of a request makes the request's picture.
 use Rattle.std.proofs.Common.{◌≡◌, List, refl, subst, sym}
 use Rattle.etagere_base.specs.Frames.{IsAccepted, atlas_frame, longest_side}
-use Rattle.etagere.specs.State.{AtlasState}
-use Rattle.etagere.specs.Svg as shelves
+use Rattle.shelf_model.specs.State.{AtlasState}
+use Rattle.shelf_model.specs.Svg as shelves
 use Rattle.etagere_bucketed.specs.Frames.{bucketed_frame, longest_bucketed_side}
 use Rattle.etagere_bucketed.specs.State.{BucketedState}
 use Rattle.etagere_bucketed.specs.Svg as buckets

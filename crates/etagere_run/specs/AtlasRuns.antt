@@ -6,17 +6,17 @@ use Rattle.etagere_base.specs.declared.ids.Allocation.{Allocation}
 use Rattle.etagere_base.specs.Ids.{index_modulus}
 use Rattle.etagere_base.specs.Lists.{Each}
 use Rattle.etagere_base.specs.Rectangles.{IsAligned, IsLarge}
-use Rattle.etagere.specs.Atlas.{Allocates, NeedsSplit}
-use Rattle.etagere.specs.Bounds.{record_bound}
-use Rattle.etagere.specs.Choice.{IsRefused}
-use Rattle.etagere.specs.declared.faults.AtlasGrowFault.{AtlasGrowFault}
-use Rattle.etagere.specs.Faults.{grow_fault_number}
-use Rattle.etagere.specs.Fresh.{fresh, without_records}
-use Rattle.etagere.specs.Growing.{atlas_grown, grow_fault, records_needed}
-use Rattle.etagere.specs.Places.{record_number, rectangle_of}
-use Rattle.etagere.specs.Returning.{returned}
-use Rattle.etagere.specs.State.{AtlasState}
-use Rattle.etagere.specs.Valid.{IsValid}
+use Rattle.shelf_model.specs.Atlas.{Allocates, NeedsSplit}
+use Rattle.shelf_model.specs.Bounds.{record_bound}
+use Rattle.shelf_model.specs.Choice.{IsRefused}
+use Rattle.shelf_model.specs.declared.faults.AtlasGrowFault.{AtlasGrowFault}
+use Rattle.shelf_model.specs.Faults.{grow_fault_number}
+use Rattle.shelf_model.specs.Fresh.{fresh, without_records}
+use Rattle.shelf_model.specs.Growing.{atlas_grown, grow_fault, records_needed}
+use Rattle.shelf_model.specs.Places.{record_number, rectangle_of}
+use Rattle.shelf_model.specs.Returning.{returned}
+use Rattle.shelf_model.specs.State.{AtlasState}
+use Rattle.shelf_model.specs.Valid.{IsValid}
 use Rattle.etagere_run.specs.declared.commands.AtlasCommand.{AtlasCommand}
 use Rattle.etagere_run.specs.declared.commands.AtlasCommand.TheVariants.{Allocate, Return, Look, Grow, Clear}
 use Rattle.etagere_run.specs.declared.commands.Reply.{Reply}

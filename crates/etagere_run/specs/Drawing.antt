@@ -8,7 +8,7 @@ use Rattle.etagere_base.specs.Frames.{IsAccepted, atlas_frame}
 use Rattle.etagere_base.specs.Sending.{AppendsBeginning}
 use Rattle.etagere_bucketed.specs.Frames.{bucketed_frame}
 use Rattle.etagere_bucketed.specs.Svg as buckets
-use Rattle.etagere.specs.Svg as shelves
+use Rattle.shelf_model.specs.Svg as shelves
 use Rattle.etagere_run.specs.declared.commands.Reply.{Reply}
 use Rattle.etagere_run.specs.declared.commands.Reply.TheVariants.{NoMemory}
 use Rattle.etagere_run.specs.declared.faults.Checked.{Checked}

@@ -6,10 +6,10 @@ use Rattle.etagere_bucketed.specs.Restoring as buckets
 use Rattle.etagere_bucketed.specs.StandsFor as bucket_rules
 use Rattle.etagere_bucketed.specs.State.{BucketedState}
 use Rattle.etagere_bucketed.specs.Svg as bucket_pictures
-use Rattle.etagere.specs.Snapshots as shelves
-use Rattle.etagere.specs.StandsFor as shelf_rules
-use Rattle.etagere.specs.State.{AtlasState}
-use Rattle.etagere.specs.Svg as shelf_pictures
+use Rattle.shelf_records.specs.Snapshots as shelves
+use Rattle.shelf_records.specs.StandsFor as shelf_rules
+use Rattle.shelf_model.specs.State.{AtlasState}
+use Rattle.shelf_model.specs.Svg as shelf_pictures
 use Rattle.etagere_run.specs.declared.faults.Checked.{Checked}
 use Rattle.etagere_run.specs.declared.faults.Checked.TheVariants.{Fine, Broken, Unreadable}
 use Rattle.saved_json.specs.declared.saved.Saved.{Saved}

@@ -4,9 +4,9 @@ use Rattle.std.proofs.lemmas.List.{length-map, length-reverse, length-take, take
 use Rattle.std.specs.Map.{keys_of, lookup, remove_entry}
 use Rattle.std.specs.Option.{option_map_or}
 use Rattle.std.specs.Prelude.{nat_eq}
-use Rattle.etagere.specs.Atlas.{Allocates}
-use Rattle.etagere.specs.Returning.{returned}
-use Rattle.etagere.specs.State.{AtlasState}
+use Rattle.shelf_model.specs.Atlas.{Allocates}
+use Rattle.shelf_model.specs.Returning.{returned}
+use Rattle.shelf_model.specs.State.{AtlasState}
 use Rattle.etagere_base.specs.Lists.{times}
 use Rattle.etagere_base.specs.declared.geometry.Rectangle.{Rectangle}
 use Rattle.etagere_base.specs.declared.geometry.Size.{Size}

@@ -5,7 +5,7 @@ use Rattle.std.specs.Map.{keys_of}
 use Rattle.std.specs.Option.{option_map_or}
 use Rattle.std.proofs.lemmas.List.{length-drop, length-map, length-reverse, length-take, map-append, reverse-append, take-append-drop, take-take, take_all, take_at}
 use Rattle.lru.specs.LruCache.{last_entry}
-use Rattle.etagere.specs.Returning.{returned}
+use Rattle.shelf_model.specs.Returning.{returned}
 use Rattle.etagere_base.specs.declared.ids.Allocation.{Allocation}
 use Rattle.glyph_shelf.specs.Cache.{CacheState, after_dropping, dropped_keys, without_last}
 use Rattle.glyph_shelf.proofs.EntryLemmas.{last-none}

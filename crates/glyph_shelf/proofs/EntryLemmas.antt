@@ -6,7 +6,7 @@ use Rattle.std.specs.Map.{lookup, lookup_entry, remove_entry, values_of}
 use Rattle.std.specs.Option.{option_map_or}
 use Rattle.std.specs.Prelude.{nat_eq}
 use Rattle.lru.specs.LruCache.{LruCache, last_entry, promoted, put_entries}
-use Rattle.etagere.specs.Atlas.{Adds}
+use Rattle.shelf_model.specs.Atlas.{Adds}
 use Rattle.etagere_base.specs.declared.ids.Allocation.{Allocation}
 
 -- an entry that a key finds, before others in which it would be found

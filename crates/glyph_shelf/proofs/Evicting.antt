@@ -7,13 +7,13 @@ use Rattle.std.proofs.lemmas.Bool.Decides.{nat_tests}
 use Rattle.std.proofs.lemmas.List.{length-append, map-append, reverse-append}
 use Rattle.std.proofs.Math.Seq.{take-append_seam}
 use Rattle.lru.specs.LruCache.{last_entry}
-use Rattle.etagere.proofs.Callers.{tied-empty}
-use Rattle.etagere.specs.Callers.{AreTied}
-use Rattle.etagere.specs.Choice.{placement_of}
-use Rattle.etagere.specs.Fresh.{fresh, without_records}
-use Rattle.etagere.specs.Places.{allocations}
-use Rattle.etagere.specs.Returning.{returned}
-use Rattle.etagere.specs.State.{AtlasState}
+use Rattle.shelf_model.proofs.Callers.{tied-empty}
+use Rattle.shelf_model.specs.Callers.{AreTied}
+use Rattle.shelf_model.specs.Choice.{placement_of}
+use Rattle.shelf_model.specs.Fresh.{fresh, without_records}
+use Rattle.shelf_model.specs.Places.{allocations}
+use Rattle.shelf_model.specs.Returning.{returned}
+use Rattle.shelf_model.specs.State.{AtlasState}
 use Rattle.etagere_base.specs.declared.frames.Frame.{Frame}
 use Rattle.etagere_base.specs.declared.geometry.Rectangle.{Rectangle}
 use Rattle.etagere_base.specs.declared.geometry.Size.{Size}

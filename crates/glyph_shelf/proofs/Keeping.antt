@@ -9,12 +9,12 @@ use Rattle.etagere_base.specs.declared.ids.Allocation.{Allocation}
 use Rattle.etagere_base.specs.Lists.{Each, times}
 use Rattle.etagere_base.specs.Rectangles.{IsInside}
 use Rattle.etagere_base.proofs.EachLemmas.{Each-middle}
-use Rattle.etagere.specs.Atlas.{Adds, KeepsPromises, without_id}
-use Rattle.etagere.specs.Callers.{AreTied, IsFound}
-use Rattle.etagere.specs.Places.{allocations, is_allocated}
-use Rattle.etagere.specs.Returning.{returned}
-use Rattle.etagere.specs.State.{AtlasState}
-use Rattle.etagere.proofs.Callers.{found-allocated, not_allocated-any, promises-returned, returned-allocated, tied-added, tied-apart, tied-each, tied-returned}
+use Rattle.shelf_model.specs.Atlas.{Adds, KeepsPromises, without_id}
+use Rattle.shelf_model.specs.Callers.{AreTied, IsFound}
+use Rattle.shelf_model.specs.Places.{allocations, is_allocated}
+use Rattle.shelf_model.specs.Returning.{returned}
+use Rattle.shelf_model.specs.State.{AtlasState}
+use Rattle.shelf_model.proofs.Callers.{found-allocated, not_allocated-any, promises-returned, returned-allocated, tied-added, tied-apart, tied-each, tied-returned}
 use Rattle.glyph_shelf.specs.Cache.{CacheState, kept_allocations, rectangle_at, used, without_key, without_last}
 use Rattle.glyph_shelf.specs.Promises.{KeepsCachePromises}
 use Rattle.glyph_shelf.proofs.EntryLemmas.{found-among, last-among, length-removed, promoted-known, promoted-unknown}

@@ -5,8 +5,8 @@ use Rattle.etagere_base.specs.declared.ids.Allocation.{Allocation}
 use Rattle.etagere_base.specs.Lists.{Each, times}
 use Rattle.etagere_base.proofs.EachLemmas.{Each-middle, Each-remove_place}
 use Rattle.etagere_base.proofs.TimesLemmas.{times-append}
-use Rattle.etagere.specs.Atlas.{Adds}
-use Rattle.etagere.specs.Callers.{AreTied, IsFound}
+use Rattle.shelf_model.specs.Atlas.{Adds}
+use Rattle.shelf_model.specs.Callers.{AreTied, IsFound}
 
 -- the ids of allocations
 abbrev ids_of : List Allocation → List ℕ

@@ -5,8 +5,8 @@ use Rattle.etagere_base.specs.declared.geometry.Rectangle.{Rectangle}
 use Rattle.etagere_base.specs.declared.geometry.Size.{Size}
 use Rattle.etagere_base.specs.Frames.{atlas_frame}
 use Rattle.etagere_base.specs.Options.{default_options}
-use Rattle.etagere.specs.Choice.{placement_of, rectangle_of_placement}
-use Rattle.etagere.specs.Taking.{taken}
+use Rattle.shelf_model.specs.Choice.{placement_of, rectangle_of_placement}
+use Rattle.shelf_model.specs.Taking.{taken}
 use Rattle.glyph_shelf.specs.Cache.{CacheState, after_dropping, dropped_keys, empty_cache, rectangle_at, used, without_key}
 use Rattle.glyph_shelf.specs.Placing.{IsTooLarge, has_room}
 

@@ -4,9 +4,9 @@ use Rattle.std.specs.Prelude.{ℕ, zero, suc, ◌-◌, Option, option_map, nat_e
 use Rattle.std.specs.Map.{keys_of, lookup, remove_entry, values_of}
 use Rattle.std.specs.Option.{option_map_or}
 use Rattle.lru.specs.LruCache.{last_entry, promoted}
-use Rattle.etagere.specs.Fresh.{fresh}
-use Rattle.etagere.specs.Returning.{returned}
-use Rattle.etagere.specs.State.{AtlasState}
+use Rattle.shelf_model.specs.Fresh.{fresh}
+use Rattle.shelf_model.specs.Returning.{returned}
+use Rattle.shelf_model.specs.State.{AtlasState}
 use Rattle.etagere_base.specs.declared.frames.Frame.{Frame}
 use Rattle.etagere_base.specs.declared.geometry.Rectangle.{Rectangle}
 use Rattle.etagere_base.specs.declared.ids.Allocation.{Allocation}

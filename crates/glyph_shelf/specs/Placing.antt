@@ -1,10 +1,10 @@
 -- What becomes of a cache when a new key is placed: what is evicted, and what stands after it.
 use Rattle.std.specs.Prelude.{◌≡◌, ℕ, ◌<◌, ◌≤◌, Bool, ◌&&◌, true, false, is_some, nat_eq, nat_lt, None, List, ◌∷◌, length}
 use Rattle.std.specs.Map.{lookup}
-use Rattle.etagere.specs.Atlas.{Allocates}
-use Rattle.etagere.specs.Choice.{placement_of, IsRefused}
-use Rattle.etagere.specs.Fresh.{fresh}
-use Rattle.etagere.specs.Layout.{layout}
+use Rattle.shelf_model.specs.Atlas.{Allocates}
+use Rattle.shelf_model.specs.Choice.{placement_of, IsRefused}
+use Rattle.shelf_model.specs.Fresh.{fresh}
+use Rattle.shelf_model.specs.Layout.{layout}
 use Rattle.etagere_base.specs.declared.geometry.Rectangle.{Rectangle}
 use Rattle.etagere_base.specs.declared.geometry.Size.{Size}
 use Rattle.etagere_base.specs.declared.ids.Allocation.{Allocation}

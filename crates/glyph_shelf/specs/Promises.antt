@@ -1,9 +1,9 @@
 -- What every cache keeps, whatever was called before.
 use Rattle.std.specs.Prelude.{ℕ, ◌≤◌, length}
 use Rattle.std.specs.Map.{keys_of}
-use Rattle.etagere.specs.Atlas.{KeepsPromises}
-use Rattle.etagere.specs.Callers.{AreTied}
-use Rattle.etagere.specs.Places.{allocations}
+use Rattle.shelf_model.specs.Atlas.{KeepsPromises}
+use Rattle.shelf_model.specs.Callers.{AreTied}
+use Rattle.shelf_model.specs.Places.{allocations}
 use Rattle.etagere_base.specs.Lists.{Each, times}
 use Rattle.etagere_base.specs.Rectangles.{AreApart, IsInside}
 use Rattle.etagere_base.specs.declared.ids.Allocation.{Allocation}

@@ -3,9 +3,9 @@
 //! Definition: `Returning`, of the atlas.
 
 ghost use Rattle.std.specs.Prelude.{◌≡◌, true};
-ghost use Rattle.etagere.specs.Atlas.{KeepsPromises, Restores, without_id};
-ghost use Rattle.etagere.specs.Places.{allocations, is_allocated};
-ghost use Rattle.etagere.specs.Returning.{returned};
+ghost use Rattle.shelf_model.specs.Atlas.{KeepsPromises, Restores, without_id};
+ghost use Rattle.shelf_model.specs.Places.{allocations, is_allocated};
+ghost use Rattle.shelf_model.specs.Returning.{returned};
 
 use etagere::{AllocId, AtlasAllocator};
 

@@ -5,8 +5,8 @@
 ghost use Rattle.std.specs.Prelude.{◌≡◌, ◌<◌, [], ◌∷◌, None, true, is_some, nat_eq, length, option_map, IfOk, IfErr, IfSome, IfNone, OnOk, OnErr};
 ghost use Rattle.std.specs.Map.{lookup};
 ghost use Rattle.std.specs.NonZero.{non_zero_usize_get};
-ghost use Rattle.etagere.specs.Choice as choice;
-ghost use Rattle.etagere.specs.Fresh.{fresh};
+ghost use Rattle.shelf_model.specs.Choice as choice;
+ghost use Rattle.shelf_model.specs.Fresh.{fresh};
 ghost use Rattle.etagere_base.specs.Frames as frames;
 ghost use Rattle.etagere_base.specs.Frames.{IsAccepted, longest_side, options_fault};
 ghost use Rattle.etagere_base.specs.declared.faults.OptionsFault.TheVariants as faults;

@@ -14,7 +14,7 @@ use Rattle.etagere_bucketed.specs.declared.records.LinkedBucket.{LinkedBucket}
 use Rattle.etagere_bucketed.specs.declared.records.LinkedBucketShelf.{LinkedBucketShelf}
 use Rattle.etagere_links.specs.declared.records.LinkedItem.{LinkedItem}
 use Rattle.etagere_links.specs.declared.records.LinkedShelf.{LinkedShelf}
-use Rattle.etagere.specs.declared.snapshots.AtlasSnapshot.{AtlasSnapshot}
+use Rattle.shelf_records.specs.declared.snapshots.AtlasSnapshot.{AtlasSnapshot}
 use Rattle.saved_json.specs.Fields.{field, the_only}
 use Rattle.saved_json.specs.Records.{IsBucket, IsBucketShelf, IsItem, IsShelf}
 use Rattle.saved_json.specs.Private.Held.{AreMembers, Arrays, Opens, Passes, PassesMembers, arrays_of}

@@ -4,7 +4,7 @@ use Rattle.json.specs.Json.{Json, array, boolean, document, member, no_members, 
 use Rattle.etagere_base.specs.declared.geometry.Size.{Size}
 use Rattle.etagere_bucketed.specs.declared.snapshots.BucketedSnapshot.{BucketedSnapshot}
 use Rattle.etagere_links.specs.Links.{bits_of}
-use Rattle.etagere.specs.declared.snapshots.AtlasSnapshot.{AtlasSnapshot}
+use Rattle.shelf_records.specs.declared.snapshots.AtlasSnapshot.{AtlasSnapshot}
 use Rattle.saved_json.specs.declared.saved.Saved.{Saved}
 use Rattle.saved_json.specs.declared.saved.Saved.TheVariants.{Atlas, Bucketed}
 use Rattle.saved_json.specs.Fields.{field, natural, whole}

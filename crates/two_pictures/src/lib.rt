@@ -8,8 +8,8 @@
 mod tests;
 
 ghost use Rattle.std.specs.Prelude.{◌≡◌, true, IfOk, IfNone, IfSome, OnErr};
-ghost use Rattle.etagere.specs.ById.{Undoes};
-ghost use Rattle.etagere.specs.Places.{allocations, is_allocated};
+ghost use Rattle.shelf_model.specs.ById.{Undoes};
+ghost use Rattle.shelf_model.specs.Places.{allocations, is_allocated};
 ghost use Rattle.etagere_base.specs.Rectangles.{IsInside, SharesNone};
 
 use etagere::{AllocId, Allocation, AtlasAllocator, Size};

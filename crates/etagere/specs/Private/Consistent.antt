@@ -1,10 +1,10 @@
 -- What the fields of an atlas keep, and the state that they stand for.
 use Rattle.std.specs.Prelude.{◌≡◌}
 use Rattle.etagere.specs.declared.atlas.AtlasAllocator.TheInside.{Inside}
-use Rattle.etagere.specs.Private.ByHeight.{AreRanked}
-use Rattle.etagere.specs.Private.Kept.{AreKept, state_of}
-use Rattle.etagere.specs.Space.{allocated_space}
-use Rattle.etagere.specs.State.{AtlasState, items_in_use}
+use Rattle.shelf_heights.specs.Private.ByHeight.{AreRanked}
+use Rattle.shelf_records.specs.Private.Kept.{AreKept, state_of}
+use Rattle.shelf_model.specs.Space.{allocated_space}
+use Rattle.shelf_model.specs.State.{AtlasState, items_in_use}
 
 -- what the fields of an atlas stand for: the state that its records spell
 abbrev pub state_in : Inside → AtlasState

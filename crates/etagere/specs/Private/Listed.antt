@@ -1,8 +1,8 @@
 -- What the fields of an iteration keep, and what it has still to give.
 use Rattle.std.specs.Prelude.{◌≤◌, List, length}
 use Rattle.etagere_base.specs.declared.ids.Allocation.{Allocation}
-use Rattle.etagere.specs.Private.Kept.{AreKept}
-use Rattle.etagere.specs.Private.Reading.{recorded_from}
+use Rattle.shelf_records.specs.Private.Kept.{AreKept}
+use Rattle.shelf_records.specs.Private.Reading.{recorded_from}
 use Rattle.etagere.specs.declared.listing.Iter.TheInside.{Inside}
 
 -- what an iteration has still to give

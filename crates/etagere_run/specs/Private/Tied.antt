@@ -5,10 +5,10 @@ use Rattle.etagere_base.specs.declared.geometry.Size.{Size}
 use Rattle.etagere_base.specs.declared.ids.Allocation.{Allocation}
 use Rattle.etagere_base.specs.Lists.{Each}
 use Rattle.etagere_base.specs.Rectangles.{IsAligned, IsLarge}
-use Rattle.etagere.specs.Atlas.{KeepsPromises}
-use Rattle.etagere.specs.Callers as atlas
-use Rattle.etagere.specs.Places.{allocations}
-use Rattle.etagere.specs.State.{AtlasState}
+use Rattle.shelf_model.specs.Atlas.{KeepsPromises}
+use Rattle.shelf_model.specs.Callers as atlas
+use Rattle.shelf_model.specs.Places.{allocations}
+use Rattle.shelf_model.specs.State.{AtlasState}
 use Rattle.etagere_bucketed.specs.State.{BucketedState}
 use Rattle.etagere_bucketed.specs.Tied as buckets
 use Rattle.etagere_run.specs.declared.commands.AtlasCommand.{AtlasCommand}

@@ -3,8 +3,8 @@ use Rattle.etagere_base.proofs.EachLemmas.{Each-middle, Each-remove_place}
 use Rattle.etagere_base.specs.declared.ids.Allocation.{Allocation}
 use Rattle.etagere_base.specs.Lists.{Each}
 use Rattle.etagere_base.specs.Rectangles.{IsInside}
-use Rattle.etagere.specs.Atlas.{Adds}
-use Rattle.etagere.specs.Places.{allocations}
+use Rattle.shelf_model.specs.Atlas.{Adds}
+use Rattle.shelf_model.specs.Places.{allocations}
 use Rattle.two_pictures.proofs.place_two.Goals as goal
 
 pub returns-in-Ok-Some-clause-inside : goal.returns-in-Ok-Some-clause-inside

@@ -1,6 +1,6 @@
 use Rattle.std.proofs.Common.{subst, sym, ◌∙◌}
-use Rattle.etagere.specs.StandsFor.{StandsFor}
-use Rattle.etagere.proofs.Loaded.WalksRestore.{stands-whole}
+use Rattle.shelf_records.specs.StandsFor.{StandsFor}
+use Rattle.shelf_restoring.proofs.Loaded.WalksRestore.{stands-whole}
 use Rattle.etagere.proofs.laws.records_stand_for_one_state.Goals as goal
 
 -- each is the state that the walks spell

@@ -1,8 +1,8 @@
 use Rattle.std.proofs.Common.{◌≡◌, false, ap, sym, ◌∙◌}
 use Rattle.etagere_links.specs.declared.records.LinkedItem.{LinkedItem}
-use Rattle.etagere.specs.AtlasRecords.{is_allocated_at}
-use Rattle.etagere.proofs.Recorded.RecordedListing.{next-passed}
-use Rattle.etagere.proofs.Recorded.RecordsOfIds.{field_at-read}
+use Rattle.shelf_records.specs.AtlasRecords.{is_allocated_at}
+use Rattle.shelf_store.proofs.Recorded.RecordedListing.{next-passed}
+use Rattle.shelf_records.proofs.Recorded.RecordsOfIds.{field_at-read}
 use Rattle.etagere.proofs.listing.next_allocated.Goals as goal
 
 pub loop-number-preserved : goal.loop-number-preserved

@@ -1,5 +1,5 @@
 use Rattle.std.proofs.Common.{◌≡◌}
-use Rattle.etagere.specs.Private.Reading.{next_allocated}
+use Rattle.shelf_records.specs.Private.Reading.{next_allocated}
 use Rattle.etagere.proofs.listing.next_allocated.Given as goal
 
 -- the first one from here on is the first one of all

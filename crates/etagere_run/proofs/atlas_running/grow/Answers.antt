@@ -1,5 +1,5 @@
 use Rattle.std.proofs.Common.{◌≡◌, None, rules}
-use Rattle.etagere.specs.Growing.{grow_fault}
+use Rattle.shelf_model.specs.Growing.{grow_fault}
 use Rattle.etagere_run.proofs.AtlasAnswers.{grown}
 use Rattle.etagere_run.proofs.atlas_running.grow.Goals as goal
 

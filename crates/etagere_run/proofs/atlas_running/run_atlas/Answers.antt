@@ -1,8 +1,8 @@
 use Rattle.std.proofs.Common.{◌≡◌, ap, rules, subst}
 use Rattle.etagere_base.specs.declared.frames.Frame.{Frame}
 use Rattle.etagere_base.specs.Frames.{atlas_frame}
-use Rattle.etagere.specs.Fresh.{fresh}
-use Rattle.etagere.specs.State.{AtlasState}
+use Rattle.shelf_model.specs.Fresh.{fresh}
+use Rattle.shelf_model.specs.State.{AtlasState}
 use Rattle.etagere_run.specs.AtlasRuns.{shelf_atlas}
 use Rattle.etagere_run.specs.Runs.{RunKeepsPromisesThroughout, RunsTo}
 use Rattle.etagere_run.proofs.AtlasAnswered.{atlas-suits}

@@ -1,6 +1,6 @@
 use Rattle.std.proofs.Common.{◌≡◌, rules}
 use Rattle.std.proofs.lemmas.Result.{err_from_is_err_and}
-use Rattle.etagere.specs.Svg as shelves
+use Rattle.shelf_model.specs.Svg as shelves
 use Rattle.etagere_bucketed.specs.Svg as buckets
 use Rattle.etagere_run.specs.Drawing.{IsPictureOf}
 use Rattle.etagere_run.specs.Script.{OfBuckets, OfShelves}

@@ -1,5 +1,5 @@
 use Rattle.std.proofs.Common.{◌≡◌, refl, rules}
-use Rattle.etagere.specs.Svg as shelves
+use Rattle.shelf_model.specs.Svg as shelves
 use Rattle.etagere_bucketed.specs.Svg as buckets
 use Rattle.etagere_run.proofs.SavedDrawings.{sent-draws}
 use Rattle.etagere_run.proofs.drawing.draw_saved.Goals as goal

@@ -2,20 +2,20 @@ use Rattle.std.specs.Prelude.{OnErr, Result, Ok, Err}
 use Rattle.std.proofs.Common.{List, sym, subst, arith}
 use Rattle.etagere_base.specs.Rectangles.{IsLarge}
 use Rattle.etagere_links.specs.RecordLists.{Records}
-use Rattle.etagere.specs.Atlas.{Adds, Allocates, KeepsPromises, NeedsSplit}
-use Rattle.etagere.specs.ById.{IsClear, KeepsRectangles}
-use Rattle.etagere.specs.Places.{allocations}
+use Rattle.shelf_model.specs.Atlas.{Adds, Allocates, KeepsPromises, NeedsSplit}
+use Rattle.shelf_model.specs.ById.{IsClear, KeepsRectangles}
+use Rattle.shelf_model.specs.Places.{allocations}
 use Rattle.etagere.specs.Private.Consistent.{state_in}
-use Rattle.etagere.specs.Private.ByHeight.{AreRanked}
-use Rattle.etagere.specs.Private.Kept.{state_of}
-use Rattle.etagere.specs.Private.PlacementTaken.{ranked_taken}
-use Rattle.etagere.specs.State.{AtlasState}
-use Rattle.etagere.specs.declared.linked.ranked.RankedShelf.{RankedShelf}
-use Rattle.etagere.proofs.Allocations.SeenById.{added-clear, keeps-rectangles}
-use Rattle.etagere.proofs.ByHeight.TakenRanked.{Ranks}
-use Rattle.etagere.proofs.Promises.{promises}
-use Rattle.etagere.proofs.Recorded.RecordedTaking.{AfterTaking, after-taking, found-as_placed, found-ranked}
-use Rattle.etagere.proofs.Spelled.TakenPremises.{can-take}
+use Rattle.shelf_heights.specs.Private.ByHeight.{AreRanked}
+use Rattle.shelf_records.specs.Private.Kept.{state_of}
+use Rattle.shelf_store.specs.Private.PlacementTaken.{ranked_taken}
+use Rattle.shelf_model.specs.State.{AtlasState}
+use Rattle.shelf_heights.specs.declared.ranked.RankedShelf.{RankedShelf}
+use Rattle.shelf_model.proofs.Allocations.SeenById.{added-clear, keeps-rectangles}
+use Rattle.shelf_store.proofs.ByHeight.TakenRanked.{Ranks}
+use Rattle.shelf_model.proofs.Promises.{promises}
+use Rattle.shelf_store.proofs.Recorded.RecordedTaking.{AfterTaking, after-taking, found-as_placed, found-ranked}
+use Rattle.shelf_store.proofs.Spelled.TakenPremises.{can-take}
 use Rattle.etagere.proofs.atlas.AtlasAllocator.allocate.Goals as goal
 
 on_err : {T E P : Type 0} (r : Result T E) → P → OnErr r P

@@ -2,8 +2,8 @@ use Rattle.std.specs.Prelude.{pos, ◌^◌}
 use Rattle.std.proofs.Common.{◌<◌, ap, arith, ◌∙◌, w32}
 use Rattle.std.proofs.lemmas.Int.{ints, to_z_pos}
 use Rattle.etagere.specs.Private.Consistent.{state_in}
-use Rattle.etagere.specs.Space.{allocated_space}
-use Rattle.etagere.proofs.Spaces.SpaceSmall.{space-small}
+use Rattle.shelf_model.specs.Space.{allocated_space}
+use Rattle.shelf_model.proofs.Spaces.SpaceSmall.{space-small}
 use Rattle.etagere.proofs.atlas.AtlasAllocator.allocated_space.Goals as goal
 
 pub overflow_cast-result : goal.overflow_cast-result

@@ -1,19 +1,19 @@
 use Rattle.std.proofs.Common.{◌≡◌, true, false, refl, ap, sym, ◌∙◌, subst, arith}
 use Rattle.std.specs.Prelude.{is_some}
-use Rattle.etagere.specs.Atlas.{KeepsPromises, Restores, without_id}
-use Rattle.etagere.specs.AtlasRecords.{is_allocated_at}
-use Rattle.etagere.specs.ById.{TakesAway, Undoes}
-use Rattle.etagere.specs.Places.{allocations, is_allocated}
+use Rattle.shelf_model.specs.Atlas.{KeepsPromises, Restores, without_id}
+use Rattle.shelf_records.specs.AtlasRecords.{is_allocated_at}
+use Rattle.shelf_model.specs.ById.{TakesAway, Undoes}
+use Rattle.shelf_model.specs.Places.{allocations, is_allocated}
 use Rattle.etagere.specs.Private.Consistent.{state_in}
-use Rattle.etagere.specs.Private.Kept.{state_of}
-use Rattle.etagere.specs.Returning.{returned}
-use Rattle.etagere.specs.State.{AtlasState}
-use Rattle.etagere.proofs.Allocations.SeenById.{takes-away, undoes}
-use Rattle.etagere.proofs.Promises.{promises}
-use Rattle.etagere.proofs.Recorded.RecordedArea.{kept-area}
-use Rattle.etagere.proofs.Recorded.RecordedReturn.{AfterReturn, after-return, can-return, ranked-after}
-use Rattle.etagere.proofs.Recorded.RecordsOfIds.{kept-allocated, kept-shelf, marked-within, record-marked}
-use Rattle.etagere.proofs.Returned.Restored.{returned-restores}
+use Rattle.shelf_records.specs.Private.Kept.{state_of}
+use Rattle.shelf_model.specs.Returning.{returned}
+use Rattle.shelf_model.specs.State.{AtlasState}
+use Rattle.shelf_model.proofs.Allocations.SeenById.{takes-away, undoes}
+use Rattle.shelf_model.proofs.Promises.{promises}
+use Rattle.shelf_store.proofs.Recorded.RecordedArea.{kept-area}
+use Rattle.shelf_store.proofs.Recorded.RecordedReturn.{AfterReturn, after-return, can-return, ranked-after}
+use Rattle.shelf_records.proofs.Recorded.RecordsOfIds.{kept-allocated, kept-shelf, marked-within, record-marked}
+use Rattle.shelf_model.proofs.Returned.Restored.{returned-restores}
 use Rattle.etagere.proofs.atlas.AtlasAllocator.deallocate.Goals as goal
 use Rattle.etagere.proofs.atlas.AtlasAllocator.deallocate.Goals.{After-return_item}
 

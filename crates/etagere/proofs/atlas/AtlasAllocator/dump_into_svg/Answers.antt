@@ -2,9 +2,9 @@ use Rattle.std.proofs.Common.{Bor, OnErr, OnOk, Option, option_map, subst, sym}
 use Rattle.std.specs.Io.KnownBytes.{Appends}
 use Rattle.etagere_base.specs.Sending.{AppendsBeginning}
 use Rattle.etagere_base.specs.declared.geometry.Rectangle.{Rectangle}
-use Rattle.etagere.specs.Private.Kept.{state_of}
-use Rattle.etagere.specs.State.{AtlasState}
-use Rattle.etagere.specs.Svg.{svg_into}
+use Rattle.shelf_records.specs.Private.Kept.{state_of}
+use Rattle.shelf_model.specs.State.{AtlasState}
+use Rattle.shelf_model.specs.Svg.{svg_into}
 use Rattle.etagere.proofs.atlas.AtlasAllocator.dump_into_svg.Goals as goal
 
 -- all lines went out

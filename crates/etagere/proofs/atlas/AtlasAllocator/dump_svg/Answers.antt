@@ -1,8 +1,8 @@
 use Rattle.std.proofs.Common.{OnErr, OnOk, subst}
 use Rattle.std.specs.Io.KnownBytes.{Appends}
 use Rattle.etagere_base.specs.Sending.{AppendsBeginning}
-use Rattle.etagere.specs.State.{AtlasState}
-use Rattle.etagere.specs.Svg.{svg}
+use Rattle.shelf_model.specs.State.{AtlasState}
+use Rattle.shelf_model.specs.Svg.{svg}
 use Rattle.etagere.proofs.atlas.AtlasAllocator.dump_svg.Goals as goal
 
 -- all went out of the document

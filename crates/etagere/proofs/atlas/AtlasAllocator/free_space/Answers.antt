@@ -2,11 +2,11 @@ use Rattle.std.specs.Prelude.{pos, ◌^◌, ◌+ℤ◌}
 use Rattle.std.proofs.Common.{◌≡◌, ◌-◌, ◌*◌, ◌<◌, ap, arith, subst, to_z, w32}
 use Rattle.std.proofs.lemmas.Int.{to_z_pos}
 use Rattle.etagere.specs.Private.Consistent.{state_in}
-use Rattle.etagere.specs.Space.{allocated_space}
-use Rattle.etagere.specs.State.{AtlasState}
-use Rattle.etagere.proofs.Spaces.SpaceBounds.{space-le-area}
-use Rattle.etagere.specs.Atlas.{KeepsPromises}
-use Rattle.etagere.proofs.Promises.{promises}
+use Rattle.shelf_model.specs.Space.{allocated_space}
+use Rattle.shelf_model.specs.State.{AtlasState}
+use Rattle.shelf_model.proofs.Spaces.SpaceBounds.{space-le-area}
+use Rattle.shelf_model.specs.Atlas.{KeepsPromises}
+use Rattle.shelf_model.proofs.Promises.{promises}
 use Rattle.etagere.proofs.atlas.AtlasAllocator.free_space.Goals as goal
 
 pub overflow_sub-result : goal.overflow_sub-result

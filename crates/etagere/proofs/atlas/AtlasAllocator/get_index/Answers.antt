@@ -1,7 +1,7 @@
 use Rattle.std.proofs.Common.{ap, ◌∙◌}
-use Rattle.etagere.specs.Places.{index_of}
-use Rattle.etagere.specs.State.{AtlasState}
-use Rattle.etagere.proofs.Recorded.RecordsOfIds.{kept-index}
+use Rattle.shelf_model.specs.Places.{index_of}
+use Rattle.shelf_model.specs.State.{AtlasState}
+use Rattle.shelf_records.proofs.Recorded.RecordsOfIds.{kept-index}
 use Rattle.etagere.proofs.atlas.AtlasAllocator.get_index.Goals as goal
 
 pub returns : goal.returns

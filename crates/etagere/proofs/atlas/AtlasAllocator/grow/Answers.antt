@@ -4,24 +4,24 @@ use Rattle.etagere_base.specs.declared.frames.Frame.{Frame}
 use Rattle.etagere_base.specs.declared.geometry.Size.{Size}
 use Rattle.etagere_links.specs.RecordLists.{Records}
 use Rattle.etagere.specs.declared.atlas.AtlasAllocator.TheInside.{Inside}
-use Rattle.etagere.specs.declared.linked.growing.Needed.{Needed}
-use Rattle.etagere.specs.Atlas.{KeepsPromises}
-use Rattle.etagere.specs.Growing.{atlas_grown, grow_fault, grown_frame, records_needed, size_fault}
-use Rattle.etagere.specs.Places.{allocations}
-use Rattle.etagere.specs.Private.ByHeight.{AreRanked}
+use Rattle.shelf_store.specs.declared.growing.Needed.{Needed}
+use Rattle.shelf_model.specs.Atlas.{KeepsPromises}
+use Rattle.shelf_model.specs.Growing.{atlas_grown, grow_fault, grown_frame, records_needed, size_fault}
+use Rattle.shelf_model.specs.Places.{allocations}
+use Rattle.shelf_heights.specs.Private.ByHeight.{AreRanked}
 use Rattle.etagere.specs.Private.Consistent.{IsConsistent, state_in}
-use Rattle.etagere.specs.Private.Kept.{AreKept, state_of}
-use Rattle.etagere.specs.Private.RecordsGrown.{needed_of, records_grown}
-use Rattle.etagere.specs.Space.{allocated_space}
-use Rattle.etagere.specs.State.{AtlasState, items_in_use}
-use Rattle.etagere.proofs.Grown.AppendedColumns.{appends}
-use Rattle.etagere.proofs.Grown.CountedRecords.{needed-counted}
-use Rattle.etagere.proofs.Grown.GrownAtlas.{GrowsAtlas, columns-grow, grows-atlas, many-fault}
-use Rattle.etagere.proofs.Grown.GrownKept.{grows-kept}
-use Rattle.etagere.proofs.Grown.HeightenedRecords.{heightens}
-use Rattle.etagere.proofs.Grown.InsertedShelves.{inserts}
-use Rattle.etagere.proofs.Grown.WidenedRecords.{widens}
-use Rattle.etagere.proofs.Promises.{promises}
+use Rattle.shelf_records.specs.Private.Kept.{AreKept, state_of}
+use Rattle.shelf_store.specs.Private.RecordsGrown.{needed_of, records_grown}
+use Rattle.shelf_model.specs.Space.{allocated_space}
+use Rattle.shelf_model.specs.State.{AtlasState, items_in_use}
+use Rattle.shelf_store.proofs.Grown.AppendedColumns.{appends}
+use Rattle.shelf_store.proofs.Grown.CountedRecords.{needed-counted}
+use Rattle.shelf_store.proofs.Grown.GrownAtlas.{GrowsAtlas, columns-grow, grows-atlas, many-fault}
+use Rattle.shelf_store.proofs.Grown.GrownKept.{grows-kept}
+use Rattle.shelf_store.proofs.Grown.HeightenedRecords.{heightens}
+use Rattle.shelf_store.proofs.Grown.InsertedShelves.{inserts}
+use Rattle.shelf_store.proofs.Grown.WidenedRecords.{widens}
+use Rattle.shelf_model.proofs.Promises.{promises}
 use Rattle.etagere.proofs.atlas.AtlasAllocator.grow.Goals as goal
 
 -- nothing is said of no fault

@@ -1,9 +1,9 @@
 use Rattle.std.proofs.Common.{◌≡◌, [], subst, ◌∙◌, sym, eq-eqb}
 use Rattle.std.proofs.lemmas.Bool.{eqb-true}
 use Rattle.etagere.specs.Private.Consistent.{state_in}
-use Rattle.etagere.specs.Places.{allocations}
-use Rattle.etagere.specs.State.{AtlasState}
-use Rattle.etagere.proofs.Spaces.SpaceNone.{no_space-nothing_allocated, nothing_allocated-no_space}
+use Rattle.shelf_model.specs.Places.{allocations}
+use Rattle.shelf_model.specs.State.{AtlasState}
+use Rattle.shelf_model.proofs.Spaces.SpaceNone.{no_space-nothing_allocated, nothing_allocated-no_space}
 use Rattle.etagere.proofs.atlas.AtlasAllocator.is_empty.Goals as goal
 
 pub returns : goal.returns

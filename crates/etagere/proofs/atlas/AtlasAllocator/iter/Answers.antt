@@ -1,14 +1,14 @@
 use Rattle.std.proofs.Common.{List, map, sym, subst}
 use Rattle.etagere_base.specs.declared.ids.Allocation.{Allocation}
-use Rattle.etagere.specs.Callers.{AreTied}
-use Rattle.etagere.specs.Listing.{RiseFrom}
-use Rattle.etagere.specs.Places.{allocations, record_number}
-use Rattle.etagere.specs.Private.Kept.{state_of}
-use Rattle.etagere.specs.State.{AtlasState}
-use Rattle.etagere.proofs.Allocations.ListedOnce.{listed-rise, listed-tied}
-use Rattle.etagere.specs.Atlas.{KeepsPromises}
+use Rattle.shelf_model.specs.Callers.{AreTied}
+use Rattle.shelf_model.specs.Listing.{RiseFrom}
+use Rattle.shelf_model.specs.Places.{allocations, record_number}
+use Rattle.shelf_records.specs.Private.Kept.{state_of}
+use Rattle.shelf_model.specs.State.{AtlasState}
+use Rattle.shelf_model.proofs.Allocations.ListedOnce.{listed-rise, listed-tied}
+use Rattle.shelf_model.specs.Atlas.{KeepsPromises}
 use Rattle.etagere.specs.Private.Consistent.{state_in}
-use Rattle.etagere.proofs.Promises.{promises}
+use Rattle.shelf_model.proofs.Promises.{promises}
 use Rattle.etagere.proofs.atlas.AtlasAllocator.iter.Goals as goal
 
 pub returns-clause-each : goal.returns-clause-each

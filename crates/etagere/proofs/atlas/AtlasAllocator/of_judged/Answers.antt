@@ -2,14 +2,14 @@ use Rattle.std.specs.Prelude.{pos}
 use Rattle.std.proofs.Common.{◌≡◌, ℕ, ap, rules, subst, sym, SFits, w32, ◌∙◌}
 use Rattle.std.proofs.lemmas.Int.{to_z-of_z}
 use Rattle.etagere_base.specs.Sides.{side}
-use Rattle.etagere.specs.AtlasRecords.{AtlasRecords}
-use Rattle.etagere.specs.Atlas.{KeepsPromises}
-use Rattle.etagere.specs.Private.ByHeight.{AreRanked}
-use Rattle.etagere.specs.Private.Kept.{AreKept}
-use Rattle.etagere.specs.Snapshots.{state_spelled}
-use Rattle.etagere.specs.Space.{space_in}
-use Rattle.etagere.specs.State.{items_in_use}
-use Rattle.etagere.proofs.Promises.{promises}
+use Rattle.shelf_records.specs.AtlasRecords.{AtlasRecords}
+use Rattle.shelf_model.specs.Atlas.{KeepsPromises}
+use Rattle.shelf_heights.specs.Private.ByHeight.{AreRanked}
+use Rattle.shelf_records.specs.Private.Kept.{AreKept}
+use Rattle.shelf_records.specs.Snapshots.{state_spelled}
+use Rattle.shelf_model.specs.Space.{space_in}
+use Rattle.shelf_model.specs.State.{items_in_use}
+use Rattle.shelf_model.proofs.Promises.{promises}
 use Rattle.etagere.proofs.atlas.AtlasAllocator.of_judged.Goals as goal
 
 pub invariant_of-result : goal.invariant_of-result

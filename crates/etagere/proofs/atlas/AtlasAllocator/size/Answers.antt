@@ -1,7 +1,7 @@
 use Rattle.std.proofs.Common.{subst}
-use Rattle.etagere.specs.Atlas.{KeepsPromises}
+use Rattle.shelf_model.specs.Atlas.{KeepsPromises}
 use Rattle.etagere.specs.Private.Consistent.{state_in}
-use Rattle.etagere.proofs.Promises.{promises}
+use Rattle.shelf_model.proofs.Promises.{promises}
 use Rattle.etagere.proofs.atlas.AtlasAllocator.size.Goals as goal
 
 pub returns-clause-promises : goal.returns-clause-promises

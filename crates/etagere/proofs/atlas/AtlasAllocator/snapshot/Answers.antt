@@ -1,13 +1,13 @@
 use Rattle.std.specs.Prelude.{pos}
 use Rattle.std.proofs.Common.{◌≡◌, ap, arith, sym, subst, Ok, Err, Result}
 use Rattle.std.specs.Prelude.{IfOk}
-use Rattle.etagere.specs.AtlasRecords.{AtlasRecords}
+use Rattle.shelf_records.specs.AtlasRecords.{AtlasRecords}
 use Rattle.etagere.specs.Private.Consistent.{state_in}
-use Rattle.etagere.specs.Private.Kept.{atlas_of}
-use Rattle.etagere.specs.Snapshots.{snapshot_records}
-use Rattle.etagere.specs.StandsFor.{StandsFor}
-use Rattle.etagere.proofs.Spaces.SpaceSmall.{space-small}
-use Rattle.etagere.proofs.Spelled.Witnesses.{kept-stands}
+use Rattle.shelf_records.specs.Private.Kept.{atlas_of}
+use Rattle.shelf_records.specs.Snapshots.{snapshot_records}
+use Rattle.shelf_records.specs.StandsFor.{StandsFor}
+use Rattle.shelf_model.proofs.Spaces.SpaceSmall.{space-small}
+use Rattle.shelf_records.proofs.Spelled.Witnesses.{kept-stands}
 use Rattle.etagere.proofs.atlas.AtlasAllocator.snapshot.Goals as goal
 
 pub snapshot_of-requires-clause-space : goal.snapshot_of-requires-clause-space

@@ -1,16 +1,16 @@
 use Rattle.std.proofs.Common.{◌≡◌, ap, refl, sym, subst, ◌∙◌}
 use Rattle.etagere_base.specs.Frames.{HasAllColumns}
 use Rattle.etagere_links.specs.RecordLists.{Records}
-use Rattle.etagere.specs.Atlas.{KeepsPromises}
-use Rattle.etagere.specs.Fresh.{fresh}
-use Rattle.etagere.specs.Places.{allocations}
-use Rattle.etagere.specs.Private.ByHeight.{AreRanked}
-use Rattle.etagere.specs.Private.Kept.{AreKept, state_of}
-use Rattle.etagere.specs.Space.{allocated_space}
-use Rattle.etagere.specs.State.{AtlasState, items_in_use}
-use Rattle.etagere.proofs.Places.FreshLemmas.{fresh-allocated, fresh-valid, items_in_use-empty_columns, space-fresh}
-use Rattle.etagere.proofs.Promises.{promises}
-use Rattle.etagere.proofs.Spelled.FreshKept.{fresh-kept}
+use Rattle.shelf_model.specs.Atlas.{KeepsPromises}
+use Rattle.shelf_model.specs.Fresh.{fresh}
+use Rattle.shelf_model.specs.Places.{allocations}
+use Rattle.shelf_heights.specs.Private.ByHeight.{AreRanked}
+use Rattle.shelf_records.specs.Private.Kept.{AreKept, state_of}
+use Rattle.shelf_model.specs.Space.{allocated_space}
+use Rattle.shelf_model.specs.State.{AtlasState, items_in_use}
+use Rattle.shelf_model.proofs.Places.FreshLemmas.{fresh-allocated, fresh-valid, items_in_use-empty_columns, space-fresh}
+use Rattle.shelf_model.proofs.Promises.{promises}
+use Rattle.shelf_store.proofs.Spelled.FreshKept.{fresh-kept}
 use Rattle.etagere.proofs.atlas.AtlasAllocator.with_options.Goals as goal
 
 -- the frame that is made has as many columns as fit

@@ -1,4 +1,4 @@
-use Rattle.etagere.proofs.Recorded.RecordedListing.{kept-listed}
+use Rattle.shelf_store.proofs.Recorded.RecordedListing.{kept-listed}
 use Rattle.etagere.proofs.listing.Iter.new.Goals as goal
 
 pub returns : goal.returns

@@ -1,6 +1,6 @@
 use Rattle.std.proofs.Common.{◌≡◌, ◌+◌, ◌∷◌, length, ap, sym, ◌∙◌, arith}
-use Rattle.etagere.specs.Private.Reading.{recorded_from}
-use Rattle.etagere.proofs.Recorded.RecordedListing.{end-from, none-found, step-found}
+use Rattle.shelf_records.specs.Private.Reading.{recorded_from}
+use Rattle.shelf_store.proofs.Recorded.RecordedListing.{end-from, none-found, step-found}
 use Rattle.etagere.proofs.listing.IterIterator.next.Goals as goal
 
 pub returns-in_default-clause-steps : goal.returns-in_default-clause-steps

@@ -1,6 +1,6 @@
 use Rattle.std.proofs.Common.{◌≤◌, ◌-◌, length}
-use Rattle.etagere.specs.Private.Reading.{recorded_from}
-use Rattle.etagere.proofs.Recorded.RecordedListing.{few-recorded}
+use Rattle.shelf_records.specs.Private.Reading.{recorded_from}
+use Rattle.shelf_store.proofs.Recorded.RecordedListing.{few-recorded}
 use Rattle.etagere.proofs.listing.IterIterator.size_hint.Goals as goal
 
 pub returns-clause-upper : goal.returns-clause-upper

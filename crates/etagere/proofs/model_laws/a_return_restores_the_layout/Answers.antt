@@ -1,5 +1,0 @@
-use Rattle.etagere.proofs.Returned.Restored.{taken_returned}
-use Rattle.etagere.proofs.model_laws.a_return_restores_the_layout.Goals as goal
-
-pub returns : goal.returns
-returns c = taken_returned

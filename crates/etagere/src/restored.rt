@@ -1,0 +1,128 @@
+//! Judging all rules of a snapshot, and making the atlas for which it stands.
+//!
+//! Definitions: `Snapshots`, and `StandsFor` for the rules. Steps are linear in the number of records, and so is the
+//! time, but for a sort of the shelves in use.
+
+ghost use Rattle.std.specs.Prelude.{◌≡◌, ◌+◌, ◌*◌, ◌<◌, ◌≤◌, ◌^◌, IfErr, IfOk, OnOk, length};
+ghost use Rattle.etagere_base.specs.Frames.{HasAllColumns, IsFrame, longest_side};
+ghost use Rattle.etagere_links.specs.RecordLists.{item_numbers, shelf_numbers, shelf_walk};
+ghost use Rattle.shelf_model.specs.Atlas.{KeepsPromises};
+ghost use Rattle.shelf_heights.specs.Private.ByHeight.{AreRanked};
+ghost use Rattle.shelf_records.specs.Private.Kept.{AreKept};
+ghost use Rattle.shelf_restoring.specs.RestoringSteps.{IsFollowed, StopsAfter, links_followed, links_of_all};
+ghost use Rattle.shelf_records.specs.Snapshots.{IsBroken, snapshot_records, state_spelled};
+ghost use Rattle.shelf_records.specs.StandsFor.{HasCounts, StandsFor};
+ghost use Rattle.shelf_model.specs.State.{items_in_use};
+
+use crate::atlas::AtlasAllocator;
+use etagere_base::{Frame, RestoreFault};
+use etagere_links::Records;
+use shelf_heights::ranked::RankedShelves;
+use shelf_records::snapshots::AtlasSnapshot;
+use shelf_restoring::judging::WalkedShelf;
+use shelf_restoring::loaded_atlas::LoadedAtlas;
+use shelf_restoring::rules::judge_rules;
+use shelf_restoring::walking::walk_records;
+use shelf_store::starting::newly_ranked;
+use std::alloc::{AllocError, Global};
+
+/// How many items these shelves have.
+fn count_items(shelves: &[WalkedShelf]) -> u32
+    requires { length (item_numbers shelves.now) < 2 ^ 31 }
+    ensures { result ≡ length (item_numbers shelves.now) }
+{
+    let mut count = 0;
+    for shelf in shelves {
+        count += shelf.items.len() as u32;
+    }
+    count
+}
+
+/// The shelves in use of records, ranked, where walks have met these.
+fn ranked_shelves(
+    alloc: Global,
+    frame: &Frame,
+    records: &Records,
+    shelves: &[WalkedShelf],
+) -> Result<RankedShelves, AllocError>
+    requires kept { AreKept frame.now records.now }
+    requires met { shelf_numbers shelves.now ≡ (shelf_walk records.now).met }
+    ensures { IfOk result (λ ranked. AreRanked frame.now records.now ranked.items) }
+{
+    let mut ranked = RankedShelves::with_room(alloc, records.shelves().len())?;
+    for shelf in shelves {
+        ranked.push(newly_ranked(frame, usize::from(shelf.number)));
+    }
+    ranked.sort(records.shelves());
+    Ok(ranked)
+}
+
+/// Follows all links of an atlas and judges its rules; returns the shelves in use that walks have met.
+fn judge_atlas(
+    alloc: Global,
+    atlas: &LoadedAtlas,
+    steps: &mut u64,
+) -> Result<Vec<WalkedShelf>, RestoreFault>
+    requires frame { IsFrame longest_side atlas.now.frame }
+    requires columns { HasAllColumns atlas.now.frame }
+    requires counts { HasCounts atlas.now }
+    requires steps { steps.old ≡ 0 }
+    ensures ok { OnOk result (StandsFor atlas.now (state_spelled atlas.now)) }
+    ensures kept { OnOk result (AreKept atlas.now.frame atlas.now.lists) }
+    ensures met { IfOk result (λ shelves. shelf_numbers shelves.items ≡ (shelf_walk atlas.now.lists).met) }
+    ensures items { IfOk result
+        (λ shelves. length (item_numbers shelves.items) ≡ items_in_use (state_spelled atlas.now).shelves) }
+    ensures fault { IfErr result (IsBroken atlas.now) }
+    ensures all { OnOk result (steps.new ≡ links_of_all atlas.now.lists) }
+    ensures end { OnOk result (links_followed atlas.now.lists ≡ links_of_all atlas.now.lists) }
+    ensures until { IfErr result (StopsAfter (links_followed atlas.now.lists) steps.new) }
+    ensures bound { steps.new
+        ≤ 4 * (length atlas.now.lists.shelves + length atlas.now.lists.items) }
+    ensures each { OnOk result
+        (length (state_spelled atlas.now).shelves + items_in_use (state_spelled atlas.now).shelves ≤ steps.new) }
+{
+    let walked = walk_records(alloc, atlas, steps)?;
+    let shelves = atlas.records.shelves();
+    let items = atlas.records.items();
+    judge_rules(
+        alloc,
+        &atlas.frame,
+        shelves,
+        items,
+        &walked,
+        atlas.allocated_space,
+    )?;
+    Ok(walked.shelves)
+}
+
+/// Makes an atlas from a snapshot, as `AtlasAllocator::restore` does, and counts the links that it follows. It is
+/// what the laws of restoring are stated of, and not meant for users.
+///
+/// Returns a fault whose rule is broken; `Memory` only where there was no memory. The snapshot is used up either way.
+/// Takes some memory for each record while it runs, and for a place by height for each shelf record, used or not.
+///
+/// `steps` becomes the number of links that were followed, whether the snapshot is accepted or refused: at most four
+/// times the number of its records, and after `Ok` at least as many as shelves and items are in use.
+pub fn restore_atlas(
+    alloc: Global,
+    snapshot: AtlasSnapshot,
+    steps: &mut u64,
+) -> Result<AtlasAllocator, RestoreFault>
+    ensures ok { IfOk result (λ atlas. StandsFor (snapshot_records snapshot) atlas) }
+    ensures fault { IfErr result (IsBroken (snapshot_records snapshot)) }
+    ensures promises { IfOk result KeepsPromises }
+    ensures steps { IfOk result
+        (λ atlas. length atlas.shelves + items_in_use atlas.shelves ≤ steps.new) }
+    ensures all { OnOk result (steps.new ≡ links_of_all (snapshot_records snapshot).lists) }
+    ensures until { IfErr result (IsFollowed (snapshot_records snapshot).lists steps.new) }
+    ensures bound { steps.new
+        ≤ 4 * (length snapshot.shelves.items + length snapshot.items.items) }
+{
+    *steps = 0;
+    let atlas = LoadedAtlas::of_snapshot(snapshot)?;
+    let shelves = judge_atlas(alloc, &atlas, steps)?;
+    let Ok(ranked) = ranked_shelves(alloc, &atlas.frame, &atlas.records, &shelves) else {
+        return Err(RestoreFault::Memory);
+    };
+    Ok(AtlasAllocator::of_judged(atlas, ranked, count_items(&shelves)))
+}

@@ -1,0 +1,7 @@
+-- The shelves in use by height: how the list is searched and changed.
+pub mod Edited
+pub mod PairedShelves
+pub mod PassedBounds
+pub mod Positions
+pub mod ShiftedLists
+pub mod WideBounds

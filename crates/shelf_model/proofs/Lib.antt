@@ -1,0 +1,11 @@
+pub mod Allocations
+pub mod Callers
+pub mod Chosen
+pub mod GrowingRows
+pub mod Grown
+pub mod Places
+pub mod Promises
+pub mod Returned
+pub mod Spaces
+pub mod Taken
+pub mod WorkedRows

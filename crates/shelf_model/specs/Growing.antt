@@ -1,0 +1,153 @@
+-- Growing: the first fault of a new size, and the state after a growth: something is added at the end
+-- of each shelf and of each column, and then all is merged.
+use Rattle.std.specs.Prelude.{ℕ, ◌+◌, ◌-◌, ◌*◌, ◌/◌, max, Bool, true, false, ◌&&◌, ◌||◌, not, Option, None, Some, List, [], ◌∷◌, ◌++◌, map, nat_lt, ◌==◌, if◌then◌else◌}
+use Rattle.etagere_base.specs.declared.frames.Frame.{Frame}
+use Rattle.etagere_base.specs.declared.geometry.Size.{Size}
+use Rattle.etagere_base.specs.Frames.{across_side, along_side, alignment_along, is_side, largest_area, longest_side}
+use Rattle.etagere_base.specs.Lists.{total}
+use Rattle.etagere_base.specs.Sides.{down, side}
+use Rattle.shelf_model.specs.declared.faults.AtlasGrowFault.{AtlasGrowFault}
+use Rattle.shelf_model.specs.declared.faults.AtlasGrowFault.TheVariants as faults
+use Rattle.shelf_model.specs.Choice.{most_items}
+use Rattle.shelf_model.specs.Fresh.{empty_columns}
+use Rattle.shelf_model.specs.Merging.{merged}
+use Rattle.shelf_model.specs.Places.{column_place}
+use Rattle.shelf_model.specs.State.{Item, Shelf, AtlasState, empty_shelf, is_empty, is_free, items_in_use}
+
+-- the frame with other sides
+abbrev pub resized : Frame → Size → Frame
+resized frame size = record frame { width = side size.width; height = side size.height }
+
+-- the width of the columns after a growth: one column becomes as wide as the alignment allows, more
+-- stay as they are
+abbrev pub grown_column_width : Frame → Size → ℕ
+grown_column_width frame size =
+    if frame.columns == 1 then down (along_side (resized frame size)) (alignment_along frame)
+    else frame.column_width
+
+-- the frame after a growth, which has as many columns as fit
+abbrev pub grown_frame : Frame → Size → Frame
+grown_frame frame size =
+    record (resized frame size) {
+      column_width = grown_column_width frame size;
+      columns = along_side (resized frame size) / grown_column_width frame size;
+    }
+
+-- the width that each column gains
+abbrev pub added_width : Frame → Size → ℕ
+added_width frame size = grown_column_width frame size - frame.column_width
+
+-- the height that each column gains
+abbrev pub added_height : Frame → Size → ℕ
+added_height frame size = across_side (resized frame size) - across_side frame
+
+-- how many columns the atlas gains
+abbrev pub added_columns : Frame → Size → ℕ
+added_columns frame size = (grown_frame frame size).columns - frame.columns
+
+-- the last item is free
+abbrev pub ends_free : List Item → Bool
+ends_free [] = false
+ends_free (item ∷ []) = is_free item
+ends_free (item ∷ next ∷ items) = ends_free (next ∷ items)
+
+-- a shelf is the last of its column, where these come after it
+abbrev pub ends_column : Shelf → List Shelf → Bool
+ends_column shelf [] = true
+ends_column shelf (next ∷ shelves) = not (shelf.column == next.column)
+
+-- how many records the shelves need for a width that is added: one for each that ends with an
+-- allocated item
+abbrev pub needed_for_width : ℕ → List Shelf → ℕ
+needed_for_width width shelves =
+    if width == 0 then 0 else total (λ shelf. if ends_free shelf.items then 0 else 1) shelves
+
+-- how many columns end with a shelf that isn't empty
+abbrev pub filled_ends : List Shelf → ℕ
+filled_ends [] = 0
+filled_ends (shelf ∷ shelves) =
+    (if ends_column shelf shelves && not (is_empty shelf) then 1 else 0) + filled_ends shelves
+
+-- how many records the columns need for a height that is added
+abbrev pub needed_for_height : ℕ → List Shelf → ℕ
+needed_for_height height shelves = if height == 0 then 0 else filled_ends shelves
+
+-- how many item records a growth needs: for the width, for the height and for new columns
+abbrev pub records_needed : AtlasState → Size → ℕ
+records_needed state size =
+    needed_for_width (added_width state.frame size) state.shelves
+    + needed_for_height (added_height state.frame size) state.shelves
+    + added_columns state.frame size
+
+-- the first fault of a growth to a size, records and memory aside
+abbrev pub size_fault : Frame → Size → Option AtlasGrowFault
+size_fault frame size =
+    if not (is_side longest_side size.width && is_side longest_side size.height)
+    then Some faults.Size
+    else (if nat_lt (side size.width) frame.width || nat_lt (side size.height) frame.height
+    then Some faults.Smaller
+    else (if nat_lt largest_area (side size.width * side size.height) then Some faults.Area
+    else None))
+
+-- the first of these faults, and then that of more items than an atlas can have
+abbrev pub or_records_fault : ℕ → Option AtlasGrowFault → Option AtlasGrowFault
+or_records_fault items None = if nat_lt most_items items then Some faults.Records else None
+or_records_fault items (Some fault) = Some fault
+
+-- the first fault of a growth to a size, memory aside
+abbrev pub grow_fault : AtlasState → Size → Option AtlasGrowFault
+grow_fault state size =
+    or_records_fault (items_in_use state.shelves + records_needed state size)
+    (size_fault state.frame size)
+
+-- the shelf with a free item of this width at its end, and the free list that it has once all is
+-- merged: its place comes first, unless the item before it is free
+abbrev pub widened_shelf : Frame → ℕ → Shelf → Shelf
+widened_shelf frame width shelf =
+    record {
+      column = shelf.column;
+      height = shelf.height;
+      items = shelf.items ++ record { width = width; id = None } ∷ [];
+      free_list = if ends_free shelf.items then shelf.free_list
+          else (column_place frame shelf + frame.column_width) ∷ shelf.free_list;
+    }
+
+-- the shelves, each with a width added at its end
+abbrev pub widened : Frame → ℕ → List Shelf → List Shelf
+widened frame width shelves =
+    if width == 0 then shelves else map (widened_shelf frame width) shelves
+
+-- the shelves with an empty one of this height after the last of each column
+abbrev pub with_ends : Frame → ℕ → List Shelf → List Shelf
+with_ends frame height [] = []
+with_ends frame height (shelf ∷ shelves) =
+    shelf
+    ∷ ((if ends_column shelf shelves then empty_shelf frame shelf.column height ∷ [] else [])
+    ++ with_ends frame height shelves)
+
+-- the shelves, with a height added at the end of each column
+abbrev pub heightened : Frame → ℕ → List Shelf → List Shelf
+heightened frame height shelves = if height == 0 then shelves else with_ends frame height shelves
+
+-- the state with all that a growth adds
+abbrev pub extended : AtlasState → Size → AtlasState
+extended state size =
+    let frame = grown_frame state.frame size in
+    record {
+      frame = frame;
+      shelves =
+          heightened frame (added_height state.frame size)
+          (widened state.frame (added_width state.frame size) state.shelves)
+          ++ empty_columns frame state.frame.columns (added_columns state.frame size);
+      records = state.records;
+    }
+
+-- the state after a growth: what is added is merged with what is free before it
+abbrev pub atlas_grown : AtlasState → Size → AtlasState
+atlas_grown state size =
+    let shelves = (merged (extended state size)).shelves in
+    record {
+      frame = grown_frame state.frame size;
+      shelves = shelves;
+      records = max state.records (items_in_use shelves);
+    }

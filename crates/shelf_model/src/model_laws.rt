@@ -1,0 +1,39 @@
+//! Laws of the ordered model, each the contract of a function that does nothing.
+//!
+//! Definitions: `Laws`. A law stands here where no clause of a call states it, and in `laws` if other crates are to
+//! cite it. The functions have no callers: they make the check prove the laws.
+
+ghost use Rattle.shelf_model.specs.Laws.{ChoosesAny, ChoosesByRule, FindsAny, FindsFirstLeast, GrowthKeepsSpace, GrowthUses, MergesAll, MergesOnce, MergingKeepsAllocated, ReturnRestores};
+
+/// The shelf that is chosen is the first of least rank, and there is one wherever any fits.
+pub fn the_first_least_is_chosen()
+    ensures least { FindsFirstLeast }
+    ensures any { FindsAny }
+{}
+
+/// In a valid state a place is chosen by the rule, and there is one wherever a shelf fits: among the shelves
+/// that fit the good fits come first, by their heights, then the bad ones; equal ones by their position. In
+/// the shelf it is the first place in the free list whose item is wide enough.
+pub fn a_place_is_chosen_by_the_rule()
+    ensures rule { ChoosesByRule }
+    ensures any { ChoosesAny }
+{}
+
+/// Merging is a normal form: it leaves nothing to merge, so merging twice is merging once, and no allocated
+/// rectangle changes by it.
+pub fn merging_is_a_normal_form()
+    ensures all { MergesAll }
+    ensures once { MergesOnce }
+    ensures allocated { MergingKeepsAllocated }
+{}
+
+/// Taking a place and at once returning it gives back the layout.
+pub fn a_return_restores_the_layout()
+    ensures { ReturnRestores }
+{}
+
+/// A growth keeps the allocated space, and puts just the items to use for which it needs records.
+pub fn a_growth_keeps_the_allocated_space()
+    ensures space { GrowthKeepsSpace }
+    ensures uses { GrowthUses }
+{}

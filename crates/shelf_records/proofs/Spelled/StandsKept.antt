@@ -1,0 +1,135 @@
+-- The converse of `Witnesses`: records that stand for a state, and whose links fit their bits, are kept records. The
+-- state that they spell is valid.
+use Rattle.std.proofs.Common.{◌≡◌, ℕ, ◌*◌, ◌<◌, ◌≤◌, List, [], ◌∷◌, ◌++◌, length, map, filter, not, ap, sym, subst, ◌∙◌, arith}
+use Rattle.std.specs.Prelude.{◌/◌, ◌%◌}
+use Rattle.std.proofs.lemmas.Nat.{div-add-mod'}
+use Rattle.etagere_base.specs.declared.frames.Frame.{Frame}
+use Rattle.etagere_base.specs.declared.ids.Allocation.{Allocation}
+use Rattle.etagere_base.specs.Lists.{Each, NoNeighbours, times}
+use Rattle.etagere_base.proofs.EachLemmas.{Each-weaken}
+use Rattle.etagere_base.proofs.TimesLemmas.{times-append}
+use Rattle.etagere_links.proofs.AllLists.LinkedWalks.{IsPart, part-of, walked-numbers}
+use Rattle.etagere_links.proofs.Tallies.{length-once}
+use Rattle.etagere_links.specs.RecordLists.{Records, Entry, item_numbers, shelf_walk, unused_item_walk, walked_lists}
+use Rattle.shelf_records.specs.AtlasRecords.{AtlasRecords, along_of, is_allocated_at, item_at, place_of, spelled_shelf, spelled_state, walked_entries}
+use Rattle.shelf_model.specs.Merging.{both_free}
+use Rattle.shelf_model.specs.Places.{allocations, column_place, free_places, record_number}
+use Rattle.shelf_records.specs.Private.Kept.{AreKept, HasFlag, IsPlaced, Witnessed, atlas_of, state_of}
+use Rattle.shelf_records.specs.StandsFor.{AreStacked, HasFreeList, HasItemLinks, HasItems, HasNeighbours, HasShelves, StandsFor}
+use Rattle.shelf_model.specs.State.{AtlasState, Shelf}
+use Rattle.shelf_model.specs.Valid.{IsShelf, IsValid}
+use Rattle.shelf_model.proofs.Allocations.EqualCounts.{times-map}
+use Rattle.shelf_records.proofs.Spelled.SpelledNumbers.{items_in_use-spelled, marked-below, spelled-numbers}
+use Rattle.shelf_records.proofs.Spelled.SpelledPlaces.{free_places-spelled}
+use Rattle.shelf_records.proofs.Spelled.StandsLinked.{AllFit, filter-times, stands-linked}
+use Rattle.shelf_records.proofs.Spelled.Witnesses.{Each-unmap}
+
+-- the shelf that a record spells begins along where the record says
+along-spelled : (along width : ℕ) → along % width ≡ 0 → along / width * width ≡ along
+along-spelled along width aligned = omega (arith, div-add-mod' along width, aligned)
+
+module _ (atlas : AtlasRecords) where
+  -- the free list that a shelf's record spells has the place of each free item once
+  free_list-spelled : (entry : Entry) → along_of atlas.lists.shelves entry.number % atlas.frame.column_width ≡ 0
+      → HasItems atlas entry → HasFreeList atlas entry → (place : ℕ)
+      → times place (spelled_shelf atlas entry).free_list
+      ≡ times place (free_places (column_place atlas.frame (spelled_shelf atlas entry)) (spelled_shelf atlas entry).items)
+  free_list-spelled entry aligned has free place =
+      let items = atlas.lists.items in
+      let along = along_of atlas.lists.shelves entry.number in
+      times-map (place_of items) entry.free_list (filter (λ member. not (is_allocated_at items member)) entry.items) free.items place
+      ∙ ap (times place) (sym (free_places-spelled items along entry.items has.places))
+      ∙ ap (λ (n : ℕ). times place (free_places n (map (item_at items) entry.items))) (sym (along-spelled along atlas.frame.column_width aligned))
+
+  -- the shelves that records spell are as shelves must be
+  shelves-spelled : (entries : List Entry)
+      → Each (λ (shelf : Shelf). shelf.column < atlas.frame.columns) (map (spelled_shelf atlas) entries)
+      → Each (λ (shelf : Shelf). 1 ≤ shelf.height) (map (spelled_shelf atlas) entries)
+      → Each (HasItems atlas) entries
+      → Each (λ (shelf : Shelf). NoNeighbours both_free shelf.items) (map (spelled_shelf atlas) entries)
+      → Each (HasFreeList atlas) entries
+      → Each (λ (entry : Entry). along_of atlas.lists.shelves entry.number % atlas.frame.column_width ≡ 0) entries
+      → Each (IsShelf atlas.frame) (map (spelled_shelf atlas) entries)
+  shelves-spelled [] columns heights has apart free along = tt
+  shelves-spelled (entry ∷ entries) columns heights has apart free along = (
+    record {
+      column = columns.0;
+      height = heights.0;
+      items = has.0.items;
+      width = has.0.width;
+      apart = apart.0;
+      free_list = free_list-spelled entry along.0 has.0 free.0;
+    },
+    shelves-spelled entries columns.1 heights.1 has.1 apart.1 free.1 along.1,
+  )
+
+  -- what a shelf's record and those of its items say, from the rules
+  entries-placed : (entries : List Entry) → Each (HasItemLinks atlas) entries
+      → Each (λ (entry : Entry). along_of atlas.lists.shelves entry.number % atlas.frame.column_width ≡ 0) entries
+      → Each (HasItems atlas) entries → Each (HasFreeList atlas) entries → Each (IsPlaced atlas) entries
+  entries-placed [] links along has free = tt
+  entries-placed (entry ∷ entries) links along has free = (
+    record { owners = links.0.owners; along = along.0; places = has.0.places; free_list = free.0.items },
+    entries-placed entries links.1 along.1 has.1 free.1,
+  )
+
+  module _ (state : AtlasState) (stands : StandsFor atlas state) where
+    -- the numbers of the items in use
+    abbrev numbers : List ℕ
+    numbers = item_numbers (walked_entries atlas)
+
+    -- each is that of a record, and stands in one place
+    numbers-part : IsPart (length atlas.lists.items) numbers
+    numbers-part =
+        part-of (length atlas.lists.items) (numbers ++ (unused_item_walk atlas.lists).met) numbers stands.sharing.items
+        (λ k. omega (arith, times-append k numbers (unused_item_walk atlas.lists).met))
+
+    -- the state that the records spell
+    abbrev spelled : AtlasState
+    spelled = spelled_state atlas (walked_entries atlas)
+
+    -- records that stand for a state spell a valid one
+    spelled-valid : IsValid spelled
+    spelled-valid =
+        let shelves : HasShelves atlas spelled = subst (HasShelves atlas) stands.spelled stands.shelves in
+        let neighbours : HasNeighbours spelled = subst HasNeighbours stands.spelled stands.neighbours in
+        let marked = spelled-numbers atlas (walked_entries atlas) stands.counts.items.1 in
+        record {
+          frame = stands.frame;
+          columns = stands.columns;
+          shelves = shelves-spelled (walked_entries atlas) shelves.columns shelves.heights stands.items neighbours.items stands.free_lists shelves.along;
+          ordered = shelves.ordered;
+          heights = shelves.filled;
+          apart = neighbours.shelves;
+          numbers = λ k. omega (arith, ap (times k) marked, filter-times (is_allocated_at atlas.lists.items) numbers k, numbers-part.once k);
+          below = Each-unmap (λ (n : ℕ). n < length atlas.lists.items) (λ (a : Allocation). record_number a.id) (allocations spelled)
+              (subst (Each (λ (n : ℕ). n < length atlas.lists.items)) (sym marked) (marked-below atlas.lists.items numbers));
+          records = (
+            omega (arith, items_in_use-spelled atlas (walked_entries atlas), length-once (length atlas.lists.items) numbers numbers-part.once numbers-part.within),
+            stands.counts.items.1,
+          );
+        }
+
+    -- and the state that they stand for is valid
+    pub stands-valid : IsValid state
+    stands-valid = subst IsValid (sym stands.spelled) spelled-valid
+
+    -- the lists that walks meet are spelled by the links, and spell the state
+    pub stands-witnessed : AllFit atlas.lists → Witnessed atlas (walked_lists atlas.lists) state
+    stands-witnessed fit =
+        record {
+          spelled = stands.spelled;
+          counts = stands.counts;
+          linked = stands-linked atlas state fit stands;
+          placed = entries-placed (walked_entries atlas) stands.links.each_shelf stands.shelves.along stands.items stands.free_lists;
+          flags = Each-weaken (HasItems atlas) (HasFlag atlas) (walked_entries atlas) (λ entry has. has.is_empty) stands.items;
+          stacked = subst (AreStacked atlas.lists.shelves atlas.frame.column_width []) (sym (walked-numbers atlas.lists (shelf_walk atlas.lists).met)) stands.shelves.across;
+          valid = stands-valid;
+          unused = stands.unused;
+          space = stands.space;
+        }
+
+-- records that stand for the state that they spell are kept
+pub stands-kept : (frame : Frame) (records : Records) → AllFit records → StandsFor (atlas_of frame records) (state_of frame records)
+    → AreKept frame records
+stands-kept frame records fit stands = stands-witnessed (atlas_of frame records) (state_of frame records) stands fit

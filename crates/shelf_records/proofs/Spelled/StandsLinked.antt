@@ -1,0 +1,80 @@
+-- Records that stand for a state are linked: the lists that walks meet are spelled by links.
+use Rattle.std.proofs.Common.{◌≡◌, ℕ, ◌≤◌, Bool, true, false, List, [], ◌∷◌, ◌++◌, length, map, refl, arith}
+use Rattle.std.specs.Prelude.{filter, not}
+use Rattle.etagere_base.proofs.TimesLemmas.{times-append}
+use Rattle.etagere_base.specs.Lists.{Each, times}
+use Rattle.etagere_links.specs.Edits.{AreFitting}
+use Rattle.etagere_links.specs.Links.{no_link}
+use Rattle.etagere_links.specs.RecordLists.{Records, Entry, first_item_of, first_free_of, shelf_walk, unused_shelf_walk, unused_item_walk, item_walk, walked_entry, walked_lists, shelf_numbers, item_numbers, HasEachOnce, IsEntry, IsLinked}
+use Rattle.etagere_links.specs.Records.{item_chain, free_list, shelf_chain}
+use Rattle.etagere_links.proofs.AllLists.LinkedUnused.{three-count}
+use Rattle.etagere_links.proofs.AllLists.LinkedWalks.{walk_by-leads, walked-numbers}
+use Rattle.shelf_records.specs.AtlasRecords.{AtlasRecords, is_allocated_at, walked_entries}
+use Rattle.shelf_records.specs.Private.Restoring.{Fits}
+use Rattle.shelf_records.specs.StandsFor.{HasItemLinks, HasFreeList, StandsFor}
+use Rattle.shelf_model.specs.State.{AtlasState}
+
+-- the links of an atlas fit their bits: those of each record, and those to the first of each list in use
+pub record AllFit (records : Records) : Type 0 where
+  pub shelf_next : AreFitting shelf_chain.next records.shelves
+  pub item_next : AreFitting item_chain.next records.items
+  pub free_next : AreFitting free_list.next records.items
+  pub first_items : Each (λ number. Fits (first_item_of records.shelves number)) (shelf_walk records).met
+  pub first_frees : Each (λ number. Fits (first_free_of records.shelves number)) (shelf_walk records).met
+  pub first_shelf : Fits records.first_shelf
+  pub free_items : Fits records.free_items
+  pub free_shelves : Fits records.free_shelves
+
+-- what is left of a list has each member as often at most
+pub filter-times : (test : ℕ → Bool) (xs : List ℕ) (k : ℕ) → times k (filter test xs) ≤ times k xs
+filter-times test [] k = omega arith
+filter-times test (x ∷ xs) k = by_test (test x) refl (filter-times test xs k)
+  where
+    by_test : (b : Bool) → test x ≡ b → times k (filter test xs) ≤ times k xs → times k (filter test (x ∷ xs)) ≤ times k (x ∷ xs)
+    by_test true e later = simp e (omega (arith, later))
+    by_test false e later = simp e (omega (arith, later))
+
+-- the lists of each shelf are spelled by links
+entries-linked : (atlas : AtlasRecords) → length atlas.lists.items ≤ no_link → AllFit atlas.lists → (numbers : List ℕ)
+    → Each (λ number. Fits (first_item_of atlas.lists.shelves number)) numbers
+    → Each (λ number. Fits (first_free_of atlas.lists.shelves number)) numbers
+    → Each (HasItemLinks atlas) (map (walked_entry atlas.lists) numbers)
+    → Each (HasFreeList atlas) (map (walked_entry atlas.lists) numbers)
+    → Each (λ (entry : Entry). (item_walk atlas.lists entry.number).end ≡ no_link) (map (walked_entry atlas.lists) numbers)
+    → Each (IsEntry atlas.lists) (map (walked_entry atlas.lists) numbers)
+entries-linked atlas few fit [] first_items first_frees links frees ends = tt
+entries-linked atlas few fit (n ∷ ns) first_items first_frees links frees ends = (
+  record {
+    items = record {
+      forward = walk_by-leads item_chain.next atlas.lists.items (first_item_of atlas.lists.shelves n) fit.item_next first_items.0 few ends.0;
+      backward = links.0.back;
+    };
+    free_list = record {
+      forward = walk_by-leads free_list.next atlas.lists.items (first_free_of atlas.lists.shelves n) fit.free_next first_frees.0 few frees.0.ends;
+      backward = frees.0.back;
+    };
+    members = λ k. omega (arith, frees.0.items k, filter-times (λ member. not (is_allocated_at atlas.lists.items member)) (item_walk atlas.lists n).met k);
+  },
+  entries-linked atlas few fit ns first_items.1 first_frees.1 links.1 frees.1 ends.1,
+)
+
+-- what stands once in two lists stands once in them and an empty one
+three-of : (count : ℕ) (used unused : List ℕ) → HasEachOnce count (used ++ unused) → HasEachOnce count (used ++ unused ++ [])
+three-of count used unused once k = omega (arith, once k, three-count used unused [] k, times-append k used unused)
+
+-- records that stand for a state are linked, by the lists that walks meet
+pub stands-linked : (atlas : AtlasRecords) (state : AtlasState) → AllFit atlas.lists → StandsFor atlas state → IsLinked atlas.lists (walked_lists atlas.lists)
+stands-linked atlas state fit stands =
+    let records : Records = atlas.lists in
+    let numbers : shelf_numbers (walked_entries atlas) ≡ (shelf_walk records).met = walked-numbers records (shelf_walk records).met in
+    record {
+      shelves = record {
+        forward = rw numbers (walk_by-leads shelf_chain.next records.shelves records.first_shelf fit.shelf_next fit.first_shelf stands.counts.shelves.1 stands.sharing.shelf_end);
+        backward = rw numbers stands.links.back;
+      };
+      entries = entries-linked atlas stands.counts.items.1 fit (shelf_walk records).met fit.first_items fit.first_frees stands.links.each_shelf stands.free_lists stands.sharing.item_ends;
+      unused_items = walk_by-leads item_chain.next records.items records.free_items fit.item_next fit.free_items stands.counts.items.1 stands.sharing.unused_item_end;
+      unused_shelves = walk_by-leads shelf_chain.next records.shelves records.free_shelves fit.shelf_next fit.free_shelves stands.counts.shelves.1 stands.sharing.unused_shelf_end;
+      shelves_once = rw numbers (three-of (length records.shelves) (shelf_walk records).met (unused_shelf_walk records).met stands.sharing.shelves);
+      items_once = three-of (length records.items) (item_numbers (walked_entries atlas)) (unused_item_walk records).met stands.sharing.items;
+    }

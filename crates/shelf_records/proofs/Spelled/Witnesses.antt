@@ -1,0 +1,151 @@
+-- Records that links spell as lists, and that say what they must beside their links, keep the rules of a snapshot.
+use Rattle.std.proofs.Common.{pos, ◌≡◌, ℕ, ◌≤◌, false, None, List, [], ◌∷◌, ◌++◌, length, map, refl, ap, subst, arith, sym, ◌∙◌}
+use Rattle.std.specs.Prelude.{◌<◌, ◌%◌}
+use Rattle.etagere_base.specs.declared.frames.Frame.{Frame}
+use Rattle.etagere_base.specs.Frames.{HasAllColumns, IsFrame}
+use Rattle.etagere_links.specs.Chains.{LeadsBack}
+use Rattle.etagere_links.specs.Edits.{link_at}
+use Rattle.etagere_links.specs.Records.{shelf_chain}
+use Rattle.etagere_base.proofs.EachLemmas.{Each-weaken}
+use Rattle.etagere_base.proofs.TimesLemmas.{times-append}
+use Rattle.etagere_base.specs.Lists.{Each, NoNeighbours}
+use Rattle.etagere_links.specs.Links.{no_link}
+use Rattle.etagere_links.specs.RecordLists.{Entry, Lists, shelf_walk, item_walk, free_walk, unused_item_walk, unused_shelf_walk, walked_lists, shelf_numbers, item_numbers, HasEachOnce, IsEntry, IsLinked}
+use Rattle.etagere_links.specs.Walks.{Walked}
+use Rattle.etagere_links.proofs.AllLists.LinkedUnused.{three-count}
+use Rattle.etagere_links.proofs.AllLists.LinkedWalks.{AreWalks, HasWalks, linked-walks, linked-lists}
+use Rattle.shelf_records.specs.AtlasRecords.{AtlasRecords, is_allocated_at, along_of, spelled_shelf, spelled_state, walked_entries}
+use Rattle.shelf_model.specs.Merging.{both_free}
+use Rattle.shelf_records.specs.Private.Kept.{AreKept, HasFlag, IsPlaced, Witnessed, atlas_of, bare, state_of}
+use Rattle.etagere_links.specs.RecordLists.{Records}
+use Rattle.shelf_model.specs.Space.{space_in}
+use Rattle.shelf_records.specs.StandsFor.{StopsInRange, HasItemLinks, AreStacked, HasItems, HasFreeList, StandsFor}
+use Rattle.shelf_model.specs.State.{Shelf, AtlasState}
+use Rattle.shelf_model.specs.Valid.{IsShelf}
+
+-- a fact of each element's image is a fact of each element
+pub Each-unmap : {X Y : Type 0} (P : Y → Type 0) (f : X → Y) (xs : List X) → Each P (map f xs) → Each (λ (x : X). P (f x)) xs
+Each-unmap P f [] each = tt
+Each-unmap P f (x ∷ xs) each = (each.0, Each-unmap P f xs each.1)
+
+-- three facts of each element are one
+Each-three : {X : Type 0} (P Q R S : X → Type 0) → ((x : X) → P x → Q x → R x → S x) → (xs : List X) → Each P xs → Each Q xs → Each R xs → Each S xs
+Each-three P Q R S makes [] ps qs rs = tt
+Each-three P Q R S makes (x ∷ xs) ps qs rs = (makes x ps.0 qs.0 rs.0, Each-three P Q R S makes xs ps.1 qs.1 rs.1)
+
+-- a walk that ends at none stops in range
+stops-none : (count : ℕ) (walked : Walked) → walked.end ≡ no_link → StopsInRange count walked
+stops-none count walked ends = rw ends refl
+
+-- the links of a shelf's lists, from what spells them and what walks meet
+item-links : (atlas : AtlasRecords) (entry : Entry) → IsEntry atlas.lists entry → IsPlaced atlas entry → HasWalks atlas.lists entry → HasItemLinks atlas entry
+item-links atlas entry is placed walks =
+    record {
+      items = stops-none (length atlas.lists.items) (item_walk atlas.lists entry.number) (ap (λ (w : Walked). w.end) walks.items);
+      free_list = stops-none (length atlas.lists.items) (free_walk atlas.lists entry.number) (ap (λ (w : Walked). w.end) walks.free_list);
+      back = is.items.backward;
+      owners = placed.owners;
+    }
+
+-- the free list of a shelf, from the same
+free-list : (atlas : AtlasRecords) (entry : Entry) → IsEntry atlas.lists entry → IsPlaced atlas entry → HasWalks atlas.lists entry → HasFreeList atlas entry
+free-list atlas entry is placed walks =
+    record { items = placed.free_list; back = is.free_list.backward; ends = ap (λ (w : Walked). w.end) walks.free_list }
+
+-- the items of a shelf, from what its records say and its being a shelf
+has-items : (atlas : AtlasRecords) (entry : Entry) → IsPlaced atlas entry → IsShelf atlas.frame (spelled_shelf atlas entry) → HasFlag atlas entry → HasItems atlas entry
+has-items atlas entry placed shelf flag =
+    record { places = placed.places; items = shelf.items; width = shelf.width; is_empty = flag }
+
+-- what stands once in three lists of which the last is empty stands once in the two
+two-of : (count : ℕ) (used unused : List ℕ) → HasEachOnce count (used ++ unused ++ []) → HasEachOnce count (used ++ unused)
+two-of count used unused once k = omega (arith, once k, three-count used unused [] k, times-append k used unused)
+
+-- records that spell lists stand for the state
+pub witnessed-stands : (atlas : AtlasRecords) (lists : Lists) (state : AtlasState) → Witnessed atlas lists state → StandsFor atlas state
+witnessed-stands atlas lists state witnessed =
+    let linked : IsLinked atlas.lists lists = witnessed.linked in
+    let walks : AreWalks atlas.lists lists = linked-walks atlas.lists lists witnessed.counts.shelves.1 witnessed.counts.items.1 linked in
+    let same : lists ≡ walked_lists atlas.lists = sym (linked-lists atlas.lists lists walks) in
+    let entries : lists.entries ≡ walked_entries atlas = ap (λ (l : Lists). l.entries) same in
+    let numbers : shelf_numbers lists.entries ≡ (shelf_walk atlas.lists).met = sym (ap (λ (w : Walked). w.met) walks.shelves) in
+    let unused_items : lists.unused_items ≡ (unused_item_walk atlas.lists).met = ap (λ (l : Lists). l.unused_items) same in
+    let unused_shelves : lists.unused_shelves ≡ (unused_shelf_walk atlas.lists).met = ap (λ (l : Lists). l.unused_shelves) same in
+    let shelf_end : (shelf_walk atlas.lists).end ≡ no_link = ap (λ (w : Walked). w.end) walks.shelves in
+    let unused_shelf_end : (unused_shelf_walk atlas.lists).end ≡ no_link = ap (λ (w : Walked). w.end) walks.unused_shelves in
+    let unused_item_end : (unused_item_walk atlas.lists).end ≡ no_link = ap (λ (w : Walked). w.end) walks.unused_items in
+    let frame : state.frame ≡ atlas.frame = ap (λ (s : AtlasState). s.frame) witnessed.spelled in
+    let shelves : state.shelves ≡ map (spelled_shelf atlas) lists.entries = ap (λ (s : AtlasState). s.shelves) witnessed.spelled in
+    let are_shelves : Each (λ (entry : Entry). IsShelf atlas.frame (spelled_shelf atlas entry)) lists.entries =
+    Each-unmap (IsShelf atlas.frame) (spelled_shelf atlas) lists.entries
+    (subst (λ (ss : List Shelf). Each (IsShelf atlas.frame) ss) shelves (subst (λ (f : Frame). Each (IsShelf f) state.shelves) frame witnessed.valid.shelves)) in
+    let each : (P : Entry → Type 0) → Each P lists.entries → Each P (walked_entries atlas) = λ P ps. subst (λ (es : List Entry). Each P es) entries ps in
+    record {
+      spelled = subst (λ (es : List Entry). state ≡ spelled_state atlas es) entries witnessed.spelled;
+      frame = subst (λ (f : Frame). IsFrame 65535 f) frame witnessed.valid.frame;
+      columns = subst HasAllColumns frame witnessed.valid.columns;
+      counts = witnessed.counts;
+      links =
+          record {
+            shelves = stops-none (length atlas.lists.shelves) (shelf_walk atlas.lists) shelf_end;
+            unused_shelves = stops-none (length atlas.lists.shelves) (unused_shelf_walk atlas.lists) unused_shelf_end;
+            unused_items = stops-none (length atlas.lists.items) (unused_item_walk atlas.lists) unused_item_end;
+            back = subst (λ (ns : List ℕ). LeadsBack (link_at shelf_chain.previous atlas.lists.shelves) None ns) numbers linked.shelves.backward;
+            each_shelf = each (HasItemLinks atlas) (Each-three (IsEntry atlas.lists) (IsPlaced atlas) (HasWalks atlas.lists) (HasItemLinks atlas) (item-links atlas) lists.entries linked.entries witnessed.placed walks.entries);
+          };
+      shelves =
+          record {
+            columns = Each-weaken (IsShelf state.frame) (λ (shelf : Shelf). shelf.column < state.frame.columns) state.shelves (λ shelf is. is.column) witnessed.valid.shelves;
+            ordered = witnessed.valid.ordered;
+            along = each (λ (entry : Entry). along_of atlas.lists.shelves entry.number % atlas.frame.column_width ≡ 0)
+                (Each-weaken (IsPlaced atlas) (λ (entry : Entry). along_of atlas.lists.shelves entry.number % atlas.frame.column_width ≡ 0) lists.entries (λ entry placed. placed.along) witnessed.placed);
+            across = subst (λ (ns : List ℕ). AreStacked atlas.lists.shelves atlas.frame.column_width [] ns) numbers witnessed.stacked;
+            heights = Each-weaken (IsShelf state.frame) (λ (shelf : Shelf). 1 ≤ shelf.height) state.shelves (λ shelf is. is.height) witnessed.valid.shelves;
+            filled = witnessed.valid.heights;
+          };
+      items = each (HasItems atlas) (Each-three (IsPlaced atlas) (λ (entry : Entry). IsShelf atlas.frame (spelled_shelf atlas entry)) (HasFlag atlas) (HasItems atlas) (has-items atlas) lists.entries witnessed.placed are_shelves witnessed.flags);
+      neighbours =
+          record {
+            items = Each-weaken (IsShelf state.frame) (λ (shelf : Shelf). NoNeighbours both_free shelf.items) state.shelves (λ shelf is. is.apart) witnessed.valid.shelves;
+            shelves = witnessed.valid.apart;
+          };
+      free_lists = each (HasFreeList atlas) (Each-three (IsEntry atlas.lists) (IsPlaced atlas) (HasWalks atlas.lists) (HasFreeList atlas) (free-list atlas) lists.entries linked.entries witnessed.placed walks.entries);
+      sharing =
+          record {
+            shelves = subst (λ (ns : List ℕ). HasEachOnce (length atlas.lists.shelves) (ns ++ (unused_shelf_walk atlas.lists).met)) numbers
+                (subst (λ (us : List ℕ). HasEachOnce (length atlas.lists.shelves) (shelf_numbers lists.entries ++ us)) unused_shelves
+                (two-of (length atlas.lists.shelves) (shelf_numbers lists.entries) lists.unused_shelves linked.shelves_once));
+            items = subst (λ (es : List Entry). HasEachOnce (length atlas.lists.items) (item_numbers es ++ (unused_item_walk atlas.lists).met)) entries
+                (subst (λ (us : List ℕ). HasEachOnce (length atlas.lists.items) (item_numbers lists.entries ++ us)) unused_items
+                (two-of (length atlas.lists.items) (item_numbers lists.entries) lists.unused_items linked.items_once));
+            shelf_end = shelf_end;
+            unused_shelf_end = unused_shelf_end;
+            item_ends = each (λ (entry : Entry). (item_walk atlas.lists entry.number).end ≡ no_link)
+                (Each-weaken (HasWalks atlas.lists) (λ (entry : Entry). (item_walk atlas.lists entry.number).end ≡ no_link) lists.entries (λ entry walked. ap (λ (w : Walked). w.end) walked.items) walks.entries);
+            unused_item_end = unused_item_end;
+          };
+      unused = subst (λ (us : List ℕ). Each (λ item. is_allocated_at atlas.lists.items item ≡ false) us) unused_items witnessed.unused;
+      space = witnessed.space;
+    }
+
+-- records that keep every rule stand for the state that they spell
+pub kept-stands : (frame : Frame) (records : Records) → AreKept frame records → StandsFor (atlas_of frame records) (state_of frame records)
+kept-stands frame records kept = witnessed-stands (atlas_of frame records) (walked_lists records) (state_of frame records) kept
+
+-- records that spell lists keep every rule
+pub witnessed-kept : (frame : Frame) (records : Records) (lists : Lists) → Witnessed (atlas_of frame records) lists (state_of frame records) → AreKept frame records
+witnessed-kept frame records lists witnessed =
+    let same : lists ≡ walked_lists records =
+    sym (linked-lists records lists (linked-walks records lists witnessed.counts.shelves.1 witnessed.counts.items.1 witnessed.linked)) in
+    subst (λ (l : Lists). Witnessed (atlas_of frame records) l (state_of frame records)) same witnessed
+
+-- records that spell the lists of a state keep every rule, and spell that state
+pub kept-of : (frame : Frame) (records : Records) (lists : Lists) (state : AtlasState) → Witnessed (record { frame = frame; lists = records; allocated_space = pos (space_in state.shelves) }) lists state → (state_of frame records ≡ state) × AreKept frame records
+kept-of frame records lists state witnessed =
+    let met : walked_lists records ≡ lists =
+    linked-lists records lists (linked-walks records lists witnessed.counts.shelves.1 witnessed.counts.items.1 witnessed.linked) in
+    let same : state_of frame records ≡ state =
+    ap (λ (l : Lists). spelled_state (bare frame records) l.entries) met ∙ sym witnessed.spelled in
+    let spells : (s : AtlasState) → s ≡ state → Witnessed (record { frame = frame; lists = records; allocated_space = pos (space_in s.shelves) }) lists s =
+    λ s is. subst (λ (t : AtlasState). Witnessed (record { frame = frame; lists = records; allocated_space = pos (space_in t.shelves) }) lists t) (sym is) witnessed in
+    (same, witnessed-kept frame records lists (spells (state_of frame records) same))

@@ -1,0 +1,4 @@
+pub mod AtlasRecords
+pub mod Private
+pub mod Snapshots
+pub mod StandsFor

@@ -1,0 +1,82 @@
+-- What the walks through a snapshot have met, and what a refused one says.
+use Rattle.std.specs.Prelude.{◌≡◌, ℕ, Option, None, List, [], ◌∷◌, ◌++◌, length, map}
+use Rattle.etagere_base.specs.declared.faults.RestoreFault.{RestoreFault}
+use Rattle.etagere_base.specs.declared.faults.RestoreFault.TheVariants as faults
+use Rattle.etagere_base.specs.Lists.{Each}
+use Rattle.etagere_links.specs.declared.marking.WalkFault.{WalkFault}
+use Rattle.etagere_links.specs.declared.marking.WalkFault.TheVariants.{OutOfRange, Marked, Circular, Memory}
+use Rattle.etagere_links.specs.Edits.{AreFitting, link_at}
+use Rattle.etagere_links.specs.Chains.{LeadsBack}
+use Rattle.etagere_links.specs.Links.{bits_of, link_of, no_link}
+use Rattle.etagere_links.specs.RecordLists.{Records, Entry, HasEachOnce, first_free_of, first_item_of, free_walk, item_numbers, item_walk, shelf_walk, unused_item_walk, unused_shelf_walk}
+use Rattle.etagere_links.specs.Records.{item_chain, free_list, shelf_chain}
+use Rattle.shelf_records.specs.AtlasRecords.{AtlasRecords, walked_entries}
+
+-- the fault of a snapshot where a walk along a chain, or along what is unused, is refused
+abbrev pub chain_fault : WalkFault → RestoreFault
+chain_fault OutOfRange = faults.Link
+chain_fault Marked = faults.Sharing
+chain_fault Circular = faults.Sharing
+chain_fault Memory = faults.Memory
+
+-- the fault of a snapshot where a walk along a free list is refused
+abbrev pub free_fault : WalkFault → RestoreFault
+free_fault OutOfRange = faults.Link
+free_fault Marked = faults.FreeList
+free_fault Circular = faults.FreeList
+free_fault Memory = faults.Memory
+
+-- the link fits its bits
+abbrev pub Fits : Option ℕ → Type 0
+Fits link = link_of (bits_of link) ≡ link
+
+-- these are the shelves in use; each shelf record is one of them or unused, and both lists end at none
+pub record HasShelfLists (atlas : AtlasRecords) (numbers : List ℕ) : Type 0 where
+  pub met : numbers ≡ (shelf_walk atlas.lists).met
+  pub end : (shelf_walk atlas.lists).end ≡ no_link
+  pub unused_end : (unused_shelf_walk atlas.lists).end ≡ no_link
+  pub once : HasEachOnce (length atlas.lists.shelves) ((shelf_walk atlas.lists).met ++ (unused_shelf_walk atlas.lists).met)
+  pub next_fits : AreFitting shelf_chain.next atlas.lists.shelves
+  pub first_fits : Fits atlas.lists.first_shelf
+  pub unused_fits : Fits atlas.lists.free_shelves
+
+-- the chain of items of a shelf ends at none
+pub record HasChain (records : Records) (number : ℕ) : Type 0 where
+  pub end : (item_walk records number).end ≡ no_link
+  pub first_fits : Fits (first_item_of records.shelves number)
+
+-- the free list of a shelf ends at none
+pub record HasFree (records : Records) (number : ℕ) : Type 0 where
+  pub end : (free_walk records number).end ≡ no_link
+  pub first_fits : Fits (first_free_of records.shelves number)
+
+-- the items of the shelf of this number that its walk meets
+abbrev pub chain_entry : Records → ℕ → Entry
+chain_entry records number = record { number = number; items = (item_walk records number).met; free_list = [] }
+
+-- these are the items of the shelves in use, and the unused ones; each item record is one of them, and all lists end
+-- at none
+pub record HasItemLists (atlas : AtlasRecords) (shelves : List Entry) (unused : List ℕ) : Type 0 where
+  pub met : shelves ≡ map (chain_entry atlas.lists) (shelf_walk atlas.lists).met
+  pub unused_met : unused ≡ (unused_item_walk atlas.lists).met
+  pub chains : Each (HasChain atlas.lists) (shelf_walk atlas.lists).met
+  pub unused_end : (unused_item_walk atlas.lists).end ≡ no_link
+  pub once : HasEachOnce (length atlas.lists.items) (item_numbers shelves ++ unused)
+  pub next_fits : AreFitting item_chain.next atlas.lists.items
+  pub unused_fits : Fits atlas.lists.free_items
+
+-- the free items of all shelves
+abbrev pub free_numbers : List Entry → List ℕ
+free_numbers [] = []
+free_numbers (entry ∷ entries) = entry.free_list ++ free_numbers entries
+
+-- these are the shelves in use with their items and free lists, and the unused items; each record is in one list, and
+-- each list ends at none, and the shelves link back to the one before
+pub record IsWalked (atlas : AtlasRecords) (entries : List Entry) (unused : List ℕ) : Type 0 where
+  pub entries_met : entries ≡ walked_entries atlas
+  pub unused_met : unused ≡ (unused_item_walk atlas.lists).met
+  pub shelves : HasShelfLists atlas (shelf_walk atlas.lists).met
+  pub back : LeadsBack (link_at shelf_chain.previous atlas.lists.shelves) None (shelf_walk atlas.lists).met
+  pub items : HasItemLists atlas (map (chain_entry atlas.lists) (shelf_walk atlas.lists).met) (unused_item_walk atlas.lists).met
+  pub free : Each (HasFree atlas.lists) (shelf_walk atlas.lists).met
+  pub free_fits : AreFitting free_list.next atlas.lists.items

@@ -1,0 +1,126 @@
+-- When the records of an atlas stand for a state: the rules that a snapshot has to keep.
+use Rattle.std.specs.Prelude.{◌≡◌, ℕ, ◌+◌, ◌/◌, ◌%◌, ◌<◌, ◌≤◌, pos, false, ◌||◌, None, List, [], ◌∷◌, ◌++◌, IsTrue, length, filter, not, nat_lt, ◌==◌, if◌then◌else◌}
+use Rattle.etagere_base.specs.Frames.{HasAllColumns, IsFrame, across_side, longest_side}
+use Rattle.etagere_base.specs.Lists.{Each, NoNeighbours, times}
+use Rattle.etagere_links.specs.declared.records.LinkedItem.{LinkedItem}
+use Rattle.etagere_links.specs.declared.records.LinkedShelf.{LinkedShelf}
+use Rattle.etagere_links.specs.Chains.{LeadsBack}
+use Rattle.etagere_links.specs.Edits.{link_at}
+use Rattle.etagere_links.specs.Links.{no_link}
+use Rattle.etagere_links.specs.RecordLists.{Entry, HasEachOnce, item_numbers, shelf_walk, unused_shelf_walk, unused_item_walk, item_walk, free_walk}
+use Rattle.etagere_links.specs.Records.{item_chain, free_list, shelf_chain}
+use Rattle.etagere_links.specs.Walks.{Walked}
+use Rattle.shelf_records.specs.AtlasRecords.{AtlasRecords, is_allocated_at, place_of, shelf_of, along_of, across_of, height_of, is_empty_at, item_at, spelled_shelf, spelled_state, walked_entries}
+use Rattle.shelf_model.specs.Merging.{both_free, both_empty}
+use Rattle.shelf_model.specs.Places.{column_height}
+use Rattle.shelf_model.specs.Space.{space_in}
+use Rattle.shelf_model.specs.State.{Shelf, AtlasState, is_empty, total_width}
+use Rattle.shelf_model.specs.Valid.{IsItem, is_out_of_order}
+
+-- the records are at least one and at most 65535
+pub record HasCounts (atlas : AtlasRecords) : Type 0 where
+  pub shelves : (1 ≤ length atlas.lists.shelves) × (length atlas.lists.shelves ≤ no_link)
+  pub items : (1 ≤ length atlas.lists.items) × (length atlas.lists.items ≤ no_link)
+
+-- a walk stops at none or before a record
+abbrev pub StopsInRange : ℕ → Walked → Type 0
+StopsInRange count walked = IsTrue (walked.end == no_link || nat_lt walked.end count)
+
+-- the walks of a shelf stop in range; its items link back to the one before, and name the shelf
+pub record HasItemLinks (atlas : AtlasRecords) (entry : Entry) : Type 0 where
+  pub items : StopsInRange (length atlas.lists.items) (item_walk atlas.lists entry.number)
+  pub free_list : StopsInRange (length atlas.lists.items) (free_walk atlas.lists entry.number)
+  pub back : LeadsBack (link_at item_chain.previous atlas.lists.items) None entry.items
+  pub owners : Each (λ item. shelf_of atlas.lists.items item ≡ entry.number) entry.items
+
+-- no walk stops out of range, and the shelves link back to the one before
+pub record HasLinks (atlas : AtlasRecords) : Type 0 where
+  pub shelves : StopsInRange (length atlas.lists.shelves) (shelf_walk atlas.lists)
+  pub unused_shelves : StopsInRange (length atlas.lists.shelves) (unused_shelf_walk atlas.lists)
+  pub unused_items : StopsInRange (length atlas.lists.items) (unused_item_walk atlas.lists)
+  pub back : LeadsBack (link_at shelf_chain.previous atlas.lists.shelves) None
+      (shelf_walk atlas.lists).met
+  pub each_shelf : Each (HasItemLinks atlas) (walked_entries atlas)
+
+-- the heights of the shelves of these numbers that stand in a column, added up
+abbrev pub height_before : List LinkedShelf → ℕ → ℕ → List ℕ → ℕ
+height_before shelves column_width column [] = 0
+height_before shelves column_width column (number ∷ numbers) =
+    (if along_of shelves number / column_width == column then height_of shelves number else 0)
+    + height_before shelves column_width column numbers
+
+-- each shelf begins across where those before it in its column end
+abbrev pub AreStacked : List LinkedShelf → ℕ → List ℕ → List ℕ → Type 0
+AreStacked shelves column_width before [] = Unit {0}
+AreStacked shelves column_width before (number ∷ numbers) =
+    (across_of shelves number
+    ≡ height_before shelves column_width (along_of shelves number / column_width) before)
+    × AreStacked shelves column_width (before ++ number ∷ []) numbers
+
+-- the shelves fill each column, column after column; each record says where its shelf begins
+pub record HasShelves (atlas : AtlasRecords) (state : AtlasState) : Type 0 where
+  pub columns : Each (λ (shelf : Shelf). shelf.column < state.frame.columns) state.shelves
+  pub ordered : NoNeighbours is_out_of_order state.shelves
+  pub along :
+      Each
+      (λ (entry : Entry). along_of atlas.lists.shelves entry.number % atlas.frame.column_width ≡ 0)
+      (walked_entries atlas)
+  pub across : AreStacked atlas.lists.shelves atlas.frame.column_width []
+      (shelf_walk atlas.lists).met
+  pub heights : Each (λ (shelf : Shelf). 1 ≤ shelf.height) state.shelves
+  pub filled : (column : ℕ) → column < state.frame.columns
+      → column_height column state.shelves ≡ across_side state.frame
+
+-- items lie side by side from a place on
+abbrev pub LieFrom : List LinkedItem → ℕ → List ℕ → Type 0
+LieFrom items here [] = Unit {0}
+LieFrom items here (number ∷ numbers) =
+    (place_of items number ≡ here) × LieFrom items (here + (item_at items number).width) numbers
+
+-- the items of a shelf fill its column, and its record says whether it is empty
+pub record HasItems (atlas : AtlasRecords) (entry : Entry) : Type 0 where
+  pub places : LieFrom atlas.lists.items (along_of atlas.lists.shelves entry.number) entry.items
+  pub items : Each (IsItem atlas.frame) (spelled_shelf atlas entry).items
+  pub width : total_width (spelled_shelf atlas entry).items ≡ atlas.frame.column_width
+  pub is_empty : is_empty_at atlas.lists.shelves entry.number ≡ is_empty (spelled_shelf atlas entry)
+
+-- no two free items stand side by side, and no two empty shelves of a column
+pub record HasNeighbours (state : AtlasState) : Type 0 where
+  pub items : Each (λ (shelf : Shelf). NoNeighbours both_free shelf.items) state.shelves
+  pub shelves : NoNeighbours both_empty state.shelves
+
+-- the free list of a shelf has each of its free items once, links back, and ends at none
+pub record HasFreeList (atlas : AtlasRecords) (entry : Entry) : Type 0 where
+  pub items :
+      (item : ℕ) → times item entry.free_list
+      ≡ times item (filter (λ member. not (is_allocated_at atlas.lists.items member)) entry.items)
+  pub back : LeadsBack (link_at free_list.previous atlas.lists.items) None entry.free_list
+  pub ends : (free_walk atlas.lists entry.number).end ≡ no_link
+
+-- each record is in use in one place or put aside, and each walk through them ends at none
+pub record IsShared (atlas : AtlasRecords) : Type 0 where
+  pub shelves : HasEachOnce (length atlas.lists.shelves)
+      ((shelf_walk atlas.lists).met ++ (unused_shelf_walk atlas.lists).met)
+  pub items : HasEachOnce (length atlas.lists.items)
+      (item_numbers (walked_entries atlas) ++ (unused_item_walk atlas.lists).met)
+  pub shelf_end : (shelf_walk atlas.lists).end ≡ no_link
+  pub unused_shelf_end : (unused_shelf_walk atlas.lists).end ≡ no_link
+  pub item_ends : Each (λ (entry : Entry). (item_walk atlas.lists entry.number).end ≡ no_link)
+      (walked_entries atlas)
+  pub unused_item_end : (unused_item_walk atlas.lists).end ≡ no_link
+
+-- the records keep each rule, and spell the state
+pub record StandsFor (atlas : AtlasRecords) (state : AtlasState) : Type 0 where
+  pub spelled : state ≡ spelled_state atlas (walked_entries atlas)
+  pub frame : IsFrame longest_side atlas.frame
+  pub columns : HasAllColumns atlas.frame
+  pub counts : HasCounts atlas
+  pub links : HasLinks atlas
+  pub shelves : HasShelves atlas state
+  pub items : Each (HasItems atlas) (walked_entries atlas)
+  pub neighbours : HasNeighbours state
+  pub free_lists : Each (HasFreeList atlas) (walked_entries atlas)
+  pub sharing : IsShared atlas
+  pub unused : Each (λ item. is_allocated_at atlas.lists.items item ≡ false)
+      (unused_item_walk atlas.lists).met
+  pub space : atlas.allocated_space ≡ pos (space_in state.shelves)

@@ -1,0 +1,88 @@
+-- What walks have met: the links that they read fit their bits, and what the rules are judged over has each record
+-- once at most.
+use Rattle.std.proofs.Common.{◌≡◌, ℕ, ◌≤◌, List, [], ◌∷◌, ◌++◌, length, map, refl, ap, sym, subst, arith, ◌∙◌}
+use Rattle.std.proofs.lemmas.List.{length-map}
+use Rattle.etagere_base.specs.Lists.{Each, times}
+use Rattle.etagere_base.proofs.EachLemmas.{Each-weaken}
+use Rattle.etagere_links.proofs.AllLists.LinkedWalks.{walked-numbers}
+use Rattle.etagere_links.proofs.WalkChains.{walk-leads}
+use Rattle.etagere_links.specs.declared.records.LinkedItem.{LinkedItem}
+use Rattle.etagere_links.specs.Links.{bits_of, no_link}
+use Rattle.etagere_links.specs.RecordLists.{Records, Entry, HasEachOnce, first_free_of, first_item_of, item_numbers, item_walk, shelf_numbers, shelf_walk, unused_item_walk, unused_shelf_walk, walked_entry}
+use Rattle.etagere_links.specs.Records.{free_list}
+use Rattle.shelf_records.specs.AtlasRecords.{AtlasRecords, walked_entries}
+use Rattle.shelf_records.specs.Private.Restoring.{Fits, HasChain, HasFree, IsWalked, chain_entry}
+use Rattle.shelf_restoring.proofs.Judged.ShortLists.{few-shelves, once-shelves, short-items}
+use Rattle.shelf_records.proofs.Spelled.StandsLinked.{AllFit}
+
+-- shelves with their items have the items that they have with their free lists too
+pub same-items : (records : Records) (numbers : List ℕ)
+    → item_numbers (map (chain_entry records) numbers) ≡ item_numbers (map (walked_entry records) numbers)
+same-items records [] = refl
+same-items records (n ∷ ns) = ap (λ (ms : List ℕ). (item_walk records n).met ++ ms) (same-items records ns)
+
+-- a free list that a walk meets has a number once at most
+frees-once : (records : Records) → length records.items ≤ no_link → (numbers : List ℕ)
+    → Each (λ (entry : Entry). (item : ℕ) → times item entry.free_list ≤ 1) (map (walked_entry records) numbers)
+frees-once records few [] = tt
+frees-once records few (n ∷ ns) =
+    let bits : LinkedItem → ℕ = λ here. bits_of (free_list.next here) in
+    let short : length (map bits records.items) ≤ no_link = rw (length-map records.items bits) few in (
+      (walk-leads (map bits records.items) (bits_of (first_free_of records.shelves n)) short).once,
+      frees-once records few ns,
+    )
+
+module _ (atlas : AtlasRecords) (entries : List Entry) (unused : List ℕ) (walked : IsWalked atlas entries unused) where
+  -- the links of the records fit their bits
+  pub walked-fit : AllFit atlas.lists
+  walked-fit =
+      record {
+        shelf_next = walked.shelves.next_fits;
+        item_next = walked.items.next_fits;
+        free_next = walked.free_fits;
+        first_items = Each-weaken (HasChain atlas.lists) (λ number. Fits (first_item_of atlas.lists.shelves number))
+            (shelf_walk atlas.lists).met (λ number has. has.first_fits) walked.items.chains;
+        first_frees = Each-weaken (HasFree atlas.lists) (λ number. Fits (first_free_of atlas.lists.shelves number))
+            (shelf_walk atlas.lists).met (λ number has. has.first_fits) walked.free;
+        first_shelf = walked.shelves.first_fits;
+        free_items = walked.items.unused_fits;
+        free_shelves = walked.shelves.unused_fits;
+      }
+
+  -- each item record is an item of a shelf or unused, once
+  pub walked-items : HasEachOnce (length atlas.lists.items) (item_numbers entries ++ unused)
+  walked-items =
+      subst (λ (es : List Entry). HasEachOnce (length atlas.lists.items) (item_numbers es ++ unused)) (sym walked.entries_met)
+      (subst (λ (us : List ℕ). HasEachOnce (length atlas.lists.items) (item_numbers (walked_entries atlas) ++ us)) (sym walked.unused_met)
+      (subst (λ (ns : List ℕ). HasEachOnce (length atlas.lists.items) (ns ++ (unused_item_walk atlas.lists).met))
+      (same-items atlas.lists (shelf_walk atlas.lists).met) walked.items.once))
+
+  -- each shelf record is in use or unused, once
+  pub walked-shelves : HasEachOnce (length atlas.lists.shelves) (shelf_numbers entries ++ (unused_shelf_walk atlas.lists).met)
+  walked-shelves =
+      let numbers : shelf_numbers entries ≡ (shelf_walk atlas.lists).met =
+      ap shelf_numbers walked.entries_met ∙ walked-numbers atlas.lists (shelf_walk atlas.lists).met in
+      subst (λ (ns : List ℕ). HasEachOnce (length atlas.lists.shelves) (ns ++ (unused_shelf_walk atlas.lists).met)) (sym numbers)
+      walked.shelves.once
+
+  -- a shelf has no more items than links can name
+  pub walked-short : length atlas.lists.items ≤ no_link → Each (λ (entry : Entry). length entry.items ≤ no_link) entries
+  walked-short few =
+      Each-weaken (λ (entry : Entry). length entry.items ≤ length atlas.lists.items) (λ (entry : Entry). length entry.items ≤ no_link)
+      entries (λ entry short. omega (arith, few, short)) (short-items (length atlas.lists.items) entries unused walked-items)
+
+  -- there are no more shelves than links can name
+  pub walked-few : length atlas.lists.shelves ≤ no_link → length entries ≤ no_link
+  walked-few few =
+      omega (arith, few, few-shelves (length atlas.lists.shelves) entries (unused_shelf_walk atlas.lists).met walked-shelves)
+
+  -- each shelf was met once at most
+  pub walked-once : (number : ℕ) → times number (shelf_numbers entries) ≤ 1
+  walked-once = once-shelves (length atlas.lists.shelves) entries (unused_shelf_walk atlas.lists).met walked-shelves
+
+  -- a free list has an item once at most
+  pub walked-frees : length atlas.lists.items ≤ no_link
+      → Each (λ (entry : Entry). (item : ℕ) → times item entry.free_list ≤ 1) entries
+  walked-frees few =
+      subst (λ (es : List Entry). Each (λ (entry : Entry). (item : ℕ) → times item entry.free_list ≤ 1) es) (sym walked.entries_met)
+      (frees-once atlas.lists few (shelf_walk atlas.lists).met)

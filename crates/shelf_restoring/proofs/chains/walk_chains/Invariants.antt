@@ -1,0 +1,15 @@
+use Rattle.std.proofs.Common.{◌≡◌, ◌+◌, ◌++◌, length, map, take}
+use Rattle.etagere_base.specs.Lists.{Each}
+use Rattle.etagere_links.specs.Marks.{IsMarkedBy}
+use Rattle.etagere_links.specs.RecordLists.{item_numbers, unused_item_walk}
+use Rattle.shelf_records.specs.Private.Restoring.{HasChain, chain_entry}
+use Rattle.shelf_restoring.proofs.chains.walk_chains.Given as goal
+
+abbrev pub invariant-loop-number : goal.invariant-loop-number
+invariant-loop-number l = record {
+  walked : l.shelves.items ≡ map (chain_entry l.atlas.lists) (take l.number-index l.numbers);
+  marked : IsMarkedBy l.marks ((unused_item_walk l.atlas.lists).met ++ item_numbers (map (chain_entry l.atlas.lists) (take l.number-index l.numbers)));
+  chains : Each (HasChain l.atlas.lists) (take l.number-index l.numbers);
+  room : l.room ≡ l.fn.room;
+  steps : l.steps ≡ l.fn.steps + length (item_numbers (map (chain_entry l.atlas.lists) (take l.number-index l.numbers)));
+}

@@ -1,0 +1,15 @@
+use Rattle.std.proofs.Common.{◌≡◌, ◌+◌, length, map, take}
+use Rattle.etagere_base.specs.Lists.{Each}
+use Rattle.etagere_links.specs.Marks.{IsMarkedBy}
+use Rattle.etagere_links.specs.RecordLists.{shelf_walk, walked_entry}
+use Rattle.shelf_records.specs.Private.Restoring.{HasFree, free_numbers}
+use Rattle.shelf_restoring.proofs.free_lists.with_free_lists.Given as goal
+
+abbrev pub invariant-loop-shelf : goal.invariant-loop-shelf
+invariant-loop-shelf l = record {
+  walked : l.entries.items ≡ map (walked_entry l.atlas.lists) (take (length l.yielded) (shelf_walk l.atlas.lists).met);
+  marked : IsMarkedBy l.marks (free_numbers (map (walked_entry l.atlas.lists) (take (length l.yielded) (shelf_walk l.atlas.lists).met)));
+  free : Each (HasFree l.atlas.lists) (take (length l.yielded) (shelf_walk l.atlas.lists).met);
+  room : l.room ≡ l.fn.room;
+  steps : l.steps ≡ l.fn.steps + length (free_numbers (map (walked_entry l.atlas.lists) (take (length l.yielded) (shelf_walk l.atlas.lists).met)));
+}

@@ -1,0 +1,156 @@
+//! Following the unused items of a snapshot, and the chain of items of each of its shelves.
+//!
+//! Definitions: `Restoring`.
+
+ghost use Rattle.std.specs.Prelude.{◌≡◌, ◌+◌, ◌*◌, ◌^◌, ◌<◌, ◌≤◌, ◌++◌, ℕ, [], IfOk, IfErr, OnOk, length, map};
+ghost use Rattle.etagere_base.specs.Lists.{Each};
+ghost use Rattle.etagere_links.specs.Edits.{AreFitting};
+ghost use Rattle.etagere_links.specs.Links.{no_link, bits_of};
+ghost use Rattle.etagere_links.specs.LinksRead.{links_in, links_until};
+ghost use Rattle.etagere_links.specs.Marks.{IsMarkedBy};
+ghost use Rattle.etagere_links.specs.RecordLists.{item_numbers, item_walk, shelf_walk, unused_item_walk};
+ghost use Rattle.etagere_links.specs.Records.{item_chain};
+ghost use Rattle.shelf_records.specs.Private.Restoring.{HasChain, HasItemLists, chain_entry};
+ghost use Rattle.shelf_restoring.specs.RestoringSteps.{StopsAfter, item_walks};
+ghost use Rattle.shelf_records.specs.Snapshots.{IsBroken};
+
+use crate::judging::WalkedShelf;
+use crate::loaded_atlas::LoadedAtlas;
+use crate::shelf_lists::chain_fault;
+use etagere_base::RestoreFault;
+use etagere_links::{Chain, LinkedItem, WalkRoom, all_marked, next_bits, unmarked, walk_marking};
+use shelf_records::fields::first_item_link;
+use std::alloc::Global;
+
+/// What walks have met of the items: of each shelf in use, and what is unused.
+#[derive(Drop)]
+pub struct WalkedItems {
+    pub shelves: Vec<WalkedShelf>,
+    pub unused: Vec<u16>,
+}
+
+/// The items of the shelves in use, and those unused, where each item record is in one of these lists. The free
+/// lists are empty.
+pub fn walk_items(
+    alloc: Global,
+    atlas: &LoadedAtlas,
+    numbers: &[u16],
+    steps: &mut u64,
+) -> Result<WalkedItems, RestoreFault>
+    requires few { length atlas.now.lists.items ≤ no_link }
+    requires numbers { numbers.now ≡ (shelf_walk atlas.now.lists).met }
+    requires steps { steps.old < 2 ^ 30 }
+    ensures ok { IfOk result (λ walked. HasItemLists atlas.now walked.shelves.items walked.unused.items) }
+    ensures fault { IfErr result (IsBroken atlas.now) }
+    ensures all { OnOk result (steps.new ≡ steps.old + links_in (item_walks atlas.now.lists)) }
+    ensures until { IfErr result (λ fault. (more : ℕ) → StopsAfter
+        (steps.old + links_until (length atlas.now.lists.items) more [] (item_walks atlas.now.lists))
+        steps.new fault) }
+    ensures bound { steps.new ≤ steps.old + 2 * length atlas.now.lists.items }
+    ensures each { IfOk result
+        (λ walked. steps.old + length (item_numbers walked.shelves.items) ≤ steps.new) }
+{
+    let Ok(links) = next_bits::<Chain, LinkedItem>(alloc, atlas.records.items()) else {
+        return Err(RestoreFault::Memory);
+    };
+    let Ok(mut room) = WalkRoom::new(alloc, links.len()) else {
+        return Err(RestoreFault::Memory);
+    };
+    let Ok(mut marks) = unmarked(alloc, links.len()) else {
+        return Err(RestoreFault::Memory);
+    };
+    follow_items(alloc, atlas, &mut room, &mut marks, &links, numbers, steps)
+}
+
+/// The items of the shelves in use, and those unused, where none was marked.
+fn follow_items(
+    alloc: Global,
+    atlas: &LoadedAtlas,
+    room: &mut WalkRoom,
+    marks: &mut [bool],
+    links: &[u16],
+    numbers: &[u16],
+    steps: &mut u64,
+) -> Result<WalkedItems, RestoreFault>
+    requires few { length atlas.now.lists.items ≤ no_link }
+    requires links { links.now
+        ≡ map (λ here. bits_of (item_chain.next here)) atlas.now.lists.items }
+    requires fit { AreFitting item_chain.next atlas.now.lists.items }
+    requires room { length links.now ≤ room.old }
+    requires marks { length marks.old ≡ length links.now }
+    requires marked { IsMarkedBy marks.old [] }
+    requires numbers { numbers.now ≡ (shelf_walk atlas.now.lists).met }
+    requires steps { steps.old < 2 ^ 30 }
+    ensures ok { IfOk result (λ walked. HasItemLists atlas.now walked.shelves.items walked.unused.items) }
+    ensures fault { IfErr result (IsBroken atlas.now) }
+    ensures all { OnOk result (steps.new ≡ steps.old + links_in (item_walks atlas.now.lists)) }
+    ensures until { IfErr result (λ fault. (more : ℕ) → StopsAfter
+        (steps.old + links_until (length atlas.now.lists.items) more [] (item_walks atlas.now.lists))
+        steps.new fault) }
+    ensures bound { steps.new ≤ steps.old + 2 * length atlas.now.lists.items }
+    ensures each { IfOk result
+        (λ walked. steps.old + length (item_numbers walked.shelves.items) ≤ steps.new) }
+{
+    let first = atlas.records.unused_items().bits();
+    let unused = match walk_marking(alloc, room, marks, links, first, steps) {
+        Ok(unused) => unused,
+        Err(fault) => return Err(chain_fault(fault)),
+    };
+    let shelves = walk_chains(alloc, atlas, room, marks, links, numbers, steps)?;
+    if !all_marked(marks) {
+        return Err(RestoreFault::Sharing);
+    }
+    Ok(WalkedItems { shelves, unused })
+}
+
+/// The items of each of the shelves, where the unused ones are marked. The free lists are empty.
+fn walk_chains(
+    alloc: Global,
+    atlas: &LoadedAtlas,
+    room: &mut WalkRoom,
+    marks: &mut [bool],
+    links: &[u16],
+    numbers: &[u16],
+    steps: &mut u64,
+) -> Result<Vec<WalkedShelf>, RestoreFault>
+    requires few { length atlas.now.lists.items ≤ no_link }
+    requires links { links.now
+        ≡ map (λ here. bits_of (item_chain.next here)) atlas.now.lists.items }
+    requires room { length links.now ≤ room.old }
+    requires marks { length marks.old ≡ length links.now }
+    requires numbers { numbers.now ≡ (shelf_walk atlas.now.lists).met }
+    requires marked { IsMarkedBy marks.old (unused_item_walk atlas.now.lists).met }
+    requires steps { steps.old < 2 ^ 31 }
+    ensures room { room.new ≡ room.old }
+    ensures ok { IfOk result (λ shelves. shelves.items ≡ map (chain_entry atlas.now.lists) numbers.now) }
+    ensures chains { OnOk result (Each (HasChain atlas.now.lists) numbers.now) }
+    ensures marked { IfOk result (λ shelves.
+        IsMarkedBy marks.new ((unused_item_walk atlas.now.lists).met ++ item_numbers shelves.items)) }
+    ensures fault { IfErr result (IsBroken atlas.now) }
+    ensures steps { IfOk result (λ shelves.
+        steps.new ≡ steps.old + length (item_numbers shelves.items)) }
+    ensures until { IfErr result (λ fault. (more : ℕ) → StopsAfter
+        (steps.old + links_until (length atlas.now.lists.items) more (unused_item_walk atlas.now.lists).met
+        (map (item_walk atlas.now.lists) numbers.now))
+        steps.new fault) }
+    ensures bound { steps.new + length (unused_item_walk atlas.now.lists).met
+        ≤ steps.old + 2 * length atlas.now.lists.items }
+{
+    let mut shelves = Vec::new(alloc);
+    for number in numbers {
+        let first = first_item_link(atlas.records.shelves(), usize::from(*number)).bits();
+        let items = match walk_marking(alloc, room, marks, links, first, steps) {
+            Ok(items) => items,
+            Err(fault) => return Err(chain_fault(fault)),
+        };
+        let shelf = WalkedShelf {
+            number: *number,
+            items,
+            free_list: Vec::new(alloc),
+        };
+        let Ok(()) = shelves.push(shelf) else {
+            return Err(RestoreFault::Memory);
+        };
+    }
+    Ok(shelves)
+}

@@ -1,0 +1,36 @@
+//! Judging the rules of a snapshot, each in one pass over lists that walks have met. No link is
+//! followed here, and no list is searched.
+//!
+//! Definitions: `StandsFor`, whose fields are the rules, and `Judging` for some of them over lists.
+//! Each pass answers exactly: a yes says that the rule holds, a no that it is broken.
+
+ghost use Rattle.etagere_links.specs.RecordLists.{Entry};
+
+pub mod filling;
+pub mod framing;
+pub mod freeing;
+pub mod linking;
+pub mod neighbouring;
+pub mod spacing;
+pub mod stacking;
+
+use std::marker::Model;
+
+/// What walks have met of a shelf: its number, its items and its free list, by the numbers of their
+/// records.
+#[derive(Drop)]
+pub struct WalkedShelf {
+    pub number: u16,
+    pub items: Vec<u16>,
+    pub free_list: Vec<u16>,
+}
+
+impl Model for WalkedShelf {
+    ghost Value = { Entry };
+
+    ghost view = { λ shelf. record {
+      number = shelf.number;
+      items = shelf.items.items;
+      free_list = shelf.free_list.items;
+    } };
+}

@@ -1,0 +1,89 @@
+//! What a snapshot says, once its frame and the counts of its records keep their ranges.
+//!
+//! Definitions: `Snapshots`.
+
+ghost use Rattle.std.specs.Prelude.{◌≡◌, ◌≤◌, ◌⊎◌, IfErr, IfOk, OnOk};
+ghost use Rattle.etagere_base.specs.declared.faults.RestoreFault.TheVariants as faults;
+ghost use Rattle.etagere_base.specs.Frames.{IsFrame, longest_side};
+ghost use Rattle.shelf_records.specs.Snapshots as spec;
+ghost use Rattle.shelf_records.specs.Snapshots.{IsBroken, snapshot_records};
+ghost use Rattle.shelf_records.specs.StandsFor.{HasCounts};
+
+use crate::judging::framing::{has_counts, is_frame};
+use crate::loaded_atlas::LoadedAtlas;
+use etagere_base::{Frame, RestoreFault, Sides, side, swapped_axes};
+use etagere_links::Records;
+use shelf_records::snapshots::AtlasSnapshot;
+
+impl LoadedAtlas {
+    /// The atlas that a snapshot says, where its frame and the counts of its records keep their ranges. Takes no
+    /// memory.
+    pub fn of_snapshot(snapshot: AtlasSnapshot) -> Result<LoadedAtlas, RestoreFault>
+        ensures ok { IfOk result (λ atlas. atlas ≡ snapshot_records snapshot) }
+        ensures frame { OnOk result (IsFrame longest_side (snapshot_records snapshot).frame) }
+        ensures counts { OnOk result (HasCounts (snapshot_records snapshot)) }
+        ensures fault { IfErr result (IsBroken (snapshot_records snapshot)) }
+        ensures early { IfErr result (λ fault. (fault ≡ faults.Frame) ⊎ (fault ≡ faults.Counts)) }
+    {
+        let frame = snapshot_frame(&snapshot)?;
+        if !has_counts(&frame, &snapshot.shelves, &snapshot.items) {
+            return Err(RestoreFault::Counts);
+        }
+        let records = Records::of_lists(
+            snapshot.shelves,
+            snapshot.items,
+            snapshot.first_shelf,
+            snapshot.free_items,
+            snapshot.free_shelves,
+        );
+        Ok(LoadedAtlas {
+            frame,
+            records,
+            allocated_space: snapshot.allocated_space,
+        })
+    }
+}
+
+/// The frame that a snapshot says, where it keeps its ranges.
+fn snapshot_frame(snapshot: &AtlasSnapshot) -> Result<Frame, RestoreFault>
+    ensures ok { IfOk result (λ frame. frame ≡ spec.snapshot_frame snapshot.now) }
+    ensures frame { OnOk result (IsFrame longest_side (spec.snapshot_frame snapshot.now)) }
+    ensures fault { IfErr result (IsBroken (snapshot_records snapshot.now)) }
+    ensures early { IfErr result (λ fault. fault ≡ faults.Frame) }
+{
+    let column_width = u32::from(snapshot.shelf_width);
+    if column_width == 0 {
+        return Err(RestoreFault::Frame);
+    }
+    let frame = frame_of(snapshot, column_width);
+    if !is_frame(&frame) {
+        return Err(RestoreFault::Frame);
+    }
+    Ok(frame)
+}
+
+/// The frame of a snapshot whose columns have this width, in pixels: it has as many of them as fit.
+fn frame_of(snapshot: &AtlasSnapshot, column_width: u32) -> Frame
+    requires same { column_width ≡ snapshot.now.shelf_width }
+    requires wide { 1 ≤ column_width }
+    ensures { result ≡ spec.snapshot_frame snapshot.now }
+{
+    let width = side(snapshot.width);
+    let height = side(snapshot.height);
+    let sides = swapped_axes(
+        snapshot.vertical_shelves,
+        Sides {
+            along: width,
+            across: height,
+        },
+    );
+    Frame {
+        width,
+        height,
+        alignment_width: side(snapshot.alignment_width),
+        alignment_height: side(snapshot.alignment_height),
+        vertical: snapshot.vertical_shelves,
+        column_width,
+        columns: sides.along / column_width,
+    }
+}

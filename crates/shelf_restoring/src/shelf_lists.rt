@@ -1,0 +1,101 @@
+//! Following the chain of shelves and the unused shelves of a snapshot.
+//!
+//! Definitions: `Restoring`.
+
+ghost use Rattle.std.specs.Prelude.{◌≡◌, ◌*◌, ◌≤◌, ℕ, [], IfOk, IfErr, OnOk, length, map};
+ghost use Rattle.etagere_links.specs.Edits.{AreFitting};
+ghost use Rattle.etagere_links.specs.Links.{bits_of, no_link};
+ghost use Rattle.etagere_links.specs.LinksRead.{links_in, links_until};
+ghost use Rattle.etagere_links.specs.Marks.{IsMarkedBy};
+ghost use Rattle.etagere_links.specs.Records.{shelf_chain};
+ghost use Rattle.shelf_records.specs.Private.Restoring as spec;
+ghost use Rattle.shelf_records.specs.Private.Restoring.{HasShelfLists};
+ghost use Rattle.shelf_restoring.specs.RestoringSteps.{StopsAfter, shelf_walks};
+ghost use Rattle.shelf_records.specs.Snapshots.{IsBroken};
+
+use crate::loaded_atlas::LoadedAtlas;
+use etagere_base::RestoreFault;
+use etagere_links::{
+    Chain, LinkedShelf, WalkFault, WalkRoom, all_marked, next_bits, unmarked, walk_marking,
+};
+use std::alloc::Global;
+
+/// The numbers of the shelves in use, where each shelf record is in use or unused, and in one list.
+pub fn walk_shelves(
+    alloc: Global,
+    atlas: &LoadedAtlas,
+    steps: &mut u64,
+) -> Result<Vec<u16>, RestoreFault>
+    requires few { length atlas.now.lists.shelves ≤ no_link }
+    requires steps { steps.old ≡ 0 }
+    ensures ok { IfOk result (λ numbers. HasShelfLists atlas.now numbers.items) }
+    ensures fault { IfErr result (IsBroken atlas.now) }
+    ensures all { OnOk result (steps.new ≡ links_in (shelf_walks atlas.now.lists)) }
+    ensures until { IfErr result (λ fault. (more : ℕ) → StopsAfter
+        (links_until (length atlas.now.lists.shelves) more [] (shelf_walks atlas.now.lists)) steps.new fault) }
+    ensures bound { steps.new ≤ 2 * length atlas.now.lists.shelves }
+    ensures each { IfOk result (λ numbers. length numbers.items ≤ steps.new) }
+{
+    let Ok(links) = next_bits::<Chain, LinkedShelf>(alloc, atlas.records.shelves()) else {
+        return Err(RestoreFault::Memory);
+    };
+    let Ok(mut room) = WalkRoom::new(alloc, links.len()) else {
+        return Err(RestoreFault::Memory);
+    };
+    let Ok(mut marks) = unmarked(alloc, links.len()) else {
+        return Err(RestoreFault::Memory);
+    };
+    follow_shelves(alloc, atlas, &mut room, &mut marks, &links, steps)
+}
+
+/// The numbers of the shelves in use, where none was marked.
+fn follow_shelves(
+    alloc: Global,
+    atlas: &LoadedAtlas,
+    room: &mut WalkRoom,
+    marks: &mut [bool],
+    links: &[u16],
+    steps: &mut u64,
+) -> Result<Vec<u16>, RestoreFault>
+    requires few { length atlas.now.lists.shelves ≤ no_link }
+    requires links { links.now
+        ≡ map (λ here. bits_of (shelf_chain.next here)) atlas.now.lists.shelves }
+    requires fit { AreFitting shelf_chain.next atlas.now.lists.shelves }
+    requires room { length links.now ≤ room.old }
+    requires marks { length marks.old ≡ length links.now }
+    requires marked { IsMarkedBy marks.old [] }
+    requires steps { steps.old ≡ 0 }
+    ensures ok { IfOk result (λ numbers. HasShelfLists atlas.now numbers.items) }
+    ensures fault { IfErr result (IsBroken atlas.now) }
+    ensures all { OnOk result (steps.new ≡ links_in (shelf_walks atlas.now.lists)) }
+    ensures until { IfErr result (λ fault. (more : ℕ) → StopsAfter
+        (links_until (length atlas.now.lists.shelves) more [] (shelf_walks atlas.now.lists)) steps.new fault) }
+    ensures bound { steps.new ≤ 2 * length atlas.now.lists.shelves }
+    ensures each { IfOk result (λ numbers. length numbers.items ≤ steps.new) }
+{
+    let first = atlas.records.first_shelf().bits();
+    let numbers = match walk_marking(alloc, room, marks, links, first, steps) {
+        Ok(numbers) => numbers,
+        Err(fault) => return Err(chain_fault(fault)),
+    };
+    let unused = atlas.records.unused_shelves().bits();
+    if let Err(fault) = walk_marking(alloc, room, marks, links, unused, steps) {
+        return Err(chain_fault(fault));
+    }
+    if !all_marked(marks) {
+        return Err(RestoreFault::Sharing);
+    }
+    Ok(numbers)
+}
+
+/// What is wrong with a snapshot where a walk along a chain, or along what is unused, is refused.
+pub fn chain_fault(fault: WalkFault) -> RestoreFault
+    ensures { result ≡ spec.chain_fault fault }
+{
+    match fault {
+        WalkFault::OutOfRange => RestoreFault::Link,
+        WalkFault::Marked => RestoreFault::Sharing,
+        WalkFault::Circular => RestoreFault::Sharing,
+        WalkFault::Memory => RestoreFault::Memory,
+    }
+}

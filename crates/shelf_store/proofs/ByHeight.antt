@@ -1,0 +1,24 @@
+-- The shelves in use by height: how the list is searched and changed.
+pub mod BestByHeight
+pub mod CollectedShelves
+pub mod EarliestChosen
+pub mod EarliestShelves
+pub mod EmptyShelves
+pub mod FreedBounds
+pub mod FreedRanks
+pub mod KeptRanks
+pub mod LeastOffers
+pub mod MergedRanks
+pub mod MetShelves
+pub mod NewlyRanked
+pub mod NumberedBounds
+pub mod PassedShelves
+pub mod PlacesRise
+pub mod RisingNumbers
+pub mod SearchableShelves
+pub mod SearchedOnes
+pub mod Searches
+pub mod SplitOrders
+pub mod SplitRanked
+pub mod TakenBounds
+pub mod TakenRanked

@@ -1,0 +1,132 @@
+-- Where shelves stand in the order of heights and places once a shelf was split and its item given.
+use Rattle.std.proofs.Common.{◌≡◌, ◌≢◌, ℕ, ◌+◌, ◌*◌, ◌<◌, ◌≤◌, Bool, true, false, Option, None, Some, List, [], ◌∷◌, length, refl, ap, arith, ◌∙◌}
+use Rattle.std.proofs.lemmas.List.{length-append}
+use Rattle.etagere_base.specs.Lists.{times}
+use Rattle.etagere_base.specs.declared.frames.Frame.{Frame}
+use Rattle.etagere_links.specs.Edits.{changed_by, first_without, link_at, linked_between}
+use Rattle.etagere_links.specs.RecordLists.{Records, first_free_of, shelf_walk}
+use Rattle.etagere_links.specs.RecordMerges.{shelf_split}
+use Rattle.etagere_links.specs.RecordUses.{new_shelf, rests_of, rests_used, shelves_used}
+use Rattle.etagere_links.specs.Records.{free_list, item_chain, shelf_chain}
+use Rattle.etagere_links.specs.declared.records.LinkedItem.{LinkedItem}
+use Rattle.etagere_links.specs.declared.records.LinkedShelf.{LinkedShelf}
+use Rattle.etagere_links.proofs.FirstLinks.{field_at-kept}
+use Rattle.etagere_links.proofs.RecordChanges.{length-changed_by}
+use Rattle.etagere_links.proofs.RecordFrames.{length-linked_between, map-linked_between}
+use Rattle.shelf_records.specs.AtlasRecords.{across_of, along_of, height_of}
+use Rattle.shelf_model.specs.Choice.{Placement}
+use Rattle.shelf_heights.specs.Private.ByHeight.{order_of, place_number}
+use Rattle.shelf_records.specs.Private.Kept.{AreKept}
+use Rattle.shelf_store.specs.Private.PlacementTaken.{placement_taken, shelf_split_for, with_item_given, with_rest_written}
+use Rattle.shelf_store.proofs.ByHeight.PlacesRise.{LiesWithin, kept-within, places-rise}
+use Rattle.shelf_store.proofs.ByHeight.RisingNumbers.{rise-same}
+use Rattle.shelf_records.proofs.Recorded.Members.{Each-member}
+use Rattle.shelf_store.proofs.Spelled.GivenItems.{front-shelves, given-shelves}
+use Rattle.shelf_records.proofs.Spelled.RecordValues.{SameShelf, shelf-other, shelf_values, shelves-same}
+use Rattle.shelf_store.proofs.Spelled.SpelledMerges.{free-first}
+use Rattle.shelf_store.proofs.Spelled.SpelledShelves.{shelves-keep_values}
+use Rattle.shelf_store.proofs.Spelled.SpelledUses.{SameShelf-then, same-shelf, shelves-used}
+
+-- a shelf that says the same stands where it stood
+pub order-same : (shelves new : List LinkedShelf) (k : ℕ) → SameShelf shelves new k → order_of new k ≡ order_of shelves k
+order-same shelves new k same =
+    ap (λ (h : ℕ). h * (65536 * 65536) + place_number new k) same.height
+    ∙ ap (λ (a : ℕ). height_of shelves k * (65536 * 65536) + (a * 65536 + across_of new k)) same.along
+    ∙ ap (λ (a : ℕ). height_of shelves k * (65536 * 65536) + (along_of shelves k * 65536 + a)) same.across
+
+-- shelves say the same once records were put to use
+pub same-used : (of_shelf of_item : Bool) (records : Records) (k : ℕ) → SameShelf records.shelves (rests_used of_shelf of_item records).shelves k
+same-used false of_item records k = same-shelf records.shelves k
+same-used true of_item records k = shelves-used records.free_shelves records.shelves k
+
+-- there are no fewer then
+pub length-used : (of_shelf of_item : Bool) (records : Records) → length records.shelves ≤ length (rests_used of_shelf of_item records).shelves
+length-used false of_item records = omega arith
+length-used true of_item records = by_link records.free_shelves
+  where
+    by_link : (unused : Option ℕ) → length records.shelves ≤ length (shelves_used true unused records.shelves)
+    by_link None = omega (arith, length-append records.shelves (new_shelf ∷ []))
+    by_link (Some number) = omega arith
+
+-- the other shelves say the same once one was split
+pub same-split : (records : Records) (number rest rest_item height : ℕ) (rest_shelf : LinkedShelf) (item : LinkedItem) (k : ℕ) → number ≢ k → rest ≢ k
+    → SameShelf records.shelves (shelf_split number rest rest_item height rest_shelf item records).shelves k
+same-split records number rest rest_item height rest_shelf item k other rest_other =
+    let old : List LinkedShelf = records.shelves in
+    let one : List LinkedShelf = changed_by (Some rest) (λ _. rest_shelf) old in
+    let next : Option ℕ = link_at shelf_chain.next one number in
+    let two : List LinkedShelf = linked_between shelf_chain (Some number) next rest one in
+    let written : SameShelf old one k = shelf-other old old (λ _. rest_shelf) rest k (λ e. let same : rest ≡ k = cc in rest_other same) (same-shelf old k) in
+    let linked : SameShelf one two k = shelves-same one two k (map-linked_between shelf_chain shelf_values shelves-keep_values one (Some number) next rest) in
+    shelf-other old two (λ x. record x { height = height }) number k (λ e. let same : number ≡ k = cc in other same) (SameShelf-then old one two k written linked)
+
+-- there are as many then
+pub length-split : (records : Records) (number rest rest_item height : ℕ) (rest_shelf : LinkedShelf) (item : LinkedItem)
+    → length (shelf_split number rest rest_item height rest_shelf item records).shelves ≡ length records.shelves
+length-split records number rest rest_item height rest_shelf item =
+    let old : List LinkedShelf = records.shelves in
+    let one : List LinkedShelf = changed_by (Some rest) (λ _. rest_shelf) old in
+    let next : Option ℕ = link_at shelf_chain.next one number in
+    length-changed_by (λ (x : LinkedShelf). record x { height = height }) (linked_between shelf_chain (Some number) next rest one) (Some number)
+    ∙ length-linked_between shelf_chain one (Some number) next rest
+    ∙ length-changed_by (λ _. rest_shelf) old (Some rest)
+
+-- shelves say the same once an item was given
+same-given : (found : Placement) (rest : Option ℕ) (records : Records) (k : ℕ) → SameShelf records.shelves (with_item_given found rest records).shelves k
+same-given found None records k =
+    shelves-same records.shelves (with_item_given found None records).shelves k
+    (free-first found.shelf (first_without (link_at free_list.previous records.items found.item) (link_at free_list.next records.items found.item) (first_free_of records.shelves found.shelf)) records.shelves)
+same-given found (Some rest) records k =
+    let items : List LinkedItem = (with_rest_written found rest records).items in
+    let one : List LinkedItem = linked_between item_chain (Some found.item) (link_at item_chain.next items found.item) rest items in
+    let two : List LinkedItem = linked_between free_list (Some found.item) (link_at free_list.next one found.item) rest one in
+    shelves-same records.shelves (with_item_given found (Some rest) records).shelves k
+    (free-first found.shelf (first_without (link_at free_list.previous two found.item) (link_at free_list.next two found.item) (first_free_of records.shelves found.shelf)) records.shelves)
+
+-- there are as many then
+length-given : (found : Placement) (rest : Option ℕ) (records : Records) → length (with_item_given found rest records).shelves ≡ length records.shelves
+length-given found None records = given-shelves records found.shelf found.item
+length-given found (Some rest) records = front-shelves (with_rest_written found rest records) found.shelf found.item rest found.width
+
+-- a shelf stands where it stood once its item was given, and it was marked
+pub order-taken : (column_width : ℕ) (found : Placement) (records : Records) (k : ℕ)
+    → order_of (placement_taken column_width found records).shelves k ≡ order_of (shelf_split_for column_width found records).shelves k
+order-taken column_width found records k =
+    let split : Records = shelf_split_for column_width found records in
+    let given : Records = with_item_given found (rests_of found.splits_shelf found.splits_item records).item split in
+    let same : SameShelf split.shelves given.shelves k = same-given found (rests_of found.splits_shelf found.splits_item records).item split k in
+    let marked : LinkedShelf → LinkedShelf = λ here. record here { is_empty = false } in
+    let new : List LinkedShelf = changed_by (Some found.shelf) marked given.shelves in
+    ap (λ (h : ℕ). h * (65536 * 65536) + place_number new k) (field_at-kept (λ (x : LinkedShelf). x.height) 0 marked given.shelves found.shelf k (λ x. refl))
+    ∙ ap (λ (a : ℕ). height_of given.shelves k * (65536 * 65536) + (a * 65536 + across_of new k)) (field_at-kept (λ (x : LinkedShelf). x.x) 0 marked given.shelves found.shelf k (λ x. refl))
+    ∙ ap (λ (a : ℕ). height_of given.shelves k * (65536 * 65536) + (along_of given.shelves k * 65536 + a)) (field_at-kept (λ (x : LinkedShelf). x.y) 0 marked given.shelves found.shelf k (λ x. refl))
+    ∙ order-same split.shelves given.shelves k same
+
+-- there are as many then
+pub length-taken : (column_width : ℕ) (found : Placement) (records : Records)
+    → length (placement_taken column_width found records).shelves ≡ length (shelf_split_for column_width found records).shelves
+length-taken column_width found records =
+    let split : Records = shelf_split_for column_width found records in
+    let rest : Option ℕ = (rests_of found.splits_shelf found.splits_item records).item in
+    length-changed_by (λ (here : LinkedShelf). record here { is_empty = false }) (with_item_given found rest split).shelves (Some found.shelf)
+    ∙ length-given found rest split
+
+-- two of one order begin at one place, where these are below a bound
+one-place : (height place high other : ℕ) → place < 65536 * 65536 → other < 65536 * 65536 → height * (65536 * 65536) + place ≡ high * (65536 * 65536) + other → place ≡ other
+one-place height place high other below above same = omega (arith, below, above, same)
+
+-- a place is below the bound
+place-low : (along across : ℕ) → along < 65536 → across < 65536 → along * 65536 + across < 65536 * 65536
+place-low along across low short = omega (arith, low, short)
+
+-- no two shelves in use of kept records share a place in the order
+pub orders-apart : (frame : Frame) (records : Records) (k other : ℕ) → AreKept frame records → 1 ≤ times k (shelf_walk records).met → 1 ≤ times other (shelf_walk records).met
+    → k ≢ other → order_of records.shelves k ≢ order_of records.shelves other
+orders-apart frame records k other kept stands other_stands differ same =
+    let here : LiesWithin frame records.shelves k = Each-member (LiesWithin frame records.shelves) (shelf_walk records).met k (kept-within frame records kept) stands in
+    let there : LiesWithin frame records.shelves other = Each-member (LiesWithin frame records.shelves) (shelf_walk records).met other (kept-within frame records kept) other_stands in
+    let place : place_number records.shelves k ≡ place_number records.shelves other =
+    one-place (height_of records.shelves k) (place_number records.shelves k) (height_of records.shelves other) (place_number records.shelves other)
+    (place-low (along_of records.shelves k) (across_of records.shelves k) here.along here.across)
+    (place-low (along_of records.shelves other) (across_of records.shelves other) there.along there.across) same in
+    differ (rise-same (place_number records.shelves) 0 (shelf_walk records).met (places-rise frame records kept) k other stands other_stands place)

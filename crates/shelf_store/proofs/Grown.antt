@@ -1,0 +1,23 @@
+-- What a growth changes and keeps.
+pub mod AppendedColumns
+pub mod CountedRecords
+pub mod EditedShelf
+pub mod EndedGrowth
+pub mod GrownAtlas
+pub mod GrownKept
+pub mod GrownNothing
+pub mod GrowthSteps
+pub mod HalfGrown
+pub mod HeightenedRecords
+pub mod HeightenedSteps
+pub mod InsertedShelves
+pub mod MadeLinked
+pub mod MissingRecords
+pub mod NextRecords
+pub mod StartedGrowth
+pub mod TallerRecords
+pub mod UsedRecords
+pub mod WidenedEnds
+pub mod WidenedItems
+pub mod WidenedRecords
+pub mod WidenedShelf

@@ -1,0 +1,86 @@
+-- Linked records stay linked when records are made ahead, which stand in no list.
+use Rattle.std.proofs.Common.{◌≡◌, ℕ, zero, suc, List, [], ◌∷◌, ◌++◌, length, length-append, refl, arith}
+use Rattle.etagere_base.specs.Lists.{times}
+use Rattle.etagere_base.proofs.TimesLemmas.{times-append}
+use Rattle.etagere_links.specs.RecordEdits.{item_made, shelf_made}
+use Rattle.etagere_links.specs.RecordLists.{Entry, IsLinkedBut, Records, item_numbers, shelf_numbers}
+use Rattle.etagere_links.specs.RecordMaking.{records_made, with_new_items, with_new_shelves}
+use Rattle.etagere_links.specs.RecordUses.{new_item, new_shelf}
+use Rattle.etagere_links.proofs.AllLists.LinkedFields.{item_made-linked, shelf_made-linked}
+use Rattle.etagere_links.proofs.AllLists.LinkedUnused.{lists_of, three-count}
+use Rattle.shelf_store.specs.Private.FreshRecords.{numbered}
+
+-- so many numbers from this one on
+abbrev pub numbers_from : ℕ → ℕ → List ℕ
+numbers_from from count = numbered (λ number. number) from count
+
+-- the order of records in no list doesn't matter
+loose-counted : (records : Records) (entries : List Entry) (unused_items unused_shelves loose other loose_shelves other_shelves : List ℕ)
+    → ((k : ℕ) → times k other ≡ times k loose) → ((k : ℕ) → times k other_shelves ≡ times k loose_shelves)
+    → IsLinkedBut records (lists_of entries unused_items unused_shelves) loose loose_shelves
+    → IsLinkedBut records (lists_of entries unused_items unused_shelves) other other_shelves
+loose-counted records entries unused_items unused_shelves loose other loose_shelves other_shelves same same_shelves linked =
+    record {
+      shelves = linked.shelves;
+      entries = linked.entries;
+      unused_items = linked.unused_items;
+      unused_shelves = linked.unused_shelves;
+      shelves_once = λ k. omega (
+        arith,
+        linked.shelves_once k,
+        same_shelves k,
+        three-count (shelf_numbers entries) unused_shelves loose_shelves k,
+        three-count (shelf_numbers entries) unused_shelves other_shelves k,
+      );
+      items_once = λ k. omega (
+        arith,
+        linked.items_once k,
+        same k,
+        three-count (item_numbers entries) unused_items loose k,
+        three-count (item_numbers entries) unused_items other k,
+      );
+    }
+
+-- the first of some numbers may come last
+moved : (from last count : ℕ) (loose : List ℕ) (k : ℕ) → last ≡ suc from
+    → times k (numbers_from from (suc count) ++ loose) ≡ times k (numbers_from last count ++ from ∷ loose)
+moved from last count loose k is =
+    rw is (omega (arith, times-append k (numbers_from (suc from) count) loose, times-append k (numbers_from (suc from) count) (from ∷ loose)))
+
+-- item records were made
+pub items-made : (count : ℕ) (records : Records) (entries : List Entry) (unused_items unused_shelves loose loose_shelves : List ℕ)
+    → IsLinkedBut records (lists_of entries unused_items unused_shelves) loose loose_shelves
+    → IsLinkedBut (record records { items = with_new_items count records.items }) (lists_of entries unused_items unused_shelves)
+    (numbers_from (length records.items) count ++ loose) loose_shelves
+items-made zero records entries unused_items unused_shelves loose loose_shelves linked = linked
+items-made (suc count) records entries unused_items unused_shelves loose loose_shelves linked =
+    let last : length (records.items ++ new_item ∷ []) ≡ suc (length records.items) = omega (arith, length-append records.items (new_item ∷ [])) in
+    loose-counted _ entries unused_items unused_shelves (numbers_from (length (records.items ++ new_item ∷ [])) count ++ length records.items ∷ loose)
+    (numbers_from (length records.items) (suc count) ++ loose) loose_shelves loose_shelves
+    (λ k. moved (length records.items) (length (records.items ++ new_item ∷ [])) count loose k last) (λ k. refl)
+    (items-made count (item_made new_item records) entries unused_items unused_shelves (length records.items ∷ loose) loose_shelves
+    (item_made-linked records new_item entries unused_items unused_shelves loose loose_shelves linked))
+
+-- shelf records were made
+pub shelves-made : (count : ℕ) (records : Records) (entries : List Entry) (unused_items unused_shelves loose loose_shelves : List ℕ)
+    → IsLinkedBut records (lists_of entries unused_items unused_shelves) loose loose_shelves
+    → IsLinkedBut (record records { shelves = with_new_shelves count records.shelves }) (lists_of entries unused_items unused_shelves) loose
+    (numbers_from (length records.shelves) count ++ loose_shelves)
+shelves-made zero records entries unused_items unused_shelves loose loose_shelves linked = linked
+shelves-made (suc count) records entries unused_items unused_shelves loose loose_shelves linked =
+    let last : length (records.shelves ++ new_shelf ∷ []) ≡ suc (length records.shelves) = omega (arith, length-append records.shelves (new_shelf ∷ [])) in
+    loose-counted _ entries unused_items unused_shelves loose loose (numbers_from (length (records.shelves ++ new_shelf ∷ [])) count ++ length records.shelves ∷ loose_shelves)
+    (numbers_from (length records.shelves) (suc count) ++ loose_shelves) (λ k. refl)
+    (λ k. moved (length records.shelves) (length (records.shelves ++ new_shelf ∷ [])) count loose_shelves k last)
+    (shelves-made count (shelf_made new_shelf records) entries unused_items unused_shelves loose (length records.shelves ∷ loose_shelves)
+    (shelf_made-linked records new_shelf entries unused_items unused_shelves loose loose_shelves linked))
+
+-- records of both kinds were made
+pub records-made : (items shelves : ℕ) (records : Records) (entries : List Entry) (unused_items unused_shelves : List ℕ)
+    → IsLinkedBut records (lists_of entries unused_items unused_shelves) [] []
+    → IsLinkedBut (records_made items shelves records) (lists_of entries unused_items unused_shelves)
+    (numbers_from (length records.items) items ++ []) (numbers_from (length records.shelves) shelves ++ [])
+records-made items shelves records entries unused_items unused_shelves linked =
+    shelves-made shelves (record records { items = with_new_items items records.items }) entries unused_items unused_shelves
+    (numbers_from (length records.items) items ++ []) []
+    (items-made items records entries unused_items unused_shelves [] [] linked)

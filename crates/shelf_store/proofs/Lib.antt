@@ -1,0 +1,5 @@
+pub mod ByHeight
+pub mod Grown
+pub mod Recorded
+pub mod Searched
+pub mod Spelled

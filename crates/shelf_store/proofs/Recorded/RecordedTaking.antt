@@ -1,0 +1,92 @@
+-- What an allocation leaves of an atlas: the state that its records spell, and what is counted beside them.
+use Rattle.std.proofs.Common.{◌≡◌, ℕ, ◌+◌, ◌<◌, ◌≤◌, List, ap, sym, subst, ◌∙◌, arith}
+use Rattle.std.specs.Prelude.{◌^◌}
+use Rattle.etagere_base.specs.declared.frames.Frame.{Frame}
+use Rattle.etagere_base.specs.declared.geometry.Rectangle.{Rectangle}
+use Rattle.etagere_base.specs.declared.geometry.Size.{Size}
+use Rattle.etagere_base.specs.declared.ids.Allocation.{Allocation}
+use Rattle.etagere_links.specs.RecordLists.{Records}
+use Rattle.shelf_model.specs.Choice.{Placement, area, rectangle_of_placement, splits}
+use Rattle.shelf_heights.specs.Private.ByHeight.{AreRanked}
+use Rattle.shelf_records.specs.Private.Kept.{AreKept, state_of}
+use Rattle.shelf_store.specs.Private.PlacementTaken.{id_of, placement_taken}
+use Rattle.shelf_store.specs.Private.Searching.{Finds}
+use Rattle.shelf_model.specs.Space.{allocated_space}
+use Rattle.shelf_model.specs.State.{AtlasState, items_in_use}
+use Rattle.shelf_model.specs.Taking.{taken}
+use Rattle.shelf_heights.specs.declared.ranked.RankedShelf.{RankedShelf}
+use Rattle.shelf_store.proofs.ByHeight.TakenRanked.{Ranks, taken-ranked}
+use Rattle.shelf_model.proofs.Spaces.SpaceSmall.{space-taken-small}
+use Rattle.shelf_store.proofs.Spelled.TakenKept.{KeepsTaken, placement-kept}
+use Rattle.shelf_model.proofs.Taken.PlacedWithin.{placed-within}
+use Rattle.shelf_model.proofs.Taken.Allocated.{Allocated, taken-allocated}
+use Rattle.shelf_model.proofs.Taken.TakenSpace.{space-taken}
+use Rattle.shelf_model.proofs.Taken.TakenValid.{taken-items_in_use}
+
+-- what was found in records has the rectangle, the area and the splits of the placement that it stands for
+pub record AsPlaced (frame : Frame) (found placement : Placement) : Type 0 where
+  pub rectangle : rectangle_of_placement frame found ≡ rectangle_of_placement frame placement
+  pub area : area found ≡ area placement
+  pub splits : splits found ≡ splits placement
+  pub right : found.along + found.width ≤ 65535
+  pub bottom : found.across + found.height ≤ 65535
+
+-- what was found for a size is as the placement is
+pub found-as_placed : (frame : Frame) (records : Records) (size : Size) (found : Placement) → AreKept frame records → (finds : Finds frame records size found) → AsPlaced frame found finds.placement
+found-as_placed frame records size found kept finds =
+    let placement : Placement = finds.placement in
+    let same : found ≡ record placement { shelf = found.shelf; item = found.item } = finds.located.same in
+    let ends = placed-within (state_of frame records) size placement kept.valid finds.placed in
+    record {
+      rectangle = ap (rectangle_of_placement frame) same;
+      area = ap area same;
+      splits = ap splits same;
+      right = omega (arith, ends.right, ap (λ (p : Placement). p.along) same, ap (λ (p : Placement). p.width) same);
+      bottom = omega (arith, ends.bottom, ap (λ (p : Placement). p.across) same, ap (λ (p : Placement). p.height) same);
+    }
+
+-- what taking what was found needs of the ranked shelves, and what it leaves of them
+pub found-ranked : (frame : Frame) (records : Records) (size : Size) (found : Placement) (ranked : List RankedShelf) → AreKept frame records → Finds frame records size found
+    → AreRanked frame records ranked → Ranks frame records found ranked
+found-ranked frame records size found ranked kept finds are =
+    let placement : Placement = finds.placement in
+    taken-ranked frame records placement found ranked kept (placement-kept frame records size placement found kept finds.placed finds.located)
+    (ap (λ (p : Placement). p.splits_shelf) finds.located.same) are
+
+-- what holds after what was found for a size was taken, of the records and of the id
+pub record AfterTaking (frame : Frame) (records : Records) (size : Size) (found : Placement) (allocation : Allocation) (new : Records) : Type 0 where
+  pub kept : AreKept frame new
+  pub allocated : Allocated (state_of frame records) size allocation (state_of frame new)
+  pub counted : items_in_use (state_of frame new).shelves ≡ items_in_use (state_of frame records).shelves + splits found
+  pub space : allocated_space (state_of frame new) ≡ allocated_space (state_of frame records) + area found
+  pub small : allocated_space (state_of frame records) + area found < 2 ^ 31
+
+-- what holds after what was found was taken
+placement_taken-after : (frame : Frame) (records : Records) (size : Size) (found : Placement) → AreKept frame records → Finds frame records size found
+    → AfterTaking frame records size found (record { id = id_of records.items found.item; rectangle = rectangle_of_placement frame found }) (placement_taken frame.column_width found records)
+placement_taken-after frame records size found kept finds =
+    let placement : Placement = finds.placement in
+    let state : AtlasState = state_of frame records in
+    let id : ℕ = id_of records.items found.item in
+    let made : KeepsTaken frame records placement found = placement-kept frame records size placement found kept finds.placed finds.located in
+    let as_placed = found-as_placed frame records size found kept finds in
+    let allocated : Allocated state size (record { id = id; rectangle = rectangle_of_placement frame placement }) (taken state placement id) =
+    taken-allocated state size placement id kept.valid finds.placed made.fresh made.below in
+    record {
+      kept = made.kept;
+      allocated = subst (λ (r : Rectangle). Allocated state size (record { id = id; rectangle = r }) (state_of frame (placement_taken frame.column_width found records))) (sym as_placed.rectangle)
+          (subst (Allocated state size (record { id = id; rectangle = rectangle_of_placement frame placement })) (sym made.state) allocated);
+      counted = ap (λ (s : AtlasState). items_in_use s.shelves) made.state ∙ taken-items_in_use state size placement id kept.valid finds.placed ∙ ap (λ (k : ℕ). items_in_use state.shelves + k) (sym as_placed.splits);
+      space = ap allocated_space made.state ∙ space-taken state size placement id kept.valid finds.placed ∙ ap (λ (k : ℕ). allocated_space state + k) (sym as_placed.area);
+      small = subst (λ (k : ℕ). allocated_space state + k < 2 ^ 31) (sym as_placed.area) (space-taken-small state size placement id kept.valid finds.placed);
+    }
+
+-- what holds after an allocation, from what its steps answer
+pub after-taking : (frame : Frame) (records new : Records) (size : Size) (found : Placement) (id : ℕ) (rectangle : Rectangle) → AreKept frame records → Finds frame records size found
+    → new ≡ placement_taken frame.column_width found records → id ≡ id_of records.items found.item → rectangle ≡ rectangle_of_placement frame found
+    → AfterTaking frame records size found (record { id = id; rectangle = rectangle }) new
+after-taking frame records new size found id rectangle kept finds made names lies =
+    subst (λ (r : Records). AfterTaking frame records size found (record { id = id; rectangle = rectangle }) r) (sym made)
+    (subst (λ (n : ℕ). AfterTaking frame records size found (record { id = n; rectangle = rectangle }) (placement_taken frame.column_width found records)) (sym names)
+    (subst (λ (r : Rectangle). AfterTaking frame records size found (record { id = id_of records.items found.item; rectangle = r }) (placement_taken frame.column_width found records)) (sym lies)
+    (placement_taken-after frame records size found kept finds)))

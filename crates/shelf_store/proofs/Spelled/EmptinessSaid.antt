@@ -1,0 +1,128 @@
+-- Records that spell lists, whose shelves say whether they are empty; and after a shelf was made to say it.
+use Rattle.std.proofs.Common.{◌≡◌, ◌≢◌, ℕ, ◌+◌, ◌≤◌, Bool, true, false, ◌&&◌, ◌==◌, Option, Some, List, [], ◌∷◌, ◌++◌, map, refl, ap, arith, sym, ◌∙◌}
+use Rattle.std.specs.Prelude.{◌/◌, not, is_none, if◌then◌else◌}
+use Rattle.etagere_base.proofs.EachLemmas.{Each-append, Each-middle}
+use Rattle.etagere_base.proofs.TimesLemmas.{times-append}
+use Rattle.etagere_base.specs.Lists.{Each, times}
+use Rattle.etagere_links.specs.declared.records.LinkedItem.{LinkedItem}
+use Rattle.etagere_links.specs.declared.records.LinkedShelf.{LinkedShelf}
+use Rattle.etagere_links.specs.Chains.{IsChainIn}
+use Rattle.etagere_links.specs.RecordLists.{Records, Entry, Lists, IsEntry, first_item_of, shelf_numbers}
+use Rattle.etagere_links.specs.Records.{item_chain}
+use Rattle.etagere_links.proofs.AllLists.LinkedFields.{KeepsShelfLinks, shelf_changed-linked}
+use Rattle.etagere_links.proofs.AllLists.LinkedItems.{IsApart, linked-apart}
+use Rattle.etagere_links.proofs.AllLists.LinkedUnused.{lists_of}
+use Rattle.etagere_links.proofs.FirstLinks.{field_at-changed, field_at-kept, field_at-other}
+use Rattle.etagere_links.proofs.ListEnds.{times-here}
+use Rattle.shelf_records.specs.AtlasRecords.{AtlasRecords, along_of, across_of, height_of, is_empty_at, is_allocated_at, item_at, place_of, spelled_shelf}
+use Rattle.shelf_store.specs.Private.ItemReturned.{emptiness_said, names_one_free}
+use Rattle.shelf_records.specs.Private.Kept.{HasFlag}
+use Rattle.shelf_records.specs.StandsFor.{AreStacked, height_before}
+use Rattle.shelf_model.specs.State.{Item, Shelf, is_empty, is_one_free}
+use Rattle.shelf_store.proofs.Spelled.ItemsAround.{free-item}
+use Rattle.shelf_records.proofs.Spelled.RecordValues.{SameItem, items-same, map-agrees}
+use Rattle.shelf_store.proofs.Spelled.SpelledLists.{with_lists, IsSpelled}
+use Rattle.shelf_store.proofs.Spelled.SpelledShelves.{still-placed}
+
+-- records that spell lists, and whose shelves say whether they are empty
+pub record IsFlagged (atlas : AtlasRecords) (lists : Lists) : Type 0 where
+  pub spelled : IsSpelled atlas lists
+  pub flags : Each (HasFlag atlas) lists.entries
+
+-- shelves that are spelled as before and say what they said
+pub flags-same : (atlas new : AtlasRecords) (entries : List Entry) → ((k : ℕ) → 1 ≤ times k (shelf_numbers entries) → is_empty_at new.lists.shelves k ≡ is_empty_at atlas.lists.shelves k) → map (spelled_shelf new) entries ≡ map (spelled_shelf atlas) entries → Each (HasFlag atlas) entries → Each (HasFlag new) entries
+flags-same atlas new [] same spelled flags = tt
+flags-same atlas new (entry ∷ entries) same spelled flags =
+    let first : spelled_shelf new entry ≡ spelled_shelf atlas entry = cc in
+    let rest : map (spelled_shelf new) entries ≡ map (spelled_shelf atlas) entries = cc in (
+      same entry.number (omega (arith, times-here entry.number (shelf_numbers entries))) ∙ flags.0 ∙ ap is_empty (sym first),
+      flags-same atlas new entries (λ k stands. same k (omega (arith, stands))) rest flags.1,
+    )
+
+-- a shelf with the same place and items, and of this height
+pub shelf-is : (atlas : AtlasRecords) (lists : Records) (entry : Entry) (height : ℕ) → along_of lists.shelves entry.number ≡ along_of atlas.lists.shelves entry.number → height_of lists.shelves entry.number ≡ height → ((k : ℕ) → SameItem atlas.lists.items lists.items k) → spelled_shelf (with_lists atlas lists) entry ≡ record { column = (spelled_shelf atlas entry).column; height = height; items = (spelled_shelf atlas entry).items; free_list = (spelled_shelf atlas entry).free_list }
+shelf-is atlas lists entry height along tall same =
+    let items : map (item_at lists.items) entry.items ≡ map (item_at atlas.lists.items) entry.items = map-agrees (item_at lists.items) (item_at atlas.lists.items) entry.items (λ k stands. (same k).item) in
+    let places : map (place_of lists.items) entry.free_list ≡ map (place_of atlas.lists.items) entry.free_list = map-agrees (place_of lists.items) (place_of atlas.lists.items) entry.free_list (λ k stands. (same k).place) in
+    ap (λ a. record { column = a / atlas.frame.column_width; height = height_of lists.shelves entry.number; items = map (item_at lists.items) entry.items; free_list = map (place_of lists.items) entry.free_list }) along
+    ∙ ap (λ h. record { column = (spelled_shelf atlas entry).column; height = h; items = map (item_at lists.items) entry.items; free_list = map (place_of lists.items) entry.free_list }) tall
+    ∙ ap (λ (is : List Item). record { column = (spelled_shelf atlas entry).column; height = height; items = is; free_list = map (place_of lists.items) entry.free_list }) items
+    ∙ ap (λ (ps : List ℕ). record { column = (spelled_shelf atlas entry).column; height = height; items = (spelled_shelf atlas entry).items; free_list = ps }) places
+
+-- shelves that begin where they began and are as tall stand where they stood
+module _ (shelves new : List LinkedShelf) (column_width : ℕ) (along : (k : ℕ) → along_of new k ≡ along_of shelves k) (across : (k : ℕ) → across_of new k ≡ across_of shelves k) (height : (k : ℕ) → height_of new k ≡ height_of shelves k) where
+  heights-stay : (column : ℕ) (numbers : List ℕ) → height_before new column_width column numbers ≡ height_before shelves column_width column numbers
+  heights-stay column [] = refl
+  heights-stay column (n ∷ ns) =
+      ap (λ a. (if a / column_width == column then height_of new n else 0) + height_before new column_width column ns) (along n)
+      ∙ ap (λ h. (if along_of shelves n / column_width == column then h else 0) + height_before new column_width column ns) (height n)
+      ∙ ap (λ rest. (if along_of shelves n / column_width == column then height_of shelves n else 0) + rest) (heights-stay column ns)
+
+  stacked-stay : (before numbers : List ℕ) → AreStacked shelves column_width before numbers → AreStacked new column_width before numbers
+  stacked-stay before [] stacked = tt
+  stacked-stay before (n ∷ ns) stacked =
+      let own : height_before new column_width (along_of new n / column_width) before ≡ height_before shelves column_width (along_of shelves n / column_width) before =
+      heights-stay (along_of new n / column_width) before ∙ ap (λ a. height_before shelves column_width (a / column_width) before) (along n) in
+      (across n ∙ stacked.0 ∙ sym own, stacked-stay (before ++ n ∷ []) ns stacked.1)
+
+-- the link to the first of a shelf's items names one free item where that is all
+pub one-free : (items : List LinkedItem) (first : Option ℕ) (xs : List ℕ) → IsChainIn item_chain items first xs → names_one_free items first ≡ is_one_free (map (item_at items) xs)
+one-free items first [] chain = ap (names_one_free items) chain.forward
+one-free items first (x ∷ []) chain =
+    let all : (b : Bool) → (b && true) ≡ b = λ b. grind arith in
+    ap (names_one_free items) chain.forward.0
+    ∙ ap (λ (next : Option ℕ). not (is_allocated_at items x) && is_none next) chain.forward.1
+    ∙ all (not (is_allocated_at items x))
+    ∙ sym (free-item items x (is_allocated_at items x) refl)
+one-free items first (x ∷ y ∷ ys) chain =
+    let none : (b : Bool) → (b && false) ≡ false = λ b. grind arith in
+    ap (names_one_free items) chain.forward.0
+    ∙ ap (λ (next : Option ℕ). not (is_allocated_at items x) && is_none next) chain.forward.1.0
+    ∙ none (not (is_allocated_at items x))
+
+-- saying whether a shelf is empty keeps the links
+keeps-emptiness : (is_empty : Bool) → KeepsShelfLinks (λ (shelf : LinkedShelf). record shelf { is_empty = is_empty })
+keeps-emptiness is_empty = record { next = λ x. refl; prev = λ x. refl; first_item = λ x. refl; first_unallocated = λ x. refl }
+
+-- the records after a shelf was made to say whether it is empty: they spell the same, and every shelf says it
+pub emptiness_said-flagged : (atlas : AtlasRecords) (before after : List Entry) (entry : Entry) (unused shelves : List ℕ) → Each (HasFlag atlas) before → Each (HasFlag atlas) after → IsSpelled atlas (lists_of (before ++ entry ∷ after) unused shelves) → IsFlagged (with_lists atlas (emptiness_said entry.number atlas.lists)) (lists_of (before ++ entry ∷ after) unused shelves) × (map (spelled_shelf (with_lists atlas (emptiness_said entry.number atlas.lists))) (before ++ entry ∷ after) ≡ map (spelled_shelf atlas) (before ++ entry ∷ after))
+emptiness_said-flagged atlas before after entry unused shelves flags_before flags_after spelled =
+    let old : List LinkedShelf = atlas.lists.shelves in
+    let items : List LinkedItem = atlas.lists.items in
+    let entries : List Entry = before ++ entry ∷ after in
+    let value : Bool = names_one_free items (first_item_of old entry.number) in
+    let change : LinkedShelf → LinkedShelf = λ x. record x { is_empty = value } in
+    let lists : Records = emptiness_said entry.number atlas.lists in
+    let new : AtlasRecords = with_lists atlas lists in
+    let apart : IsApart atlas.lists before after unused [] entry = linked-apart atlas.lists before after entry unused shelves [] [] spelled.linked in
+    let along : (k : ℕ) → along_of lists.shelves k ≡ along_of old k = λ k. field_at-kept (λ (x : LinkedShelf). x.x) 0 change old entry.number k (λ x. refl) in
+    let across : (k : ℕ) → across_of lists.shelves k ≡ across_of old k = λ k. field_at-kept (λ (x : LinkedShelf). x.y) 0 change old entry.number k (λ x. refl) in
+    let height : (k : ℕ) → height_of lists.shelves k ≡ height_of old k = λ k. field_at-kept (λ (x : LinkedShelf). x.height) 0 change old entry.number k (λ x. refl) in
+    let same : (k : ℕ) → SameItem items lists.items k = λ k. items-same items lists.items k refl in
+    let each : (es : List Entry) → map (spelled_shelf new) es ≡ map (spelled_shelf atlas) es = λ es. shelves-stay atlas lists along height same es in
+    let is : IsEntry atlas.lists entry = Each-middle (IsEntry atlas.lists) before entry after spelled.linked.entries in
+    let among : (k : ℕ) → times k (shelf_numbers before ++ shelf_numbers after) ≡ times k (shelf_numbers before) + times k (shelf_numbers after) = λ k. times-append k (shelf_numbers before) (shelf_numbers after) in
+    let other : (k : ℕ) → Some entry.number ≢ Some k → is_empty_at lists.shelves k ≡ is_empty_at old k = λ k stranger. field_at-other (λ (x : LinkedShelf). x.is_empty) false change old (Some entry.number) k stranger in
+    let own : is_empty_at lists.shelves entry.number ≡ value = field_at-changed (λ (x : LinkedShelf). x.is_empty) false change old entry.number value apart.number (λ x. refl) in (
+      record {
+        spelled =
+            record {
+              linked = shelf_changed-linked atlas.lists entry.number change entries unused shelves [] [] (keeps-emptiness value) spelled.linked;
+              placed = still-placed atlas lists entries along same spelled.placed;
+              stacked = stacked-stay old lists.shelves atlas.frame.column_width along across height [] (shelf_numbers entries) spelled.stacked;
+              unused = spelled.unused;
+            };
+        flags = Each-append (HasFlag new) before (entry ∷ after)
+            (flags-same atlas new before (λ k stands. other k (apart.numbers k (omega (arith, among k, stands)))) (each before) flags_before) (
+              own ∙ one-free items (first_item_of old entry.number) entry.items is.items,
+              flags-same atlas new after (λ k stands. other k (apart.numbers k (omega (arith, among k, stands)))) (each after) flags_after,
+            );
+      },
+      each entries,
+    )
+  where
+    shelves-stay : (atlas : AtlasRecords) (lists : Records) → ((k : ℕ) → along_of lists.shelves k ≡ along_of atlas.lists.shelves k) → ((k : ℕ) → height_of lists.shelves k ≡ height_of atlas.lists.shelves k) → ((k : ℕ) → SameItem atlas.lists.items lists.items k) → (es : List Entry) → map (spelled_shelf (with_lists atlas lists)) es ≡ map (spelled_shelf atlas) es
+    shelves-stay atlas lists along height same [] = refl
+    shelves-stay atlas lists along height same (e ∷ es) =
+        ap (λ (s : Shelf). s ∷ map (spelled_shelf (with_lists atlas lists)) es) (shelf-is atlas lists e (height_of atlas.lists.shelves e.number) (along e.number) (height e.number) same)
+        ∙ ap (λ (ss : List Shelf). spelled_shelf atlas e ∷ ss) (shelves-stay atlas lists along height same es)

@@ -1,0 +1,246 @@
+-- Records that spell lists, after an item of a shelf was given, and the shelf was marked as one that is not empty.
+use Rattle.std.proofs.Common.{◌≡◌, ◌≢◌, ℕ, zero, suc, ◌+◌, ◌-◌, ◌*◌, ◌<◌, ◌≤◌, true, false, Option, None, Some, List, [], ◌∷◌, ◌++◌, length, map, refl, ap, arith, ◌∙◌, sym}
+use Rattle.std.proofs.lemmas.List.{map-append}
+use Rattle.std.specs.Option.{option_map_or}
+use Rattle.std.specs.Prelude.{slice_get}
+use Rattle.etagere_base.proofs.EachLemmas.{Each-append, Each-front, Each-back, Each-middle}
+use Rattle.etagere_base.proofs.TimesLemmas.{times-append}
+use Rattle.etagere_base.specs.Lists.{Each, times}
+use Rattle.etagere_links.specs.declared.records.LinkedItem.{LinkedItem}
+use Rattle.etagere_links.specs.declared.records.LinkedShelf.{LinkedShelf}
+use Rattle.etagere_links.specs.Edits.{first_without, link_at, linked_between, unlinked}
+use Rattle.etagere_links.specs.Links.{no_link}
+use Rattle.etagere_links.specs.RecordEdits.{item_changed}
+use Rattle.etagere_links.specs.RecordLists.{Records, Entry, field_at, first_free_of, shelf_numbers, item_numbers, IsEntry}
+use Rattle.etagere_links.specs.RecordMerges.{item_given, front_given}
+use Rattle.etagere_links.specs.Records.{item_chain, free_list}
+use Rattle.etagere_links.proofs.FirstLinks.{field_at-changed}
+use Rattle.etagere_links.proofs.AllLists.LinkedFrames.{item_numbers-append}
+use Rattle.etagere_links.proofs.AllLists.LinkedItems.{IsApart, linked-apart}
+use Rattle.etagere_links.proofs.AllLists.LinkedMerges.{entry_of}
+use Rattle.etagere_links.proofs.AllLists.LinkedUnused.{lists_of}
+use Rattle.etagere_links.proofs.ListEnds.{times-here}
+use Rattle.etagere_links.proofs.RecordChanges.{length-changed_by}
+use Rattle.etagere_links.proofs.RecordFrames.{length-linked_between, length-unlinked}
+use Rattle.shelf_records.specs.AtlasRecords.{AtlasRecords, place_of, item_at, spelled_item, spelled_shelf}
+use Rattle.shelf_model.specs.Choice.{Placement}
+use Rattle.shelf_records.specs.Private.Kept.{HasFlag}
+use Rattle.shelf_store.specs.Private.PlacementTaken.{id_of, item_record, rest_item}
+use Rattle.shelf_model.specs.State.{Item, Shelf}
+use Rattle.shelf_store.proofs.Spelled.EntryValues.{IsGiven, id_at}
+use Rattle.shelf_records.proofs.Spelled.RecordValues.{SameItem, SameItem-then, item-same}
+use Rattle.shelf_store.proofs.Spelled.SpelledFronts.{IsFront, IsRestItem, front-values, front_given-spelled}
+use Rattle.shelf_store.proofs.Spelled.SpelledLists.{with_lists, IsSpelled, EditsItems, items-edited-but}
+use Rattle.shelf_store.proofs.Spelled.SpelledMerges.{given-values, item_given-spelled, before-other, after-other}
+use Rattle.shelf_store.proofs.Spelled.SpelledSplits.{HasShelfSplit, split-written, read-record}
+use Rattle.shelf_store.proofs.Spelled.SpelledUses.{SameEntries, same-entries}
+use Rattle.shelf_store.proofs.Spelled.TakenItemSpelled.{taken_from, IsPlacedAt, KeepsOthers, whole-spelled, front-spelled}
+
+-- the records after an item was given: what they spell, and that other shelves say what they said
+pub record IsItemGiven (atlas : AtlasRecords) (new : Records) (before added after : List Entry) (entry : Entry) (unused_items unused_shelves : List ℕ) (shelf : Shelf) (rests : List Shelf) : Type 0 where
+  pub edited : Entry
+  pub number : edited.number ≡ entry.number
+  pub spelled : IsSpelled (with_lists atlas new) (lists_of (before ++ edited ∷ (added ++ after)) unused_items unused_shelves)
+  pub shelves : map (spelled_shelf (with_lists atlas new)) (before ++ edited ∷ (added ++ after)) ≡ map (spelled_shelf atlas) before ++ shelf ∷ (rests ++ map (spelled_shelf atlas) after)
+  pub own : spelled_shelf (with_lists atlas new) edited ≡ shelf
+  pub flags_before : Each (HasFlag atlas) before → Each (HasFlag (with_lists atlas new)) before
+  pub flags_after : Each (HasFlag atlas) after → Each (HasFlag (with_lists atlas new)) (added ++ after)
+  pub more : length atlas.lists.items ≤ length new.items
+  pub made : 1 ≤ length unused_items → length new.items ≡ length atlas.lists.items
+  pub few : length new.shelves ≤ no_link
+
+-- from what an edit of the items of the shelf says: the other shelves are those that they were, and the edited one is this
+given-after : (atlas : AtlasRecords) (split_records new : Records) (before added after : List Entry) (entry edited : Entry) (unused_items unused_shelves loose : List ℕ) (tall : ℕ) (rests : List Shelf) (shelf : Shelf) → Each (IsEntry atlas.lists) (before ++ entry ∷ after) → HasShelfSplit atlas split_records before added after entry unused_items unused_shelves loose tall rests → EditsItems (with_lists atlas split_records) new before (added ++ after) unused_items unused_items unused_shelves entry edited → spelled_shelf (with_lists atlas new) edited ≡ shelf → length new.items ≡ length split_records.items → length new.shelves ≡ length split_records.shelves → IsItemGiven atlas new before added after entry unused_items unused_shelves shelf rests
+given-after atlas split_records new before added after entry edited unused_items unused_shelves loose tall rests shelf are_old is_split edits spelled long long_shelves =
+    let base : AtlasRecords = with_lists atlas split_records in
+    let last : AtlasRecords = with_lists atlas new in
+    let entries : List Entry = before ++ entry ∷ (added ++ after) in
+    let are : Each (IsEntry split_records) entries = is_split.spelled.linked.entries in
+    let done = items-edited-but base new before (added ++ after) unused_items unused_items unused_shelves loose entry edited is_split.spelled edits in
+    let apart : IsApart split_records before (added ++ after) unused_items loose entry = linked-apart split_records before (added ++ after) entry unused_items unused_shelves loose [] is_split.spelled.linked in
+    let count : (k : ℕ) → times k (item_numbers before ++ item_numbers (added ++ after) ++ unused_items) ≡ times k (item_numbers before) + times k (item_numbers (added ++ after)) + times k unused_items =
+    λ k. omega (arith, times-append k (item_numbers before ++ item_numbers (added ++ after)) unused_items, times-append k (item_numbers before) (item_numbers (added ++ after))) in
+    let other : (k : ℕ) → 1 ≤ times k (item_numbers before) + times k (item_numbers (added ++ after)) → SameItem split_records.items new.items k =
+    λ k stands. edits.items k (omega (arith, apart.others k (omega (arith, count k, stands)))) in
+    let tail = Each-back (IsEntry split_records) before (entry ∷ (added ++ after)) are in
+    let old_tail = Each-back (IsEntry atlas.lists) before (entry ∷ after) are_old in
+    let fewer : (k : ℕ) → times k (item_numbers (before ++ entry ∷ after)) ≡ times k (item_numbers before) + (times k entry.items + times k (item_numbers after)) =
+    λ k. omega (arith, item_numbers-append before (entry ∷ after) k, times-append k entry.items (item_numbers after)) in
+    let among : (k : ℕ) → times k (shelf_numbers before ++ shelf_numbers after) ≡ times k (shelf_numbers before) + times k (shelf_numbers after) = λ k. times-append k (shelf_numbers before) (shelf_numbers after) in
+    let to_split : (k : ℕ) → 1 ≤ times k (item_numbers (before ++ entry ∷ after)) → SameItem atlas.lists.items split_records.items k = λ k stands. item-same atlas.lists.items split_records.items k (is_split.items k stands) in
+    let first_before : SameEntries atlas split_records before =
+    same-entries atlas split_records before (λ k stands. is_split.others k (omega (arith, among k, stands))) (λ k stands. to_split k (omega (arith, fewer k, stands))) (Each-front (IsEntry atlas.lists) before (entry ∷ after) are_old) in
+    let first_after : SameEntries atlas split_records after =
+    same-entries atlas split_records after (λ k stands. is_split.others k (omega (arith, among k, stands))) (λ k stands. to_split k (omega (arith, fewer k, stands))) old_tail.1 in
+    let then_before : SameEntries base new before =
+    same-entries base new before (λ k stands. edits.shelf k) (λ k stands. other k (omega (arith, stands))) (Each-front (IsEntry split_records) before (entry ∷ (added ++ after)) are) in
+    let then_after : SameEntries base new (added ++ after) =
+    same-entries base new (added ++ after) (λ k stands. edits.shelf k) (λ k stands. other k (omega (arith, stands))) tail.1 in
+    record {
+      edited = edited;
+      number = edits.number;
+      spelled = done.0;
+      shelves = done.1
+          ∙ ap (λ (ss : List Shelf). ss ++ spelled_shelf last edited ∷ map (spelled_shelf base) (added ++ after)) first_before.spelled
+          ∙ ap (λ (s : Shelf). map (spelled_shelf atlas) before ++ s ∷ map (spelled_shelf base) (added ++ after)) spelled
+          ∙ ap (λ (ss : List Shelf). map (spelled_shelf atlas) before ++ shelf ∷ ss) (map-append (spelled_shelf base) added after)
+          ∙ ap (λ (ss : List Shelf). map (spelled_shelf atlas) before ++ shelf ∷ (ss ++ map (spelled_shelf base) after)) is_split.rests
+          ∙ ap (λ (ss : List Shelf). map (spelled_shelf atlas) before ++ shelf ∷ (rests ++ ss)) first_after.spelled;
+      own = spelled;
+      flags_before = λ flags. then_before.flags (first_before.flags flags);
+      flags_after = λ flags. then_after.flags (Each-append (HasFlag base) added after is_split.flags (first_after.flags flags));
+      more = omega (arith, long, is_split.more);
+      made = λ some. long ∙ is_split.made some;
+      few = omega (arith, long_shelves, is_split.few);
+    }
+
+-- a field of a record that there is
+read-within : {T X : Type 0} (field : T → X) (other : X) (none : T) (xs : List T) (k : ℕ) → k < length xs → field_at field other xs k ≡ field (field_at (λ (x : T). x) none xs k)
+read-within field other none [] k within = absurd (omega arith)
+read-within field other none (x ∷ xs) zero within = refl
+read-within field other none (x ∷ xs) (suc k) within = read-within field other none xs k (omega arith)
+
+-- the id of a record that stayed
+id-same : (items new : List LinkedItem) (k : ℕ) → k < length items → slice_get new k ≡ slice_get items k → id_at new k ≡ id_of items k
+id-same items new k within same =
+    ap (λ (r : Option LinkedItem). k + 65536 * option_map_or (λ (x : LinkedItem). x.generation) r 0) same
+    ∙ ap (λ g. k + 65536 * g) (read-within (λ (x : LinkedItem). x.generation) 0 (item_record [] k) items k within)
+
+-- the width that an item spells is that of its record
+pub width-read : (items : List LinkedItem) (label k : ℕ) → (field_at (spelled_item label) (record { width = 0; id = None }) items k).width ≡ (item_record items k).width
+width-read [] label k = refl
+width-read (x ∷ items) label zero = refl
+width-read (x ∷ items) label (suc k) = width-read items label k
+
+-- what was said of the items of a shelf before one of them was given is said of the others still
+keeps-others : (atlas : AtlasRecords) (split_records : Records) (new : List LinkedItem) (before added after : List Entry) (shelf number : ℕ) (front back free_front free_back unused_items unused_shelves loose : List ℕ) (tall : ℕ) (rests : List Shelf) → HasShelfSplit atlas split_records before added after (entry_of shelf (front ++ number ∷ back) (free_front ++ number ∷ free_back)) unused_items unused_shelves loose tall rests → ((k : ℕ) → number ≢ k → SameItem split_records.items new k) → KeepsOthers atlas.lists.items new front back free_front free_back
+keeps-others atlas split_records new before added after shelf number front back free_front free_back unused_items unused_shelves loose tall rests is_split others =
+    let numbers : List ℕ = front ++ number ∷ back in
+    let free : List ℕ = free_front ++ number ∷ free_back in
+    let entry : Entry = entry_of shelf numbers free in
+    let apart : IsApart split_records before (added ++ after) unused_items loose entry = linked-apart split_records before (added ++ after) entry unused_items unused_shelves loose [] is_split.spelled.linked in
+    let members : (k : ℕ) → times k free ≤ times k numbers = (Each-middle (IsEntry split_records) before entry (added ++ after) is_split.spelled.linked.entries).members in
+    let fewer : (k : ℕ) → times k (item_numbers (before ++ entry ∷ after)) ≡ times k (item_numbers before) + (times k numbers + times k (item_numbers after)) =
+    λ k. omega (arith, item_numbers-append before (entry ∷ after) k, times-append k numbers (item_numbers after)) in
+    let same : (k : ℕ) → 1 ≤ times k numbers → number ≢ k → SameItem atlas.lists.items new k =
+    λ k stands other. SameItem-then atlas.lists.items split_records.items new k (item-same atlas.lists.items split_records.items k (is_split.items k (omega (arith, fewer k, stands)))) (others k other) in
+    let count : (k : ℕ) → times k numbers ≡ times k front + times k (number ∷ back) = λ k. times-append k front (number ∷ back) in
+    let free_count : (k : ℕ) → times k free ≡ times k free_front + times k (number ∷ free_back) = λ k. times-append k free_front (number ∷ free_back) in
+    record {
+      before = λ k stands. (same k (omega (arith, count k, stands)) (before-other front back number k (apart.once k) stands)).item;
+      after = λ k stands. (same k (omega (arith, count k, stands)) (after-other front back number k (apart.once k) stands)).item;
+      free_before = λ k stands. (same k (omega (arith, free_count k, stands, members k)) (before-other free_front free_back number k (apart.free_once k) stands)).place;
+      free_after = λ k stands. (same k (omega (arith, free_count k, stands, members k)) (after-other free_front free_back number k (apart.free_once k) stands)).place;
+    }
+
+-- giving keeps the counts of records
+given-length : (records : Records) (shelf number : ℕ) → length (item_given shelf number records).items ≡ length records.items
+given-length records shelf number =
+    length-changed_by (λ (x : LinkedItem). record x { allocated = true }) (unlinked free_list number records.items) (Some number) ∙ length-unlinked free_list records.items number
+
+pub given-shelves : (records : Records) (shelf number : ℕ) → length (item_given shelf number records).shelves ≡ length records.shelves
+given-shelves records shelf number =
+    let link : Option ℕ = first_without (link_at free_list.previous records.items number) (link_at free_list.next records.items number) (first_free_of records.shelves shelf) in
+    length-changed_by (λ (x : LinkedShelf). record x { first_unallocated = link }) records.shelves (Some shelf)
+
+front-length : (records : Records) (shelf number rest width : ℕ) → length (front_given shelf number rest width records).items ≡ length records.items
+front-length records shelf number rest width =
+    let items : List LinkedItem = records.items in
+    let one : List LinkedItem = linked_between item_chain (Some number) (link_at item_chain.next items number) rest items in
+    let two : List LinkedItem = linked_between free_list (Some number) (link_at free_list.next one number) rest one in
+    length-changed_by (λ (x : LinkedItem). record x { width = width; allocated = true }) (unlinked free_list number two) (Some number)
+    ∙ length-unlinked free_list two number
+    ∙ length-linked_between free_list one (Some number) (link_at free_list.next one number) rest
+    ∙ length-linked_between item_chain items (Some number) (link_at item_chain.next items number) rest
+
+pub front-shelves : (records : Records) (shelf number rest width : ℕ) → length (front_given shelf number rest width records).shelves ≡ length records.shelves
+front-shelves records shelf number rest width =
+    let items : List LinkedItem = records.items in
+    let one : List LinkedItem = linked_between item_chain (Some number) (link_at item_chain.next items number) rest items in
+    let two : List LinkedItem = linked_between free_list (Some number) (link_at free_list.next one number) rest one in
+    let link : Option ℕ = first_without (link_at free_list.previous two number) (link_at free_list.next two number) (first_free_of records.shelves shelf) in
+    length-changed_by (λ (x : LinkedShelf). record x { first_unallocated = link }) records.shelves (Some shelf)
+
+-- an item was given whole
+pub item-whole : (atlas : AtlasRecords) (split_records : Records) (before added after : List Entry) (shelf number : ℕ) (front back free_front free_back unused_items unused_shelves : List ℕ) (placement : Placement) (rests : List Shelf) → number < length atlas.lists.items → IsPlacedAt atlas.lists.items placement front back free_front free_back number → placement.splits_item ≡ false → Each (IsEntry atlas.lists) (before ++ entry_of shelf (front ++ number ∷ back) (free_front ++ number ∷ free_back) ∷ after) → HasShelfSplit atlas split_records before added after (entry_of shelf (front ++ number ∷ back) (free_front ++ number ∷ free_back)) unused_items unused_shelves [] placement.height rests → IsItemGiven atlas (item_given shelf number split_records) before added after (entry_of shelf (front ++ number ∷ back) (free_front ++ number ∷ free_back)) unused_items unused_shelves (taken_from false placement (id_of atlas.lists.items number) (spelled_shelf atlas (entry_of shelf (front ++ number ∷ back) (free_front ++ number ∷ free_back)))) rests
+item-whole atlas split_records before added after shelf number front back free_front free_back unused_items unused_shelves placement rests within is no_split are_old is_split =
+    let old : List LinkedItem = atlas.lists.items in
+    let new : Records = item_given shelf number split_records in
+    let numbers : List ℕ = front ++ number ∷ back in
+    let free : List ℕ = free_front ++ number ∷ free_back in
+    let entry : Entry = entry_of shelf numbers free in
+    let edited : Entry = entry_of shelf numbers (free_front ++ free_back) in
+    let id : ℕ = id_of old number in
+    let apart : IsApart split_records before (added ++ after) unused_items [] entry = linked-apart split_records before (added ++ after) entry unused_items unused_shelves [] [] is_split.spelled.linked in
+    let stands : 1 ≤ times number numbers = omega (arith, times-append number front (number ∷ back), times-here number back) in
+    let own : slice_get split_records.items number ≡ slice_get old number =
+    is_split.items number (omega (arith, item_numbers-append before (entry ∷ after) number, times-append number numbers (item_numbers after), stands)) in
+    let same : SameItem old split_records.items number = item-same old split_records.items number own in
+    let edits : EditsItems (with_lists atlas split_records) new before (added ++ after) unused_items unused_items unused_shelves entry edited =
+    item_given-spelled (with_lists atlas split_records) before (added ++ after) shelf number front back free_front free_back unused_items unused_shelves (same.allocated ∙ is.free) is_split.spelled in
+    let given : IsGiven split_records.items new.items number = given-values split_records shelf number (apart.within number stands) in
+    let item : item_at new.items number ≡ record { width = placement.width; id = Some id } =
+    given.item
+    ∙ ap (λ (i : Item). record { width = i.width; id = Some (id_at split_records.items number) }) same.item
+    ∙ ap (λ w. record { width = w; id = Some (id_at split_records.items number) }) (sym (is.whole no_split))
+    ∙ ap (λ n. record { width = placement.width; id = Some n }) (id-same old split_records.items number within own) in
+    given-after atlas split_records new before added after entry edited unused_items unused_shelves [] placement.height rests (taken_from false placement id (spelled_shelf atlas entry)) are_old is_split edits
+    (whole-spelled atlas new placement id shelf number front back free_front free_back is
+    (keeps-others atlas split_records new.items before added after shelf number front back free_front free_back unused_items unused_shelves [] placement.height rests is_split given.others)
+    ((edits.shelf shelf).along ∙ is_split.along) ((edits.shelf shelf).height ∙ is_split.height) item)
+    (given-length split_records shelf number) (given-shelves split_records shelf number)
+
+-- the front of an item was given, after the record of the rest was written
+pub item-front : (atlas : AtlasRecords) (split_records : Records) (before added after : List Entry) (shelf number rest generation : ℕ) (front back free_front free_back unused_items unused_shelves : List ℕ) (placement : Placement) (rests : List Shelf) → number < length atlas.lists.items → IsPlacedAt atlas.lists.items placement front back free_front free_back number → placement.splits_item ≡ true → Each (IsEntry atlas.lists) (before ++ entry_of shelf (front ++ number ∷ back) (free_front ++ number ∷ free_back) ∷ after) → HasShelfSplit atlas split_records before added after (entry_of shelf (front ++ number ∷ back) (free_front ++ number ∷ free_back)) unused_items unused_shelves (rest ∷ []) placement.height rests → IsItemGiven atlas (front_given shelf number rest placement.width (item_changed rest (λ _. rest_item (item_record split_records.items number) placement.width shelf generation) split_records)) before added after (entry_of shelf (front ++ number ∷ back) (free_front ++ number ∷ free_back)) unused_items unused_shelves (taken_from true placement (id_of atlas.lists.items number) (spelled_shelf atlas (entry_of shelf (front ++ number ∷ back) (free_front ++ number ∷ free_back)))) rests
+item-front atlas split_records before added after shelf number rest generation front back free_front free_back unused_items unused_shelves placement rests within is split are_old is_split =
+    let old : List LinkedItem = atlas.lists.items in
+    let width : ℕ = placement.width in
+    let item : LinkedItem = rest_item (item_record split_records.items number) width shelf generation in
+    let written : Records = item_changed rest (λ _. item) split_records in
+    let new : Records = front_given shelf number rest width written in
+    let numbers : List ℕ = front ++ number ∷ back in
+    let free : List ℕ = free_front ++ number ∷ free_back in
+    let entry : Entry = entry_of shelf numbers free in
+    let edited : Entry = entry_of shelf (front ++ number ∷ rest ∷ back) (free_front ++ rest ∷ free_back) in
+    let id : ℕ = id_of old number in
+    let is_written : HasShelfSplit atlas written before added after entry unused_items unused_shelves (rest ∷ []) placement.height rests =
+    split-written atlas split_records before added after entry unused_items unused_shelves [] placement.height rests rest item is_split in
+    let apart : IsApart written before (added ++ after) unused_items (rest ∷ []) entry = linked-apart written before (added ++ after) entry unused_items unused_shelves (rest ∷ []) [] is_written.spelled.linked in
+    let stands : 1 ≤ times number numbers = omega (arith, times-append number front (number ∷ back), times-here number back) in
+    let rest_stands : 1 ≤ times rest (rest ∷ []) = omega (arith, times-here rest []) in
+    let differ : number ≢ rest = λ e. let again : 1 ≤ times rest numbers = rw (← e) stands in omega (arith, again, apart.loose_items rest rest_stands) in
+    let among : 1 ≤ times number (item_numbers (before ++ entry ∷ after)) =
+    omega (arith, item_numbers-append before (entry ∷ after) number, times-append number numbers (item_numbers after), stands) in
+    let own : slice_get written.items number ≡ slice_get old number = is_written.items number among in
+    let same : SameItem old written.items number = item-same old written.items number own in
+    let same_split : SameItem old split_records.items number = item-same old split_records.items number (is_split.items number among) in
+    let rest_within : rest < length split_records.items =
+    omega (arith, apart.loose_within rest rest_stands, length-changed_by (λ _. item) split_records.items (Some rest)) in
+    let whole_width : (item_record split_records.items number).width ≡ (item_at old number).width =
+    sym (width-read split_records.items number number) ∙ ap (λ (i : Item). i.width) same_split.item in
+    let whole_place : (item_record split_records.items number).x ≡ place_of old number = read-record (λ (x : LinkedItem). x.x) (item_record [] number) split_records.items number ∙ same_split.place in
+    let rest_is : item_at written.items rest ≡ record { width = (item_at old number).width - width; id = None } =
+    field_at-changed (spelled_item rest) (record { width = 0; id = None }) (λ _. item) split_records.items rest (record { width = (item_record split_records.items number).width - width; id = None }) rest_within (λ x. refl)
+    ∙ ap (λ w. record { width = w - width; id = None }) whole_width in
+    let rest_place : place_of written.items rest ≡ place_of old number + width =
+    field_at-changed (λ (x : LinkedItem). x.x) 0 (λ _. item) split_records.items rest ((item_record split_records.items number).x + width) rest_within (λ x. refl)
+    ∙ ap (λ p. p + width) whole_place in
+    let narrower : width < (item_at old number).width = is.split split in
+    let is_rest : IsRestItem written.items shelf number rest width =
+    record {
+      width = omega (arith, narrower, ap (λ (i : Item). i.width) same.item, ap (λ (i : Item). i.width) rest_is);
+      place = rest_place ∙ ap (λ p. p + width) (sym same.place);
+      shelf = field_at-changed (λ (x : LinkedItem). x.shelf) 0 (λ _. item) split_records.items rest shelf rest_within (λ x. refl);
+      free = field_at-changed (λ (x : LinkedItem). x.allocated) false (λ _. item) split_records.items rest false rest_within (λ x. refl);
+    } in
+    let edits : EditsItems (with_lists atlas written) new before (added ++ after) unused_items unused_items unused_shelves entry edited =
+    front_given-spelled (with_lists atlas written) before (added ++ after) shelf number rest width front back free_front free_back unused_items unused_shelves (same.allocated ∙ is.free) is_rest is_written.spelled in
+    let given : IsFront written.items new.items number width = front-values written shelf number rest width (apart.within number stands) in
+    let own_item : item_at new.items number ≡ record { width = width; id = Some id } =
+    given.item ∙ ap (λ n. record { width = width; id = Some n }) (id-same old written.items number within own) in
+    given-after atlas written new before added after entry edited unused_items unused_shelves (rest ∷ []) placement.height rests (taken_from true placement id (spelled_shelf atlas entry)) are_old is_written edits
+    (front-spelled atlas new placement id shelf number rest front back free_front free_back is
+    (keeps-others atlas written new.items before added after shelf number front back free_front free_back unused_items unused_shelves (rest ∷ []) placement.height rests is_written given.others)
+    ((edits.shelf shelf).along ∙ is_written.along) ((edits.shelf shelf).height ∙ is_written.height) own_item
+    ((given.others rest differ).item ∙ rest_is) ((given.others rest differ).place ∙ rest_place ∙ ap (λ p. p + width) (sym is.along)))
+    (front-length written shelf number rest width) (front-shelves written shelf number rest width)

@@ -1,0 +1,57 @@
+-- Kept records have a shelf and an item for each column, so that a clear makes none.
+use Rattle.std.proofs.Common.{◌≡◌, suc, ◌≤◌, List, [], ◌∷◌, length, arith, ap, refl}
+use Rattle.std.proofs.lemmas.List.{length-map}
+use Rattle.etagere_base.specs.declared.frames.Frame.{Frame}
+use Rattle.etagere_base.specs.Lists.{Each}
+use Rattle.etagere_links.specs.RecordLists.{Records, Entry, shelf_numbers, walked_lists}
+use Rattle.etagere_links.proofs.AllLists.LinkedUnused.{three-count}
+use Rattle.etagere_links.proofs.AllLists.LinkedWalks.{IsPart, part-of}
+use Rattle.etagere_links.proofs.Tallies.{length-once}
+use Rattle.shelf_records.specs.AtlasRecords.{spelled_shelf}
+use Rattle.shelf_records.specs.Private.Kept.{AreKept, bare, state_of}
+use Rattle.shelf_model.specs.State.{Item, Shelf, items_in_use, total_width}
+use Rattle.shelf_model.specs.Valid.{IsShelf}
+use Rattle.shelf_model.proofs.Places.ColumnShelves.{columns-le-shelves}
+
+-- items that are not narrow altogether are some
+some-items : (items : List Item) → 1 ≤ total_width items → 1 ≤ length items
+some-items [] wide = absurd (omega arith)
+some-items (item ∷ items) wide = omega arith
+
+-- each shelf has an item
+shelves-le-items : (frame : Frame) → 1 ≤ frame.column_width → (shelves : List Shelf) → Each (IsShelf frame) shelves → length shelves ≤ items_in_use shelves
+shelves-le-items frame wide [] are = omega arith
+shelves-le-items frame wide (shelf ∷ shelves) are =
+    let first : 1 ≤ length shelf.items = some-items shelf.items (omega (arith, are.0.width)) in
+    let others : length shelves ≤ items_in_use shelves = shelves-le-items frame wide shelves are.1 in
+    omega (arith, first, others)
+
+-- as many shelves as numbers of shelves
+pub shelf_numbers-length : (entries : List Entry) → length (shelf_numbers entries) ≡ length entries
+shelf_numbers-length [] = refl
+shelf_numbers-length (entry ∷ entries) = ap suc (shelf_numbers-length entries)
+
+-- there is a shelf record for each shelf
+pub kept-shelf_records : (frame : Frame) (records : Records) → AreKept frame records → frame.columns ≤ length records.shelves
+kept-shelf_records frame records kept =
+    let entries : List Entry = (walked_lists records).entries in
+    let part : IsPart (length records.shelves) (shelf_numbers entries) =
+    part-of (length records.shelves) _ (shelf_numbers entries) kept.linked.shelves_once
+    (λ k. omega (arith, three-count (shelf_numbers entries) (walked_lists records).unused_shelves [] k)) in
+    omega (
+      arith,
+      columns-le-shelves (state_of frame records) kept.valid,
+      length-map entries (spelled_shelf (bare frame records)),
+      shelf_numbers-length entries,
+      length-once (length records.shelves) (shelf_numbers entries) part.once part.within,
+    )
+
+-- and an item record for each column
+pub kept-item_records : (frame : Frame) (records : Records) → AreKept frame records → frame.columns ≤ length records.items
+kept-item_records frame records kept =
+    omega (
+      arith,
+      columns-le-shelves (state_of frame records) kept.valid,
+      shelves-le-items frame kept.valid.frame.column_width (state_of frame records).shelves kept.valid.shelves,
+      kept.valid.records.0,
+    )

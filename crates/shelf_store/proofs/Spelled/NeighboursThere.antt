@@ -1,0 +1,116 @@
+-- What a return reads of an item and its neighbours is there, where records spell lists.
+use Rattle.std.proofs.Common.{◌≡◌, ℕ, ◌+◌, ◌<◌, ◌≤◌, Bool, true, false, Option, None, Some, List, [], ◌∷◌, ◌++◌, length, refl, ap, subst, arith, sym, ◌∙◌}
+use Rattle.etagere_base.proofs.EachLemmas.{Each-middle}
+use Rattle.etagere_base.proofs.TimesLemmas.{times-append}
+use Rattle.etagere_base.specs.Lists.{times}
+use Rattle.etagere_links.specs.declared.records.LinkedItem.{LinkedItem}
+use Rattle.etagere_links.specs.Chains.{IsChainIn}
+use Rattle.etagere_links.specs.Edits.{link_at}
+use Rattle.etagere_links.specs.Families.{Family}
+use Rattle.etagere_links.specs.Lists.{first_or, last_or}
+use Rattle.etagere_links.specs.Neighbours.{HasNeighbours}
+use Rattle.etagere_links.specs.RecordLists.{Records, Entry, IsEntry, IsLinked, first_free_of, first_item_of}
+use Rattle.etagere_links.specs.Records.{free_list, item_chain}
+use Rattle.etagere_links.proofs.Chains.{Leads-start, next-is, previous-is}
+use Rattle.etagere_links.proofs.AllLists.LinkedItems.{IsApart, linked-apart}
+use Rattle.etagere_links.proofs.AllLists.LinkedMerges.{entry_of}
+use Rattle.etagere_links.proofs.AllLists.LinkedUnused.{lists_of}
+use Rattle.etagere_links.proofs.ListEnds.{first-stands, last-stands-in, times-here}
+use Rattle.shelf_records.specs.AtlasRecords.{AtlasRecords, is_allocated_at}
+use Rattle.shelf_store.specs.Private.ItemReturned.{FreeNextIsThere, AreThere, free_named, free_next}
+use Rattle.shelf_records.specs.Private.Kept.{IsPlaced}
+use Rattle.shelf_store.proofs.Spelled.EntryValues.{free_count, free_count-append, free_count-free}
+use Rattle.shelf_store.proofs.Spelled.ItemsAround.{IsMember, member-of}
+use Rattle.shelf_store.proofs.Spelled.SpelledLists.{IsSpelled}
+
+-- a link that names a free item names this one, and this is free
+pub named-is : (items : List LinkedItem) (link : Option ℕ) (n : ℕ) → free_named items link ≡ Some n → (link ≡ Some n) × (is_allocated_at items n ≡ false)
+named-is items None n e = absurd (cc e)
+named-is items (Some m) n e = by_mark (is_allocated_at items m) refl
+  where
+    by_mark : (b : Bool) → is_allocated_at items m ≡ b → (Some m ≡ Some n) × (is_allocated_at items n ≡ false)
+    by_mark true t = let none : free_named items (Some m) ≡ None = simp t refl in absurd (cc (none, e))
+    by_mark false t =
+        let some : free_named items (Some m) ≡ Some m = simp t refl in
+        let same : m ≡ n = cc in
+        (sym some ∙ e, rw (← same) t)
+
+-- a member of a list that links spell has neighbours, where all members are there
+member-neighbours : {T : Type 0} (family : Family T) (records : List T) (first : Option ℕ) (xs : List ℕ) (number : ℕ) → ((k : ℕ) → 1 ≤ times k xs → k < length records) → IsChainIn family records first xs → 1 ≤ times number xs → HasNeighbours family records number
+member-neighbours family records first xs number within chain stands =
+    let member : IsMember number xs = member-of number xs stands in
+    let split : IsChainIn family records first (member.front ++ number ∷ member.back) = subst (λ (ns : List ℕ). IsChainIn family records first ns) member.whole chain in
+    let count : (k : ℕ) → times k xs ≡ times k member.front + times k (number ∷ member.back) =
+    λ k. ap (λ (ns : List ℕ). times k ns) member.whole ∙ times-append k member.front (number ∷ member.back) in
+    record {
+      here = within number stands;
+      next = λ k link.
+          let after : first_or None member.back ≡ Some k = sym (next-is (link_at family.next records) member.front member.back number first None split.forward) ∙ link in
+          within k (omega (arith, count k, first-stands member.back k after));
+      previous = λ k link.
+          let before : last_or None member.front ≡ Some k = sym (previous-is (link_at family.previous records) member.front member.back number None split.backward) ∙ link in
+          within k (omega (arith, count k, last-stands-in member.front k before));
+    }
+
+-- the shelf of an item, its neighbours there and the first of the free list are there
+pub are-there : (records : Records) (before after : List Entry) (shelf number : ℕ) (front back free unused shelves : List ℕ) → IsLinked records (lists_of (before ++ entry_of shelf (front ++ number ∷ back) free ∷ after) unused shelves) → AreThere shelf number records
+are-there records before after shelf number front back free unused shelves linked =
+    let numbers : List ℕ = front ++ number ∷ back in
+    let entry : Entry = entry_of shelf numbers free in
+    let first : Option ℕ = first_free_of records.shelves shelf in
+    let is : IsEntry records entry = Each-middle (IsEntry records) before entry after linked.entries in
+    let apart : IsApart records before after unused [] entry = linked-apart records before after entry unused shelves [] [] linked in
+    record {
+      in_range = apart.number;
+      item = member-neighbours item_chain records.items (first_item_of records.shelves shelf) numbers number apart.within is.items
+          (omega (arith, times-append number front (number ∷ back), times-here number back));
+      first_free = λ k link.
+          apart.free_within k (first-stands free k (sym (Leads-start (link_at free_list.next records.items) free first None is.free_list.forward) ∙ link));
+    }
+
+-- a free item after one has neighbours in its shelf and in the free list
+pub free-next-there : (atlas : AtlasRecords) (before after : List Entry) (shelf number : ℕ) (front back free unused shelves : List ℕ) → IsSpelled atlas (lists_of (before ++ entry_of shelf (front ++ number ∷ back) free ∷ after) unused shelves) → FreeNextIsThere number atlas.lists.items
+free-next-there atlas before after shelf number front back free unused shelves spelled =
+    record {
+      in_shelf = λ n e. member-neighbours item_chain items first numbers n apart.within is.items (stands n e);
+      in_free_list = λ n e. member-neighbours free_list items (first_free_of atlas.lists.shelves shelf) free n apart.free_within is.free_list (is_free n e);
+    }
+  where
+    items : List LinkedItem
+    items = atlas.lists.items
+
+    numbers : List ℕ
+    numbers = front ++ number ∷ back
+
+    entry : Entry
+    entry = entry_of shelf numbers free
+
+    first : Option ℕ
+    first = first_item_of atlas.lists.shelves shelf
+
+    is : IsEntry atlas.lists entry
+    is = Each-middle (IsEntry atlas.lists) before entry after spelled.linked.entries
+
+    placed : IsPlaced atlas entry
+    placed = Each-middle (IsPlaced atlas) before entry after spelled.placed
+
+    apart : IsApart atlas.lists before after unused [] entry
+    apart = linked-apart atlas.lists before after entry unused shelves [] [] spelled.linked
+
+    stands : (n : ℕ) → free_next items number ≡ Some n → 1 ≤ times n numbers
+    stands n e =
+        let link : first_or None back ≡ Some n =
+        sym (next-is (link_at item_chain.next items) front back number first None is.items.forward) ∙ (named-is items (link_at item_chain.next items number) n e).0 in
+        omega (arith, times-append n front (number ∷ back), first-stands back n link)
+
+    is_free : (n : ℕ) → free_next items number ≡ Some n → 1 ≤ times n free
+    is_free n e =
+        let member : IsMember n numbers = member-of n numbers (stands n e) in
+        omega (
+          arith,
+          placed.free_list n,
+          ap (λ (ns : List ℕ). free_count items n ns) member.whole,
+          free_count-append items n member.front (n ∷ member.back),
+          free_count-free items n n member.back (named-is items (link_at item_chain.next items number) n e).1,
+          times-here n [],
+        )

@@ -1,0 +1,196 @@
+-- Records that spell lists, after an allocated item absorbed the next one where that is free: what they spell of its
+-- shelf.
+use Rattle.std.proofs.Common.{◌≡◌, ◌≢◌, ℕ, ◌+◌, ◌≤◌, Bool, true, false, ◌==◌, Option, None, Some, List, [], ◌∷◌, ◌++◌, length, map, refl, ap, subst, arith, sym, ◌∙◌, append_assoc}
+use Rattle.std.specs.Prelude.{if◌then◌else◌}
+use Rattle.etagere_base.proofs.EachLemmas.{Each-middle}
+use Rattle.etagere_base.proofs.TimesLemmas.{times-append, times-here}
+use Rattle.etagere_base.specs.Lists.{times, remove_place}
+use Rattle.etagere_base.specs.MergingAt.{merged_at}
+use Rattle.etagere_links.specs.declared.records.LinkedItem.{LinkedItem}
+use Rattle.etagere_links.specs.Edits.{link_at}
+use Rattle.etagere_links.specs.RecordLists.{Records, Entry, IsEntry, first_item_of}
+use Rattle.etagere_links.specs.Records.{item_chain}
+use Rattle.etagere_links.proofs.Chains.{next-is}
+use Rattle.etagere_links.proofs.AllLists.LinkedItems.{IsApart, linked-apart}
+use Rattle.etagere_links.proofs.AllLists.LinkedMerges.{entry_of}
+use Rattle.etagere_links.proofs.AllLists.LinkedUnused.{lists_of}
+use Rattle.shelf_records.specs.AtlasRecords.{AtlasRecords, is_allocated_at, place_of, along_of, item_at, spelled_shelf, width_of}
+use Rattle.shelf_model.specs.Merging.{both_free, combined_items}
+use Rattle.shelf_store.specs.Private.ItemReturned.{Step, free_named, free_next, next_absorbed}
+use Rattle.shelf_records.specs.Private.Kept.{IsPlaced}
+use Rattle.shelf_store.specs.Private.RankedReturned.{named_width}
+use Rattle.shelf_model.specs.State.{Item}
+use Rattle.shelf_store.proofs.Spelled.AbsorbedItems.{Absorbs, IsRest, rest-of, free-widens, widened-absorbs}
+use Rattle.shelf_store.proofs.Spelled.EntryValues.{IsWidened, LieFrom-back, free_count, free_count-append, free_count-free, widths}
+use Rattle.shelf_store.proofs.Spelled.ItemsAround.{IsMember, member-of, free-item, map-parts, next-merged, next-stays, place-apart, widths-append}
+use Rattle.shelf_store.proofs.Spelled.MergedAround.{free_item, is_first_free, remove-mapped}
+use Rattle.shelf_records.proofs.Spelled.RecordValues.{SameItem, SameShelf, items-same, map-agrees, shelves-same}
+use Rattle.shelf_store.proofs.Spelled.SpelledLists.{with_lists, IsSpelled, EditsItems, items-edited}
+use Rattle.shelf_store.proofs.Spelled.SpelledMerges.{free_absorbed-spelled}
+
+-- what a step that merges an allocated item with the next one makes of its shelf's lists, and what these spell
+pub record MergesNext (atlas : AtlasRecords) (step : Step) (before after : List Entry) (shelf number : ℕ) (front back free unused shelves : List ℕ) : Type 0 where
+  pub rest : List ℕ
+  pub free_list : List ℕ
+  pub aside : List ℕ
+  pub spelled : IsSpelled (with_lists atlas step.records) (lists_of (before ++ entry_of shelf (front ++ number ∷ rest) free_list ∷ after) aside shelves)
+  pub before_same : map (spelled_shelf (with_lists atlas step.records)) before ≡ map (spelled_shelf atlas) before
+  pub after_same : map (spelled_shelf (with_lists atlas step.records)) after ≡ map (spelled_shelf atlas) after
+  pub same : (k : ℕ) → SameShelf atlas.lists.shelves step.records.shelves k
+  pub allocated : is_allocated_at step.records.items number ≡ true
+  pub place : place_of step.records.items number ≡ place_of atlas.lists.items number
+  pub front_same : map (item_at step.records.items) front ≡ map (item_at atlas.lists.items) front
+  pub kept : (k : ℕ) → 1 ≤ times k front → SameItem atlas.lists.items step.records.items k
+  pub items :
+      merged_at both_free combined_items (length front) (map (item_at atlas.lists.items) front ++ free_item (width_of atlas.lists.items number) ∷ map (item_at atlas.lists.items) back)
+      ≡ map (item_at step.records.items) front ++ free_item (width_of step.records.items number) ∷ map (item_at step.records.items) rest
+  pub places :
+      map (place_of step.records.items) free_list
+      ≡ (if is_first_free (map (item_at atlas.lists.items) back)
+      then remove_place (along_of atlas.lists.shelves shelf + (widths atlas.lists.items front + width_of atlas.lists.items number)) (map (place_of atlas.lists.items) free)
+      else map (place_of atlas.lists.items) free)
+  pub width : width_of step.records.items number ≡ width_of atlas.lists.items number + named_width atlas.lists.items (free_next atlas.lists.items number)
+  pub wide : width_of step.records.items number ≤ width_of atlas.lists.items number + widths atlas.lists.items back
+  pub counted : length aside ≡ step.put_aside + length unused
+
+-- the next item is not free: nothing changes
+next-kept : (atlas : AtlasRecords) (before after : List Entry) (shelf number : ℕ) (front back free unused shelves : List ℕ) → is_allocated_at atlas.lists.items number ≡ true → is_first_free (map (item_at atlas.lists.items) back) ≡ false → free_next atlas.lists.items number ≡ None → IsSpelled atlas (lists_of (before ++ entry_of shelf (front ++ number ∷ back) free ∷ after) unused shelves) → MergesNext atlas (record { records = atlas.lists; put_aside = 0 }) before after shelf number front back free unused shelves
+next-kept atlas before after shelf number front back free unused shelves allocated none unnamed spelled =
+    record {
+      rest = back;
+      free_list = free;
+      aside = unused;
+      spelled = spelled;
+      before_same = refl;
+      after_same = refl;
+      same = λ k. shelves-same atlas.lists.shelves atlas.lists.shelves k refl;
+      allocated = allocated;
+      place = refl;
+      front_same = refl;
+      kept = λ k stands. items-same atlas.lists.items atlas.lists.items k refl;
+      items = next-stays (item_at atlas.lists.items) front (width_of atlas.lists.items number) (map (item_at atlas.lists.items) back) none;
+      places = rw none refl;
+      width = rw unnamed (omega arith);
+      wide = omega arith;
+      counted = omega arith;
+    }
+
+-- an item that becomes wider begins where it began, and so do the others
+widened-places : (items new : List LinkedItem) (number width k : ℕ) → IsWidened items new number width → place_of new k ≡ place_of items k
+widened-places items new number width k widened = by_test (number == k) refl
+  where
+    by_test : (b : Bool) → (number == k) ≡ b → place_of new k ≡ place_of items k
+    by_test true e = let own : number ≡ k = grind arith in subst (λ (n : ℕ). place_of new n ≡ place_of items n) own widened.place
+    by_test false e = (widened.others k (grind arith)).place
+
+-- the next item is free: it is absorbed
+next-taken : (atlas : AtlasRecords) (before after : List Entry) (shelf number next : ℕ) (front back free_front free_back unused shelves : List ℕ) → ((n : ℕ) → 1 ≤ times n (front ++ number ∷ next ∷ back) → 1 ≤ width_of atlas.lists.items n) → is_allocated_at atlas.lists.items number ≡ true → is_allocated_at atlas.lists.items next ≡ false → free_next atlas.lists.items number ≡ Some next → IsSpelled atlas (lists_of (before ++ entry_of shelf (front ++ number ∷ next ∷ back) (free_front ++ next ∷ free_back) ∷ after) unused shelves) → MergesNext atlas (next_absorbed shelf number (Some next) atlas.lists) before after shelf number front (next ∷ back) (free_front ++ next ∷ free_back) unused shelves
+next-taken atlas before after shelf number next front back free_front free_back unused shelves wide allocated is_free named spelled =
+    let items : List LinkedItem = atlas.lists.items in
+    let numbers : List ℕ = front ++ number ∷ next ∷ back in
+    let free : List ℕ = free_front ++ next ∷ free_back in
+    let entry : Entry = entry_of shelf numbers free in
+    let new : Records = (next_absorbed shelf number (Some next) atlas.lists).records in
+    let edits : EditsItems atlas new before after unused (next ∷ unused) shelves entry (entry_of shelf (front ++ number ∷ back) (free_front ++ free_back)) =
+    free_absorbed-spelled atlas before after shelf number next front back free_front free_back unused shelves is_free spelled in
+    let edited = items-edited atlas new before after unused (next ∷ unused) shelves entry (entry_of shelf (front ++ number ∷ back) (free_front ++ free_back)) spelled edits in
+    let others = map-parts (spelled_shelf (with_lists atlas new)) (spelled_shelf atlas) before (entry_of shelf (front ++ number ∷ back) (free_front ++ free_back))
+    (spelled_shelf (with_lists atlas new) (entry_of shelf (front ++ number ∷ back) (free_front ++ free_back))) after edited.1 in
+    let apart : IsApart atlas.lists before after unused [] entry = linked-apart atlas.lists before after entry unused shelves [] [] spelled.linked in
+    let placed : IsPlaced atlas entry = Each-middle (IsPlaced atlas) before entry after spelled.placed in
+    let is : IsEntry atlas.lists entry = Each-middle (IsEntry atlas.lists) before entry after spelled.linked.entries in
+    let count : (k : ℕ) → times k numbers ≡ times k front + times k (number ∷ next ∷ back) = λ k. times-append k front (number ∷ next ∷ back) in
+    let rest : IsRest front back number next = rest-of front back number next apart.once in
+    let widened : IsWidened items new.items number (width_of items number + width_of items next) =
+    free-widens atlas.lists shelf number next (apart.within number (omega (arith, count number, times-here number (next ∷ back)))) in
+    let absorbs : Absorbs items new.items number next = widened-absorbs items new.items number next widened in
+    let differ : number ≢ next = λ e.
+    let here : times next (number ∷ next ∷ back) ≡ 1 + times next (next ∷ back) = rw e (times-here next (next ∷ back)) in
+    omega (arith, apart.once next, count next, here, times-here next back) in
+    let front_kept : (k : ℕ) → 1 ≤ times k front → SameItem items new.items k = λ k stands. absorbs.others k (rest.before k stands).0 (rest.before k stands).1 in
+    let front_same : map (item_at new.items) front ≡ map (item_at items) front = map-agrees (item_at new.items) (item_at items) front (λ k stands. (front_kept k stands).item) in
+    let back_same : map (item_at new.items) back ≡ map (item_at items) back =
+    map-agrees (item_at new.items) (item_at items) back (λ k stands. (absorbs.others k (rest.after k stands).0 (rest.after k stands).1).item) in
+    let width : width_of new.items number ≡ width_of items number + width_of items next = ap (λ (i : Item). i.width) absorbs.item in
+    let free_next : is_first_free (map (item_at items) (next ∷ back)) ≡ true = free-item items next false is_free in
+    let whole : (front ++ number ∷ []) ++ next ∷ back ≡ numbers = append_assoc front (number ∷ []) (next ∷ back) in
+    let begins : place_of items next ≡ along_of atlas.lists.shelves shelf + (widths items front + width_of items number) =
+    (LieFrom-back items (along_of atlas.lists.shelves shelf) (front ++ number ∷ []) (next ∷ back) (rw whole placed.places)).0
+    ∙ ap (λ w. along_of atlas.lists.shelves shelf + w) (omega (arith, widths-append items front (number ∷ []))) in
+    let others_apart : (k : ℕ) → 1 ≤ times k (free_front ++ free_back) → place_of items k ≢ place_of items next = λ k stands.
+    place-apart items (along_of atlas.lists.shelves shelf) (front ++ number ∷ []) back next k (rw whole wide) (rw whole placed.places)
+    (rw whole (omega (arith, stands, is.members k, times-append k free_front (next ∷ free_back), times-append k free_front free_back)))
+    (λ e.
+    let here : times k (next ∷ free_back) ≡ 1 + times k free_back = rw e (times-here k free_back) in
+    omega (arith, stands, apart.free_once k, here, times-append k free_front (next ∷ free_back), times-append k free_front free_back)) in
+    let kept : map (place_of new.items) (free_front ++ free_back) ≡ map (place_of items) (free_front ++ free_back) =
+    map-agrees (place_of new.items) (place_of items) (free_front ++ free_back)
+    (λ k stands. widened-places items new.items number (width_of items number + width_of items next) k widened) in
+    record {
+      rest = back;
+      free_list = free_front ++ free_back;
+      aside = next ∷ unused;
+      spelled = edited.0;
+      before_same = others.0;
+      after_same = others.1;
+      same = edits.shelf;
+      allocated = absorbs.allocated ∙ allocated;
+      place = absorbs.place;
+      front_same = front_same;
+      kept = front_kept;
+      items = next-merged (item_at items) front (width_of items number) (item_at items next) (map (item_at items) back) free_next
+          ∙ ap (λ (is : List Item). is ++ free_item (width_of items number + width_of items next) ∷ map (item_at items) back) (sym front_same)
+          ∙ ap (λ (is : List Item). map (item_at new.items) front ++ free_item (width_of items number + width_of items next) ∷ is) (sym back_same)
+          ∙ ap (λ w. map (item_at new.items) front ++ free_item w ∷ map (item_at new.items) back) (sym width);
+      places = rw free_next (kept ∙ sym (remove-mapped (place_of items) free_front free_back next others_apart) ∙ ap (λ p. remove_place p (map (place_of items) free)) begins);
+      width = rw named width;
+      wide = omega (arith, width);
+      counted = omega arith;
+    }
+
+-- an allocated item was merged with the next one where that is free
+pub merges-next : (atlas : AtlasRecords) (before after : List Entry) (shelf number : ℕ) (front back free unused shelves : List ℕ) → ((n : ℕ) → 1 ≤ times n (front ++ number ∷ back) → 1 ≤ width_of atlas.lists.items n) → is_allocated_at atlas.lists.items number ≡ true → IsSpelled atlas (lists_of (before ++ entry_of shelf (front ++ number ∷ back) free ∷ after) unused shelves) → MergesNext atlas (next_absorbed shelf number (free_next atlas.lists.items number) atlas.lists) before after shelf number front back free unused shelves
+merges-next atlas before after shelf number front [] free unused shelves wide allocated spelled =
+    let items : List LinkedItem = atlas.lists.items in
+    let is : IsEntry atlas.lists (entry_of shelf (front ++ number ∷ []) free) = Each-middle (IsEntry atlas.lists) before (entry_of shelf (front ++ number ∷ []) free) after spelled.linked.entries in
+    let link : link_at item_chain.next items number ≡ None = next-is (link_at item_chain.next items) front [] number (first_item_of atlas.lists.shelves shelf) None is.items.forward in
+    let none : free_next items number ≡ None = ap (free_named items) link in
+    subst (λ (o : Option ℕ). MergesNext atlas (next_absorbed shelf number o atlas.lists) before after shelf number front [] free unused shelves) (sym none)
+    (next-kept atlas before after shelf number front [] free unused shelves allocated refl none spelled)
+merges-next atlas before after shelf number front (next ∷ back) free unused shelves wide allocated spelled =
+    by_mark (is_allocated_at atlas.lists.items next) refl
+  where
+    entry : Entry
+    entry = entry_of shelf (front ++ number ∷ next ∷ back) free
+
+    is : IsEntry atlas.lists entry
+    is = Each-middle (IsEntry atlas.lists) before entry after spelled.linked.entries
+
+    link : free_next atlas.lists.items number ≡ free_named atlas.lists.items (Some next)
+    link = ap (free_named atlas.lists.items) (next-is (link_at item_chain.next atlas.lists.items) front (next ∷ back) number (first_item_of atlas.lists.shelves shelf) None is.items.forward)
+
+    absorbed : is_allocated_at atlas.lists.items next ≡ false → free_next atlas.lists.items number ≡ Some next → IsMember next free → MergesNext atlas (next_absorbed shelf number (Some next) atlas.lists) before after shelf number front (next ∷ back) free unused shelves
+    absorbed is_free named member =
+        subst (λ (ns : List ℕ). MergesNext atlas (next_absorbed shelf number (Some next) atlas.lists) before after shelf number front (next ∷ back) ns unused shelves) (sym member.whole)
+        (next-taken atlas before after shelf number next front back member.front member.back unused shelves wide allocated is_free named
+        (subst (λ (ns : List ℕ). IsSpelled atlas (lists_of (before ++ entry_of shelf (front ++ number ∷ next ∷ back) ns ∷ after) unused shelves)) member.whole spelled))
+
+    by_mark : (b : Bool) → is_allocated_at atlas.lists.items next ≡ b → MergesNext atlas (next_absorbed shelf number (free_next atlas.lists.items number) atlas.lists) before after shelf number front (next ∷ back) free unused shelves
+    by_mark true e =
+        let none : free_named atlas.lists.items (Some next) ≡ None = simp e refl in
+        subst (λ (o : Option ℕ). MergesNext atlas (next_absorbed shelf number o atlas.lists) before after shelf number front (next ∷ back) free unused shelves) (sym (link ∙ none))
+        (next-kept atlas before after shelf number front (next ∷ back) free unused shelves allocated (free-item atlas.lists.items next true e) (link ∙ none) spelled)
+    by_mark false e =
+        let some : free_named atlas.lists.items (Some next) ≡ Some next = simp e refl in
+        let placed : IsPlaced atlas entry = Each-middle (IsPlaced atlas) before entry after spelled.placed in
+        let stands : 1 ≤ times next free =
+        omega (
+          arith,
+          placed.free_list next,
+          free_count-append atlas.lists.items next (front ++ number ∷ []) (next ∷ back),
+          free_count-free atlas.lists.items next next back e,
+          times-here next [],
+          ap (λ ns. free_count atlas.lists.items next ns) (append_assoc front (number ∷ []) (next ∷ back)),
+        ) in
+        subst (λ (o : Option ℕ). MergesNext atlas (next_absorbed shelf number o atlas.lists) before after shelf number front (next ∷ back) free unused shelves) (sym (link ∙ some))
+        (absorbed e (link ∙ some) (member-of next free stands))

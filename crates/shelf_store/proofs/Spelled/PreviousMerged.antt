@@ -1,0 +1,202 @@
+-- Records that spell lists, after an allocated item became free, and the previous one absorbed it where that is free:
+-- what they spell of its shelf.
+use Rattle.std.proofs.Common.{◌≡◌, ◌≢◌, ℕ, ◌+◌, ◌≤◌, Bool, true, false, ◌==◌, Option, None, Some, List, [], ◌∷◌, ◌++◌, length, map, refl, ap, subst, arith, sym, ◌∙◌, append_assoc}
+use Rattle.std.specs.Prelude.{if◌then◌else◌}
+use Rattle.std.proofs.lemmas.List.{map-append}
+use Rattle.etagere_base.proofs.EachLemmas.{Each-middle}
+use Rattle.etagere_base.proofs.TimesLemmas.{times-append, times-here}
+use Rattle.etagere_base.specs.Lists.{times}
+use Rattle.etagere_base.specs.MergingAt.{merged_before}
+use Rattle.etagere_links.specs.declared.records.LinkedItem.{LinkedItem}
+use Rattle.etagere_links.specs.Edits.{link_at}
+use Rattle.etagere_links.specs.Lists.{last_or}
+use Rattle.etagere_links.specs.RecordLists.{Records, Entry, IsEntry}
+use Rattle.etagere_links.specs.Records.{item_chain}
+use Rattle.etagere_links.proofs.Chains.{previous-is}
+use Rattle.etagere_links.proofs.AllLists.LinkedItems.{IsApart, linked-apart}
+use Rattle.etagere_links.proofs.AllLists.LinkedMerges.{entry_of}
+use Rattle.etagere_links.proofs.AllLists.LinkedUnused.{lists_of}
+use Rattle.etagere_links.proofs.ListEnds.{last-append}
+use Rattle.shelf_records.specs.AtlasRecords.{AtlasRecords, is_allocated_at, place_of, item_at, spelled_shelf, width_of}
+use Rattle.shelf_model.specs.Merging.{both_free, combined_items}
+use Rattle.shelf_store.specs.Private.ItemReturned.{Step, free_named, free_previous, freed_after, remaining_item}
+use Rattle.shelf_records.specs.Private.Kept.{IsPlaced}
+use Rattle.shelf_store.specs.Private.RankedReturned.{named_width}
+use Rattle.shelf_model.specs.Returning.{is_free_before}
+use Rattle.shelf_model.specs.State.{Item}
+use Rattle.shelf_store.proofs.Spelled.AbsorbedItems.{Absorbs, IsRest, rest-of, absorbed-items, allocated-absorbs}
+use Rattle.shelf_store.proofs.Spelled.EntryValues.{IsFreed, free_count-none}
+use Rattle.shelf_store.proofs.Spelled.ItemsAround.{by_end, free-before, free-item, free-none, map-parts, previous-merged, previous-stays}
+use Rattle.shelf_store.proofs.Spelled.MergedAround.{free_item}
+use Rattle.shelf_records.proofs.Spelled.RecordValues.{SameShelf, map-agrees}
+use Rattle.shelf_store.proofs.Spelled.SpelledLists.{with_lists, IsSpelled, EditsItems, items-edited}
+use Rattle.shelf_store.proofs.Spelled.SpelledMerges.{allocated_absorbed-spelled, item_freed-spelled, freed-values}
+
+-- what a step that frees an item, and merges it with the previous one, makes of its shelf's lists, and what these spell;
+-- and where the item that remains stands there, free, and how wide it is
+pub record FreesItem (atlas : AtlasRecords) (step : Step) (before after : List Entry) (shelf number : ℕ) (front back free unused shelves : List ℕ) : Type 0 where
+  pub numbers : List ℕ
+  pub free_list : List ℕ
+  pub aside : List ℕ
+  pub spelled : IsSpelled (with_lists atlas step.records) (lists_of (before ++ entry_of shelf numbers free_list ∷ after) aside shelves)
+  pub before_same : map (spelled_shelf (with_lists atlas step.records)) before ≡ map (spelled_shelf atlas) before
+  pub after_same : map (spelled_shelf (with_lists atlas step.records)) after ≡ map (spelled_shelf atlas) after
+  pub same : (k : ℕ) → SameShelf atlas.lists.shelves step.records.shelves k
+  pub items :
+      map (item_at step.records.items) numbers
+      ≡ merged_before both_free combined_items (length front)
+      (map (item_at atlas.lists.items) front ++ free_item (width_of atlas.lists.items number) ∷ map (item_at atlas.lists.items) back)
+  pub places :
+      (others : List Item)
+      → map (place_of step.records.items) free_list
+      ≡ (if is_free_before (length front) (map (item_at atlas.lists.items) front ++ others)
+      then map (place_of atlas.lists.items) free
+      else place_of atlas.lists.items number ∷ map (place_of atlas.lists.items) free)
+  pub counted : length aside ≡ step.put_aside + length unused
+  pub remaining_front : List ℕ
+  pub stands : numbers ≡ remaining_front ++ remaining_item number (free_previous atlas.lists.items number) ∷ back
+  pub is_free : is_allocated_at step.records.items (remaining_item number (free_previous atlas.lists.items number)) ≡ false
+  pub width :
+      width_of step.records.items (remaining_item number (free_previous atlas.lists.items number))
+      ≡ width_of atlas.lists.items number + named_width atlas.lists.items (free_previous atlas.lists.items number)
+
+-- the members of a list around one of them differ from it
+around-other : (front back : List ℕ) (number : ℕ) → ((k : ℕ) → times k (front ++ number ∷ back) ≤ 1) → (k : ℕ) → 1 ≤ times k front + times k back → number ≢ k
+around-other front back number once k stands e =
+    let here : times k (number ∷ back) ≡ 1 + times k back = rw e (times-here k back) in
+    omega (arith, once k, stands, times-append k front (number ∷ back), here)
+
+-- the previous item is not free: the item becomes free
+item-freed : (atlas : AtlasRecords) (before after : List Entry) (shelf number : ℕ) (front back free unused shelves : List ℕ) → is_allocated_at atlas.lists.items number ≡ true → (merged_before both_free combined_items (length front) (map (item_at atlas.lists.items) front ++ free_item (width_of atlas.lists.items number) ∷ map (item_at atlas.lists.items) back) ≡ map (item_at atlas.lists.items) front ++ free_item (width_of atlas.lists.items number) ∷ map (item_at atlas.lists.items) back) → ((others : List Item) → is_free_before (length front) (map (item_at atlas.lists.items) front ++ others) ≡ false) → free_previous atlas.lists.items number ≡ None → IsSpelled atlas (lists_of (before ++ entry_of shelf (front ++ number ∷ back) free ∷ after) unused shelves) → FreesItem atlas (freed_after shelf number None atlas.lists) before after shelf number front back free unused shelves
+item-freed atlas before after shelf number front back free unused shelves allocated stays none unnamed spelled =
+    let items : List LinkedItem = atlas.lists.items in
+    let numbers : List ℕ = front ++ number ∷ back in
+    let entry : Entry = entry_of shelf numbers free in
+    let edited_entry : Entry = entry_of shelf numbers (number ∷ free) in
+    let new : Records = (freed_after shelf number None atlas.lists).records in
+    let edits : EditsItems atlas new before after unused unused shelves entry edited_entry =
+    item_freed-spelled atlas before after shelf number front back free unused shelves allocated spelled in
+    let edited = items-edited atlas new before after unused unused shelves entry edited_entry spelled edits in
+    let others = map-parts (spelled_shelf (with_lists atlas new)) (spelled_shelf atlas) before edited_entry (spelled_shelf (with_lists atlas new) edited_entry) after edited.1 in
+    let apart : IsApart atlas.lists before after unused [] entry = linked-apart atlas.lists before after entry unused shelves [] [] spelled.linked in
+    let placed : IsPlaced atlas entry = Each-middle (IsPlaced atlas) before entry after spelled.placed in
+    let freed : IsFreed items new.items number = freed-values atlas.lists shelf number (apart.within number (omega (arith, times-append number front (number ∷ back), times-here number back))) in
+    let absent : times number free ≡ 0 = placed.free_list number ∙ free_count-none items number numbers allocated in
+    let front_same : map (item_at new.items) front ≡ map (item_at items) front =
+    map-agrees (item_at new.items) (item_at items) front (λ k stands. (freed.others k (around-other front back number apart.once k (omega (arith, stands)))).item) in
+    let back_same : map (item_at new.items) back ≡ map (item_at items) back =
+    map-agrees (item_at new.items) (item_at items) back (λ k stands. (freed.others k (around-other front back number apart.once k (omega (arith, stands)))).item) in
+    let kept : map (place_of new.items) free ≡ map (place_of items) free =
+    map-agrees (place_of new.items) (place_of items) free (λ k stands. (freed.others k (λ e. let again : 1 ≤ times number free = rw e stands in omega (arith, again, absent))).place) in
+    record {
+      numbers = numbers;
+      free_list = number ∷ free;
+      aside = unused;
+      spelled = edited.0;
+      before_same = others.0;
+      after_same = others.1;
+      same = edits.shelf;
+      items = map-append (item_at new.items) front (number ∷ back)
+          ∙ ap (λ (is : List Item). is ++ item_at new.items number ∷ map (item_at new.items) back) front_same
+          ∙ ap (λ (i : Item). map (item_at items) front ++ i ∷ map (item_at new.items) back) freed.item
+          ∙ ap (λ (is : List Item). map (item_at items) front ++ free_item (width_of items number) ∷ is) back_same
+          ∙ sym stays;
+      places = λ before_items. rw (none before_items) (ap (λ p. p ∷ map (place_of new.items) free) freed.place ∙ ap (λ ps. place_of items number ∷ ps) kept);
+      counted = omega arith;
+      remaining_front = front;
+      stands = rw unnamed refl;
+      is_free = rw unnamed freed.allocated;
+      width = rw unnamed (omega (arith, ap (λ (i : Item). i.width) freed.item));
+    }
+
+-- the previous item is free: it absorbs the item
+item-taken : (atlas : AtlasRecords) (before after : List Entry) (shelf number previous : ℕ) (front back free unused shelves : List ℕ) → is_allocated_at atlas.lists.items number ≡ true → is_allocated_at atlas.lists.items previous ≡ false → free_previous atlas.lists.items number ≡ Some previous → IsSpelled atlas (lists_of (before ++ entry_of shelf (front ++ previous ∷ number ∷ back) free ∷ after) unused shelves) → FreesItem atlas (freed_after shelf number (Some previous) atlas.lists) before after shelf number (front ++ previous ∷ []) back free unused shelves
+item-taken atlas before after shelf number previous front back free unused shelves allocated is_free named spelled =
+    let items : List LinkedItem = atlas.lists.items in
+    let numbers : List ℕ = front ++ previous ∷ number ∷ back in
+    let entry : Entry = entry_of shelf numbers free in
+    let edited_entry : Entry = entry_of shelf (front ++ previous ∷ back) free in
+    let new : Records = (freed_after shelf number (Some previous) atlas.lists).records in
+    let edits : EditsItems atlas new before after unused (number ∷ unused) shelves entry edited_entry =
+    allocated_absorbed-spelled atlas before after shelf previous number front back free unused shelves allocated spelled in
+    let edited = items-edited atlas new before after unused (number ∷ unused) shelves entry edited_entry spelled edits in
+    let others = map-parts (spelled_shelf (with_lists atlas new)) (spelled_shelf atlas) before edited_entry (spelled_shelf (with_lists atlas new) edited_entry) after edited.1 in
+    let apart : IsApart atlas.lists before after unused [] entry = linked-apart atlas.lists before after entry unused shelves [] [] spelled.linked in
+    let placed : IsPlaced atlas entry = Each-middle (IsPlaced atlas) before entry after spelled.placed in
+    let rest : IsRest front back previous number = rest-of front back previous number apart.once in
+    let count : times previous numbers ≡ times previous front + times previous (previous ∷ number ∷ back) = times-append previous front (previous ∷ number ∷ back) in
+    let differ : previous ≢ number = λ e. let contrary : is_allocated_at items previous ≡ true = rw e allocated in cc in
+    let absorbs : Absorbs items new.items previous number =
+    allocated-absorbs atlas.lists shelf previous number differ (apart.within previous (omega (arith, count, times-here previous (number ∷ back)))) in
+    let absent : times number free ≡ 0 = placed.free_list number ∙ free_count-none items number numbers allocated in
+    let last_free = free-item items previous false is_free in
+    let places_same : (k : ℕ) → 1 ≤ times k free → place_of new.items k ≡ place_of items k = λ k stands.
+    absorbed-place items new.items previous number k absorbs (λ e. let again : 1 ≤ times number free = rw e stands in omega (arith, again, absent)) in
+    record {
+      numbers = front ++ previous ∷ back;
+      free_list = free;
+      aside = number ∷ unused;
+      spelled = edited.0;
+      before_same = others.0;
+      after_same = others.1;
+      same = edits.shelf;
+      items = absorbed-items items new.items front back previous number rest absorbs
+          ∙ ap (λ (o : Option ℕ). map (item_at items) front ++ record { width = width_of items previous + width_of items number; id = o } ∷ map (item_at items) back) (ap (λ (i : Item). i.id) (free-none (item_at items previous) last_free))
+          ∙ sym (previous-merged (item_at items) front previous (width_of items number) (map (item_at items) back) last_free);
+      places = λ before_items. rw (free-before (item_at items) front previous before_items ∙ last_free) (map-agrees (place_of new.items) (place_of items) free places_same);
+      counted = omega arith;
+      remaining_front = front;
+      stands = rw named refl;
+      is_free = rw named (absorbs.allocated ∙ is_free);
+      width = rw named (omega (arith, ap (λ (i : Item). i.width) absorbs.item));
+    }
+  where
+    absorbed-place : (old new : List LinkedItem) (one next k : ℕ) → Absorbs old new one next → next ≢ k → place_of new k ≡ place_of old k
+    absorbed-place old new one next k absorbs other = by_test (one == k) refl
+      where
+        by_test : (b : Bool) → (one == k) ≡ b → place_of new k ≡ place_of old k
+        by_test true e = let own : one ≡ k = grind arith in subst (λ (n : ℕ). place_of new n ≡ place_of old n) own absorbs.place
+        by_test false e = (absorbs.others k (grind arith) other).place
+
+-- an allocated item became free, and was merged with the previous one where that is free
+pub frees-item : (atlas : AtlasRecords) (before after : List Entry) (shelf number : ℕ) (front back free unused shelves : List ℕ) → is_allocated_at atlas.lists.items number ≡ true → IsSpelled atlas (lists_of (before ++ entry_of shelf (front ++ number ∷ back) free ∷ after) unused shelves) → FreesItem atlas (freed_after shelf number (free_previous atlas.lists.items number) atlas.lists) before after shelf number front back free unused shelves
+frees-item atlas before after shelf number front back free unused shelves allocated =
+    by_end (λ (xs : List ℕ). IsSpelled atlas (lists_of (before ++ entry_of shelf (xs ++ number ∷ back) free ∷ after) unused shelves) → FreesItem atlas (freed_after shelf number (free_previous atlas.lists.items number) atlas.lists) before after shelf number xs back free unused shelves)
+    first some front
+  where
+    items : List LinkedItem
+    items = atlas.lists.items
+
+    link : (xs : List ℕ) → IsSpelled atlas (lists_of (before ++ entry_of shelf (xs ++ number ∷ back) free ∷ after) unused shelves) → free_previous items number ≡ free_named items (last_or None xs)
+    link xs spelled =
+        let is : IsEntry atlas.lists (entry_of shelf (xs ++ number ∷ back) free) = Each-middle (IsEntry atlas.lists) before (entry_of shelf (xs ++ number ∷ back) free) after spelled.linked.entries in
+        ap (free_named items) (previous-is (link_at item_chain.previous items) xs back number None is.items.backward)
+
+    first : IsSpelled atlas (lists_of (before ++ entry_of shelf (number ∷ back) free ∷ after) unused shelves) → FreesItem atlas (freed_after shelf number (free_previous items number) atlas.lists) before after shelf number [] back free unused shelves
+    first spelled =
+        subst (λ (o : Option ℕ). FreesItem atlas (freed_after shelf number o atlas.lists) before after shelf number [] back free unused shelves) (sym (link [] spelled))
+        (item-freed atlas before after shelf number [] back free unused shelves allocated refl (λ others. refl) (link [] spelled) spelled)
+
+    some : (xs : List ℕ) (previous : ℕ) → IsSpelled atlas (lists_of (before ++ entry_of shelf ((xs ++ previous ∷ []) ++ number ∷ back) free ∷ after) unused shelves) → FreesItem atlas (freed_after shelf number (free_previous items number) atlas.lists) before after shelf number (xs ++ previous ∷ []) back free unused shelves
+    some xs previous spelled = by_mark (is_allocated_at items previous) refl
+      where
+        named : free_previous items number ≡ free_named items (Some previous)
+        named = link (xs ++ previous ∷ []) spelled ∙ ap (free_named items) (last-append xs previous None)
+
+        parts : (xs : List ℕ) → map (item_at items) (xs ++ previous ∷ []) ++ free_item (width_of items number) ∷ map (item_at items) back ≡ map (item_at items) xs ++ item_at items previous ∷ free_item (width_of items number) ∷ map (item_at items) back
+        parts [] = refl
+        parts (x ∷ ys) = ap (λ (is : List Item). item_at items x ∷ is) (parts ys)
+
+        by_mark : (b : Bool) → is_allocated_at items previous ≡ b → FreesItem atlas (freed_after shelf number (free_previous items number) atlas.lists) before after shelf number (xs ++ previous ∷ []) back free unused shelves
+        by_mark true e =
+            let none : free_named items (Some previous) ≡ None = simp e refl in
+            let marked = free-item items previous true e in
+            subst (λ (o : Option ℕ). FreesItem atlas (freed_after shelf number o atlas.lists) before after shelf number (xs ++ previous ∷ []) back free unused shelves) (sym (named ∙ none))
+            (item-freed atlas before after shelf number (xs ++ previous ∷ []) back free unused shelves allocated
+            (previous-stays (item_at items) xs previous (width_of items number) (map (item_at items) back) marked ∙ sym (parts xs))
+            (λ others. free-before (item_at items) xs previous others ∙ marked) (named ∙ none) spelled)
+        by_mark false e =
+            let one : free_named items (Some previous) ≡ Some previous = simp e refl in
+            subst (λ (o : Option ℕ). FreesItem atlas (freed_after shelf number o atlas.lists) before after shelf number (xs ++ previous ∷ []) back free unused shelves) (sym (named ∙ one))
+            (item-taken atlas before after shelf number previous xs back free unused shelves allocated e (named ∙ one)
+            (subst (λ (ns : List ℕ). IsSpelled atlas (lists_of (before ++ entry_of shelf ns free ∷ after) unused shelves)) (append_assoc xs (previous ∷ []) (number ∷ back)) spelled))

@@ -1,0 +1,223 @@
+-- Records that spell lists, and whose shelves say whether they are empty, after empty neighbours of one column became one.
+use Rattle.std.proofs.Common.{◌≡◌, ◌≢◌, ℕ, ◌+◌, ◌*◌, ◌≤◌, Bool, true, false, ◌&&◌, ◌==◌, Option, None, Some, List, [], ◌∷◌, ◌++◌, length, map, refl, ap, subst, arith, sym, ◌∙◌}
+use Rattle.std.proofs.lemmas.Bool.{and_parts, eqb-true}
+use Rattle.std.proofs.lemmas.List.{map-append}
+use Rattle.std.specs.Prelude.{◌/◌, ◌%◌, not}
+use Rattle.etagere_base.proofs.AlignedPlaces.{multiple}
+use Rattle.etagere_base.proofs.EachLemmas.{Each-append, Each-front, Each-back}
+use Rattle.etagere_base.proofs.TimesLemmas.{times-append}
+use Rattle.etagere_base.specs.Lists.{times}
+use Rattle.etagere_base.specs.MergingAt.{merged_at}
+use Rattle.etagere_links.specs.declared.records.LinkedItem.{LinkedItem}
+use Rattle.etagere_links.specs.declared.records.LinkedShelf.{LinkedShelf}
+use Rattle.etagere_links.specs.Edits.{link_at}
+use Rattle.etagere_links.specs.Lists.{first_or, last_or}
+use Rattle.etagere_links.specs.RecordLists.{Records, Entry, IsEntry, first_item_of, shelf_numbers}
+use Rattle.etagere_links.specs.Records.{item_chain, shelf_chain}
+use Rattle.etagere_links.proofs.Chains.{Leads-start, next-is, previous-is}
+use Rattle.etagere_links.proofs.AllLists.LinkedFrames.{shelf_numbers-append}
+use Rattle.etagere_links.proofs.AllLists.LinkedItems.{IsApart, linked-apart}
+use Rattle.etagere_links.proofs.AllLists.LinkedMerges.{entry_of}
+use Rattle.etagere_links.proofs.AllLists.LinkedUnused.{lists_of}
+use Rattle.etagere_links.proofs.ListEnds.{times-here}
+use Rattle.shelf_records.specs.AtlasRecords.{AtlasRecords, along_of, height_of, is_empty_at, is_allocated_at, item_at, spelled_shelf}
+use Rattle.shelf_model.specs.Merging.{both_empty, combined_shelves}
+use Rattle.shelf_store.specs.Private.ItemReturned.{Step, are_both_empty, empty_named, empty_next, shelf_merged, shelf_next_absorbed, shelf_of_item_absorbed}
+use Rattle.shelf_records.specs.Private.Kept.{HasFlag, IsPlaced}
+use Rattle.shelf_store.specs.Private.RankedReturned.{rank_merged, rank_next_absorbed, rank_of_item_absorbed}
+use Rattle.shelf_model.specs.State.{Shelf, is_empty, is_free, is_one_free}
+use Rattle.shelf_heights.specs.declared.ranked.RankedShelf.{RankedShelf}
+use Rattle.shelf_store.proofs.ByHeight.MergedRanks.{Ranks, absorbed-ranks}
+use Rattle.shelf_store.proofs.Spelled.EmptinessSaid.{IsFlagged, flags-same, shelf-is}
+use Rattle.shelf_store.proofs.Spelled.ItemsAround.{free-item}
+use Rattle.shelf_records.proofs.Spelled.RecordValues.{SameItem}
+use Rattle.shelf_store.proofs.Spelled.SpelledLists.{with_lists, IsSpelled}
+use Rattle.shelf_store.proofs.Spelled.SpelledShelves.{IsTaller, shelf_absorbed-spelled, shelf_absorbed-values}
+
+module _ {X Y : Type 0} (f : Y → X) (touch : X → X → Bool) (combine : X → X → X) where
+  -- the last element of a list has no next one
+  merged-end : (front : List Y) (x : X) → merged_at touch combine (length front) (map f front ++ x ∷ []) ≡ map f front ++ x ∷ []
+  merged-end [] x = refl
+  merged-end (y ∷ front) x = ap (λ (xs : List X). f y ∷ xs) (merged-end front x)
+
+  -- two neighbours that don't touch stay
+  merged-apart : (front : List Y) (x next : X) (back : List X) → touch x next ≡ false → merged_at touch combine (length front) (map f front ++ x ∷ next ∷ back) ≡ map f front ++ x ∷ next ∷ back
+  merged-apart [] x next back e = rw e refl
+  merged-apart (y ∷ front) x next back e = ap (λ (xs : List X). f y ∷ xs) (merged-apart front x next back e)
+
+  -- two that touch are combined
+  merged-touching : (front : List Y) (x next : X) (back : List X) → touch x next ≡ true → merged_at touch combine (length front) (map f front ++ x ∷ next ∷ back) ≡ map f front ++ combine x next ∷ back
+  merged-touching [] x next back e = rw e refl
+  merged-touching (y ∷ front) x next back e = ap (λ (xs : List X). f y ∷ xs) (merged-touching front x next back e)
+
+-- what a step that merges a shelf with the next one makes of the lists of shelves, and what these spell
+pub record MergesShelf (atlas : AtlasRecords) (step : Step) (change : List RankedShelf → List RankedShelf) (before after : List Entry) (entry : Entry) (unused shelves : List ℕ) : Type 0 where
+  pub rest : List Entry
+  pub aside : List ℕ
+  pub gone : List ℕ
+  pub flagged : IsFlagged (with_lists atlas step.records) (lists_of (before ++ entry ∷ rest) aside gone)
+  pub merged :
+      map (spelled_shelf (with_lists atlas step.records)) (before ++ entry ∷ rest)
+      ≡ merged_at both_empty combined_shelves (length before) (map (spelled_shelf atlas) (before ++ entry ∷ after))
+  pub counted : length aside ≡ step.put_aside + length unused
+  pub ranks : (ranked : List RankedShelf) → Ranks atlas (before ++ entry ∷ after) ranked → Ranks (with_lists atlas step.records) (before ++ entry ∷ rest) (change ranked)
+
+-- nothing is merged
+shelf-kept : (atlas : AtlasRecords) (before after : List Entry) (entry : Entry) (unused shelves : List ℕ) → merged_at both_empty combined_shelves (length before) (map (spelled_shelf atlas) before ++ map (spelled_shelf atlas) (entry ∷ after)) ≡ map (spelled_shelf atlas) before ++ map (spelled_shelf atlas) (entry ∷ after) → IsFlagged atlas (lists_of (before ++ entry ∷ after) unused shelves) → MergesShelf atlas (record { records = atlas.lists; put_aside = 0 }) (λ ranked. ranked) before after entry unused shelves
+shelf-kept atlas before after entry unused shelves stays flagged =
+    let whole : map (spelled_shelf atlas) (before ++ entry ∷ after) ≡ map (spelled_shelf atlas) before ++ map (spelled_shelf atlas) (entry ∷ after) = map-append (spelled_shelf atlas) before (entry ∷ after) in
+    record {
+      rest = after;
+      aside = unused;
+      gone = shelves;
+      flagged = flagged;
+      merged = whole ∙ sym stays ∙ ap (merged_at both_empty combined_shelves (length before)) (sym whole);
+      counted = omega arith;
+      ranks = λ ranked ranks. ranks;
+    }
+
+-- two shelves stand in one column where they begin at one place
+columns-same : (one other width : ℕ) → one % width ≡ 0 → other % width ≡ 0 → (one / width == other / width) ≡ (one == other)
+columns-same one other width h k = by_test (one == other) refl
+  where
+    by_test : (b : Bool) → (one == other) ≡ b → (one / width == other / width) ≡ (one == other)
+    by_test true e = let same : one ≡ other = eqb-true one other e in rw same (grind arith)
+    by_test false e =
+        let differ : one / width ≢ other / width = λ same.
+        let again : one ≡ other = multiple one width h ∙ ap (λ c. c * width) same ∙ sym (multiple other width k) in
+        grind (arith, again, e) in
+        let test : (one / width == other / width) ≡ false = grind (arith, differ) in
+        test ∙ sym e
+
+-- two shelves merge where they say that they are empty and begin at one place
+touch-same : (atlas : AtlasRecords) (entry next : Entry) → along_of atlas.lists.shelves entry.number % atlas.frame.column_width ≡ 0 → along_of atlas.lists.shelves next.number % atlas.frame.column_width ≡ 0 → HasFlag atlas entry → HasFlag atlas next → both_empty (spelled_shelf atlas entry) (spelled_shelf atlas next) ≡ are_both_empty atlas.lists.shelves entry.number next.number
+touch-same atlas entry next along next_along flag next_flag =
+    rw (columns-same (along_of atlas.lists.shelves entry.number) (along_of atlas.lists.shelves next.number) atlas.frame.column_width along next_along, flag, next_flag) refl
+
+-- an empty shelf has one item, which is free
+pub record HasOneFree (items : List LinkedItem) (numbers : List ℕ) : Type 0 where
+  pub item : ℕ
+  pub alone : numbers ≡ item ∷ []
+  pub free : is_allocated_at items item ≡ false
+
+one-free-of : (items : List LinkedItem) (numbers : List ℕ) → is_one_free (map (item_at items) numbers) ≡ true → HasOneFree items numbers
+one-free-of items [] e = absurd (cc)
+one-free-of items (x ∷ []) e =
+    let unmarked : (b : Bool) → not b ≡ true → b ≡ false = λ b h. grind arith in
+    record { item = x; alone = refl; free = unmarked (is_allocated_at items x) (sym (free-item items x (is_allocated_at items x) refl) ∙ e) }
+one-free-of items (x ∷ y ∷ ys) e = absurd (cc)
+
+-- the next shelf is absorbed with its item
+shelf-taken : (atlas : AtlasRecords) (before after : List Entry) (entry : Entry) (next item : ℕ) (free unused shelves : List ℕ) → both_empty (spelled_shelf atlas entry) (spelled_shelf atlas (entry_of next (item ∷ []) free)) ≡ true → along_of atlas.lists.shelves next ≡ along_of atlas.lists.shelves entry.number → is_allocated_at atlas.lists.items item ≡ false → IsFlagged atlas (lists_of (before ++ entry ∷ entry_of next (item ∷ []) free ∷ after) unused shelves) → MergesShelf atlas (shelf_of_item_absorbed entry.number next (Some item) atlas.lists) (rank_of_item_absorbed entry.number next (Some item) atlas.lists) before (entry_of next (item ∷ []) free ∷ after) entry unused shelves
+shelf-taken atlas before after entry next item free unused shelves touch column is_free flagged =
+    let old : List LinkedShelf = atlas.lists.shelves in
+    let items : List LinkedItem = atlas.lists.items in
+    let spelled = flagged.spelled in
+    let gone : Entry = entry_of next (item ∷ []) free in
+    let height : ℕ = height_of old entry.number + height_of old next in
+    let lists : Records = (shelf_of_item_absorbed entry.number next (Some item) atlas.lists).records in
+    let new : AtlasRecords = with_lists atlas lists in
+    let apart : IsApart atlas.lists before (gone ∷ after) unused [] entry = linked-apart atlas.lists before (gone ∷ after) entry unused shelves [] [] spelled.linked in
+    let taller : IsTaller atlas.lists lists entry.number height = shelf_absorbed-values atlas.lists entry.number next item height apart.number in
+    let among : (k : ℕ) → times k (shelf_numbers before ++ shelf_numbers (gone ∷ after)) ≡ times k (shelf_numbers before) + times k (shelf_numbers (gone ∷ after)) =
+    λ k. times-append k (shelf_numbers before) (shelf_numbers (gone ∷ after)) in
+    let before_same : map (spelled_shelf new) before ≡ map (spelled_shelf atlas) before =
+    others-spelled atlas lists before taller.along (λ k stands. (taller.others k (apart.numbers k (omega (arith, among k, stands)))).height) taller.items in
+    let after_same : map (spelled_shelf new) after ≡ map (spelled_shelf atlas) after =
+    others-spelled atlas lists after taller.along (λ k stands. (taller.others k (apart.numbers k (omega (arith, among k, stands)))).height) taller.items in
+    let own : spelled_shelf new entry ≡ combined_shelves (spelled_shelf atlas entry) (spelled_shelf atlas gone) = shelf-is atlas lists entry height (taller.along entry.number) taller.own taller.items in
+    let tail = Each-back (HasFlag atlas) before (entry ∷ gone ∷ after) flagged.flags in
+    record {
+      rest = after;
+      aside = item ∷ unused;
+      gone = next ∷ shelves;
+      flagged =
+          record {
+            spelled = shelf_absorbed-spelled atlas before after entry next item free unused shelves column is_free spelled;
+            flags = Each-append (HasFlag new) before (entry ∷ after)
+                (flags-same atlas new before (λ k stands. taller.is_empty k) before_same (Each-front (HasFlag atlas) before (entry ∷ gone ∷ after) flagged.flags))
+                (taller.is_empty entry.number ∙ tail.0 ∙ ap is_empty (sym own), flags-same atlas new after (λ k stands. taller.is_empty k) after_same tail.1.1);
+          };
+      merged = map-append (spelled_shelf new) before (entry ∷ after)
+          ∙ ap (λ (ss : List Shelf). ss ++ spelled_shelf new entry ∷ map (spelled_shelf new) after) before_same
+          ∙ ap (λ (s : Shelf). map (spelled_shelf atlas) before ++ s ∷ map (spelled_shelf new) after) own
+          ∙ ap (λ (ss : List Shelf). map (spelled_shelf atlas) before ++ combined_shelves (spelled_shelf atlas entry) (spelled_shelf atlas gone) ∷ ss) after_same
+          ∙ sym (merged-touching (spelled_shelf atlas) both_empty combined_shelves before (spelled_shelf atlas entry) (spelled_shelf atlas gone) (map (spelled_shelf atlas) after) touch)
+          ∙ ap (merged_at both_empty combined_shelves (length before)) (sym (map-append (spelled_shelf atlas) before (entry ∷ gone ∷ after)));
+      counted = omega arith;
+      ranks = λ ranked ranks. absorbed-ranks atlas lists before after entry gone height ranked taller ranks apart.number;
+    }
+  where
+    others-spelled : (atlas : AtlasRecords) (lists : Records) (es : List Entry) → ((k : ℕ) → along_of lists.shelves k ≡ along_of atlas.lists.shelves k) → ((k : ℕ) → 1 ≤ times k (shelf_numbers es) → height_of lists.shelves k ≡ height_of atlas.lists.shelves k) → ((k : ℕ) → SameItem atlas.lists.items lists.items k) → map (spelled_shelf (with_lists atlas lists)) es ≡ map (spelled_shelf atlas) es
+    others-spelled atlas lists [] along height same = refl
+    others-spelled atlas lists (e ∷ es) along height same =
+        ap (λ (s : Shelf). s ∷ map (spelled_shelf (with_lists atlas lists)) es) (shelf-is atlas lists e (height_of atlas.lists.shelves e.number) (along e.number) (height e.number (omega (arith, times-here e.number (shelf_numbers es)))) same)
+        ∙ ap (λ (ss : List Shelf). spelled_shelf atlas e ∷ ss) (others-spelled atlas lists es along (λ k stands. height k (omega (arith, stands))) same)
+
+-- the link from a shelf to the next one
+pub next-link : (atlas : AtlasRecords) (before after : List Entry) (entry : Entry) (unused shelves : List ℕ) → IsSpelled atlas (lists_of (before ++ entry ∷ after) unused shelves) → link_at shelf_chain.next atlas.lists.shelves entry.number ≡ first_or None (shelf_numbers after)
+next-link atlas before after entry unused shelves spelled =
+    next-is (link_at shelf_chain.next atlas.lists.shelves) (shelf_numbers before) (shelf_numbers after) entry.number atlas.lists.first_shelf None
+    (rw (← shelf_numbers-append before (entry ∷ after)) spelled.linked.shelves.forward)
+
+-- the link from a shelf to the previous one
+pub previous-link : (atlas : AtlasRecords) (before after : List Entry) (entry : Entry) (unused shelves : List ℕ) → IsSpelled atlas (lists_of (before ++ entry ∷ after) unused shelves) → link_at shelf_chain.previous atlas.lists.shelves entry.number ≡ last_or None (shelf_numbers before)
+previous-link atlas before after entry unused shelves spelled =
+    previous-is (link_at shelf_chain.previous atlas.lists.shelves) (shelf_numbers before) (shelf_numbers after) entry.number None
+    (rw (← shelf_numbers-append before (entry ∷ after)) spelled.linked.shelves.backward)
+
+-- what is known of a shelf and the next one
+pub record AreNeighbours (atlas : AtlasRecords) (entry next : Entry) : Type 0 where
+  pub touch : both_empty (spelled_shelf atlas entry) (spelled_shelf atlas next) ≡ are_both_empty atlas.lists.shelves entry.number next.number
+  pub named : empty_next atlas.lists.shelves entry.number ≡ empty_named atlas.lists.shelves entry.number (Some next.number)
+  pub is : IsEntry atlas.lists next
+
+pub neighbours : (atlas : AtlasRecords) (before after : List Entry) (entry next : Entry) (unused shelves : List ℕ) → IsFlagged atlas (lists_of (before ++ entry ∷ next ∷ after) unused shelves) → AreNeighbours atlas entry next
+neighbours atlas before after entry next unused shelves flagged =
+    let placed = Each-back (IsPlaced atlas) before (entry ∷ next ∷ after) flagged.spelled.placed in
+    let flags = Each-back (HasFlag atlas) before (entry ∷ next ∷ after) flagged.flags in
+    let are = Each-back (IsEntry atlas.lists) before (entry ∷ next ∷ after) flagged.spelled.linked.entries in
+    record {
+      touch = touch-same atlas entry next placed.0.along placed.1.0.along flags.0 flags.1.0;
+      named = ap (empty_named atlas.lists.shelves entry.number) (next-link atlas before (next ∷ after) entry unused shelves flagged.spelled);
+      is = are.1.0;
+    }
+
+-- a shelf was merged with the next one, where both are empty and stand in one column
+pub merges-shelf : (atlas : AtlasRecords) (before after : List Entry) (entry : Entry) (unused shelves : List ℕ) → IsFlagged atlas (lists_of (before ++ entry ∷ after) unused shelves) → MergesShelf atlas (shelf_merged entry.number atlas.lists) (rank_merged entry.number atlas.lists) before after entry unused shelves
+merges-shelf atlas before [] entry unused shelves flagged =
+    let none : empty_next atlas.lists.shelves entry.number ≡ None = ap (empty_named atlas.lists.shelves entry.number) (next-link atlas before [] entry unused shelves flagged.spelled) in
+    subst (λ (o : Option ℕ). MergesShelf atlas (shelf_next_absorbed entry.number o atlas.lists) (rank_next_absorbed entry.number o atlas.lists) before [] entry unused shelves) (sym none)
+    (shelf-kept atlas before [] entry unused shelves (merged-end (spelled_shelf atlas) both_empty combined_shelves before (spelled_shelf atlas entry)) flagged)
+merges-shelf atlas before (next ∷ after) entry unused shelves flagged = by_test (are_both_empty atlas.lists.shelves entry.number next.number) refl
+  where
+    near : AreNeighbours atlas entry next
+    near = neighbours atlas before after entry next unused shelves flagged
+
+    absorbed : are_both_empty atlas.lists.shelves entry.number next.number ≡ true → HasOneFree atlas.lists.items next.items → MergesShelf atlas (shelf_next_absorbed entry.number (Some next.number) atlas.lists) (rank_next_absorbed entry.number (Some next.number) atlas.lists) before (next ∷ after) entry unused shelves
+    absorbed e one =
+        let same : entry_of next.number (one.item ∷ []) next.free_list ≡ next = ap (λ ns. entry_of next.number ns next.free_list) (sym one.alone) in
+        let first : first_item_of atlas.lists.shelves next.number ≡ Some one.item =
+        Leads-start (link_at item_chain.next atlas.lists.items) next.items (first_item_of atlas.lists.shelves next.number) None near.is.items.forward ∙ ap (first_or None) one.alone in
+        let column : along_of atlas.lists.shelves entry.number ≡ along_of atlas.lists.shelves next.number =
+        eqb-true (along_of atlas.lists.shelves entry.number) (along_of atlas.lists.shelves next.number)
+        (and_parts (along_of atlas.lists.shelves entry.number == along_of atlas.lists.shelves next.number) (is_empty_at atlas.lists.shelves entry.number && is_empty_at atlas.lists.shelves next.number) e).0 in
+        subst (λ (o : Option ℕ). MergesShelf atlas (shelf_of_item_absorbed entry.number next.number o atlas.lists) (rank_of_item_absorbed entry.number next.number o atlas.lists) before (next ∷ after) entry unused shelves) (sym first)
+        (subst (λ (n : Entry). MergesShelf atlas (shelf_of_item_absorbed entry.number next.number (Some one.item) atlas.lists) (rank_of_item_absorbed entry.number next.number (Some one.item) atlas.lists) before (n ∷ after) entry unused shelves) same
+        (shelf-taken atlas before after entry next.number one.item next.free_list unused shelves
+        (subst (λ (n : Entry). both_empty (spelled_shelf atlas entry) (spelled_shelf atlas n) ≡ true) (sym same) (near.touch ∙ e))
+        (sym column) one.free
+        (subst (λ (n : Entry). IsFlagged atlas (lists_of (before ++ entry ∷ n ∷ after) unused shelves)) (sym same) flagged)))
+
+    by_test : (b : Bool) → are_both_empty atlas.lists.shelves entry.number next.number ≡ b → MergesShelf atlas (shelf_merged entry.number atlas.lists) (rank_merged entry.number atlas.lists) before (next ∷ after) entry unused shelves
+    by_test false e =
+        let none : empty_named atlas.lists.shelves entry.number (Some next.number) ≡ None = simp e refl in
+        subst (λ (o : Option ℕ). MergesShelf atlas (shelf_next_absorbed entry.number o atlas.lists) (rank_next_absorbed entry.number o atlas.lists) before (next ∷ after) entry unused shelves) (sym (near.named ∙ none))
+        (shelf-kept atlas before (next ∷ after) entry unused shelves
+        (merged-apart (spelled_shelf atlas) both_empty combined_shelves before (spelled_shelf atlas entry) (spelled_shelf atlas next) (map (spelled_shelf atlas) after) (near.touch ∙ e)) flagged)
+    by_test true e =
+        let some : empty_named atlas.lists.shelves entry.number (Some next.number) ≡ Some next.number = simp e refl in
+        let empty = and_parts (is_empty (spelled_shelf atlas entry)) (is_empty (spelled_shelf atlas next))
+        (and_parts ((spelled_shelf atlas entry).column == (spelled_shelf atlas next).column) (is_empty (spelled_shelf atlas entry) && is_empty (spelled_shelf atlas next)) (near.touch ∙ e)).1 in
+        subst (λ (o : Option ℕ). MergesShelf atlas (shelf_next_absorbed entry.number o atlas.lists) (rank_next_absorbed entry.number o atlas.lists) before (next ∷ after) entry unused shelves) (sym (near.named ∙ some))
+        (absorbed e (one-free-of atlas.lists.items next.items empty.1))

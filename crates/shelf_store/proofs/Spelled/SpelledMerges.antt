@@ -1,0 +1,285 @@
+-- Records that spell lists, after an item took the place of the one after it.
+use Rattle.std.proofs.Common.{◌≡◌, ◌≢◌, ℕ, ◌+◌, ◌<◌, ◌≤◌, true, false, Option, None, Some, List, [], ◌∷◌, ◌++◌, length, map, refl, ap, arith, ◌∙◌, ◌*◌}
+use Rattle.std.specs.Prelude.{◌%◌}
+use Rattle.etagere_base.proofs.EachLemmas.{Each-append, Each-front, Each-back, Each-middle}
+use Rattle.etagere_base.proofs.TimesLemmas.{times-append}
+use Rattle.etagere_base.specs.Lists.{Each, times}
+use Rattle.etagere_links.specs.declared.records.LinkedItem.{LinkedItem}
+use Rattle.etagere_links.specs.declared.records.LinkedShelf.{LinkedShelf}
+use Rattle.etagere_links.specs.Edits.{changed_by, link_at, first_without, linked_between, unlinked}
+use Rattle.etagere_links.specs.RecordEdits.{free_unlinked, with_first_item, with_first_free}
+use Rattle.etagere_links.specs.RecordLists.{Records, Entry, first_item_of, first_free_of, item_numbers, field_at}
+use Rattle.etagere_links.specs.RecordMerges.{free_absorbed, allocated_absorbed, item_freed, item_given}
+use Rattle.etagere_links.specs.Records.{item_chain, free_list}
+use Rattle.etagere_links.proofs.AllLists.LinkedItems.{IsApart, linked-apart}
+use Rattle.etagere_links.proofs.AllLists.LinkedMerges.{entry_of, free_absorbed-linked, allocated_absorbed-linked, item_freed-linked, item_given-linked}
+use Rattle.etagere_links.proofs.AllLists.LinkedUnused.{lists_of}
+use Rattle.etagere_links.proofs.ListEnds.{times-here}
+use Rattle.etagere_links.proofs.RecordChanges.{map-changed_by}
+use Rattle.etagere_links.proofs.RecordFrames.{length-unlinked, map-linked_between, map-unlinked}
+use Rattle.shelf_records.specs.AtlasRecords.{AtlasRecords, is_allocated_at, shelf_of, along_of, item_at}
+use Rattle.shelf_model.specs.State.{Item}
+use Rattle.shelf_store.proofs.Spelled.AbsorbedItems.{Absorbs, IsRest, rest-of, absorbed-places, absorbed-owners, absorbed-free, free-widens, widened-absorbs, allocated-absorbs, allocated-unmarked, frees-keep_values}
+use Rattle.shelf_store.proofs.Spelled.EntryValues.{IsWidened, IsFreed, IsGiven, id_at, marked, unmarked, remarked-places, free_count, free_count-append, free_count-free, free_count-allocated, free_count-none, free_count-same}
+use Rattle.shelf_records.proofs.Spelled.RecordValues.{ItemValues, item_values, shelf_values, values-same, SameItem, SameShelf, SameItem-then, items-same, shelves-same, owners-same}
+use Rattle.shelf_store.proofs.Spelled.SpelledLists.{with_lists, IsSpelled, EditsItems}
+use Rattle.shelf_records.specs.Private.Kept.{IsPlaced}
+
+-- what a shelf says where another item begins it
+item-first : (shelf : ℕ) (link : Option ℕ) (shelves : List LinkedShelf) → map shelf_values (with_first_item shelf link shelves) ≡ map shelf_values shelves
+item-first shelf link shelves = map-changed_by shelf_values (λ (x : LinkedShelf). record x { first_item = link }) shelves (Some shelf) (λ x. refl)
+
+-- what a shelf says where another item begins its free list
+pub free-first : (shelf : ℕ) (link : Option ℕ) (shelves : List LinkedShelf) → map shelf_values (with_first_free shelf link shelves) ≡ map shelf_values shelves
+free-first shelf link shelves = map-changed_by shelf_values (λ (x : LinkedShelf). record x { first_unallocated = link }) shelves (Some shelf) (λ x. refl)
+
+-- items that are not marked allocated stay so where they say the same
+pub unmarked-same : (items new : List LinkedItem) (xs : List ℕ) → ((k : ℕ) → 1 ≤ times k xs → SameItem items new k) → Each (λ item. is_allocated_at items item ≡ false) xs → Each (λ item. is_allocated_at new item ≡ false) xs
+unmarked-same items new [] same each = tt
+unmarked-same items new (x ∷ xs) same each =
+    ((same x (omega (arith, times-here x xs))).allocated ∙ each.0, unmarked-same items new xs (λ k stands. same k (omega (arith, stands))) each.1)
+
+-- a shelf after one of its items absorbed the next is placed
+absorbed-placed : (atlas : AtlasRecords) (lists : Records) (shelf number next : ℕ) (front back free free' : List ℕ) → IsRest front back number next → Absorbs atlas.lists.items lists.items number next → ((k : ℕ) → SameShelf atlas.lists.shelves lists.shelves k) → ((k : ℕ) → times k free' + free_count atlas.lists.items k (next ∷ []) ≡ times k free) → IsPlaced atlas (entry_of shelf (front ++ number ∷ next ∷ back) free) → IsPlaced (with_lists atlas lists) (entry_of shelf (front ++ number ∷ back) free')
+absorbed-placed atlas lists shelf number next front back free free' rest absorbs same listed placed =
+    record {
+      owners = absorbed-owners atlas.lists.items lists.items shelf front back number next rest absorbs placed.owners;
+      along = ap (λ a. a % atlas.frame.column_width) (same shelf).along ∙ placed.along;
+      places = rw (same shelf).along (absorbed-places atlas.lists.items lists.items (along_of atlas.lists.shelves shelf) front back number next rest absorbs placed.places);
+      free_list = λ k. omega (arith, placed.free_list k, listed k, absorbed-free atlas.lists.items lists.items k front back number next rest absorbs);
+    }
+
+-- a number that does not stand in the items of a shelf is neither of two of them
+neither : (front back : List ℕ) (number next k : ℕ) → times k (front ++ number ∷ next ∷ back) ≡ 0 → (number ≢ k) × (next ≢ k)
+neither front back number next k absent =
+    let count : times k (front ++ number ∷ next ∷ back) ≡ times k front + times k (number ∷ next ∷ back) = times-append k front (number ∷ next ∷ back) in (
+      λ e. let here : times k (number ∷ next ∷ back) ≡ 1 + times k (next ∷ back) = rw e (times-here k (next ∷ back)) in omega (arith, absent, count, here),
+      λ e. let here : times k (next ∷ back) ≡ 1 + times k back = rw e (times-here k back) in omega (arith, absent, count, here),
+    )
+
+-- the records after an item took the place of the free one after it
+pub free_absorbed-spelled : (atlas : AtlasRecords) (before after : List Entry) (shelf number next : ℕ) (front back free_front free_back unused shelves : List ℕ) → is_allocated_at atlas.lists.items next ≡ false → IsSpelled atlas (lists_of (before ++ entry_of shelf (front ++ number ∷ next ∷ back) (free_front ++ next ∷ free_back) ∷ after) unused shelves) → EditsItems atlas (free_absorbed shelf number next ((item_at atlas.lists.items number).width + (item_at atlas.lists.items next).width) atlas.lists) before after unused (next ∷ unused) shelves (entry_of shelf (front ++ number ∷ next ∷ back) (free_front ++ next ∷ free_back)) (entry_of shelf (front ++ number ∷ back) (free_front ++ free_back))
+free_absorbed-spelled atlas before after shelf number next front back free_front free_back unused shelves is_free spelled =
+    let items : List LinkedItem = atlas.lists.items in
+    let width : ℕ = (item_at items number).width + (item_at items next).width in
+    let lists : Records = free_absorbed shelf number next width atlas.lists in
+    let numbers : List ℕ = front ++ number ∷ next ∷ back in
+    let entry : Entry = entry_of shelf numbers (free_front ++ next ∷ free_back) in
+    let apart : IsApart atlas.lists before after unused [] entry = linked-apart atlas.lists before after entry unused shelves [] [] spelled.linked in
+    let placed : IsPlaced atlas entry = Each-middle (IsPlaced atlas) before entry after spelled.placed in
+    let count : (k : ℕ) → times k numbers ≡ times k front + times k (number ∷ next ∷ back) = λ k. times-append k front (number ∷ next ∷ back) in
+    let rest : IsRest front back number next = rest-of front back number next apart.once in
+    let wide : IsWidened items lists.items number width = free-widens atlas.lists shelf number next (apart.within number (omega (arith, count number, times-here number (next ∷ back)))) in
+    let absorbs : Absorbs items lists.items number next = widened-absorbs items lists.items number next wide in
+    let differ : number ≢ next = λ e.
+    let here : times next (number ∷ next ∷ back) ≡ 1 + times next (next ∷ back) = rw e (times-here next (next ∷ back)) in
+    omega (arith, apart.once next, count next, here, times-here next back) in
+    let one : Records = free_unlinked shelf next atlas.lists in
+    let same : (k : ℕ) → SameShelf atlas.lists.shelves lists.shelves k = λ k.
+    shelves-same atlas.lists.shelves lists.shelves k
+    (item-first shelf (first_without (link_at item_chain.previous one.items next) (link_at item_chain.next one.items next) (first_item_of one.shelves shelf)) one.shelves
+    ∙ free-first shelf (first_without (link_at free_list.previous items next) (link_at free_list.next items next) (first_free_of atlas.lists.shelves shelf)) atlas.lists.shelves) in
+    record {
+      number = refl;
+      linked = free_absorbed-linked atlas.lists before after shelf number next width front back free_front free_back unused shelves [] [] spelled.linked;
+      placed = absorbed-placed atlas lists shelf number next front back (free_front ++ next ∷ free_back) (free_front ++ free_back) rest absorbs same
+          (λ k. omega (arith, times-append k free_front (next ∷ free_back), times-append k free_front free_back, free_count-free items k next [] is_free)) placed;
+      items = λ k absent. absorbs.others k (neither front back number next k absent).0 (neither front back number next k absent).1;
+      shelf = same;
+      aside = (
+        (wide.others next differ).allocated ∙ is_free,
+        unmarked-same items lists.items unused
+            (λ k stands. wide.others k (neither front back number next k (omega (arith, apart.others k (omega (arith, stands, times-append k (item_numbers before ++ item_numbers after) unused))))).0) spelled.unused,
+      );
+    }
+
+-- the records after a free item took the place of the allocated one after it
+pub allocated_absorbed-spelled : (atlas : AtlasRecords) (before after : List Entry) (shelf number next : ℕ) (front back free unused shelves : List ℕ) → is_allocated_at atlas.lists.items next ≡ true → IsSpelled atlas (lists_of (before ++ entry_of shelf (front ++ number ∷ next ∷ back) free ∷ after) unused shelves) → EditsItems atlas (allocated_absorbed shelf number next ((item_at atlas.lists.items number).width + (item_at atlas.lists.items next).width) atlas.lists) before after unused (next ∷ unused) shelves (entry_of shelf (front ++ number ∷ next ∷ back) free) (entry_of shelf (front ++ number ∷ back) free)
+allocated_absorbed-spelled atlas before after shelf number next front back free unused shelves is_allocated spelled =
+    let items : List LinkedItem = atlas.lists.items in
+    let width : ℕ = (item_at items number).width + (item_at items next).width in
+    let lists : Records = allocated_absorbed shelf number next width atlas.lists in
+    let numbers : List ℕ = front ++ number ∷ next ∷ back in
+    let entry : Entry = entry_of shelf numbers free in
+    let apart : IsApart atlas.lists before after unused [] entry = linked-apart atlas.lists before after entry unused shelves [] [] spelled.linked in
+    let placed : IsPlaced atlas entry = Each-middle (IsPlaced atlas) before entry after spelled.placed in
+    let count : (k : ℕ) → times k numbers ≡ times k front + times k (number ∷ next ∷ back) = λ k. times-append k front (number ∷ next ∷ back) in
+    let rest : IsRest front back number next = rest-of front back number next apart.once in
+    let differ : number ≢ next = λ e.
+    let here : times next (number ∷ next ∷ back) ≡ 1 + times next (next ∷ back) = rw e (times-here next (next ∷ back)) in
+    omega (arith, apart.once next, count next, here, times-here next back) in
+    let absorbs : Absorbs items lists.items number next =
+    allocated-absorbs atlas.lists shelf number next differ (apart.within number (omega (arith, count number, times-here number (next ∷ back)))) in
+    let next_within : next < length items = apart.within next (omega (arith, count next, times-here next back)) in
+    let absent : times next free ≡ 0 = placed.free_list next ∙ free_count-none items next numbers is_allocated in
+    let same : (k : ℕ) → SameShelf atlas.lists.shelves lists.shelves k = λ k.
+    shelves-same atlas.lists.shelves lists.shelves k
+    (item-first shelf (first_without (link_at item_chain.previous items next) (link_at item_chain.next items next) (first_item_of atlas.lists.shelves shelf)) atlas.lists.shelves) in
+    record {
+      number = refl;
+      linked = allocated_absorbed-linked atlas.lists before after shelf number next width front back free unused shelves [] [] absent spelled.linked;
+      placed = absorbed-placed atlas lists shelf number next front back free free rest absorbs same
+          (λ k. omega (arith, free_count-allocated items k next [] is_allocated)) placed;
+      items = λ k absent_. absorbs.others k (neither front back number next k absent_).0 (neither front back number next k absent_).1;
+      shelf = same;
+      aside = (
+        allocated-unmarked atlas.lists shelf number next width differ next_within,
+        unmarked-same items lists.items unused
+            (λ k stands.
+            let gone = neither front back number next k (omega (arith, apart.others k (omega (arith, stands, times-append k (item_numbers before ++ item_numbers after) unused)))) in
+            absorbs.others k gone.0 gone.1) spelled.unused,
+      );
+    }
+
+-- what an item says after it became free
+pub freed-values : (records : Records) (shelf number : ℕ) → number < length records.items → IsFreed records.items (item_freed shelf number records).items number
+freed-values records shelf number within =
+    let items : List LinkedItem = records.items in
+    let one : List LinkedItem = changed_by (Some number) (λ (x : LinkedItem). record x { allocated = false }) items in
+    let first : Option ℕ = first_free_of records.shelves shelf in
+    let new : List LinkedItem = linked_between free_list None first number one in
+    let freed : IsFreed items one number = unmarked items number within in
+    let same : (k : ℕ) → SameItem one new k = λ k. items-same one new k (map-linked_between free_list item_values frees-keep_values one None first number) in
+    record {
+      item = (same number).item ∙ freed.item;
+      place = (same number).place ∙ freed.place;
+      shelf = (same number).shelf ∙ freed.shelf;
+      allocated = (same number).allocated ∙ freed.allocated;
+      others = λ k other. SameItem-then items one new k (freed.others k other) (same k);
+    }
+
+-- a number that does not stand in the items of a shelf is none of them
+pub not-member : (front back : List ℕ) (number k : ℕ) → times k (front ++ number ∷ back) ≡ 0 → number ≢ k
+not-member front back number k absent e =
+    let here : times k (number ∷ back) ≡ 1 + times k back = rw e (times-here k back) in
+    omega (arith, absent, times-append k front (number ∷ back), here)
+
+-- the members of a shelf before and after one of them are others
+pub before-other : (front back : List ℕ) (number k : ℕ) → times k (front ++ number ∷ back) ≤ 1 → 1 ≤ times k front → number ≢ k
+before-other front back number k once stands e =
+    let here : times k (number ∷ back) ≡ 1 + times k back = rw e (times-here k back) in
+    omega (arith, once, stands, times-append k front (number ∷ back), here)
+
+pub after-other : (front back : List ℕ) (number k : ℕ) → times k (front ++ number ∷ back) ≤ 1 → 1 ≤ times k back → number ≢ k
+after-other front back number k once stands e =
+    let here : times k (number ∷ back) ≡ 1 + times k back = rw e (times-here k back) in
+    omega (arith, once, stands, times-append k front (number ∷ back), here)
+
+-- the records after an allocated item became free
+pub item_freed-spelled : (atlas : AtlasRecords) (before after : List Entry) (shelf number : ℕ) (front back free unused shelves : List ℕ) → is_allocated_at atlas.lists.items number ≡ true → IsSpelled atlas (lists_of (before ++ entry_of shelf (front ++ number ∷ back) free ∷ after) unused shelves) → EditsItems atlas (item_freed shelf number atlas.lists) before after unused unused shelves (entry_of shelf (front ++ number ∷ back) free) (entry_of shelf (front ++ number ∷ back) (number ∷ free))
+item_freed-spelled atlas before after shelf number front back free unused shelves is_allocated spelled =
+    let items : List LinkedItem = atlas.lists.items in
+    let lists : Records = item_freed shelf number atlas.lists in
+    let numbers : List ℕ = front ++ number ∷ back in
+    let entry : Entry = entry_of shelf numbers free in
+    let apart : IsApart atlas.lists before after unused [] entry = linked-apart atlas.lists before after entry unused shelves [] [] spelled.linked in
+    let placed : IsPlaced atlas entry = Each-middle (IsPlaced atlas) before entry after spelled.placed in
+    let within : number < length items = apart.within number (omega (arith, times-append number front (number ∷ back), times-here number back)) in
+    let absent : times number free ≡ 0 = placed.free_list number ∙ free_count-none items number numbers is_allocated in
+    let freed : IsFreed items lists.items number = freed-values atlas.lists shelf number within in
+    let same : (k : ℕ) → SameShelf atlas.lists.shelves lists.shelves k = λ k.
+    shelves-same atlas.lists.shelves lists.shelves k (free-first shelf (Some number) atlas.lists.shelves) in
+    let same_front : (k : ℕ) → 1 ≤ times k front → SameItem items lists.items k = λ k stands. freed.others k (before-other front back number k (apart.once k) stands) in
+    let same_back : (k : ℕ) → 1 ≤ times k back → SameItem items lists.items k = λ k stands. freed.others k (after-other front back number k (apart.once k) stands) in
+    let here : ℕ = along_of atlas.lists.shelves shelf in
+    let own_width : (item_at lists.items number).width ≡ (item_at items number).width = ap (λ (i : Item). i.width) freed.item in
+    let owned = Each-back (λ item. shelf_of items item ≡ shelf) front (number ∷ back) placed.owners in
+    let kept_front : (k : ℕ) → free_count lists.items k front ≡ free_count items k front = λ k. free_count-same items lists.items k front (λ n stands. (same_front n stands).allocated) in
+    let kept_back : (k : ℕ) → free_count lists.items k back ≡ free_count items k back = λ k. free_count-same items lists.items k back (λ n stands. (same_back n stands).allocated) in
+    record {
+      number = refl;
+      linked = item_freed-linked atlas.lists before after shelf number front back free unused shelves [] [] absent spelled.linked;
+      placed =
+          record {
+            owners = Each-append (λ item. shelf_of lists.items item ≡ shelf) front (number ∷ back)
+                (owners-same items lists.items shelf front same_front (Each-front (λ item. shelf_of items item ≡ shelf) front (number ∷ back) placed.owners))
+                (freed.shelf ∙ owned.0, owners-same items lists.items shelf back same_back owned.1);
+            along = ap (λ a. a % atlas.frame.column_width) (same shelf).along ∙ placed.along;
+            places = rw (same shelf).along (remarked-places items lists.items here front back number same_front same_back freed.place own_width placed.places);
+            free_list = λ k. omega (
+              arith,
+              placed.free_list k,
+              kept_front k,
+              kept_back k,
+              free_count-append lists.items k front (number ∷ back),
+              free_count-append items k front (number ∷ back),
+              free_count-free lists.items k number back freed.allocated,
+              free_count-allocated items k number back is_allocated,
+            );
+          };
+      items = λ k gone. freed.others k (not-member front back number k gone);
+      shelf = same;
+      aside = unmarked-same items lists.items unused
+          (λ k stands. freed.others k (not-member front back number k (omega (arith, apart.others k (omega (arith, stands, times-append k (item_numbers before ++ item_numbers after) unused)))))) spelled.unused;
+    }
+
+-- what an item says after it was given whole
+pub given-values : (records : Records) (shelf number : ℕ) → number < length records.items → IsGiven records.items (item_given shelf number records).items number
+given-values records shelf number within =
+    let items : List LinkedItem = records.items in
+    let one : List LinkedItem = unlinked free_list number items in
+    let new : List LinkedItem = changed_by (Some number) (λ (x : LinkedItem). record x { allocated = true }) one in
+    let values : map item_values one ≡ map item_values items = map-unlinked free_list item_values frees-keep_values items number in
+    let same : (k : ℕ) → SameItem items one k = λ k. items-same items one k values in
+    let generation : field_at (λ (x : LinkedItem). x.generation) 0 one number ≡ field_at (λ (x : LinkedItem). x.generation) 0 items number =
+    values-same item_values (λ (v : ItemValues). v.generation) 0 items one number values in
+    let given : IsGiven one new number = marked one number (rw (length-unlinked free_list items number) within) in
+    record {
+      item = given.item
+          ∙ ap (λ (i : Item). record { width = i.width; id = Some (id_at one number) }) (same number).item
+          ∙ ap (λ g. record { width = (item_at items number).width; id = Some (number + 65536 * g) }) generation;
+      place = given.place ∙ (same number).place;
+      shelf = given.shelf ∙ (same number).shelf;
+      allocated = given.allocated;
+      others = λ k other. SameItem-then items one new k (same k) (given.others k other);
+    }
+
+-- the records after a free item was given whole
+pub item_given-spelled : (atlas : AtlasRecords) (before after : List Entry) (shelf number : ℕ) (front back free_front free_back unused shelves : List ℕ) → is_allocated_at atlas.lists.items number ≡ false → IsSpelled atlas (lists_of (before ++ entry_of shelf (front ++ number ∷ back) (free_front ++ number ∷ free_back) ∷ after) unused shelves) → EditsItems atlas (item_given shelf number atlas.lists) before after unused unused shelves (entry_of shelf (front ++ number ∷ back) (free_front ++ number ∷ free_back)) (entry_of shelf (front ++ number ∷ back) (free_front ++ free_back))
+item_given-spelled atlas before after shelf number front back free_front free_back unused shelves is_free spelled =
+    let items : List LinkedItem = atlas.lists.items in
+    let lists : Records = item_given shelf number atlas.lists in
+    let numbers : List ℕ = front ++ number ∷ back in
+    let free : List ℕ = free_front ++ number ∷ free_back in
+    let entry : Entry = entry_of shelf numbers free in
+    let apart : IsApart atlas.lists before after unused [] entry = linked-apart atlas.lists before after entry unused shelves [] [] spelled.linked in
+    let placed : IsPlaced atlas entry = Each-middle (IsPlaced atlas) before entry after spelled.placed in
+    let within : number < length items = apart.within number (omega (arith, times-append number front (number ∷ back), times-here number back)) in
+    let given : IsGiven items lists.items number = given-values atlas.lists shelf number within in
+    let same : (k : ℕ) → SameShelf atlas.lists.shelves lists.shelves k = λ k.
+    shelves-same atlas.lists.shelves lists.shelves k
+    (free-first shelf (first_without (link_at free_list.previous items number) (link_at free_list.next items number) (first_free_of atlas.lists.shelves shelf)) atlas.lists.shelves) in
+    let same_front : (k : ℕ) → 1 ≤ times k front → SameItem items lists.items k = λ k stands. given.others k (before-other front back number k (apart.once k) stands) in
+    let same_back : (k : ℕ) → 1 ≤ times k back → SameItem items lists.items k = λ k stands. given.others k (after-other front back number k (apart.once k) stands) in
+    let own_width : (item_at lists.items number).width ≡ (item_at items number).width = ap (λ (i : Item). i.width) given.item in
+    let owned = Each-back (λ item. shelf_of items item ≡ shelf) front (number ∷ back) placed.owners in
+    let kept_front : (k : ℕ) → free_count lists.items k front ≡ free_count items k front = λ k. free_count-same items lists.items k front (λ n stands. (same_front n stands).allocated) in
+    let kept_back : (k : ℕ) → free_count lists.items k back ≡ free_count items k back = λ k. free_count-same items lists.items k back (λ n stands. (same_back n stands).allocated) in
+    record {
+      number = refl;
+      linked = item_given-linked atlas.lists before after shelf number numbers free_front free_back unused shelves [] [] spelled.linked;
+      placed =
+          record {
+            owners = Each-append (λ item. shelf_of lists.items item ≡ shelf) front (number ∷ back)
+                (owners-same items lists.items shelf front same_front (Each-front (λ item. shelf_of items item ≡ shelf) front (number ∷ back) placed.owners))
+                (given.shelf ∙ owned.0, owners-same items lists.items shelf back same_back owned.1);
+            along = ap (λ a. a % atlas.frame.column_width) (same shelf).along ∙ placed.along;
+            places = rw (same shelf).along (remarked-places items lists.items (along_of atlas.lists.shelves shelf) front back number same_front same_back given.place own_width placed.places);
+            free_list = λ k. omega (
+              arith,
+              placed.free_list k,
+              kept_front k,
+              kept_back k,
+              times-append k free_front (number ∷ free_back),
+              times-append k free_front free_back,
+              free_count-append lists.items k front (number ∷ back),
+              free_count-append items k front (number ∷ back),
+              free_count-allocated lists.items k number back given.allocated,
+              free_count-free items k number back is_free,
+            );
+          };
+      items = λ k gone. given.others k (not-member front back number k gone);
+      shelf = same;
+      aside = unmarked-same items lists.items unused
+          (λ k stands. given.others k (not-member front back number k (omega (arith, apart.others k (omega (arith, stands, times-append k (item_numbers before ++ item_numbers after) unused)))))) spelled.unused;
+    }

@@ -1,0 +1,95 @@
+-- Records that spell lists, after an empty shelf took the place of the empty one after it.
+use Rattle.std.proofs.Common.{◌≡◌, ◌≢◌, ℕ, ◌+◌, ◌<◌, false, Some, List, [], ◌∷◌, ◌++◌, length, map, refl, arith, ◌∙◌}
+use Rattle.etagere_base.proofs.EachLemmas.{Each-append, Each-front, Each-back}
+use Rattle.etagere_base.proofs.TimesLemmas.{times-append}
+use Rattle.etagere_base.specs.Lists.{Each, times}
+use Rattle.etagere_links.specs.declared.records.LinkedItem.{LinkedItem}
+use Rattle.etagere_links.specs.declared.records.LinkedShelf.{LinkedShelf}
+use Rattle.etagere_links.specs.Edits.{unlinked, put_aside}
+use Rattle.etagere_links.specs.Families.{IsUnchanged}
+use Rattle.etagere_links.specs.RecordLists.{Records, Entry, shelf_numbers}
+use Rattle.etagere_links.specs.RecordMerges.{shelf_absorbed}
+use Rattle.etagere_links.specs.Records.{item_chain, shelf_chain}
+use Rattle.etagere_links.proofs.FirstLinks.{field_at-changed, field_at-kept}
+use Rattle.etagere_links.proofs.AllLists.LinkedItems.{IsApart, linked-apart}
+use Rattle.etagere_links.proofs.AllLists.LinkedMerges.{entry_of, shelf_absorbed-linked}
+use Rattle.etagere_links.proofs.AllLists.LinkedFrames.{shelf_numbers-append}
+use Rattle.etagere_links.proofs.AllLists.LinkedUnused.{lists_of}
+use Rattle.etagere_links.proofs.RecordChanges.{length-changed_by}
+use Rattle.etagere_links.proofs.RecordFrames.{map-unlinked, map-put_aside, length-unlinked, length-put_aside}
+use Rattle.shelf_records.specs.AtlasRecords.{AtlasRecords, is_allocated_at, is_empty_at, along_of, across_of, height_of}
+use Rattle.shelf_store.proofs.Spelled.AbsorbedItems.{items-keep_values}
+use Rattle.shelf_records.proofs.Spelled.RecordValues.{item_values, shelf_values, SameItem, SameShelf, items-same, shelves-same, shelf-other}
+use Rattle.shelf_store.proofs.Spelled.SpelledLists.{with_lists, IsSpelled, placed-same}
+use Rattle.shelf_store.proofs.Spelled.SpelledMerges.{unmarked-same}
+use Rattle.shelf_records.proofs.Spelled.StackedMerges.{AbsorbsShelf, stacked-absorbed}
+use Rattle.shelf_records.specs.Private.Kept.{IsPlaced}
+
+-- the values of shelves are no part of the links between them
+pub shelves-keep_values : IsUnchanged shelf_chain shelf_values
+shelves-keep_values = record { next = λ link x. refl; previous = λ link x. refl }
+
+-- shelves whose items say the same, and that begin along where they began, are placed as before
+pub still-placed : (atlas : AtlasRecords) (lists : Records) (entries : List Entry) → ((k : ℕ) → along_of lists.shelves k ≡ along_of atlas.lists.shelves k) → ((k : ℕ) → SameItem atlas.lists.items lists.items k) → Each (IsPlaced atlas) entries → Each (IsPlaced (with_lists atlas lists)) entries
+still-placed atlas lists [] along items placed = tt
+still-placed atlas lists (entry ∷ entries) along items placed =
+    (placed-same atlas lists entry (along entry.number) (λ k stands. items k) placed.0, still-placed atlas lists entries along items placed.1)
+
+-- what records say after an empty shelf took the place of the one after it: it is taller, and all else is as it was
+pub record IsTaller (old new : Records) (number height : ℕ) : Type 0 where
+  pub along : (k : ℕ) → along_of new.shelves k ≡ along_of old.shelves k
+  pub across : (k : ℕ) → across_of new.shelves k ≡ across_of old.shelves k
+  pub is_empty : (k : ℕ) → is_empty_at new.shelves k ≡ is_empty_at old.shelves k
+  pub own : height_of new.shelves number ≡ height
+  pub others : (k : ℕ) → Some number ≢ Some k → SameShelf old.shelves new.shelves k
+  pub items : (k : ℕ) → SameItem old.items new.items k
+  pub as_many : length new.shelves ≡ length old.shelves
+
+pub shelf_absorbed-values : (records : Records) (number next item height : ℕ) → number < length records.shelves → IsTaller records (shelf_absorbed number next item height records) number height
+shelf_absorbed-values records number next item height within =
+    let old : List LinkedShelf = records.shelves in
+    let change : LinkedShelf → LinkedShelf = λ x. record x { height = height } in
+    let one : List LinkedShelf = unlinked shelf_chain next old in
+    let two : List LinkedShelf = put_aside shelf_chain records.free_shelves next one in
+    let values : map shelf_values two ≡ map shelf_values old =
+    map-put_aside shelf_chain shelf_values shelves-keep_values one records.free_shelves next ∙ map-unlinked shelf_chain shelf_values shelves-keep_values old next in
+    let long : length two ≡ length old = length-put_aside shelf_chain one records.free_shelves next ∙ length-unlinked shelf_chain old next in
+    let middle : (k : ℕ) → SameShelf old two k = λ k. shelves-same old two k values in
+    record {
+      along = λ k. field_at-kept (λ (x : LinkedShelf). x.x) 0 change two number k (λ x. refl) ∙ (middle k).along;
+      across = λ k. field_at-kept (λ (x : LinkedShelf). x.y) 0 change two number k (λ x. refl) ∙ (middle k).across;
+      is_empty = λ k. field_at-kept (λ (x : LinkedShelf). x.is_empty) false change two number k (λ x. refl) ∙ (middle k).is_empty;
+      own = field_at-changed (λ (x : LinkedShelf). x.height) 0 change two number height (rw long within) (λ x. refl);
+      others = λ k other. shelf-other old two change number k other (middle k);
+      items = λ k. items-same records.items (shelf_absorbed number next item height records).items k (map-put_aside item_chain item_values items-keep_values records.items records.free_items item);
+      as_many = length-changed_by change two (Some number) ∙ long;
+    }
+
+-- the records after an empty shelf took the place of the empty one after it in its column
+pub shelf_absorbed-spelled : (atlas : AtlasRecords) (before after : List Entry) (entry : Entry) (next item : ℕ) (free unused shelves : List ℕ) → along_of atlas.lists.shelves next ≡ along_of atlas.lists.shelves entry.number → is_allocated_at atlas.lists.items item ≡ false → IsSpelled atlas (lists_of (before ++ entry ∷ entry_of next (item ∷ []) free ∷ after) unused shelves) → IsSpelled (with_lists atlas (shelf_absorbed entry.number next item (height_of atlas.lists.shelves entry.number + height_of atlas.lists.shelves next) atlas.lists)) (lists_of (before ++ entry ∷ after) (item ∷ unused) (next ∷ shelves))
+shelf_absorbed-spelled atlas before after entry next item free unused shelves column is_free spelled =
+    let old : List LinkedShelf = atlas.lists.shelves in
+    let items : List LinkedItem = atlas.lists.items in
+    let height : ℕ = height_of old entry.number + height_of old next in
+    let lists : Records = shelf_absorbed entry.number next item height atlas.lists in
+    let gone : Entry = entry_of next (item ∷ []) free in
+    let apart : IsApart atlas.lists before (gone ∷ after) unused [] entry = linked-apart atlas.lists before (gone ∷ after) entry unused shelves [] [] spelled.linked in
+    let taller : IsTaller atlas.lists lists entry.number height = shelf_absorbed-values atlas.lists entry.number next item height apart.number in
+    let absorbs : AbsorbsShelf old lists.shelves entry.number next =
+    record { along = taller.along entry.number; across = taller.across entry.number; height = taller.own; column = column } in
+    let numbers : shelf_numbers (before ++ entry ∷ gone ∷ after) ≡ shelf_numbers before ++ entry.number ∷ next ∷ shelf_numbers after = shelf_numbers-append before (entry ∷ gone ∷ after) in
+    let fewer : shelf_numbers (before ++ entry ∷ after) ≡ shelf_numbers before ++ entry.number ∷ shelf_numbers after = shelf_numbers-append before (entry ∷ after) in
+    let among : (k : ℕ) → times k (shelf_numbers before ++ shelf_numbers (gone ∷ after)) ≡ times k (shelf_numbers before) + times k (shelf_numbers (gone ∷ after)) =
+    λ k. times-append k (shelf_numbers before) (shelf_numbers (gone ∷ after)) in
+    let tail = Each-back (IsPlaced atlas) before (entry ∷ gone ∷ after) spelled.placed in
+    record {
+      linked = shelf_absorbed-linked atlas.lists before after entry next item height free unused shelves [] [] spelled.linked;
+      placed = Each-append (IsPlaced (with_lists atlas lists)) before (entry ∷ after)
+          (still-placed atlas lists before taller.along taller.items (Each-front (IsPlaced atlas) before (entry ∷ gone ∷ after) spelled.placed))
+          (still-placed atlas lists (entry ∷ after) taller.along taller.items (tail.0, tail.1.1));
+      stacked = rw fewer (stacked-absorbed old lists.shelves atlas.frame.column_width [] [] (shelf_numbers before) (shelf_numbers after) entry.number next absorbs (λ c. refl)
+          (λ k stands. taller.others k (apart.numbers k (omega (arith, among k, stands))))
+          (λ k stands. taller.others k (apart.numbers k (omega (arith, among k, stands))))
+          (rw (← numbers) spelled.stacked));
+      unused = ((taller.items item).allocated ∙ is_free, unmarked-same items lists.items unused (λ k stands. taller.items k) spelled.unused);
+    }

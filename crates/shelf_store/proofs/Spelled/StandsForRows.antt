@@ -1,0 +1,156 @@
+-- The records of a small atlas stand for its state, by computing.
+use Rattle.std.proofs.Common.{◌≡◌, ℕ, true, false, None, Some, [], ◌∷◌, refl, pos, arith, lit<}
+use Rattle.std.specs.Prelude.{nat_lt, if◌then◌else◌}
+use Rattle.etagere_base.specs.Lists.{times}
+use Rattle.etagere_base.specs.declared.frames.Frame.{Frame}
+use Rattle.shelf_records.specs.AtlasRecords.{AtlasRecords, spelled_state, walked_entries}
+use Rattle.shelf_records.specs.StandsFor.{StandsFor}
+use Rattle.shelf_model.specs.State.{AtlasState}
+
+-- an atlas of 20 by 8
+abbrev small_frame : Frame
+small_frame =
+    record {
+      width = 20;
+      height = 8;
+      alignment_width = 1;
+      alignment_height = 1;
+      vertical = false;
+      column_width = 20;
+      columns = 1;
+    }
+
+-- its records after an allocation of 8 by 8
+abbrev small_records : AtlasRecords
+small_records =
+    record {
+      frame = small_frame;
+      lists =
+          record {
+            shelves =
+                record {
+                  x = 0;
+                  y = 0;
+                  height = 8;
+                  prev = None;
+                  next = None;
+                  first_item = Some 0;
+                  first_unallocated = Some 1;
+                  is_empty = false;
+                } ∷ [];
+            items =
+                record {
+                  x = 0;
+                  width = 8;
+                  prev = None;
+                  next = Some 1;
+                  prev_unallocated = None;
+                  next_unallocated = None;
+                  shelf = 0;
+                  allocated = true;
+                  generation = 1;
+                }
+                ∷ record {
+                  x = 8;
+                  width = 12;
+                  prev = Some 0;
+                  next = None;
+                  prev_unallocated = None;
+                  next_unallocated = None;
+                  shelf = 0;
+                  allocated = false;
+                  generation = 1;
+                } ∷ [];
+            first_shelf = Some 0;
+            free_items = None;
+            free_shelves = None;
+          };
+      allocated_space = pos 64;
+    }
+
+-- its state
+abbrev small_state : AtlasState
+small_state =
+    record {
+      frame = small_frame;
+      shelves =
+          record {
+            column = 0;
+            height = 8;
+            items = record { width = 8; id = Some 65536 } ∷ record { width = 12; id = None } ∷ [];
+            free_list = 8 ∷ [];
+          } ∷ [];
+      records = 2;
+    }
+
+-- the walks through the records spell the state
+small_spelled : small_state ≡ spelled_state small_records (walked_entries small_records)
+small_spelled = refl
+
+-- each of two numbers stands once in the list of both
+two-once : (number : ℕ) → times number (0 ∷ 1 ∷ []) ≡ (if nat_lt number 2 then 1 else 0)
+two-once number = grind arith
+
+-- none but the first stands in a list of one
+one-once : (number : ℕ) → times number (0 ∷ []) ≡ (if nat_lt number 1 then 1 else 0)
+one-once number = grind arith
+
+-- the records stand for the state
+small_stands : StandsFor small_records small_state
+small_stands =
+    record {
+      spelled = refl;
+      frame =
+          record {
+            width = (omega arith, omega arith);
+            height = (omega arith, omega arith);
+            area = lit< tt;
+            alignment_width = (omega arith, lit< tt);
+            alignment_height = (omega arith, lit< tt);
+            column_width = omega arith;
+            aligned = refl;
+            columns = (omega arith, omega arith);
+          };
+      columns = refl;
+      counts = record { shelves = (omega arith, omega arith); items = (omega arith, omega arith) };
+      links =
+          record {
+            shelves = refl;
+            unused_shelves = refl;
+            unused_items = refl;
+            back = (refl, tt);
+            each_shelf =
+                (record { items = refl; free_list = refl; back = (refl, (refl, tt)); owners = (refl, (refl, tt)) }, tt);
+          };
+      shelves =
+          record {
+            columns = (omega arith, tt);
+            ordered = tt;
+            along = (refl, tt);
+            across = (refl, tt);
+            heights = (omega arith, tt);
+            filled = λ column below. let first : column ≡ 0 = omega arith in rw first refl;
+          };
+      items = (
+        record {
+          places = (refl, (refl, tt));
+          items = (record { width = omega arith; aligned = refl }, (record { width = omega arith; aligned = refl }, tt));
+          width = refl;
+          is_empty = refl;
+        },
+        tt,
+      );
+      neighbours = record { items = ((refl, tt), tt); shelves = tt };
+      free_lists = (record { items = λ item. refl; back = (refl, tt); ends = refl }, tt);
+      sharing =
+          record {
+            shelves = one-once;
+            items = two-once;
+            shelf_end = refl;
+            unused_shelf_end = refl;
+            item_ends = (refl, tt);
+            unused_item_end = refl;
+          };
+      unused = tt;
+      space = refl;
+    }

@@ -1,0 +1,15 @@
+use Rattle.std.proofs.Common.{◌≡◌, ◌-◌, ◌≤◌, length}
+use Rattle.shelf_store.specs.Private.Opening.{IsEarliest}
+use Rattle.shelf_store.proofs.choosing.earliest_wide.Given as goal
+
+-- what was found is the shelf in the first place up to here
+abbrev pub invariant-loop-index : goal.invariant-loop-index
+invariant-loop-index l = record {
+  same : l.ranked.items ≡ l.fn.ranked.items;
+  after : l.start ≤ l.from;
+  within : l.from ≤ length l.ranked.items;
+  earliest : IsEarliest l.shelves l.ranked.items l.start l.from l.width l.first;
+}
+
+abbrev pub decreases-loop-index : goal.decreases-loop-index
+decreases-loop-index l = length l.ranked.items - l.from

@@ -1,0 +1,52 @@
+use Rattle.std.proofs.Common.{ap, arith, length, ◌∙◌}
+use Rattle.etagere_base.proofs.GatheringLemmas.{on-err}
+use Rattle.etagere_links.specs.Edits.{link_at}
+use Rattle.etagere_links.specs.RecordLists.{shelf_walk}
+use Rattle.etagere_links.specs.Records.{shelf_chain}
+use Rattle.shelf_store.specs.Private.DrawnRecords.{shelf_lines}
+use Rattle.shelf_store.proofs.Recorded.DrawnWalks.{walk-begins, walk-begun, walk-ends, walk-here, walk-out, walk-passed}
+use Rattle.shelf_store.proofs.Searched.LinkedParts.{shelves-left}
+use Rattle.shelf_store.proofs.drawing.push_shelves.Goals as goal
+
+-- the walk begins with all
+pub loop-step-init : goal.loop-step-init
+loop-step-init g c =
+    walk-begins shelf_chain.next c.args.records.now.shelves (shelf_lines c.args.frame.now c.args.records.now) (shelf_walk c.args.records.now).met (g.W.Write.contents c.args.writer.now) c.args.text.now
+    (c.args.records.now.first_shelf) c.number-at.result
+    (shelves-left c.args.records.now c.requires)
+    (c.number-at.ensures.value ∙ c.first_shelf.ensures)
+
+-- at the end all are drawn
+pub returns-in_default-clause-ok : goal.returns-in_default-clause-ok
+returns-in_default-clause-ok g c =
+    walk-ends shelf_chain.next c.args.records.now.shelves (shelf_lines c.args.frame.now c.args.records.now) (shelf_walk c.args.records.now).met (g.W.Write.contents c.args.writer.now) c.args.text.now
+    (g.W.Write.contents c.loop-step.writer) c.loop-step.text c.loop-step.at c.loop-step._step c.loop-step.invariant c.in_default.is
+
+-- the shelf at hand is in use
+pub push_items-requires-clause-stands : goal.push_items-requires-clause-stands
+push_items-requires-clause-stands g c =
+    walk-here shelf_chain.next c.args.records.now.shelves (shelf_lines c.args.frame.now c.args.records.now) (shelf_walk c.args.records.now).met (g.W.Write.contents c.args.writer.now) c.args.text.now
+    (g.W.Write.contents c.loop-step.writer) c.loop-step.text c.loop-step.at c.in-Some.shelf c.loop-step._step c.loop-step.invariant c.in-Some.is
+
+-- a beginning went out of what was to be drawn
+pub returns-in_err-push_items-clause-err : goal.returns-in_err-push_items-clause-err
+returns-in_err-push_items-clause-err g c =
+    on-err c.from_residual.result
+    (walk-begun shelf_chain.next c.args.records.now.shelves (shelf_lines c.args.frame.now c.args.records.now) (shelf_walk c.args.records.now).met (g.W.Write.contents c.args.writer.now) c.args.text.now
+    (g.W.Write.contents c.loop-step.writer) (g.W.Write.contents c.push_items.new.writer) c.loop-step.text c.loop-step.at c.in-Some.shelf c.loop-step._step c.loop-step.invariant c.in-Some.is
+    c.in_err-push_items.ensures.err)
+
+-- one more was drawn
+pub loop-step-preserved : goal.loop-step-preserved
+loop-step-preserved g c =
+    walk-passed shelf_chain.next c.args.records.now.shelves (shelf_lines c.args.frame.now c.args.records.now) (shelf_walk c.args.records.now).met (g.W.Write.contents c.args.writer.now) c.args.text.now
+    (g.W.Write.contents c.loop-step.writer) (g.W.Write.contents c.push_items.new.writer) c.loop-step.text c.push_items.new.text c.loop-step.at c.number-at-in-loop-step.result c.in-Some.shelf c.loop-step._step c.loop-step.invariant c.in-Some.is
+    c.in_ok-push_items.ensures.ok
+    (c.number-at-in-loop-step.ensures.value ∙ c.next_of.ensures ∙ ap (λ shelves. link_at shelf_chain.next shelves c.in-Some.shelf) c.shelves.ensures)
+
+-- after as many steps as there are records all are drawn
+pub returns-clause-ok : goal.returns-clause-ok
+returns-clause-ok g c =
+    walk-out shelf_chain.next c.args.records.now.shelves (shelf_lines c.args.frame.now c.args.records.now) (shelf_walk c.args.records.now).met (g.W.Write.contents c.args.writer.now) c.args.text.now
+    (g.W.Write.contents c.loop-step.writer) c.loop-step.text c.loop-step.at c.loop-step._step c.loop-step.invariant
+    (omega (arith, ap length c.shelves-step-end.ensures))

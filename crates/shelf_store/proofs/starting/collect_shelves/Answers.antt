@@ -1,0 +1,42 @@
+use Rattle.std.proofs.Common.{◌∙◌, ◌∷◌, ◌++◌, [], ap, arith}
+use Rattle.etagere_links.specs.Edits.{link_at}
+use Rattle.etagere_links.specs.Records.{shelf_chain}
+use Rattle.shelf_store.proofs.ByHeight.CollectedShelves.{collects-begin, collects-end, collects-fewer, collects-here, collects-more}
+use Rattle.shelf_store.proofs.starting.collect_shelves.Goals as goal
+
+pub loop-step-init : goal.loop-step-init
+loop-step-init c = record {
+  collects = collects-begin c.args.frame.now c.args.records.now c.clear.new.self.items c.number-at.result c.requires.kept c.clear.ensures.items
+      (c.number-at.ensures.value ∙ c.first_shelf.ensures);
+  room = omega (arith, c.requires.room, c.clear.ensures.room, c.clear.ensures.capacity);
+}
+
+pub newly_ranked-requires-clause-shelf : goal.newly_ranked-requires-clause-shelf
+newly_ranked-requires-clause-shelf c =
+    omega (
+      arith,
+      collects-here c.args.frame.now c.args.records.now c.loop-step.ranked.items c.loop-step.at c.in-Some.shelf c.loop-step._step c.loop-step.invariant.collects c.in-Some.is,
+      c.requires.kept.counts.shelves.1,
+    )
+
+pub push-requires : goal.push-requires
+push-requires c = record {
+  room = omega (
+    arith,
+    collects-fewer c.args.frame.now c.args.records.now c.loop-step.ranked.items c.loop-step.at c.in-Some.shelf c.loop-step._step c.loop-step.invariant.collects c.in-Some.is,
+    c.loop-step.invariant.room,
+  );
+}
+
+pub loop-step-preserved : goal.loop-step-preserved
+loop-step-preserved c = record {
+  collects =
+      collects-more c.args.frame.now c.args.records.now c.loop-step.ranked.items c.push.new.self.items c.loop-step.at c.number-at-in-loop-step.result c.in-Some.shelf c.loop-step._step c.loop-step.invariant.collects c.in-Some.is
+      (c.push.ensures.items ∙ ap (λ one. c.loop-step.ranked.items ++ one ∷ []) c.newly_ranked.ensures)
+      (c.number-at-in-loop-step.ensures.value ∙ c.next_of.ensures ∙ ap (λ shelves. link_at shelf_chain.next shelves c.in-Some.shelf) c.shelves.ensures);
+  room = omega (arith, c.loop-step.invariant.room, c.push.ensures.capacity);
+}
+
+pub returns-in_default : goal.returns-in_default
+returns-in_default c =
+    collects-end c.args.frame.now c.args.records.now c.loop-step.ranked.items c.loop-step.at c.loop-step._step c.loop-step.invariant.collects c.in_default.is

@@ -1,0 +1,9 @@
+-- What contracts of steps and invariants of types cite; no public clause of the atlas does.
+pub mod DrawnRecords
+pub mod FreshRecords
+pub mod ItemReturned
+pub mod Opening
+pub mod PlacementTaken
+pub mod RankedReturned
+pub mod RecordsGrown
+pub mod Searching

@@ -1,0 +1,138 @@
+//! Grows the records of an atlas: a width at the end of each shelf, a height at the end of each column, and columns.
+//!
+//! Definitions: `RecordsGrown`. All records that are missing are made before the first change; this has to stay so.
+
+ghost use Rattle.std.specs.Prelude.{◌≡◌, ◌+◌, ◌<◌, ◌≤◌, ◌||◌, nat_lt, IfOk, OnOk, OnErr, length};
+ghost use Rattle.etagere_base.specs.Frames as frames;
+ghost use Rattle.etagere_base.specs.Frames.{IsFrame, longest_side};
+ghost use Rattle.etagere_links.specs.RecordLists.{shelf_walk};
+ghost use Rattle.shelf_heights.specs.Private.ByHeight.{AreRanked};
+ghost use Rattle.shelf_records.specs.Private.Kept.{AreKept};
+ghost use Rattle.shelf_store.specs.Private.RecordsGrown as spec;
+ghost use Rattle.shelf_store.specs.Private.RecordsGrown.{CanGrow};
+
+pub mod appending;
+pub mod counting;
+pub mod framing;
+pub mod heightening;
+pub mod inserting;
+pub mod widening;
+
+use crate::growing::appending::append_columns;
+use crate::growing::heightening::heighten_columns;
+use crate::growing::widening::widen_shelves;
+use crate::starting::rank_shelves;
+use etagere_base::Frame;
+use etagere_links::Records;
+use shelf_heights::ranked::RankedShelves;
+use std::alloc::AllocError;
+
+/// How many records a growth needs: of items, and of shelves.
+#[derive(Clone, Copy)]
+pub struct Needed {
+    pub items: u32,
+    pub shelves: u32,
+}
+
+/// The numbers of the records that were made for a growth and are put to use next.
+#[derive(Clone, Copy)]
+pub struct Made {
+    pub item: usize,
+    pub shelf: usize,
+}
+
+/// Makes the records and the list of shelves by height grow to a frame, for which they need so many. An `Err`, which
+/// comes only where some are needed, changes nothing.
+pub fn grow_shelves(
+    records: &mut Records,
+    ranked: &mut RankedShelves,
+    frame: &Frame,
+    grown: &Frame,
+    needed: Needed,
+) -> Result<(), AllocError>
+    requires frame { IsFrame longest_side frame.now }
+    requires grown { IsFrame longest_side grown.now }
+    requires needed { needed ≡ spec.needed_of frame.now grown.now records.old }
+    requires grows { CanGrow frame.now grown.now needed records.old }
+    requires kept { AreKept grown.now (spec.records_grown frame.now grown.now needed records.old).records }
+    requires ranked { AreRanked frame.now records.old ranked.old.items }
+    requires room { length
+        (shelf_walk (spec.records_grown frame.now grown.now needed records.old).records).met
+        ≤ length ranked.old.items + needed.shelves }
+    ensures ok { OnOk result
+        (records.new ≡ (spec.records_grown frame.now grown.now needed records.old).records) }
+    ensures ranked { OnOk result (AreRanked grown.now records.new ranked.new.items) }
+    ensures err { OnErr result (records.new ≡ records.old) }
+    ensures same { OnErr result (ranked.new.items ≡ ranked.old.items) }
+    ensures some { OnErr result (0 < needed.items) }
+{
+    if needed.shelves > 0 {
+        ranked.reserve(needed.shelves as usize)?;
+    }
+    grow_records(records, frame, grown, needed)?;
+    if is_extended(frame, grown) {
+        rank_shelves(grown, records, ranked);
+    }
+    Ok(())
+}
+
+/// Whether columns become wider or taller, or more.
+fn is_extended(frame: &Frame, grown: &Frame) -> bool
+    ensures { result
+        ≡ (nat_lt frame.now.column_width grown.now.column_width
+        || nat_lt (frames.across_side frame.now) (frames.across_side grown.now)
+        || nat_lt frame.now.columns grown.now.columns) }
+{
+    grown.column_width > frame.column_width
+        || grown.across_side() > frame.across_side()
+        || grown.columns > frame.columns
+}
+
+/// Makes the records grow to a frame, for which they need so many. An `Err`, which comes only where some are
+/// needed, changes nothing.
+fn grow_records(
+    records: &mut Records,
+    frame: &Frame,
+    grown: &Frame,
+    needed: Needed,
+) -> Result<(), AllocError>
+    requires frame { IsFrame longest_side frame.now }
+    requires grown { IsFrame longest_side grown.now }
+    requires grows { CanGrow frame.now grown.now needed records.old }
+    ensures ok { OnOk result
+        (records.new ≡ (spec.records_grown frame.now grown.now needed records.old).records) }
+    ensures err { OnErr result (records.new ≡ records.old) }
+    ensures some { OnErr result (0 < needed.items + needed.shelves) }
+{
+    let mut made = make_missing(records, needed)?;
+    if grown.column_width > frame.column_width {
+        let place = frame.column_width as u16;
+        let width = (grown.column_width - frame.column_width) as u16;
+        widen_shelves(records, &mut made, place, width);
+    }
+    if grown.across_side() > frame.across_side() {
+        let height = (grown.across_side() - frame.across_side()) as u16;
+        heighten_columns(records, &mut made, grown.column_width as u16, height);
+    }
+    if grown.columns > frame.columns {
+        append_columns(records, &mut made, grown, frame.columns);
+    }
+    Ok(())
+}
+
+/// Makes the records that are missing to put so many to use.
+fn make_missing(records: &mut Records, needed: Needed) -> Result<Made, AllocError>
+    ensures ok { OnOk result (records.new ≡ (spec.with_missing needed records.old).records) }
+    ensures made { IfOk result (λ made. made ≡ (spec.with_missing needed records.old).made) }
+    ensures err { OnErr result (records.new ≡ records.old) }
+    ensures some { OnErr result (0 < needed.items + needed.shelves) }
+{
+    let made = Made {
+        item: records.items().len(),
+        shelf: records.shelves().len(),
+    };
+    let items = records.missing_items(needed.items as usize);
+    let shelves = records.missing_shelves(needed.shelves as usize);
+    records.make_records(items, shelves)?;
+    Ok(made)
+}

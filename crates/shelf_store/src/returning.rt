@@ -1,0 +1,259 @@
+//! Gives an item back: frees it, and merges it and its shelf with what is free beside them.
+//!
+//! Definitions: `ItemReturned`, and `RankedReturned` for the shelves by height. What merges keeps the record of the
+//! earlier place. It looks only at the neighbours of the item and of its shelf, and takes no memory: both have to
+//! stay so.
+
+ghost use Rattle.std.specs.Prelude.{◌≡◌, ℕ, ◌<◌, Some, IfSome, length};
+ghost use Rattle.shelf_records.specs.AtlasRecords as spec;
+ghost use Rattle.shelf_records.specs.AtlasRecords.{shelf_of};
+ghost use Rattle.shelf_store.specs.Private.ItemReturned as returned;
+ghost use Rattle.shelf_store.specs.Private.ItemReturned.{CanMergeItem, CanMergeShelves, CanReturn, FreeNextIsThere, HeightsFit, AreThere, WidthsFit};
+ghost use Rattle.shelf_store.specs.Private.RankedReturned as ranks;
+ghost use Rattle.shelf_store.specs.Private.RankedReturned.{CanMergeNamedRank, CanMergeRank, CanMergeRanks, CanReturnRanked};
+ghost use Rattle.etagere_links.specs.Links.{no_link};
+ghost use Rattle.etagere_links.specs.Neighbours.{NamesOneOf};
+
+use etagere_links::{Chain, Link, LinkedItem, LinkedShelf, Records, next_of, previous_of};
+use shelf_heights::heights::{put_in, raise, ranked_shelf, take_out};
+use shelf_heights::ranked::RankedShelves;
+use shelf_records::fields;
+
+/// The item that remains where one was freed, and how many item records were put aside.
+#[derive(Drop)]
+struct Merged {
+    item: usize,
+    put_aside: u32,
+}
+
+/// Frees the item of this number, which is allocated in this shelf, merges what is free with its neighbours, and
+/// answers how many item records were put aside.
+pub fn return_item(
+    records: &mut Records,
+    ranked: &mut RankedShelves,
+    shelf: usize,
+    number: usize,
+) -> u32
+    requires shelf { shelf ≡ shelf_of records.old.items number }
+    requires number { number < no_link }
+    requires fits { CanReturn number records.old }
+    requires ranked { CanReturnRanked (shelf_of records.old.items number) number records.old
+        ranked.old.items }
+    ensures records { records.new ≡ returned.item_returned number records.old }
+    ensures ranked { ranked.new.items
+        ≡ ranks.ranked_returned number records.old ranked.old.items }
+    ensures put_aside { result ≡ returned.put_aside_by number records.old }
+    ensures few { result < 5 }
+{
+    let merged = merge_item(records, shelf, number);
+    let width = width_of(records.items(), merged.item);
+    raise(records.shelves(), ranked, shelf, width);
+    if is_alone(records.items(), merged.item) {
+        records.set_empty(shelf, true);
+        merged.put_aside + merge_shelves(records, ranked, shelf)
+    } else {
+        merged.put_aside
+    }
+}
+
+/// How wide an item is that is there.
+fn width_of(items: &[LinkedItem], number: usize) -> u16
+    requires { number < length items.now }
+    ensures { result ≡ spec.width_of items.now number }
+{
+    items[number].width
+}
+
+/// Whether an item stands alone in its shelf.
+fn is_alone(items: &[LinkedItem], number: usize) -> bool
+    requires { number < length items.now }
+    ensures { result ≡ returned.is_alone items.now number }
+{
+    let item = &items[number];
+    item.prev.number().is_none() && item.next.number().is_none()
+}
+
+/// Frees an item, and merges it with its free neighbours.
+fn merge_item(records: &mut Records, shelf: usize, number: usize) -> Merged
+    requires number { number < no_link }
+    requires fits { CanMergeItem shelf number records.old }
+    ensures records { records.new ≡ (returned.item_merged shelf number records.old).records }
+    ensures put_aside { result.put_aside
+        ≡ (returned.item_merged shelf number records.old).put_aside }
+    ensures item { result.item ≡ returned.remaining_in shelf number records.old }
+    ensures few { result.put_aside < 3 }
+{
+    let one = absorb_next(records, shelf, number);
+    let merged = free_after(records, shelf, number);
+    Merged {
+        item: merged.item,
+        put_aside: one + merged.put_aside,
+    }
+}
+
+/// The item that a link names, where that is free. If it names one, that is there.
+fn free_named(items: &[LinkedItem], link: Link) -> Option<usize>
+    requires { NamesOneOf items.now link }
+    ensures value { result ≡ returned.free_named items.now link }
+    ensures small { IfSome result (λ number. number < no_link) }
+{
+    match link.number() {
+        Some(number) if !items[number].allocated => Some(number),
+        _ => None,
+    }
+}
+
+/// An allocated item takes the place of the free one after it, if any.
+fn absorb_next(records: &mut Records, shelf: usize, number: usize) -> u32
+    requires here { AreThere shelf number records.old }
+    requires after { FreeNextIsThere number records.old.items }
+    requires fits { WidthsFit number (returned.free_next records.old.items number)
+        records.old.items }
+    ensures records { records.new
+        ≡ (returned.next_absorbed shelf number (returned.free_next records.old.items number)
+        records.old).records }
+    ensures put_aside { result
+        ≡ (returned.next_absorbed shelf number (returned.free_next records.old.items number)
+        records.old).put_aside }
+    ensures few { result < 2 }
+{
+    let item = &records.items()[number];
+    let Some(next) = free_named(records.items(), item.next) else {
+        return 0;
+    };
+    let width = item.width + records.items()[next].width;
+    records.absorb_free(shelf, number, next, width);
+    1
+}
+
+/// The free item before an allocated one, if any, takes its place; otherwise the item becomes free.
+fn free_after(records: &mut Records, shelf: usize, number: usize) -> Merged
+    requires number { number < no_link }
+    requires here { AreThere shelf number records.old }
+    requires fits { WidthsFit number (returned.free_previous records.old.items number)
+        records.old.items }
+    ensures records { records.new
+        ≡ (returned.freed_after shelf number (returned.free_previous records.old.items number)
+        records.old).records }
+    ensures put_aside { result.put_aside
+        ≡ (returned.freed_after shelf number (returned.free_previous records.old.items number)
+        records.old).put_aside }
+    ensures item { result.item
+        ≡ returned.remaining_item number (returned.free_previous records.old.items number) }
+    ensures few { result.put_aside < 2 }
+{
+    let item = &records.items()[number];
+    let Some(previous) = free_named(records.items(), item.prev) else {
+        records.free_item(shelf, number);
+        return Merged {
+            item: number,
+            put_aside: 0,
+        };
+    };
+    let width = records.items()[previous].width + item.width;
+    records.absorb_allocated(shelf, previous, number, width);
+    Merged {
+        item: previous,
+        put_aside: 1,
+    }
+}
+
+/// Merges a shelf with its neighbours, where it and they are empty and stand in one column.
+fn merge_shelves(records: &mut Records, ranked: &mut RankedShelves, shelf: usize) -> u32
+    requires fits { CanMergeShelves shelf records.old }
+    requires ranked { CanMergeRanks shelf records.old ranked.old.items }
+    ensures records { records.new ≡ (returned.shelves_merged shelf records.old).records }
+    ensures ranked { ranked.new.items
+        ≡ ranks.ranks_merged shelf records.old ranked.old.items }
+    ensures put_aside { result ≡ (returned.shelves_merged shelf records.old).put_aside }
+    ensures few { result < 3 }
+{
+    let one = merge_shelf(records, ranked, shelf);
+    let previous = previous_of::<Chain, LinkedShelf>(records.shelves(), shelf);
+    one + merge_named_shelf(records, ranked, previous)
+}
+
+/// Merges the shelf that a link names with the next one, where both are empty and stand in one column.
+fn merge_named_shelf(records: &mut Records, ranked: &mut RankedShelves, link: Link) -> u32
+    requires fits { (n : ℕ) → link ≡ Some n → HeightsFit n records.old.shelves }
+    requires ranked { CanMergeNamedRank link records.old ranked.old.items }
+    ensures records { records.new ≡ (returned.named_shelf_merged link records.old).records }
+    ensures ranked { ranked.new.items
+        ≡ ranks.named_rank_merged link records.old ranked.old.items }
+    ensures put_aside { result ≡ (returned.named_shelf_merged link records.old).put_aside }
+    ensures few { result < 2 }
+{
+    match link.number() {
+        None => 0,
+        Some(shelf) => merge_shelf(records, ranked, shelf),
+    }
+}
+
+/// Merges a shelf with the next one, where both are empty and stand in one column.
+fn merge_shelf(records: &mut Records, ranked: &mut RankedShelves, shelf: usize) -> u32
+    requires fits { HeightsFit shelf records.old.shelves }
+    requires ranked { CanMergeRank shelf records.old ranked.old.items }
+    ensures records { records.new ≡ (returned.shelf_merged shelf records.old).records }
+    ensures ranked { ranked.new.items
+        ≡ ranks.rank_merged shelf records.old ranked.old.items }
+    ensures put_aside { result ≡ (returned.shelf_merged shelf records.old).put_aside }
+    ensures few { result < 2 }
+{
+    match empty_next(records.shelves(), shelf) {
+        None => 0,
+        Some(next) => absorb_shelf(records, ranked, shelf, next),
+    }
+}
+
+/// An empty shelf takes the place of the next one, which has this number and is empty too. Never inlined, so that a
+/// return that merges no shelves doesn't carry it.
+#[inline(never)]
+fn absorb_shelf(records: &mut Records, ranked: &mut RankedShelves, shelf: usize, next: usize) -> u32
+    requires next { returned.empty_next records.old.shelves shelf ≡ Some next }
+    requires small { next < no_link }
+    requires fits { HeightsFit shelf records.old.shelves }
+    requires ranked { CanMergeRank shelf records.old ranked.old.items }
+    ensures records { records.new ≡ (returned.shelf_merged shelf records.old).records }
+    ensures ranked { ranked.new.items
+        ≡ ranks.rank_merged shelf records.old ranked.old.items }
+    ensures put_aside { result ≡ (returned.shelf_merged shelf records.old).put_aside }
+    ensures few { result < 2 }
+{
+    let Some(item) = fields::first_item(records.shelves(), next) else {
+        return 0;
+    };
+    let height = fields::height(records.shelves(), shelf) + fields::height(records.shelves(), next);
+    take_out(records.shelves(), ranked, next);
+    let widest = take_out(records.shelves(), ranked, shelf);
+    records.unlink_shelf(next);
+    records.put_item_aside(item);
+    records.put_shelf_aside(next);
+    records.set_height(shelf, height);
+    put_in(records.shelves(), ranked, ranked_shelf(shelf, widest));
+    1
+}
+
+/// The shelf after one, where both are empty and stand in one column.
+fn empty_next(shelves: &[LinkedShelf], shelf: usize) -> Option<usize>
+    ensures value { result ≡ returned.empty_next shelves.now shelf }
+    ensures small { IfSome result (λ number. number < no_link) }
+{
+    if !fields::is_empty(shelves, shelf) {
+        return None;
+    }
+    let next = next_of::<Chain, LinkedShelf>(shelves, shelf).number()?;
+    if are_both_empty(shelves, shelf, next) {
+        Some(next)
+    } else {
+        None
+    }
+}
+
+/// Whether two shelves are empty and stand in one column.
+fn are_both_empty(shelves: &[LinkedShelf], shelf: usize, next: usize) -> bool
+    ensures { result ≡ returned.are_both_empty shelves.now shelf next }
+{
+    fields::along(shelves, shelf) == fields::along(shelves, next)
+        && fields::is_empty(shelves, shelf)
+        && fields::is_empty(shelves, next)
+}

@@ -1,0 +1,189 @@
+//! The records of a new atlas, and of one that was cleared, with their shelves ranked; and the shelves of records
+//! that have grown, ranked.
+//!
+//! Definitions: `FreshRecords`, and `ByHeight` for the shelves. A clear uses the memory of the records that are
+//! there, of which there is a shelf and an item for each column at least, and that of the ranked shelves.
+
+ghost use Rattle.std.specs.Prelude.{◌≡◌, ◌+◌, ◌<◌, ◌≤◌, [], IfOk, length, map, max};
+ghost use Rattle.etagere_base.specs.Frames.{HasAllColumns, IsFrame, longest_side};
+ghost use Rattle.etagere_links.specs.Links.{no_link};
+ghost use Rattle.etagere_links.specs.RecordLists.{shelf_walk};
+ghost use Rattle.shelf_heights.specs.Private.ByHeight as heights;
+ghost use Rattle.shelf_heights.specs.Private.ByHeight.{AreRanked};
+ghost use Rattle.shelf_store.specs.Private.FreshRecords as spec;
+ghost use Rattle.shelf_records.specs.Private.Kept.{AreKept};
+
+use etagere_base::Frame;
+use etagere_links::{Chain, Link, LinkedItem, LinkedShelf, Records, next_of};
+use shelf_heights::heights::ranked_shelf;
+use shelf_heights::ranked::{RankedShelf, RankedShelves};
+use std::alloc::{AllocError, Global};
+
+/// The generation of a record that was just made.
+const FIRST_GENERATION: u16 = 1;
+
+/// The records of a new atlas: a shelf for each column, and in it an item.
+pub fn fresh_records(alloc: Global, frame: &Frame) -> Result<Records, AllocError>
+    requires { IsFrame longest_side frame.now }
+    ensures { IfOk result (λ records. records ≡ spec.fresh_records frame.now) }
+{
+    let mut records = Records::new(alloc);
+    records.reserve(frame.columns as usize)?;
+    for column in 0..frame.columns {
+        records.make_shelf(fresh_shelf(frame, column))?;
+        records.make_item(fresh_item(frame, column))?;
+    }
+    records.restart();
+    Ok(records)
+}
+
+/// The ranked shelves of a new atlas.
+pub fn fresh_heights(alloc: Global, frame: &Frame) -> Result<RankedShelves, AllocError>
+    requires frame { IsFrame longest_side frame.now }
+    requires columns { HasAllColumns frame.now }
+    ensures { IfOk result (λ ranked. AreRanked frame.now (spec.fresh_records frame.now) ranked.items) }
+{
+    let mut ranked = RankedShelves::with_room(alloc, frame.columns as usize)?;
+    rank_columns(frame, &mut ranked);
+    Ok(ranked)
+}
+
+/// Makes the ranked shelves those of a new atlas, in the memory that they have.
+pub fn reset_heights(frame: &Frame, ranked: &mut RankedShelves)
+    requires frame { IsFrame longest_side frame.now }
+    requires columns { HasAllColumns frame.now }
+    requires many { frame.now.columns ≤ length ranked.old.items }
+    ensures { AreRanked frame.now (spec.fresh_records frame.now) ranked.new.items }
+{
+    ranked.clear();
+    rank_columns(frame, ranked);
+}
+
+/// Ranks the shelf of each column of a new atlas in an empty list, for which there is room.
+fn rank_columns(frame: &Frame, ranked: &mut RankedShelves)
+    requires frame { IsFrame longest_side frame.now }
+    requires columns { HasAllColumns frame.now }
+    requires empty { ranked.old.items ≡ [] }
+    requires room { frame.now.columns ≤ ranked.old.capacity }
+    ensures { AreRanked frame.now (spec.fresh_records frame.now) ranked.new.items }
+{
+    for column in 0..frame.columns {
+        ranked.push(newly_ranked(frame, column as usize));
+    }
+}
+
+/// Ranks the shelves in use of records, in the memory that the list has.
+pub fn rank_shelves(frame: &Frame, records: &Records, ranked: &mut RankedShelves)
+    requires kept { AreKept frame.now records.now }
+    requires room { length (shelf_walk records.now).met
+        ≤ max (length ranked.old.items) ranked.old.capacity }
+    ensures { AreRanked frame.now records.now ranked.new.items }
+{
+    collect_shelves(frame, records, ranked);
+    ranked.sort(records.shelves());
+}
+
+/// Makes the list that of the shelves in use by their chain, newly ranked, in the memory that it has.
+fn collect_shelves(frame: &Frame, records: &Records, ranked: &mut RankedShelves)
+    requires kept { AreKept frame.now records.now }
+    requires room { length (shelf_walk records.now).met
+        ≤ max (length ranked.old.items) ranked.old.capacity }
+    ensures { ranked.new.items
+        ≡ map (heights.newly_ranked frame.now) (shelf_walk records.now).met }
+{
+    ranked.clear();
+    let mut at = records.first_shelf().number();
+    for _step in 0..records.shelves().len() {
+        let Some(shelf) = at else {
+            break;
+        };
+        ranked.push(newly_ranked(frame, shelf));
+        at = next_of::<Chain, LinkedShelf>(records.shelves(), shelf).number();
+    }
+}
+
+/// A shelf of this number, with the width of its column for a bound.
+pub fn newly_ranked(frame: &Frame, shelf: usize) -> RankedShelf
+    requires frame { IsFrame longest_side frame.now }
+    requires shelf { shelf < no_link }
+    ensures { result ≡ heights.newly_ranked frame.now shelf }
+{
+    ranked_shelf(shelf, frame.column_width as u16)
+}
+
+/// Makes the records those of a new atlas, in the memory that they have.
+pub fn reset_records(frame: &Frame, records: &mut Records)
+    requires frame { IsFrame longest_side frame.now }
+    requires shelves { frame.now.columns ≤ length records.old.shelves }
+    requires items { frame.now.columns ≤ length records.old.items }
+    ensures { records.new ≡ spec.fresh_records frame.now }
+{
+    records.truncate(frame.columns as usize);
+    for column in 0..frame.columns {
+        records.write_shelf(column as usize, fresh_shelf(frame, column));
+        records.write_item(column as usize, fresh_item(frame, column));
+    }
+    records.restart();
+}
+
+/// The item of a column in a new atlas.
+fn fresh_item(frame: &Frame, column: u32) -> LinkedItem
+    requires frame { IsFrame longest_side frame.now }
+    requires column { column < frame.now.columns }
+    ensures { result ≡ spec.fresh_item frame.now column }
+{
+    LinkedItem {
+        x: (column * frame.column_width) as u16,
+        width: frame.column_width as u16,
+        prev: Link::none(),
+        next: Link::none(),
+        prev_unallocated: Link::none(),
+        next_unallocated: Link::none(),
+        shelf: column as u16,
+        allocated: false,
+        generation: FIRST_GENERATION,
+    }
+}
+
+/// The shelf of a column in a new atlas.
+fn fresh_shelf(frame: &Frame, column: u32) -> LinkedShelf
+    requires frame { IsFrame longest_side frame.now }
+    requires column { column < frame.now.columns }
+    ensures { result ≡ spec.fresh_shelf frame.now column }
+{
+    LinkedShelf {
+        x: (column * frame.column_width) as u16,
+        y: 0,
+        height: frame.across_side() as u16,
+        prev: column_before(column),
+        next: column_after(frame.columns, column),
+        first_item: Link::to(column as usize),
+        first_unallocated: Link::to(column as usize),
+        is_empty: true,
+    }
+}
+
+/// The link to the shelf of the column before this one.
+fn column_before(column: u32) -> Link
+    requires { column < 65535 }
+    ensures { result ≡ spec.column_before column }
+{
+    if column == 0 {
+        Link::none()
+    } else {
+        Link::to(column as usize - 1)
+    }
+}
+
+/// The link to the shelf of the column after this one, of so many.
+fn column_after(columns: u32, column: u32) -> Link
+    requires column { column < columns }
+    requires few { columns ≤ 65535 }
+    ensures { result ≡ spec.column_after columns column }
+{
+    if column + 1 < columns {
+        Link::to(column as usize + 1)
+    } else {
+        Link::none()
+    }
+}

@@ -1,0 +1,218 @@
+//! Takes a placement: splits its shelf where that is due, and the item in it.
+//!
+//! Definitions: `PlacementTaken` of `Private`, and `Taking` for what it means. All memory is taken before
+//! the first change, so an `Err` changes nothing; this has to stay so.
+
+ghost use Rattle.std.specs.Prelude.{◌≡◌, ◌+◌, ◌<◌, ◌≤◌, Some, IfOk, OnOk, OnErr, IfSome, length};
+ghost use Rattle.etagere_base.specs.Frames.{longest_side};
+ghost use Rattle.etagere_links.specs.Links.{no_link};
+ghost use Rattle.shelf_model.specs.Choice.{splits};
+ghost use Rattle.shelf_store.specs.Private.PlacementTaken as spec;
+ghost use Rattle.shelf_store.specs.Private.PlacementTaken.{CanRank, CanTakeFrom, IsItemSplittable, IsRestRankable, IsShelfRankable, IsShelfSplittable, placement_taken, ranked_taken};
+
+use etagere_base::{AllocId, INDEX_MODULUS};
+use etagere_links::{Link, LinkedItem, LinkedShelf, Records};
+use shelf_heights::heights::{put_in, ranked_shelf, take_out};
+use shelf_heights::ranked::RankedShelves;
+use shelf_model::placements::Placement;
+use std::alloc::AllocError;
+
+/// Takes a placement, which names its shelf and its item by their records' numbers, and gives the id. An
+/// `Err`, which comes only where something is split, changes nothing.
+pub fn take_placement(
+    records: &mut Records,
+    ranked: &mut RankedShelves,
+    found: &Placement,
+    column_width: u16,
+) -> Result<AllocId, AllocError>
+    requires takes { CanTakeFrom column_width found.now records.old }
+    requires ranks { CanRank column_width found.now records.old ranked.old.items }
+    ensures ok { OnOk result (records.new ≡ placement_taken column_width found.now records.old) }
+    ensures id { IfOk result (λ id. id ≡ spec.id_of records.old.items found.now.item) }
+    ensures err { OnErr result (records.new ≡ records.old) }
+    ensures ranked { OnOk result
+        (ranked.new.items
+        ≡ ranked_taken column_width found.now records.old ranked.old.items) }
+    ensures ranked_err { OnErr result (ranked.new.items ≡ ranked.old.items) }
+    ensures split { OnErr result (0 < splits found.now) }
+{
+    let id = id_of(records.items(), found.item);
+    if found.splits_shelf {
+        ranked.reserve(1)?;
+    }
+    let rests = records.use_rests(found.splits_shelf, found.splits_item)?;
+    make_shelf_rest(
+        records,
+        ranked,
+        found,
+        column_width,
+        rests.shelf,
+        rests.shelf_item,
+    );
+    give_item(records, found, rests.item);
+    records.set_empty(found.shelf, false);
+    Ok(id)
+}
+
+/// Splits the shelf of a placement, where these are the numbers of the records of the rest and of its item.
+fn make_shelf_rest(
+    records: &mut Records,
+    ranked: &mut RankedShelves,
+    found: &Placement,
+    column_width: u16,
+    shelf: Option<usize>,
+    item: Option<usize>,
+)
+    requires splittable { IsShelfSplittable found.now records.old }
+    requires shelf { IfSome shelf (λ number. number < no_link) }
+    requires item { IfSome item (λ number. number < no_link) }
+    requires ranks { IsRestRankable column_width found.now shelf item records.old ranked.old.items }
+    requires room { IfSome shelf (λ number. length ranked.old.items < ranked.old.capacity) }
+    ensures records { records.new
+        ≡ spec.with_shelf_rest column_width found.now shelf item records.old }
+    ensures ranked { ranked.new.items
+        ≡ spec.with_rest_ranked column_width found.now.shelf shelf item records.new.shelves
+        ranked.old.items }
+{
+    let Some(shelf) = shelf else {
+        return;
+    };
+    let Some(item) = item else {
+        return;
+    };
+    split_shelf(records, ranked, found, column_width, shelf, item);
+}
+
+/// Splits the shelf of a placement, where these are the numbers of the records of the rest and of its item. The list
+/// of ranked shelves has room for one more.
+fn split_shelf(
+    records: &mut Records,
+    ranked: &mut RankedShelves,
+    found: &Placement,
+    column_width: u16,
+    shelf: usize,
+    item: usize,
+)
+    requires splittable { IsShelfSplittable found.now records.old }
+    requires shelf { shelf < no_link }
+    requires item { item < no_link }
+    requires ranks { IsShelfRankable found.now.shelf shelf records.old.shelves
+        (spec.with_shelf_rest column_width found.now (Some shelf) (Some item) records.old).shelves
+        ranked.old.items }
+    requires room { length ranked.old.items < ranked.old.capacity }
+    ensures records { records.new
+        ≡ spec.with_shelf_rest column_width found.now (Some shelf) (Some item) records.old }
+    ensures ranked { ranked.new.items
+        ≡ spec.with_rest_ranked column_width found.now.shelf (Some shelf) (Some item)
+        records.new.shelves ranked.old.items }
+{
+    let widest = take_out(records.shelves(), ranked, found.shelf);
+    let whole = shelf_record(records.shelves(), found.shelf);
+    let height = found.height as u16;
+    let rest = rest_shelf(&whole, height, item);
+    let generation = item_record(records.items(), item).generation;
+    let free = free_item(whole.x, column_width, shelf as u16, generation);
+    records.split_shelf(found.shelf, height, shelf, rest, item, free);
+    put_in(records.shelves(), ranked, ranked_shelf(found.shelf, widest));
+    put_in(records.shelves(), ranked, ranked_shelf(shelf, column_width));
+}
+
+/// Gives the item of a placement: its front, where this is the number of the rest's record, else all of it.
+fn give_item(records: &mut Records, found: &Placement, rest: Option<usize>)
+    requires shelf { found.now.shelf < no_link }
+    requires splittable { IsItemSplittable found.now records.old }
+    requires rest { IfSome rest (λ number. number < no_link) }
+    ensures { records.new ≡ spec.with_item_given found.now rest records.old }
+{
+    let Some(rest) = rest else {
+        records.give_item(found.shelf, found.item);
+        return;
+    };
+    write_item_rest(records, found, rest);
+    records.give_front(found.shelf, found.item, rest, found.width as u16);
+}
+
+/// Writes the record of the rest of the item of a placement, which has this number.
+fn write_item_rest(records: &mut Records, found: &Placement, rest: usize)
+    requires shelf { found.now.shelf < no_link }
+    requires splittable { IsItemSplittable found.now records.old }
+    ensures { records.new ≡ spec.with_rest_written found.now rest records.old }
+{
+    let whole = item_record(records.items(), found.item);
+    let generation = item_record(records.items(), rest).generation;
+    let item = rest_item(&whole, found.width as u16, found.shelf as u16, generation);
+    records.write_item(rest, item);
+}
+
+/// The id under which the item of this number is given.
+fn id_of(items: &[LinkedItem], number: usize) -> AllocId
+    requires { number < no_link }
+    ensures { result ≡ spec.id_of items.now number }
+{
+    let generation = item_record(items, number).generation;
+    AllocId::deserialize(number as u32 + INDEX_MODULUS * u32::from(generation))
+}
+
+/// The record of the item of this number; a new one where there is no such item.
+fn item_record(items: &[LinkedItem], number: usize) -> LinkedItem
+    ensures { result ≡ spec.item_record items.now number }
+{
+    if number < items.len() {
+        items[number]
+    } else {
+        free_item(0, 0, 0, 1)
+    }
+}
+
+/// The record of the shelf of this number.
+fn shelf_record(shelves: &[LinkedShelf], number: usize) -> LinkedShelf
+    requires { number < length shelves.now }
+    ensures { result ≡ spec.shelf_record shelves.now number }
+{
+    shelves[number]
+}
+
+/// The record of a free item in no list.
+fn free_item(x: u16, width: u16, shelf: u16, generation: u16) -> LinkedItem
+    ensures { result ≡ spec.free_item x width shelf generation }
+{
+    LinkedItem {
+        x,
+        width,
+        prev: Link::none(),
+        next: Link::none(),
+        prev_unallocated: Link::none(),
+        next_unallocated: Link::none(),
+        shelf,
+        allocated: false,
+        generation,
+    }
+}
+
+/// The record of the rest of an item beyond this width, in the shelf of this number.
+fn rest_item(whole: &LinkedItem, width: u16, shelf: u16, generation: u16) -> LinkedItem
+    requires right { whole.now.x + width ≤ longest_side }
+    requires narrower { width ≤ whole.now.width }
+    ensures { result ≡ spec.rest_item whole.now width shelf generation }
+{
+    free_item(whole.x + width, whole.width - width, shelf, generation)
+}
+
+/// The record of the rest of a shelf above this height, with this item.
+fn rest_shelf(whole: &LinkedShelf, height: u16, item: usize) -> LinkedShelf
+    requires bottom { whole.now.y + height ≤ longest_side }
+    requires shorter { height ≤ whole.now.height }
+    requires item { item < no_link }
+    ensures { result ≡ spec.rest_shelf whole.now height item }
+{
+    LinkedShelf {
+        x: whole.x,
+        y: whole.y + height,
+        height: whole.height - height,
+        prev: Link::none(),
+        next: Link::none(),
+        first_item: Link::to(item),
+        first_unallocated: Link::to(item),
+        is_empty: true,
+    }
+}
