@@ -4,5 +4,6 @@ pub mod Breaches
 pub mod Broken
 pub mod FrameTests
 pub mod JudgedShelves
+pub mod LinksRead
 pub mod RowTests
 pub mod StackTests

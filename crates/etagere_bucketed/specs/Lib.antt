@@ -10,6 +10,7 @@ pub mod Picking
 pub mod Placing
 pub mod Private
 pub mod Restoring
+pub mod RestoringSteps
 pub mod Returning
 pub mod Space
 pub mod StandsFor

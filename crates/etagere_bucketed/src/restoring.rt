@@ -1,6 +1,7 @@
 //! Makes an atlas from a snapshot that anybody may have written, where the snapshot keeps every rule.
 //!
-//! Definitions: `Restoring`, and `StandsFor` for the rules. Time and steps are linear in the number of records.
+//! Definitions: `Restoring`, `StandsFor` for the rules, and `RestoringSteps` for the steps. Time and steps are linear
+//! in the number of records.
 
 ghost use Rattle.std.specs.Prelude.{◌≡◌, ◌≤◌, ◌<◌, ◌*◌, ◌+◌, ◌^◌, pos, IfErr, IfNone, IfOk, IfSome, OnOk, length, map};
 ghost use Rattle.etagere_bucketed.specs.Atlas.{KeepsPromises};
@@ -9,6 +10,7 @@ ghost use Rattle.etagere_bucketed.specs.Private.Judging as judging;
 ghost use Rattle.etagere_bucketed.specs.Private.Restored.{IsSnapshotJudged};
 ghost use Rattle.etagere_bucketed.specs.Private.Store.{shelf_record};
 ghost use Rattle.etagere_bucketed.specs.Restoring as spec;
+ghost use Rattle.etagere_bucketed.specs.RestoringSteps.{IsRead, links_of_all};
 ghost use Rattle.etagere_bucketed.specs.StandsFor.{StandsFor};
 
 use crate::atlas::BucketedAtlasAllocator;
@@ -82,6 +84,8 @@ pub(crate) fn judged_snapshot(
         judged.frame judged.shelves.items judged.in_use judged.space) }
     ensures fault { IfErr result
         (λ fault. spec.Breaks (spec.snapshot_records snapshot.now) fault) }
+    ensures all { OnOk result (steps.new ≡ links_of_all (spec.snapshot_records snapshot.now)) }
+    ensures until { IfErr result (IsRead (spec.snapshot_records snapshot.now) steps.new) }
     ensures steps { OnOk result (length snapshot.now.buckets.items ≤ steps.new) }
     ensures bound { steps.new ≤ 2 * length snapshot.now.buckets.items }
 {
@@ -130,9 +134,9 @@ pub(crate) fn judged_snapshot(
 ///
 /// Returns a fault whose rule is broken; `Memory` only where there was no memory. The snapshot is used up either way.
 ///
-/// `steps` becomes the number of links that were read, which is at most four times the number of records, whether the
-/// snapshot is accepted or not. Takes memory for what is kept beside the shelves, and some for each record while it
-/// runs.
+/// `steps` becomes the number of links that were read, whether the snapshot is accepted or refused: after `Ok` that of
+/// all lists, and else that of the lists up to the first shelf that is refused, which is at most four times the number
+/// of records. Takes memory for what is kept beside the shelves, and some for each record while it runs.
 pub fn restore_bucketed(
     alloc: Global,
     snapshot: BucketedSnapshot,
@@ -141,6 +145,8 @@ pub fn restore_bucketed(
     ensures ok { IfOk result (λ atlas. StandsFor (spec.snapshot_records snapshot) atlas) }
     ensures fault { IfErr result (λ fault. spec.Breaks (spec.snapshot_records snapshot) fault) }
     ensures promises { IfOk result KeepsPromises }
+    ensures all { OnOk result (steps.new ≡ links_of_all (spec.snapshot_records snapshot)) }
+    ensures until { IfErr result (IsRead (spec.snapshot_records snapshot) steps.new) }
     ensures steps { OnOk result (length snapshot.buckets.items ≤ steps.new) }
     ensures bound { steps.new
         ≤ 4 * (length snapshot.shelves.items + length snapshot.buckets.items) }

@@ -14,7 +14,8 @@ ghost use Rattle.etagere_bucketed.specs.BucketRecords.{BucketRecords, bucket_wal
 ghost use Rattle.etagere_bucketed.specs.Private.Restored.{LinkFits};
 ghost use Rattle.etagere_bucketed.specs.Private.Walking as spec;
 ghost use Rattle.etagere_bucketed.specs.Restoring.{Breaks};
-ghost use Rattle.etagere_bucketed.specs.StandsFor.{live_of};
+ghost use Rattle.etagere_bucketed.specs.RestoringSteps.{IsRead};
+ghost use Rattle.etagere_bucketed.specs.StandsFor.{live_of, walked_numbers};
 ghost use Rattle.etagere_bucketed.specs.State.{most_buckets};
 
 use crate::judging::{Judged, are_unused, judged_row};
@@ -57,6 +58,8 @@ pub(crate) fn walk_list(
     ensures fault { IfErr result
         (λ fault. spec.BreaksWalk links.now marks.old (walk links.now first) fault) }
     ensures steps { OnOk result (steps.new ≡ steps.old + length (walk links.now first).met) }
+    ensures read { IfErr result
+        (spec.StopsAfter (steps.old + length (walk links.now first).met) steps.new) }
     ensures bound { steps.new ≤ steps.old + length links.now }
 {
     let Ok(walked) = room.walk(alloc, links, first) else {
@@ -108,6 +111,8 @@ pub(crate) fn judged_shelf(
         (λ fault. spec.BreaksShelf frame.now buckets.now marks.old number shelf.now fault) }
     ensures steps { OnOk result (steps.new
         ≡ steps.old + length (bucket_walk buckets.now shelf.now.first_bucket).met) }
+    ensures read { IfErr result (spec.StopsAfter
+        (steps.old + length (bucket_walk buckets.now shelf.now.first_bucket).met) steps.new) }
     ensures bound { steps.new ≤ steps.old + length buckets.now }
 {
     let first = shelf.first_bucket.bits();
@@ -150,6 +155,8 @@ pub(crate) fn judged_shelves(
         kept.shelves.items marks.new steps.new kept.space) }
     ensures fault { IfErr result (λ fault. (atlas : BucketRecords) → atlas.frame ≡ frame.now
         → atlas.shelves ≡ shelves.now → atlas.buckets ≡ buckets.now → Breaks atlas fault) }
+    ensures until { IfErr result (λ fault. (atlas : BucketRecords) → atlas.frame ≡ frame.now
+        → atlas.shelves ≡ shelves.now → atlas.buckets ≡ buckets.now → IsRead atlas steps.new fault) }
     ensures few { OnOk result (steps.new ≤ length buckets.now) }
     ensures bound { steps.new ≤ 2 * length buckets.now }
 {
@@ -204,6 +211,8 @@ fn judge_unused(
         (λ fault. spec.BreaksUnused buckets.now marks.old unused fault) }
     ensures steps { OnOk result
         (steps.new ≡ steps.old + length (bucket_walk buckets.now unused).met) }
+    ensures read { IfErr result (spec.StopsAfter
+        (steps.old + length (bucket_walk buckets.now unused).met) steps.new) }
     ensures bound { steps.new ≤ steps.old + length buckets.now }
 {
     let first = unused.bits();
@@ -254,6 +263,11 @@ fn judged_marking(
     ensures fault { IfErr result (λ fault. (atlas : BucketRecords) → atlas.frame ≡ frame.now
         → atlas.shelves ≡ shelves.now → atlas.buckets ≡ buckets.now
         → atlas.unused ≡ unused → Breaks atlas fault) }
+    ensures all { OnOk result (steps.new ≡ length (walked_numbers buckets.now shelves.now)
+        + length (bucket_walk buckets.now unused).met) }
+    ensures until { IfErr result (λ fault. (atlas : BucketRecords) → atlas.frame ≡ frame.now
+        → atlas.shelves ≡ shelves.now → atlas.buckets ≡ buckets.now
+        → atlas.unused ≡ unused → IsRead atlas steps.new fault) }
     ensures steps { OnOk result (length buckets.now ≤ steps.new) }
     ensures bound { steps.new ≤ 2 * length buckets.now }
 {
@@ -285,6 +299,11 @@ pub(crate) fn judged_lists(
     ensures fault { IfErr result (λ fault. (atlas : BucketRecords) → atlas.frame ≡ frame.now
         → atlas.shelves ≡ shelves.now → atlas.buckets ≡ buckets.now
         → atlas.unused ≡ unused → Breaks atlas fault) }
+    ensures all { OnOk result (steps.new ≡ length (walked_numbers buckets.now shelves.now)
+        + length (bucket_walk buckets.now unused).met) }
+    ensures until { IfErr result (λ fault. (atlas : BucketRecords) → atlas.frame ≡ frame.now
+        → atlas.shelves ≡ shelves.now → atlas.buckets ≡ buckets.now
+        → atlas.unused ≡ unused → IsRead atlas steps.new fault) }
     ensures steps { OnOk result (length buckets.now ≤ steps.new) }
     ensures bound { steps.new ≤ 2 * length buckets.now }
 {

@@ -1,5 +1,5 @@
 -- Following the lists of a snapshot's buckets: each is marked, and each list ends at none.
-use Rattle.std.specs.Prelude.{◌≡◌, ℕ, suc, ◌<◌, ◌*◌, Bool, Option, List, [], ◌∷◌, ◌++◌, length, map}
+use Rattle.std.specs.Prelude.{◌≡◌, ℕ, suc, ◌<◌, ◌≤◌, ◌*◌, Bool, Option, List, [], ◌∷◌, ◌++◌, length, map}
 use Rattle.etagere_base.specs.declared.faults.RestoreFault.{RestoreFault}
 use Rattle.etagere_base.specs.declared.faults.RestoreFault.TheVariants.{Link, Runs, Sharing, Unused, Memory}
 use Rattle.etagere_base.specs.declared.frames.Frame.{Frame}
@@ -29,6 +29,11 @@ BreaksWalk links marks walked Sharing =
     walked.end ≡ no_link → (numbers : List ℕ) → IsMarkedBy marks numbers → HasTwice (numbers ++ walked.met)
 BreaksWalk links marks walked Memory = Unit {0}
 BreaksWalk links marks walked fault = ⊥
+
+-- so many links were read before a refusal for this, of so many: fewer only for want of memory
+abbrev pub StopsAfter : ℕ → ℕ → RestoreFault → Type 0
+StopsAfter all steps Memory = steps ≤ all
+StopsAfter all steps fault = steps ≡ all
 
 -- a shelf of this number was judged: its list ends, and has its buckets
 pub record IsJudged (frame : Frame) (buckets : List LinkedBucket) (number : ℕ) (shelf : LinkedBucketShelf) : Type 0 where

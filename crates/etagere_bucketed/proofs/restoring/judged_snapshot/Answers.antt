@@ -15,6 +15,7 @@ use Rattle.etagere_bucketed.specs.StandsFor.{HasCounts, HasShelves}
 use Rattle.etagere_bucketed.specs.Valid.{ends_idle}
 use Rattle.etagere_bucketed.proofs.Judged.Assembled.{area-judged, assembled, columns-said, idle-kept, restored, same-lists, totals}
 use Rattle.etagere_bucketed.proofs.Judged.FrameTests.{frame-decided}
+use Rattle.etagere_bucketed.proofs.Judged.LinksRead.{all-links, lists-read}
 use Rattle.etagere_bucketed.proofs.Judged.StackTests.{stacked-decided}
 use Rattle.etagere_bucketed.proofs.restoring.judged_snapshot.Goals as goal
 
@@ -108,3 +109,33 @@ returns-clause-ok c =
       witnessed = restored atlas kept used area lists frame counts shelves neighbours space;
       totals = subst (λ (n : ℕ). HasTotals atlas.current_column atlas.available_height used n (state_of atlas)) (sym same) (totals atlas kept used area lists frame counts shelves neighbours space);
     }
+
+pub returns-in_err-lists-clause-until : goal.returns-in_err-lists-clause-until
+returns-in_err-lists-clause-until c =
+    let passed = err_from_is_err_and c.from_residual.result c.from_residual.ensures.1 in
+    rw (passed.1, passed.2) (c.in_err-lists.ensures.until (snapshot_records c.args.snapshot.now) (sym c.snapshot_frame-frame.ensures.value) (sym c.deref-3.ensures.value) (sym c.deref-2.ensures.value) refl)
+
+pub returns-then-ends_idle-clause-until : goal.returns-then-ends_idle-clause-until
+returns-then-ends_idle-clause-until c =
+    let atlas : BucketRecords = snapshot_records c.args.snapshot.now in
+    let kept : List KeptShelf = c.in_ok-lists.lists.kept.shelves.items in
+    let used : ℕ = c.in_ok-lists.lists.in_use in
+    let area : ℕ = c.in_ok-lists.lists.kept.space in
+    let lists = same-lists atlas c.snapshot_frame-frame.result c.deref-2.result.now c.deref-3.result.now kept used area
+    c.snapshot_frame-frame.ensures.value c.deref-2.ensures.value c.deref-3.ensures.value c.in_ok-lists.ensures.ok in
+    lists-read atlas kept used area c.judged_lists.new.steps lists (c.in_ok-lists.ensures.all ∙ rw (c.deref-2.ensures.value, c.deref-3.ensures.value) refl)
+
+pub returns-in_default-clause-until : goal.returns-in_default-clause-until
+returns-in_default-clause-until c =
+    let atlas : BucketRecords = snapshot_records c.args.snapshot.now in
+    let kept : List KeptShelf = c.in_ok-lists.lists.kept.shelves.items in
+    let used : ℕ = c.in_ok-lists.lists.in_use in
+    let area : ℕ = c.in_ok-lists.lists.kept.space in
+    let lists = same-lists atlas c.snapshot_frame-frame.result c.deref-2.result.now c.deref-3.result.now kept used area
+    c.snapshot_frame-frame.ensures.value c.deref-2.ensures.value c.deref-3.ensures.value c.in_ok-lists.ensures.ok in
+    lists-read atlas kept used area c.judged_lists.new.steps lists (c.in_ok-lists.ensures.all ∙ rw (c.deref-2.ensures.value, c.deref-3.ensures.value) refl)
+
+pub returns-clause-all : goal.returns-clause-all
+returns-clause-all c =
+    let atlas : BucketRecords = snapshot_records c.args.snapshot.now in
+    c.in_ok-lists.ensures.all ∙ rw (c.deref-2.ensures.value, c.deref-3.ensures.value) (sym (all-links atlas))

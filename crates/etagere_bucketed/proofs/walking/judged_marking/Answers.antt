@@ -3,6 +3,7 @@ use Rattle.std.proofs.lemmas.Result.{err_from_is_err_and}
 use Rattle.etagere_bucketed.specs.BucketRecords.{bucket_walk}
 use Rattle.etagere_bucketed.specs.StandsFor.{walked_numbers}
 use Rattle.etagere_bucketed.proofs.Judged.Breaches.{unused-breaks}
+use Rattle.etagere_bucketed.proofs.Judged.LinksRead.{end-read}
 use Rattle.etagere_bucketed.proofs.Spelling.StandsKept.{once-length}
 use Rattle.etagere_bucketed.proofs.walking.judged_marking.Goals as goal
 
@@ -44,3 +45,18 @@ returns-in_err-judge_unused-clause-fault c =
     unused-breaks c.args.frame.now c.args.buckets.now c.args.shelves.now atlas c.judged_shelves.new.marks c.args.unused c.in_err-judge_unused.field-0.0
     c.in_ok-kept.ensures.ok.marked
     c.in_err-judge_unused.ensures.fault)
+
+pub returns-in_err-kept-clause-until : goal.returns-in_err-kept-clause-until
+returns-in_err-kept-clause-until c =
+    let passed = err_from_is_err_and c.from_residual.result c.from_residual.ensures.1 in
+    rw (passed.1, passed.2) (λ atlas frame shelves buckets _. c.in_err-kept.ensures.until atlas frame shelves buckets)
+
+pub returns-in_err-judge_unused-clause-until : goal.returns-in_err-judge_unused-clause-until
+returns-in_err-judge_unused-clause-until c =
+    let passed = err_from_is_err_and c.from_residual-in_err-judge_unused.result c.from_residual-in_err-judge_unused.ensures.1 in
+    rw (passed.1, passed.2) (λ atlas.
+    end-read c.args.frame.now c.args.buckets.now c.args.shelves.now atlas c.in_ok-kept.kept.shelves.items c.judged_shelves.new.marks c.args.unused c.judged_shelves.new.steps c.in_ok-kept.kept.space c.judge_unused.new.steps c.in_err-judge_unused.field-0.0
+    c.in_ok-kept.ensures.ok c.in_err-judge_unused.ensures.fault c.in_err-judge_unused.ensures.read)
+
+pub returns-clause-all : goal.returns-clause-all
+returns-clause-all c = omega (arith, c.in_ok-kept.ensures.ok.counted, c.in_ok-judge_unused.ensures.steps)

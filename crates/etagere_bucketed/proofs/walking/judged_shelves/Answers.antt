@@ -2,10 +2,12 @@ use Rattle.std.proofs.Common.{◌≡◌, ◌+◌, ℕ, Some, List, [], ◌∷◌
 use Rattle.std.proofs.lemmas.Option.{slice_get_read}
 use Rattle.std.proofs.lemmas.Result.{err_from_is_err_and}
 use Rattle.std.specs.Prelude.{slice_get}
+use Rattle.etagere_base.specs.declared.faults.RestoreFault.TheVariants.{Memory}
 use Rattle.etagere_bucketed.specs.declared.records.LinkedBucketShelf.{LinkedBucketShelf}
 use Rattle.etagere_bucketed.specs.Private.Store.{KeptShelf}
 use Rattle.etagere_bucketed.specs.Private.Walking.{AreKeptSoFar, IsShelfJudged}
 use Rattle.etagere_bucketed.proofs.Judged.JudgedShelves.{breaks-at, length_of_take, more-kept, none-kept, steps-few, take-next}
+use Rattle.etagere_bucketed.proofs.Judged.LinksRead.{read-at}
 use Rattle.etagere_bucketed.proofs.walking.judged_shelves.Goals as goal
 
 pub loop-number-init : goal.loop-number-init
@@ -51,3 +53,18 @@ loop-number-preserved c =
       omega (arith, c.in_ok-told.ensures.small, c.in_ok-told.ensures.steps, c.loop-number.invariant.3),
       omega (arith, long, steps-few frame buckets (take (n + 1) shelves) c.push.new.self.items marks c.judged_shelf.new.steps area done),
     )
+
+pub returns-in_err-told-clause-until : goal.returns-in_err-told-clause-until
+returns-in_err-told-clause-until c =
+    let passed = err_from_is_err_and c.from_residual.result c.from_residual.ensures.1 in
+    rw (passed.1, passed.2) (λ atlas.
+    read-at c.args.frame.now c.args.buckets.now c.args.shelves.now atlas c.loop-number.number c.index-shelves-number.result c.loop-number.kept.items c.loop-number.marks c.loop-number.steps c.loop-number.space c.judged_shelf.new.steps c.in_err-told.field-0.0
+    c.requires.buckets
+    (slice_get_read c.args.shelves.now (length c.args.shelves.now) c.loop-number.number c.index-shelves-number.result refl (omega arith) c.index-shelves-number.is)
+    c.loop-number.invariant.0 c.in_err-told.ensures.fault c.in_err-told.ensures.read)
+
+pub returns-in_default-clause-until : goal.returns-in_default-clause-until
+returns-in_default-clause-until c =
+    let here = slice_get_read c.args.shelves.now (length c.args.shelves.now) c.loop-number.number c.index-shelves-number.result refl (omega arith) c.index-shelves-number.is in
+    λ atlas. read-at c.args.frame.now c.args.buckets.now c.args.shelves.now atlas c.loop-number.number c.index-shelves-number.result c.loop-number.kept.items c.loop-number.marks c.loop-number.steps c.loop-number.space c.judged_shelf.new.steps Memory
+    c.requires.buckets here c.loop-number.invariant.0 tt (omega (arith, c.in_ok-told.ensures.steps))
