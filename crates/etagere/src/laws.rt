@@ -1,5 +1,5 @@
 //! What the laws of restoring are stated of: the counted form of `restore`, the walks by which it follows links, and
-//! saving and restoring as one. Public, and not meant for users.
+//! saving and restoring as one; all of both atlases. Public, and not meant for users.
 
 ghost use Rattle.std.specs.Prelude.{◌≡◌, IfErr, IfOk};
 ghost use Rattle.etagere_base.specs.declared.faults.RestoreFault.TheVariants as faults;
@@ -8,7 +8,10 @@ ghost use Rattle.etagere.specs.RecordLaws.{BrokenStandsForNone, StandsForOne};
 use crate::atlas::AtlasAllocator;
 pub use crate::restored::restore_atlas;
 use etagere_base::RestoreFault;
-pub use etagere_bucketed::laws::restore_bucketed;
+pub use etagere_bucketed::laws::{
+    records_stand_for_one_state as bucketed_records_stand_for_one_state, restore_bucketed,
+    saved_and_restored as bucketed_saved_and_restored,
+};
 pub use etagere_links::{Walk, walk};
 use std::alloc::Global;
 

@@ -1,5 +1,5 @@
 -- Laws of the model, proved of all its states: each step keeps a state valid and a ledger tied to
--- it, and counts the space that is allocated.
+-- it, and counts the space that is allocated; and records stand for one state.
 use Rattle.std.specs.Prelude.{◌≡◌, ℕ, ◌+◌, ◌*◌, ◌^◌, ◌≤◌, true, Some, slice_get, List, [], ◌∷◌, ◌++◌, map}
 use Rattle.etagere_base.specs.declared.geometry.Size.{Size}
 use Rattle.etagere_base.specs.declared.frames.Frame.{Frame}
@@ -9,10 +9,12 @@ use Rattle.etagere_base.specs.Places.{rectangle_at}
 use Rattle.etagere_base.specs.Rectangles.{AreApart, IsAligned, IsInside, IsLarge}
 use Rattle.etagere_bucketed.specs.Adding.{least_power_of_two}
 use Rattle.etagere_bucketed.specs.Atlas.{Allocates, Grows, KeepsPromises}
+use Rattle.etagere_bucketed.specs.BucketRecords.{BucketRecords}
 use Rattle.etagere_bucketed.specs.Frames.{IsBucketedFrame}
 use Rattle.etagere_bucketed.specs.Returning.{bucket_returned, is_known, returned_bucket, tag_of}
 use Rattle.etagere_bucketed.specs.Picking.{Spot}
 use Rattle.etagere_bucketed.specs.Space.{allocated_space}
+use Rattle.etagere_bucketed.specs.StandsFor.{StandsFor}
 use Rattle.etagere_bucketed.specs.State.{Bucket, BucketShelf, BucketedState, fresh}
 use Rattle.etagere_bucketed.specs.Tied.{AreTied, entries_of}
 use Rattle.etagere_bucketed.specs.Valid.{IsValid}
@@ -101,6 +103,12 @@ abbrev pub TiedIsAlwaysSafe : Type 0
 TiedIsAlwaysSafe =
     (entries : List Allocation) (state : BucketedState) → AreTied entries state
     → TiedIsSafe entries state
+
+-- two states that the same records stand for are one
+abbrev pub StandsForOne : Type 0
+StandsForOne =
+    (atlas : BucketRecords) (state other : BucketedState) → StandsFor atlas state
+    → StandsFor atlas other → state ≡ other
 
 -- a power of two that is not below a number, and no other such power is less
 pub record IsLeastPower (number power : ℕ) : Type 0 where

@@ -1,7 +1,7 @@
 //! The bucketed atlas: shelves of buckets that are filled from the front and emptied as a whole. Here are
 //! its model, its laws and its code.
 //!
-//! `atlas` has the public calls, `faults` why a growth is refused, `laws` the counted form of `restore`; `records` and
+//! `atlas` has the public calls, `faults` why a growth is refused, `laws` what the laws of restoring are stated of; `records` and
 //! `snapshots` are what is saved. All else is private. `store` has the records and the steps of which calls are made.
 //! For an allocation `placing` decides the place: by `searching` in a bucket, by `adding` on a new shelf, or by
 //! `merging` on idle ones. `returning` and `dropping` are the steps of a return, `growing` those of a growth, and

@@ -5,7 +5,6 @@
 ghost use Rattle.etagere_bucketed.specs.Laws.{GivesEnough, PowersAreLeast, StepsCountSpace, StepsKeepTied, StepsKeepValid, TiedIsAlwaysSafe, ValidKeepsPromises};
 ghost use Rattle.etagere_bucketed.specs.Private.Restored.{StandsWitnessed};
 ghost use Rattle.etagere_bucketed.specs.Private.Witnessed.{WitnessedStands};
-ghost use Rattle.etagere_bucketed.specs.Restoring.{BrokenStandsForNone};
 
 /// Each call leads from a valid state to a valid one, and what each valid state keeps follows.
 pub(crate) fn each_step_keeps_a_state_valid()
@@ -43,9 +42,4 @@ pub(crate) fn records_keep_each_rule()
 /// Records that keep each rule of a snapshot are those of an atlas.
 pub(crate) fn each_rule_makes_an_atlas()
     ensures { StandsWitnessed }
-{}
-
-/// A snapshot that is refused by a rule stands for no state.
-pub(crate) fn what_breaks_a_rule_stands_for_nothing()
-    ensures { BrokenStandsForNone }
 {}
