@@ -1,5 +1,5 @@
 -- What putting records to use does: the one put aside last, or a new one after all others.
-use Rattle.std.specs.Prelude.{ℕ, zero, suc, ◌+◌, ◌%◌, Bool, true, false, Option, None, Some, option_and_then, IfSome, ◌<◌, List, [], ◌∷◌, ◌++◌, length}
+use Rattle.std.specs.Prelude.{ℕ, zero, suc, ◌+◌, ◌%◌, Bool, true, false, Option, None, Some, option_and_then, IfSome, ◌<◌, List, [], ◌∷◌, ◌++◌, length, if◌then◌else◌}
 use Rattle.etagere_links.specs.declared.records.LinkedItem.{LinkedItem}
 use Rattle.etagere_links.specs.declared.records.LinkedShelf.{LinkedShelf}
 use Rattle.etagere_links.specs.declared.uses.Rests.{Rests}
@@ -100,6 +100,13 @@ shelf_rest_used of_shelf records = shelf_used of_shelf (item_used of_shelf recor
 -- that is
 abbrev pub rests_used : Bool → Bool → Records → Records
 rests_used of_shelf of_item records = item_used of_item (shelf_rest_used of_shelf records)
+
+-- so many new records are needed, of items and of shelves, for the rests of a split
+abbrev pub rests_missing : Bool → Bool → Records → ℕ
+rests_missing of_shelf of_item records =
+    missing item_chain ((if of_shelf then 1 else 0) + (if of_item then 1 else 0)) records.free_items
+    records.items
+    + missing shelf_chain (if of_shelf then 1 else 0) records.free_shelves records.shelves
 
 -- the numbers are those of links
 pub record AreSmall (rests : Rests) : Type 0 where

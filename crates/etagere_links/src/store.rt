@@ -51,26 +51,6 @@ impl Records {
     ghost use Rattle.etagere_links.specs.RecordUses.{AreSmall};
     ghost use Rattle.etagere_links.specs.Records.{free_list, item_chain, shelf_chain};
 
-    /// No records. Takes no memory.
-    pub fn new(alloc: Global) -> Records
-        ensures { result
-            ≡ record {
-              shelves = [];
-              items = [];
-              first_shelf = None;
-              free_items = None;
-              free_shelves = None;
-            } }
-    {
-        Records {
-            shelf_records: Vec::new(alloc),
-            item_records: Vec::new(alloc),
-            first: Link::none(),
-            unused_items: Link::none(),
-            unused_shelves: Link::none(),
-        }
-    }
-
     /// These records, by number, where the lists of them begin at these links. Takes no memory.
     pub fn of_lists(
         shelves: Vec<LinkedShelf>,
@@ -95,16 +75,6 @@ impl Records {
             unused_items: free_items,
             unused_shelves: free_shelves,
         }
-    }
-
-    /// Takes memory for so many further shelf records, and as many item records. The error comes only where
-    /// there was none; the records stay as they are in any case.
-    pub fn reserve(&mut self, more: usize) -> Result<(), AllocError>
-        ensures { self.new ≡ self.old }
-    {
-        self.shelf_records.reserve(more)?;
-        self.item_records.reserve(more)?;
-        Ok(())
     }
 
     /// Forgets all records but so many of each kind. Keeps the memory, and all links.
@@ -173,29 +143,9 @@ impl Records {
         self.shelf_records.clone()
     }
 
-    /// Makes an item record, whose number is that of the records before it. The error comes only where
-    /// there was no memory, and then nothing has changed.
-    pub fn make_item(&mut self, item: LinkedItem) -> Result<(), AllocError>
-        ensures ok { OnOk result (self.new ≡ edits.item_made item self.old) }
-        ensures err { OnErr result (self.new ≡ self.old) }
-    {
-        self.item_records.push(item)?;
-        Ok(())
-    }
-
-    /// Makes a shelf record, whose number is that of the records before it. The error comes only where
-    /// there was no memory, and then nothing has changed.
-    pub fn make_shelf(&mut self, shelf: LinkedShelf) -> Result<(), AllocError>
-        ensures ok { OnOk result (self.new ≡ edits.shelf_made shelf self.old) }
-        ensures err { OnErr result (self.new ≡ self.old) }
-    {
-        self.shelf_records.push(shelf)?;
-        Ok(())
-    }
-
     /// Puts the records to use that the rests of a split need: those put aside last, and new ones where
-    /// there are too few, for the rest of a shelf before the rest of an item. The error comes only where
-    /// there was no memory, and then nothing has changed.
+    /// there are too few, for the rest of a shelf before the rest of an item. The error comes only where there
+    /// are too few and there was no memory, and then nothing has changed.
     pub fn use_rests(&mut self, of_shelf: bool, of_item: bool) -> Result<Rests, AllocError>
         requires items { length (using.rests_used of_shelf of_item self.old).items ≤ no_link }
         requires shelves { length (using.rests_used of_shelf of_item self.old).shelves ≤ no_link }
@@ -203,6 +153,7 @@ impl Records {
         ensures small { IfOk result AreSmall }
         ensures ok { OnOk result (self.new ≡ using.rests_used of_shelf of_item self.old) }
         ensures err { OnErr result (self.new ≡ self.old) }
+        ensures short { OnErr result (0 < using.rests_missing of_shelf of_item self.old) }
         ensures split { OnErr result
             (0 < (if of_shelf then 1 else 0) + (if of_item then 1 else 0)) }
     {

@@ -43,7 +43,7 @@ fn missing_items(items: &[LinkedItem], unused: Link, of_shelf: bool, of_item: bo
     usize::from(below.number().is_none())
 }
 
-/// Makes room for the item records that are missing. The error comes only where there was no memory.
+/// Makes room for the item records that are missing. The error comes only where some are and there was no memory.
 pub(crate) fn reserve_items(
     items: &mut Vec<LinkedItem>,
     unused: Link,
@@ -56,7 +56,10 @@ pub(crate) fn reserve_items(
         + spec.missing item_chain
         ((if of_shelf then 1 else 0) + (if of_item then 1 else 0)) unused items.old.items
         ≤ vec_capacity items.new) }
-    ensures split { OnErr result (0 < (if of_shelf then 1 else 0) + (if of_item then 1 else 0)) }
+    ensures short { OnErr result
+        (0
+        < spec.missing item_chain
+        ((if of_shelf then 1 else 0) + (if of_item then 1 else 0)) unused items.old.items) }
 {
     let missing = missing_items(items, unused, of_shelf, of_item);
     if missing > 0 {
@@ -65,8 +68,8 @@ pub(crate) fn reserve_items(
     Ok(())
 }
 
-/// Makes room for a shelf record where one is wanted and none was put aside. The error comes only where
-/// there was no memory.
+/// Makes room for a shelf record where one is wanted and none was put aside. The error comes only there, and
+/// only where there was no memory.
 pub(crate) fn reserve_shelf(
     shelves: &mut Vec<LinkedShelf>,
     unused: Link,
@@ -77,7 +80,8 @@ pub(crate) fn reserve_shelf(
         (length shelves.old.items
         + spec.missing shelf_chain (if wanted then 1 else 0) unused shelves.old.items
         ≤ vec_capacity shelves.new) }
-    ensures split { OnErr result (wanted ≡ true) }
+    ensures short { OnErr result
+        (0 < spec.missing shelf_chain (if wanted then 1 else 0) unused shelves.old.items) }
 {
     if wanted && unused.number().is_none() {
         shelves.reserve(1)?;

@@ -27,14 +27,13 @@ pub fn fresh_records(alloc: Global, frame: &Frame) -> Result<Records, AllocError
     requires { IsFrame longest_side frame.now }
     ensures { IfOk result (λ records. records ≡ spec.fresh_records frame.now) }
 {
-    let mut records = Records::new(alloc);
-    records.reserve(frame.columns as usize)?;
+    let mut shelves = Vec::with_capacity(alloc, frame.columns as usize)?;
+    let mut items = Vec::with_capacity(alloc, frame.columns as usize)?;
     for column in 0..frame.columns {
-        records.make_shelf(fresh_shelf(frame, column))?;
-        records.make_item(fresh_item(frame, column))?;
+        shelves.push_reserved(fresh_shelf(frame, column));
+        items.push_reserved(fresh_item(frame, column));
     }
-    records.restart();
-    Ok(records)
+    Ok(Records::of_lists(shelves, items, Link::to(0), Link::none(), Link::none()))
 }
 
 /// The ranked shelves of a new atlas.
