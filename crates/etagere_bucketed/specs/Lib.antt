@@ -5,6 +5,7 @@ pub mod Faults
 pub mod Frames
 pub mod Growing
 pub mod Laws
+pub mod Ledgers
 pub mod Merging
 pub mod Picking
 pub mod Placing

@@ -4,7 +4,7 @@
 //! fields keep. The clauses stay as they are: callers prove by them. Fields may change, with `state_in`
 //! and `IsConsistent`.
 
-ghost use Rattle.std.specs.Prelude.{◌≡◌, ◌↔◌, ◌*◌, ◌-◌, ◌+ℤ◌, Err, Some, true, false, pos, IfOk, IfErr, IfSome, IfNone, OnOk, OnErr, IsErr, IsOk, IsTrue, option_map};
+ghost use Rattle.std.specs.Prelude.{◌≡◌, ◌↔◌, ◌*◌, ◌-◌, ◌+ℤ◌, [], Err, Some, true, false, pos, IfOk, IfErr, IfSome, IfNone, OnOk, OnErr, IsErr, IsOk, IsTrue, option_map};
 ghost use Rattle.std.specs.Io.KnownBytes.{Appends};
 ghost use Rattle.std.specs.List.{list_all};
 ghost use Rattle.etagere_base.specs.Frames.{IsAccepted, options_fault};
@@ -15,6 +15,7 @@ ghost use Rattle.etagere_bucketed.specs.Atlas.{Allocates, Grows, KeepsPromises, 
 ghost use Rattle.etagere_bucketed.specs.Frames as frames;
 ghost use Rattle.etagere_bucketed.specs.Frames.{longest_bucketed_side};
 ghost use Rattle.etagere_bucketed.specs.Growing as growing;
+ghost use Rattle.etagere_bucketed.specs.Ledgers.{AddsEntry, IsClear, KeepsEntries, TakesEntry};
 ghost use Rattle.etagere_bucketed.specs.Placing.{IsBucketRefused};
 ghost use Rattle.etagere_bucketed.specs.Private.Restored.{IsSnapshotJudged};
 ghost use Rattle.etagere_bucketed.specs.Restoring.{Breaks, snapshot_records, state_of};
@@ -23,6 +24,7 @@ ghost use Rattle.etagere_bucketed.specs.Space as space;
 ghost use Rattle.etagere_bucketed.specs.StandsFor.{StandsFor};
 ghost use Rattle.etagere_bucketed.specs.State.{fresh, is_idle};
 ghost use Rattle.etagere_bucketed.specs.Svg.{svg, svg_into};
+ghost use Rattle.etagere_bucketed.specs.Tied.{AreTied};
 ghost use Rattle.etagere_bucketed.specs.declared.faults.GrowFault.TheVariants as grow_faults;
 
 use crate::adding::Left;
@@ -85,6 +87,7 @@ impl BucketedAtlasAllocator {
     pub fn new(alloc: Global, size: Size) -> Result<BucketedAtlasAllocator, OptionsFault>
         ensures ok { IfOk result
             (λ atlas. atlas ≡ fresh (frames.bucketed_frame size default_options)) }
+        ensures empty { IfOk result (AreTied []) }
         ensures accepted { OnOk result (IsAccepted longest_bucketed_side size default_options) }
         ensures made { IsAccepted longest_bucketed_side size default_options → IsOk result }
         ensures promises { IfOk result KeepsPromises }
@@ -103,6 +106,7 @@ impl BucketedAtlasAllocator {
         options: &AllocatorOptions,
     ) -> Result<BucketedAtlasAllocator, OptionsFault>
         ensures ok { IfOk result (λ atlas. atlas ≡ fresh (frames.bucketed_frame size options.now)) }
+        ensures empty { IfOk result (AreTied []) }
         ensures accepted { OnOk result (IsAccepted longest_bucketed_side size options.now) }
         ensures made { IsAccepted longest_bucketed_side size options.now → IsOk result }
         ensures promises { IfOk result KeepsPromises }
@@ -185,7 +189,8 @@ impl BucketedAtlasAllocator {
 
     /// The size in pixels that the atlas was made with, or has grown to. Takes constant time.
     pub fn size(&self) -> Size
-        ensures { result
+        ensures promises { KeepsPromises self.now }
+        ensures size { result
             ≡ record { width = pos self.now.frame.width; height = pos self.now.frame.height } }
     {
         Size {
@@ -207,6 +212,11 @@ impl BucketedAtlasAllocator {
         ensures none { IfOk result (λ answer. IfNone answer (self.new ≡ self.old)) }
         ensures err { OnErr result (self.new ≡ self.old) }
         ensures shelf { OnErr result (NeedsShelf self.old size) }
+        ensures allocated { IfOk result
+            (λ answer. IfSome answer
+            (λ allocation. AddsEntry self.old allocation self.new)) }
+        ensures clear { IfOk result
+            (λ answer. IfSome answer (λ allocation. IsClear self.old allocation.rectangle)) }
         ensures frame { self.new.frame ≡ self.old.frame }
         ensures inside { IfOk result
             (λ answer. IfSome answer
@@ -253,6 +263,7 @@ impl BucketedAtlasAllocator {
         ensures ok { OnOk result (self.new ≡ bucket_returned self.old id) }
         ensures unknown { IsErr result ↔ (is_known self.old id ≡ false) }
         ensures err { OnErr result (self.new ≡ self.old) }
+        ensures allocated { OnOk result (TakesEntry self.old id self.new) }
         ensures promises { KeepsPromises self.new }
     {
         if !self.store.is_known(id) {
@@ -282,6 +293,7 @@ impl BucketedAtlasAllocator {
             (λ fault. growing.grow_fault self.old.frame size ≡ None
             → (fault ≡ grow_faults.Memory) × NeedsBuckets self.old size) }
         ensures err { OnErr result (self.new ≡ self.old) }
+        ensures allocated { OnOk result (KeepsEntries self.old self.new) }
         ensures promises { KeepsPromises self.new }
     {
         if let Some(fault) = grow_fault(&self.frame, size) {
@@ -306,6 +318,7 @@ impl BucketedAtlasAllocator {
     /// Takes no memory, and gives none back. Takes constant time, since dropping a record does nothing.
     pub fn clear(&mut self)
         ensures cleared { self.new ≡ fresh self.old.frame }
+        ensures empty { AreTied [] self.new }
         ensures promises { KeepsPromises self.new }
     {
         self.store.clear();
@@ -317,14 +330,16 @@ impl BucketedAtlasAllocator {
 
     /// Whether nothing is allocated. Takes constant time.
     pub fn is_empty(&self) -> bool
-        ensures { IsTrue result ↔ (list_all is_idle self.now.shelves ≡ true) }
+        ensures empty { IsTrue result ↔ (list_all is_idle self.now.shelves ≡ true) }
+        ensures promises { KeepsPromises self.now }
     {
         self.allocated_space == 0
     }
 
     /// The areas that buckets have used, added up, in square pixels. Takes constant time.
     pub fn allocated_space(&self) -> i32
-        ensures { result ≡ pos (space.allocated_space self.now) }
+        ensures space { result ≡ pos (space.allocated_space self.now) }
+        ensures promises { KeepsPromises self.now }
     {
         self.allocated_space as i32
     }
@@ -335,6 +350,7 @@ impl BucketedAtlasAllocator {
             (self.now.frame.width * self.now.frame.height - space.allocated_space self.now) }
         ensures sum { result +ℤ pos (space.allocated_space self.now) ≡ pos
             (self.now.frame.width * self.now.frame.height) }
+        ensures promises { KeepsPromises self.now }
     {
         (self.frame.width * self.frame.height - self.allocated_space) as i32
     }

@@ -1,12 +1,15 @@
 use Rattle.std.specs.Prelude.{OnErr, Result, Ok, Err, option_map, slice_get, ◌^◌}
-use Rattle.std.proofs.Common.{◌≡◌, ℕ, ◌+◌, ◌-◌, ◌*◌, ◌<◌, Option, Some, length, ap, sym, subst, ◌∙◌, arith}
+use Rattle.std.proofs.Common.{◌≡◌, ℕ, ◌+◌, ◌-◌, ◌*◌, ◌<◌, Option, Some, List, [], ◌∷◌, ◌++◌, length, ap, sym, subst, ◌∙◌, arith}
 use Rattle.std.proofs.Math.Nat.{le-mul_of_pos_right}
 use Rattle.etagere_base.proofs.FrameSides.{sides_low}
 use Rattle.etagere_base.specs.declared.frames.Frame.{Frame}
 use Rattle.etagere_base.specs.declared.geometry.Size.{Size}
 use Rattle.etagere_base.specs.declared.sides.Sides.{Sides}
+use Rattle.etagere_base.specs.declared.ids.Allocation.{Allocation}
+use Rattle.etagere_base.proofs.EachLemmas.{Each-middle}
+use Rattle.etagere_base.specs.Lists.{Each}
 use Rattle.etagere_base.specs.Frames.{asked}
-use Rattle.etagere_base.specs.Rectangles.{IsAligned, IsInside, IsLarge}
+use Rattle.etagere_base.specs.Rectangles.{AreApart, IsAligned, IsInside, IsLarge, SharesNone}
 use Rattle.etagere_bucketed.specs.declared.atlas.BucketedAtlasAllocator.TheInside.{Inside}
 use Rattle.etagere_bucketed.specs.declared.placing.Place as code
 use Rattle.etagere_bucketed.specs.Adding.{Left, left_to}
@@ -19,12 +22,19 @@ use Rattle.etagere_bucketed.specs.Private.StoreEdits.{CanGive, IsShort, end_of, 
 use Rattle.etagere_bucketed.specs.Private.StoreEdits as store
 use Rattle.etagere_bucketed.specs.Private.Witnessed.{HasTotals, Witnessed}
 use Rattle.etagere_bucketed.specs.State.{BucketedState, available_height, current_column, most_buckets}
-use Rattle.etagere_bucketed.proofs.Allocating.{allocates-aligned, allocates-inside, allocates-large, allocates-valid}
+use Rattle.etagere_bucketed.proofs.Allocating.{allocates-aligned, allocates-inside, allocates-large, allocates-tied, allocates-valid}
 use Rattle.etagere_bucketed.proofs.Promises.{valid-promises}
 use Rattle.etagere_bucketed.proofs.Shelving.Added.{current-below}
 use Rattle.etagere_bucketed.proofs.Spelling.AllocatedRecords.{IsAllocation, Makes, allocation-is, makes, needed-few, needs-shelf, refused}
 use Rattle.etagere_bucketed.proofs.Spelling.Fresh.{space-small}
+use Rattle.etagere_bucketed.proofs.Ledger.EntriesApart.{tied-apart}
 use Rattle.etagere_bucketed.proofs.atlas.BucketedAtlasAllocator.allocate.Goals as goal
+
+-- the last of allocations that are apart is apart from each other
+last-apart : (entries : List Allocation) (last : Allocation) → AreApart (entries ++ last ∷ []) → Each (λ (entry : Allocation). SharesNone entry.rectangle last.rectangle) entries
+last-apart [] last apart = tt
+last-apart (e ∷ es) last apart =
+    (Each-middle (λ (other : Allocation). SharesNone e.rectangle other.rectangle) es last [] apart.0, last-apart es last apart.1)
 
 on_err : {T E P : Type 0} (r : Result T E) → P → OnErr r P
 on_err (Ok x) p = tt
@@ -213,3 +223,12 @@ returns-clause-aligned c =
 pub returns-clause-promises : goal.returns-clause-promises
 returns-clause-promises c =
     valid-promises (stored_state c.self.inside.frame c.take-area.new.self) (allocates-valid (state_in c.self.inside) c.args.size c.allocation-allocation.result (stored_state c.self.inside.frame c.take-area.new.self) c.self.invariant.witnessed.valid (allocates c))
+
+pub returns-clause-allocated : goal.returns-clause-allocated
+returns-clause-allocated c = λ entries tied.
+    allocates-tied entries c.args.self.now c.args.size c.allocation-allocation.result (stored_state c.self.inside.frame c.take-area.new.self) tied (returns-clause-placed c)
+
+pub returns-clause-clear : goal.returns-clause-clear
+returns-clause-clear c = λ entries tied.
+    last-apart entries c.allocation-allocation.result
+    (tied-apart (entries ++ c.allocation-allocation.result ∷ []) (stored_state c.self.inside.frame c.take-area.new.self) (returns-clause-allocated c entries tied))

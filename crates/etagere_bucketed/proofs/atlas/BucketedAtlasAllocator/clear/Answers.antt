@@ -2,6 +2,8 @@ use Rattle.std.proofs.Common.{ℕ, [], subst, sym}
 use Rattle.etagere_bucketed.specs.Private.Store.{Stored, stored_state}
 use Rattle.etagere_bucketed.specs.Private.Witnessed.{HasTotals, Witnessed}
 use Rattle.etagere_bucketed.proofs.Spelling.Fresh.{fresh-totals, fresh-witnessed, no_records}
+use Rattle.etagere_bucketed.specs.Tied.{AreTied}
+use Rattle.etagere_bucketed.proofs.Ledger.TiedTaken.{tied-fresh}
 use Rattle.etagere_bucketed.proofs.atlas.BucketedAtlasAllocator.clear.Goals as goal
 
 pub invariant_of-self : goal.invariant_of-self
@@ -13,3 +15,8 @@ invariant_of-self c =
       totals = subst (λ (stored : Stored). HasTotals 0 c.across_side-self-inside.result 0 0 (stored_state frame stored)) (sym c.clear.ensures)
           (subst (λ (height : ℕ). HasTotals 0 height 0 0 (stored_state frame no_records)) (sym c.across_side-self-inside.ensures) (fresh-totals frame));
     }
+
+pub returns-clause-empty : goal.returns-clause-empty
+returns-clause-empty c =
+    let frame = c.self.inside.frame in
+    subst (λ (stored : Stored). AreTied [] (stored_state frame stored)) (sym c.clear.ensures) (tied-fresh frame c.self.invariant.witnessed.valid.frame)

@@ -7,6 +7,7 @@ use Rattle.etagere_bucketed.specs.Returning.{bucket_returned, is_known}
 use Rattle.etagere_bucketed.specs.State.{BucketedState}
 use Rattle.etagere_bucketed.proofs.Emptying.AtlasReturns.{after-return, atlas-known, atlas-returned}
 use Rattle.etagere_bucketed.proofs.Promises.{valid-promises}
+use Rattle.etagere_bucketed.proofs.Ledger.TiedReturned.{tied-returned}
 use Rattle.etagere_bucketed.proofs.atlas.BucketedAtlasAllocator.deallocate.Goals as goal
 
 pub returns-then-not-is_known-clause-unknown : goal.returns-then-not-is_known-clause-unknown
@@ -97,3 +98,7 @@ returns-clause-promises c =
     c.self.invariant (sym c.is_known.ensures ∙ c.if-not-is_known.false) c.bucket_number.ensures c.return_item-area.ensures.records c.return_item-area.ensures.area
     c.drop_idle_end-dropped.ensures in
     subst KeepsPromises (sym a.tells.read) (valid-promises (bucket_returned (state_in c.self.inside) c.args.id) a.witnessed.valid)
+
+pub returns-clause-allocated : goal.returns-clause-allocated
+returns-clause-allocated c = λ one entry other same tied.
+    rw (returns-clause-ok c, ← same) (tied-returned one entry other c.args.self.now tied)

@@ -5,6 +5,8 @@ use Rattle.etagere_bucketed.specs.Private.Consistent.{state_in}
 use Rattle.etagere_bucketed.specs.Space.{allocated_space}
 use Rattle.etagere_bucketed.specs.State.{BucketedState}
 use Rattle.etagere_bucketed.proofs.Spacing.SpacesBounded.{space-area}
+use Rattle.etagere_bucketed.specs.Atlas.{KeepsPromises}
+use Rattle.etagere_bucketed.proofs.Promises.{valid-promises}
 use Rattle.etagere_bucketed.proofs.atlas.BucketedAtlasAllocator.free_space.Goals as goal
 
 pub overflow_sub-result : goal.overflow_sub-result
@@ -18,3 +20,6 @@ returns-clause-sum c =
     let small : free < 2 ^ 31 = omega (arith, c.self.invariant.witnessed.valid.frame.area) in
     subst (λ (s : BucketedState). to_z w32 free +ℤ pos (allocated_space s) ≡ pos (s.frame.width * s.frame.height)) c.self.view_is
     (rw (to_z_pos w32 free small) (ap pos (omega (arith, space-area old c.self.invariant.witnessed.valid, c.self.invariant.totals.space))))
+
+pub returns-clause-promises : goal.returns-clause-promises
+returns-clause-promises c = subst KeepsPromises c.self.view_is (valid-promises (state_in c.self.inside) c.self.invariant.witnessed.valid)

@@ -9,6 +9,7 @@ use Rattle.etagere_bucketed.proofs.Emptying.EndTotals.{tells-end}
 use Rattle.etagere_bucketed.proofs.Promises.{valid-promises}
 use Rattle.etagere_bucketed.proofs.Widening.AtlasGrowths.{after-growth, atlas-grown, growth-needs, growth-uses}
 use Rattle.etagere_bucketed.proofs.Widening.Grown.{width-grows}
+use Rattle.etagere_bucketed.proofs.Ledger.TiedGrown.{grows-tied}
 use Rattle.etagere_bucketed.proofs.atlas.BucketedAtlasAllocator.grow.Goals as goal
 
 pub returns-in-Some-clause-promises : goal.returns-in-Some-clause-promises
@@ -78,3 +79,6 @@ returns-clause-promises c =
     let a = after-growth c.self.inside c.args.size c.grown_frame-frame.result c.widen.new.self c.in-Ok.made c.self.invariant (sym c.grow_fault.ensures ∙ c.in_default.is)
     c.grown_frame-frame.ensures c.in-Ok.ensures.ok c.in-Ok.ensures.made in
     subst KeepsPromises (sym a.tells.read) (valid-promises a.state a.witnessed.valid)
+
+pub returns-clause-allocated : goal.returns-clause-allocated
+returns-clause-allocated c = λ entries tied. grows-tied entries c.args.self.now c.args.size _ tied (returns-clause-ok c)

@@ -5,10 +5,11 @@ use Rattle.etagere_bucketed.specs.Private.Consistent.{state_in}
 use Rattle.etagere_bucketed.specs.Space.{allocated_space}
 use Rattle.etagere_bucketed.specs.State.{BucketedState, is_idle}
 use Rattle.etagere_bucketed.proofs.Promises.{valid-promises}
+use Rattle.etagere_bucketed.specs.Atlas.{KeepsPromises}
 use Rattle.etagere_bucketed.proofs.atlas.BucketedAtlasAllocator.is_empty.Goals as goal
 
-pub returns : goal.returns
-returns c =
+pub returns-clause-empty : goal.returns-clause-empty
+returns-clause-empty c =
     let old = state_in c.self.inside in
     let promises = valid-promises old c.self.invariant.witnessed.valid in (
       λ zero. subst (λ (state : BucketedState). list_all is_idle state.shelves ≡ true) c.self.view_is
@@ -16,3 +17,6 @@ returns c =
       λ idle. eq-eqb c.self.inside.allocated_space 0
           (c.self.invariant.totals.space ∙ ap allocated_space (promises.empty (subst (λ (state : BucketedState). list_all is_idle state.shelves ≡ true) (sym c.self.view_is) idle))),
     )
+
+pub returns-clause-promises : goal.returns-clause-promises
+returns-clause-promises c = subst KeepsPromises c.self.view_is (valid-promises (state_in c.self.inside) c.self.invariant.witnessed.valid)

@@ -2,6 +2,8 @@ use Rattle.std.proofs.Common.{ℕ, [], subst, sym}
 use Rattle.etagere_bucketed.specs.Private.Store.{Stored, stored_state}
 use Rattle.etagere_bucketed.specs.Private.Witnessed.{HasTotals, Witnessed}
 use Rattle.etagere_bucketed.proofs.Spelling.Fresh.{fresh-totals, fresh-witnessed, no_records}
+use Rattle.etagere_bucketed.specs.Tied.{AreTied}
+use Rattle.etagere_bucketed.proofs.Ledger.TiedTaken.{tied-fresh}
 use Rattle.etagere_bucketed.proofs.atlas.BucketedAtlasAllocator.with_options.Goals as goal
 
 pub invariant_of-result : goal.invariant_of-result
@@ -13,3 +15,8 @@ invariant_of-result c =
       totals = subst (λ (stored : Stored). HasTotals 0 c.across_side.result 0 0 (stored_state frame stored)) (sym c.new.ensures)
           (subst (λ (height : ℕ). HasTotals 0 height 0 0 (stored_state frame no_records)) (sym c.across_side.ensures) (fresh-totals frame));
     }
+
+pub returns-clause-empty : goal.returns-clause-empty
+returns-clause-empty c =
+    let frame = c.bucketed_frame-frame.result in
+    subst (λ (stored : Stored). AreTied [] (stored_state frame stored)) (sym c.new.ensures) (tied-fresh frame c.bucketed_frame-frame.ensures.frame)

@@ -1,0 +1,29 @@
+-- What the calls of a bucketed atlas do, as a caller sees it who keeps a ledger of what it has.
+use Rattle.std.specs.Prelude.{◌≡◌, ℕ, List, [], ◌∷◌, ◌++◌}
+use Rattle.etagere_base.specs.declared.geometry.Rectangle.{Rectangle}
+use Rattle.etagere_base.specs.declared.ids.Allocation.{Allocation}
+use Rattle.etagere_base.specs.Lists.{Each}
+use Rattle.etagere_base.specs.Rectangles.{SharesNone}
+use Rattle.etagere_bucketed.specs.State.{BucketedState}
+use Rattle.etagere_bucketed.specs.Tied.{AreTied}
+
+-- each ledger that was tied is tied with an allocation more
+abbrev pub AddsEntry : BucketedState → Allocation → BucketedState → Type 0
+AddsEntry old allocation new =
+    (entries : List Allocation) → AreTied entries old → AreTied (entries ++ allocation ∷ []) new
+
+-- each ledger that was tied and has an entry of an id is tied without it
+abbrev pub TakesEntry : BucketedState → ℕ → BucketedState → Type 0
+TakesEntry old id new =
+    (one : List Allocation) (entry : Allocation) (other : List Allocation) → entry.id ≡ id
+    → AreTied (one ++ entry ∷ other) old → AreTied (one ++ other) new
+
+-- each ledger that was tied still is
+abbrev pub KeepsEntries : BucketedState → BucketedState → Type 0
+KeepsEntries old new = (entries : List Allocation) → AreTied entries old → AreTied entries new
+
+-- a rectangle shares no unit square with that of any entry
+abbrev pub IsClear : BucketedState → Rectangle → Type 0
+IsClear state rectangle =
+    (entries : List Allocation) → AreTied entries state
+    → Each (λ (entry : Allocation). SharesNone entry.rectangle rectangle) entries
