@@ -16,3 +16,5 @@ pub mod Stands
 pub mod StandsKept
 pub mod TakenRecords
 pub mod UsedAreas
+pub mod WidestRooms
+pub mod WidestSpots

@@ -21,7 +21,7 @@ pub(crate) struct RowEnd {
 }
 
 /// The link to the bucket after the one of this number; none where there is no such bucket.
-fn next_of(buckets: &[LinkedBucket], number: usize) -> Link
+pub(crate) fn next_of(buckets: &[LinkedBucket], number: usize) -> Link
     ensures { result ≡ next_of buckets.now number }
 {
     if number < buckets.len() {

@@ -3,7 +3,7 @@
 //! Definitions: `Searching`, and `Picking` for what it means. No bucket is looked at of a shelf that one
 //! comparison tells has none that is wanted.
 
-ghost use Rattle.std.specs.Prelude.{◌≡◌, ◌<◌, ◌≤◌, IfSome, length, map, max, drop};
+ghost use Rattle.std.specs.Prelude.{◌≡◌, ◌<◌, ◌≤◌, IfSome, IsTrue, length, map, max, drop};
 ghost use Rattle.std.specs.Option.{option_map};
 ghost use Rattle.etagere_base.specs.Least.{first_least};
 ghost use Rattle.etagere_base.specs.Least as least;
@@ -106,6 +106,27 @@ pub(crate) fn widest_room(buckets: &[LinkedBucket], first: Link) -> u16
         at = bucket.next;
     }
     widest
+}
+
+/// Whether a bucket can give this width to one item, by the links from this one on.
+pub(crate) fn has_room(room: u16, buckets: &[LinkedBucket], first: Link) -> bool
+    ensures { IsTrue result → room ≤ spec.widest_from most_buckets buckets.now first }
+{
+    let mut at = first;
+    for _step in 0..MOST_BUCKETS {
+        let Some(number) = at.number() else {
+            return false;
+        };
+        if number >= buckets.len() {
+            return false;
+        }
+        let bucket = &buckets[number];
+        if room <= record_room(bucket) {
+            return true;
+        }
+        at = bucket.next;
+    }
+    false
 }
 
 /// The greater of two widths.

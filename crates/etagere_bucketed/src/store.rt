@@ -16,14 +16,14 @@ ghost use Rattle.etagere_bucketed.specs.State.{most_buckets};
 ghost use Rattle.etagere_bucketed.specs.Taking as taking;
 
 use crate::adding::{NewShelf, NewShelves, width_of_share};
-use crate::dropping::drop_idle_end;
+use crate::dropping::{drop_idle_end, next_of};
 use crate::growing::{left_after, widen_shelves};
 use crate::making::{NewBuckets, make_buckets, reserve_records};
 use crate::merging::{Group, merge};
 use crate::placing::Place;
 use crate::records::{LinkedBucket, LinkedBucketShelf};
 use crate::returning::{is_known, return_item, returned_area};
-use crate::searching::{Found, MOST_BUCKETS, widest_room};
+use crate::searching::{Found, MOST_BUCKETS, has_room, record_room, widest_room};
 use etagere_base::{AllocId, Allocation, Frame, Sides, rectangle_at};
 use etagere_links::Link;
 use std::alloc::{AllocError, Global};
@@ -223,13 +223,15 @@ impl Store {
         requires shelf { found.now.shelf < length self.old.shelves }
         requires fits { spec.CanTake found.now.bucket width self.old.buckets }
         requires few { spec.live_items_of self.old.shelves found.now.shelf + 1 < 2 ^ 32 }
+        requires widest { spec.IsWidest found.now.shelf found.now.bucket width self.old }
         ensures records { self.new
             ≡ spec.stored_taken found.now.shelf found.now.bucket width self.old }
         ensures area { result ≡ width * spec.height_of self.old.shelves found.now.shelf }
     {
         let height = height_of(&self.shelves, found.shelf);
+        let room = room_of(&self.buckets, found.bucket);
         self.take_from(found.bucket, width);
-        self.give_from(found.shelf);
+        self.give_from(found, room);
         width * height
     }
 
@@ -244,16 +246,19 @@ impl Store {
         take_from(&mut self.buckets, bucket, width);
     }
 
-    /// Counts one more live item in a shelf, and keeps what its buckets can give now.
-    fn give_from(&mut self, shelf: usize)
-        requires shelf { shelf < length self.old.shelves }
-        requires few { spec.live_items_of self.old.shelves shelf + 1 < 2 ^ 32 }
+    /// Counts one more live item in the shelf of a bucket that was found and had this room before, and keeps
+    /// what the buckets of the shelf can give now.
+    fn give_from(&mut self, found: &Found, room: u16)
+        requires shelf { found.now.shelf < length self.old.shelves }
+        requires few { spec.live_items_of self.old.shelves found.now.shelf + 1 < 2 ^ 32 }
+        requires widest { spec.IsWidestKept found.now.shelf found.now.bucket room
+            self.old.shelves self.old.buckets }
         ensures { self.new
             ≡ record self.old {
-              shelves = spec.shelves_given shelf self.old.shelves self.old.buckets;
+              shelves = spec.shelves_given found.now.shelf self.old.shelves self.old.buckets;
             } }
     {
-        give_from(&mut self.shelves, &self.buckets, shelf);
+        give_from(&mut self.shelves, &self.buckets, found, room);
     }
 
     /// Whether the bucket that an id names has given its item, and holds something live.
@@ -503,15 +508,51 @@ fn take_from(buckets: &mut [LinkedBucket], number: usize, width: u32)
     bucket.item_count += 1;
 }
 
-/// Counts one more live item in a shelf, and keeps what its buckets can give now.
-fn give_from(shelves: &mut [KeptShelf], buckets: &[LinkedBucket], number: usize)
-    requires number { number < length shelves.old }
-    requires few { spec.live_items_of shelves.old number + 1 < 2 ^ 32 }
-    ensures { shelves.new ≡ spec.shelves_given number shelves.old buckets.now }
+/// The width that the bucket of a number can give to one item.
+fn room_of(buckets: &[LinkedBucket], number: usize) -> u16
+    requires { number < length buckets.now }
+    ensures { (bucket : spec.LinkedBucket) → slice_get buckets.now number ≡ Some bucket
+        → result ≡ searching.record_room bucket }
 {
-    let first = first_bucket(shelves, number);
-    let room = widest_room(buckets, first);
-    count_given(shelves, number, room);
+    record_room(&buckets[number])
+}
+
+/// The greatest width that a bucket of the shelf of a number can give, as it is kept.
+fn widest_of(shelves: &[KeptShelf], number: usize) -> u16
+    requires { number < length shelves.now }
+    ensures { result ≡ spec.widest_of shelves.now number }
+{
+    shelves[number].widest_room
+}
+
+/// The greatest width that a bucket of a shelf can give, after the one that was found gave an item, and had this
+/// room before. All buckets are looked at only where none behind it has as much room as the widest had.
+fn widest_after(shelves: &[KeptShelf], buckets: &[LinkedBucket], found: &Found, room: u16) -> u16
+    requires number { found.now.shelf < length shelves.now }
+    requires widest { spec.IsWidestKept found.now.shelf found.now.bucket room shelves.now
+        buckets.now }
+    ensures { result
+        ≡ searching.widest_from most_buckets buckets.now
+        (spec.first_bucket_of shelves.now found.now.shelf) }
+{
+    let widest = widest_of(shelves, found.shelf);
+    if room < widest || has_room(widest, buckets, next_of(buckets, found.bucket)) {
+        return widest;
+    }
+    widest_room(buckets, first_bucket(shelves, found.shelf))
+}
+
+/// Counts one more live item in the shelf of a bucket that was found and had this room before, and keeps what the
+/// buckets of the shelf can give now.
+fn give_from(shelves: &mut [KeptShelf], buckets: &[LinkedBucket], found: &Found, room: u16)
+    requires number { found.now.shelf < length shelves.old }
+    requires few { spec.live_items_of shelves.old found.now.shelf + 1 < 2 ^ 32 }
+    requires widest { spec.IsWidestKept found.now.shelf found.now.bucket room shelves.old
+        buckets.now }
+    ensures { shelves.new ≡ spec.shelves_given found.now.shelf shelves.old buckets.now }
+{
+    let widest = widest_after(shelves, buckets, found, room);
+    count_given(shelves, found.shelf, widest);
 }
 
 /// Counts one more live item in a shelf, whose buckets can give so much now.

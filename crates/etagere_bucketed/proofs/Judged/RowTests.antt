@@ -1,5 +1,5 @@
 -- The tests of the buckets of a shelf decide its rules, and what is added up over them is what the shelf has.
-use Rattle.std.proofs.Common.{◌≡◌, ℕ, ◌+◌, ◌-◌, ◌*◌, ◌/◌, ◌%◌, ◌<◌, ◌≤◌, Bool, true, false, ◌&&◌, ◌||◌, not, cond, Option, None, Some, List, [], ◌∷◌, ◌++◌, length, map, max, refl, ap, arith, sym, ◌∙◌, subst, ⊎_elim, ◌==◌}
+use Rattle.std.proofs.Common.{◌≡◌, ℕ, ◌+◌, ◌-◌, ◌*◌, ◌%◌, ◌<◌, ◌≤◌, Bool, true, false, ◌&&◌, ◌||◌, not, cond, Option, None, Some, List, [], ◌∷◌, ◌++◌, length, map, max, refl, ap, arith, sym, ◌∙◌, subst, ⊎_elim, ◌==◌}
 use Rattle.std.proofs.lemmas.Bool.{eqb-true}
 use Rattle.std.proofs.lemmas.Option.{slice_get_cases}
 use Rattle.std.specs.List.{list_all}
@@ -18,7 +18,7 @@ use Rattle.etagere_bucketed.specs.Private.Searching.{record_room}
 use Rattle.etagere_bucketed.specs.Private.Store.{live_items, room_of, widest_room}
 use Rattle.etagere_bucketed.specs.Space.{used_width}
 use Rattle.etagere_bucketed.specs.StandsFor.{AreBuckets, IsFilled, StandDown, free_of, live_of, place_of, shelf_of}
-use Rattle.etagere_bucketed.specs.State.{Bucket, most_given}
+use Rattle.etagere_bucketed.specs.State.{most_given}
 use Rattle.etagere_bucketed.proofs.Judged.FrameTests.{decides-eq, decides-le}
 
 -- a record that is there

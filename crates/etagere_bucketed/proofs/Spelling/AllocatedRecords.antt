@@ -19,7 +19,7 @@ use Rattle.etagere_bucketed.specs.Placing as placing
 use Rattle.etagere_bucketed.specs.Private.Searching.{Found, Place, kept_place}
 use Rattle.etagere_bucketed.specs.Private.Store.{KeptShelf, Spells, Stored, kept_shelf, record_of, stored_state}
 use Rattle.etagere_bucketed.specs.Private.Witnessed.{Witnessed}
-use Rattle.etagere_bucketed.specs.Private.StoreEdits.{CanGive, CanPrepare, HasFirst, IsAdding, IsShort, end_of, first_bucket_of, found_first, found_of, height_of, kept_allocation, live_items_of, needed_for, stored_ready, stored_taken}
+use Rattle.etagere_bucketed.specs.Private.StoreEdits.{CanGive, CanPrepare, HasFirst, IsAdding, IsShort, IsWidest, end_of, first_bucket_of, found_first, found_of, height_of, kept_allocation, live_items_of, needed_for, stored_ready, stored_taken}
 use Rattle.etagere_bucketed.specs.Private.StoreEdits as store
 use Rattle.etagere_bucketed.specs.Space.{allocated_space}
 use Rattle.etagere_bucketed.specs.State.{BucketedState, available_height, bucket_numbers, buckets_in_use, changed_bucket, current_column}
@@ -30,6 +30,7 @@ use Rattle.etagere_bucketed.proofs.Spelling.PlacedRecords.{AreReady, CanReady, f
 use Rattle.etagere_bucketed.proofs.Spelling.Ends.{end-kept, short-kept}
 use Rattle.etagere_bucketed.proofs.Spelling.Fresh.{witnessed-read}
 use Rattle.etagere_bucketed.proofs.Spelling.SpotRecords.{spot-few, spot-given, spot-gives, spot-height, spot-records, spot-takes, spot-within, used-not_unused}
+use Rattle.etagere_bucketed.proofs.Spelling.WidestSpots.{spot-widest}
 use Rattle.etagere_bucketed.proofs.Spelling.TakenRecords.{part-at, spells-taken}
 use Rattle.etagere_bucketed.proofs.Validity.Placed.{IsPlaced, IsReady}
 use Rattle.etagere_bucketed.proofs.Validity.Placed as placed
@@ -112,6 +113,7 @@ pub record IsAllocation (state : BucketedState) (size : Size) (sides : Sides) (s
   pub shelf : found.shelf < length (stored_ready state.frame place stored).shelves
   pub take : store.CanTake found.bucket sides.along (stored_ready state.frame place stored).buckets
   pub few : live_items_of (stored_ready state.frame place stored).shelves found.shelf + 1 < 2 ^ 32
+  pub widest : IsWidest found.shelf found.bucket sides.along (stored_ready state.frame place stored)
   pub new : BucketedState
   pub unused : List ℕ
   pub allocates : (allocation : Allocation)
@@ -156,6 +158,7 @@ allocation-at state size sides place stored valid p =
       shelf = spot-within frame after p.ready.unused shelves spot ready.valid p.ready.spells ready.can.at;
       take = spot-takes frame after p.ready.unused shelves spot sides.along valid.frame ready.valid p.ready.spells ready.can;
       few = spot-few frame after p.ready.unused shelves spot ready.valid p.ready.spells ready.can.at;
+      widest = spot-widest frame after p.ready.unused shelves spot sides.along ready.valid p.ready.spells ready.can.at;
       new = new;
       unused = p.ready.unused;
       allocates = λ allocation is. record {

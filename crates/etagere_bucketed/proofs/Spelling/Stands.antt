@@ -1,5 +1,5 @@
 -- Records that spell a valid state, and tell its totals, keep each rule of a snapshot.
-use Rattle.std.proofs.Common.{◌≡◌, ℕ, ℤ, pos, suc, ◌+◌, ◌-◌, ◌*◌, ◌/◌, ◌%◌, ◌<◌, ◌≤◌, Option, List, [], ◌∷◌, ◌++◌, length, map, cond, refl, ap, arith, sym, ◌∙◌, subst, ◌==◌}
+use Rattle.std.proofs.Common.{◌≡◌, ℕ, pos, suc, ◌+◌, ◌-◌, ◌*◌, ◌/◌, ◌%◌, ◌<◌, ◌≤◌, Option, List, [], ◌∷◌, ◌++◌, length, map, cond, refl, ap, arith, sym, ◌∙◌, subst, ◌==◌}
 use Rattle.std.proofs.Math.Nat.{mul-mod_left}
 use Rattle.std.proofs.lemmas.List.{length-map, map-append}
 use Rattle.std.proofs.lemmas.Nat.{div-mul-add}
@@ -20,7 +20,7 @@ use Rattle.etagere_bucketed.specs.BucketRecords.{bucket_walk}
 use Rattle.etagere_bucketed.specs.Private.Store.{AreBucketsSpelled, AreShelvesSpelled, KeptShelf, Stored, first_link, kept_shelf, kept_shelves, record_of, shelf_record}
 use Rattle.etagere_bucketed.specs.Private.Witnessed.{HasTotals, Witnessed, records_of}
 use Rattle.etagere_bucketed.specs.Space.{allocated_space}
-use Rattle.etagere_bucketed.specs.StandsFor.{AreLinked, AreStacked, HasBuckets, HasGenerations, IsFilled, StandDown, StandsFor, StopsInRange, generation_of, height_before, live_of, place_of, shelf_of, used_area, walked_numbers}
+use Rattle.etagere_bucketed.specs.StandsFor.{AreLinked, AreStacked, HasBuckets, HasGenerations, IsFilled, StandDown, StandsFor, StopsInRange, generation_of, height_before, live_of, place_of, shelf_of, walked_numbers}
 use Rattle.etagere_bucketed.specs.State.{Bucket, BucketShelf, BucketedState, bucket_numbers, column_height, column_place, generations}
 use Rattle.etagere_bucketed.specs.Valid.{IsBucket, IsShelf, StandBetween}
 use Rattle.etagere_bucketed.proofs.Shelving.Shelves.{numbers_of}

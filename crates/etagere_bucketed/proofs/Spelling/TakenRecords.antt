@@ -31,7 +31,7 @@ record-taken number width item next b =
     ap (λ (f : ℕ). let r : LinkedBucket = record { x = b.place; free_space = f; next = next; refcount = b.live + 1; item_count = b.given + 1; shelf = number; generation = b.tag.generation } in r) free
 
 -- the first of buckets of which one may have changed
-first-taken : (n item : ℕ) (bs : List Bucket) → first_link (map (changed_at n (taken_bucket item)) bs) ≡ first_link bs
+pub first-taken : (n item : ℕ) (bs : List Bucket) → first_link (map (changed_at n (taken_bucket item)) bs) ≡ first_link bs
 first-taken n item [] = refl
 first-taken n item (b ∷ bs) = by_test (b.tag.number == n)
   where
@@ -58,7 +58,7 @@ bucket-taken records n item number width next b h = by_test (b.tag.number == n) 
         other same = grind (arith, e)
 
 -- the records of buckets of which one may have changed
-buckets-taken : (records : List LinkedBucket) (n item number width : ℕ) (bs : List Bucket) → AreBucketsSpelled records number width bs
+pub buckets-taken : (records : List LinkedBucket) (n item number width : ℕ) (bs : List Bucket) → AreBucketsSpelled records number width bs
     → AreBucketsSpelled (changed_by (Some n) (taken_record item) records) number width (map (changed_at n (taken_bucket item)) bs)
 buckets-taken records n item number width [] h = tt
 buckets-taken records n item number width (b ∷ bs) h = (
@@ -84,7 +84,7 @@ live-taken n item (b ∷ bs) = by_test (b.tag.number == n) (live-taken n item bs
     by_test false e = omega (arith, e)
 
 -- buckets of which none has a number don't change
-buckets-same : (n item : ℕ) (bs : List Bucket) → times n (numbers_of bs) ≡ 0 → map (changed_at n (taken_bucket item)) bs ≡ bs
+pub buckets-same : (n item : ℕ) (bs : List Bucket) → times n (numbers_of bs) ≡ 0 → map (changed_at n (taken_bucket item)) bs ≡ bs
 buckets-same n item [] h = refl
 buckets-same n item (b ∷ bs) h = by_test (b.tag.number == n) refl (buckets-same n item bs (omega (arith, h)))
   where

@@ -1,9 +1,8 @@
 -- Of buckets that have no more left than they are wide, what their records have used is what the buckets that they spell have used.
-use Rattle.std.proofs.Common.{◌≡◌, ℕ, ℤ, pos, ◌-◌, ◌*◌, ◌≤◌, Option, None, Some, List, [], ◌∷◌, map, refl, ap, arith, ◌∙◌}
+use Rattle.std.proofs.Common.{◌≡◌, ℕ, ℤ, pos, ◌*◌, ◌≤◌, Option, None, Some, List, [], ◌∷◌, map, refl, ap, arith, ◌∙◌}
 use Rattle.std.proofs.lemmas.Int.{ints}
 use Rattle.std.specs.Option.{option_map_or}
 use Rattle.std.specs.Prelude.{◌+ℤ◌, ◌-ℤ◌, ◌*ℤ◌, IfSome, slice_get}
-use Rattle.etagere_base.specs.declared.frames.Frame.{Frame}
 use Rattle.etagere_base.specs.Frames.{alignment_along}
 use Rattle.etagere_base.specs.Lists.{Each}
 use Rattle.etagere_bucketed.specs.declared.records.LinkedBucket.{LinkedBucket}

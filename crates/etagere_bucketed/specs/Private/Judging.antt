@@ -1,5 +1,5 @@
 -- The passes over the records of a snapshot that test its rules, as the code makes them.
-use Rattle.std.specs.Prelude.{◌≡◌, ◌<◌, ◌≤◌, ℕ, ◌+◌, ◌-◌, ◌*◌, ◌/◌, ◌%◌, ◌^◌, max, Bool, false, ◌&&◌, ◌||◌, not, Option, None, Some, option_and_then, List, [], ◌∷◌, length, map, slice_get, nat_le, nat_lt, ◌==◌, if◌then◌else◌}
+use Rattle.std.specs.Prelude.{◌≡◌, ◌<◌, ℕ, ◌+◌, ◌-◌, ◌*◌, ◌/◌, ◌%◌, ◌^◌, max, Bool, false, ◌&&◌, ◌||◌, not, Option, None, Some, option_and_then, List, [], ◌∷◌, length, map, slice_get, nat_le, nat_lt, ◌==◌, if◌then◌else◌}
 use Rattle.std.specs.List.{list_all}
 use Rattle.std.specs.Option.{option_map_or}
 use Rattle.etagere_base.specs.declared.faults.RestoreFault.{RestoreFault}

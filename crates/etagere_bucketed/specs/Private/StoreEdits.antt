@@ -11,6 +11,7 @@ use Rattle.etagere_links.specs.Links.{no_link}
 use Rattle.etagere_links.specs.Edits.{changed_by}
 pub use Rattle.etagere_bucketed.specs.declared.records.LinkedBucket.{LinkedBucket}
 use Rattle.etagere_bucketed.specs.Adding.{NewShelf, total_count, width_of_share}
+use Rattle.etagere_bucketed.specs.BucketRecords.{next_of}
 use Rattle.etagere_bucketed.specs.Merging.{Group}
 use Rattle.etagere_bucketed.specs.Private.Searching.{Found, Place, InBucket, InAdded, InMerged, kept_height, widest_from}
 pub use Rattle.etagere_bucketed.specs.Private.Store.{KeptShelf}
@@ -178,6 +179,22 @@ shelves_given shelf shelves buckets =
     changed_by (Some shelf)
     (given_from (widest_from most_buckets buckets (first_bucket_of shelves shelf))) shelves
 
+-- the greatest width that a bucket of the shelf of a number can give, as it is kept
+abbrev pub widest_of : List KeptShelf → ℕ → ℕ
+widest_of shelves number =
+    option_map_or (λ (kept : KeptShelf). kept.widest_room) (slice_get shelves number) 0
+
+-- what is kept of a shelf is no less than its buckets can give, and just that if the one that gave
+-- last had less room than this before; the buckets behind that one are some of the shelf's
+pub record IsWidestKept (shelf bucket room : ℕ) (shelves : List KeptShelf)
+    (buckets : List LinkedBucket) : Type 0 where
+  pub most : widest_from most_buckets buckets (first_bucket_of shelves shelf)
+      ≤ widest_of shelves shelf
+  pub exact : room < widest_of shelves shelf
+      → widest_from most_buckets buckets (first_bucket_of shelves shelf) ≡ widest_of shelves shelf
+  pub behind : widest_from most_buckets buckets (next_of buckets bucket)
+      ≤ widest_from most_buckets buckets (first_bucket_of shelves shelf)
+
 -- a bucket of a shelf gave an item this wide
 abbrev pub stored_taken : ℕ → ℕ → ℕ → Stored → Stored
 stored_taken shelf bucket width stored =
@@ -204,6 +221,18 @@ pub record CanTake (number width : ℕ) (buckets : List LinkedBucket) : Type 0 w
   pub free : width ≤ bucket.free_space
   pub given : bucket.item_count < most_given
   pub live : bucket.refcount ≤ bucket.item_count
+
+-- what is kept of a shelf is what its buckets can give, and the buckets behind one that gives an
+-- item this wide are some of the shelf's
+pub record IsWidest (shelf bucket width : ℕ) (stored : Stored) : Type 0 where
+  pub exact : widest_from most_buckets stored.buckets (first_bucket_of stored.shelves shelf)
+      ≡ widest_of stored.shelves shelf
+  pub behind : widest_from most_buckets
+      (changed_by (Some bucket) (taken_record width) stored.buckets)
+      (next_of stored.buckets bucket)
+      ≤ widest_from most_buckets
+      (changed_by (Some bucket) (taken_record width) stored.buckets)
+      (first_bucket_of stored.shelves shelf)
 
 -- the first bucket of the shelf of a number
 abbrev pub found_first : ℕ → List KeptShelf → Option Found

@@ -1,4 +1,4 @@
-use Rattle.std.proofs.Common.{◌≡◌, ◌<◌, ℕ, List, drop}
+use Rattle.std.proofs.Common.{◌≡◌, ◌<◌, ℕ, drop}
 use Rattle.std.specs.List.{list_all}
 use Rattle.etagere_base.proofs.DecidingLemmas.{IsLeft}
 use Rattle.etagere_base.specs.Lists.{Each}

@@ -1,4 +1,4 @@
-use Rattle.std.proofs.Common.{◌≡◌, ◌*◌, ◌≤◌, ℕ, true, false, map, ap, arith, sym, ◌∙◌}
+use Rattle.std.proofs.Common.{◌≡◌, ◌*◌, ℕ, true, false, map, ap, arith, sym, ◌∙◌}
 use Rattle.std.specs.List.{list_all}
 use Rattle.etagere_base.proofs.DecidingLemmas.{denied, granted}
 use Rattle.etagere_base.specs.Lists.{Each}

@@ -1,4 +1,4 @@
-use Rattle.std.proofs.Common.{◌≡◌, ℕ, Bool, false, Option, List, [], ◌∷◌, ◌++◌, ap, sym, ◌∙◌}
+use Rattle.std.proofs.Common.{ℕ, false, Option, List, ap, sym, ◌∙◌}
 use Rattle.std.specs.Option.{option_map_or}
 use Rattle.etagere_bucketed.specs.Private.Judging as spec
 use Rattle.etagere_bucketed.proofs.Judged.RowTests.{stand-last}

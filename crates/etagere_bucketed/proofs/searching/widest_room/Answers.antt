@@ -1,19 +1,10 @@
 use Rattle.std.proofs.Common.{◌≡◌, ℕ, zero, suc, ◌+◌, ◌-◌, Option, None, Some, List, length, max, refl, ap, sym, ◌∙◌, arith}
 use Rattle.std.proofs.lemmas.Option.{slice_get_past, slice_get_read}
-use Rattle.std.specs.Option.{option_map_or}
-use Rattle.std.specs.Prelude.{slice_get}
 use Rattle.etagere_bucketed.specs.declared.records.LinkedBucket.{LinkedBucket}
 use Rattle.etagere_bucketed.specs.Private.Searching.{record_room, widest_from}
 use Rattle.etagere_bucketed.specs.State.{most_buckets}
+use Rattle.etagere_bucketed.proofs.Spelling.WidestRooms.{widest-at}
 use Rattle.etagere_bucketed.proofs.searching.widest_room.Goals as goal
-
--- the widest from a link on
-widest-at : (buckets : List LinkedBucket) (left fewer number : ℕ) (at : Option ℕ) (found : Option LinkedBucket) → at ≡ Some number → left ≡ suc fewer → slice_get buckets number ≡ found
-    → widest_from left buckets at ≡ option_map_or (λ (bucket : LinkedBucket). max (record_room bucket) (widest_from fewer buckets bucket.next)) found 0
-widest-at buckets left fewer number at found names less here =
-    ap (widest_from left buckets) names
-    ∙ ap (λ (n : ℕ). widest_from n buckets (Some number)) less
-    ∙ ap (λ (r : Option LinkedBucket). option_map_or (λ (bucket : LinkedBucket). max (record_room bucket) (widest_from fewer buckets bucket.next)) r 0) here
 
 -- nothing is wide where no bucket is named
 widest-none : (buckets : List LinkedBucket) (left : ℕ) (at : Option ℕ) → at ≡ None → widest_from left buckets at ≡ 0

@@ -136,6 +136,13 @@ take-area-requires-clause-few c =
     let a = allocation c.self.inside c.self.invariant c.args.size c.in-Some.sides (place_seen c.in-Some-place_of.place) c.prepare.new.self c.in_ok-found.found m ready c.in_ok-found.ensures.found in
     subst (λ (stored : Stored). live_items_of stored.shelves c.in_ok-found.found.shelf + 1 < 2 ^ 32) (sym ready) a.few
 
+pub take-area-requires-clause-widest : goal.take-area-requires-clause-widest
+take-area-requires-clause-widest c =
+    let m = made c.self.inside c.self.invariant c.args.size c.in-Some.sides c.place_of.result c.in-Some-place_of.place (sym c.asked.ensures ∙ c.in-Some.is) c.place_of.ensures c.in-Some-place_of.is in
+    let ready = c.in_ok-found.ensures.ok in
+    let a = allocation c.self.inside c.self.invariant c.args.size c.in-Some.sides (place_seen c.in-Some-place_of.place) c.prepare.new.self c.in_ok-found.found m ready c.in_ok-found.ensures.found in
+    subst (store.IsWidest c.in_ok-found.found.shelf c.in_ok-found.found.bucket c.in-Some.sides.along) (sym ready) a.widest
+
 pub end-end-requires-clause-short : goal.end-end-requires-clause-short
 end-end-requires-clause-short c =
     let m = made c.self.inside c.self.invariant c.args.size c.in-Some.sides c.place_of.result c.in-Some-place_of.place (sym c.asked.ensures ∙ c.in-Some.is) c.place_of.ensures c.in-Some-place_of.is in
