@@ -38,7 +38,7 @@ use etagere_base::{
     Rectangle, RestoreFault, Size, UnknownId, atlas_frame, options_fault, side,
 };
 use etagere_links::Records;
-use shelf_heights::ranked::RankedShelves;
+use shelf_heights::ranked::ShelvesByHeight;
 use shelf_model::faults::AtlasGrowFault;
 use shelf_records::snapshots::{AtlasSnapshot, snapshot_of};
 use shelf_restoring::loaded_atlas::LoadedAtlas;
@@ -49,7 +49,7 @@ use shelf_store::growing::framing::{grown_frame, size_fault};
 use shelf_store::growing::grow_shelves;
 use shelf_store::looking::{index_of, number_of, recorded_area, recorded_shelf, rectangle_of};
 use shelf_store::returning::return_item;
-use shelf_store::starting::{fresh_heights, fresh_records, reset_heights, reset_records};
+use shelf_store::starting::{fresh_by_height, fresh_records, reset_by_height, reset_records};
 use shelf_store::taking::take_placement;
 use std::alloc::{AllocError, Global};
 use std::io::{self, Write};
@@ -71,7 +71,7 @@ use std::marker::Model;
 pub struct AtlasAllocator {
     frame: Frame,
     records: Records,
-    ranked: RankedShelves,
+    ranked: ShelvesByHeight,
     items_in_use: u32,
     allocated_space: u32,
 }
@@ -133,7 +133,7 @@ impl AtlasAllocator {
         let Ok(records) = fresh_records(alloc, &frame) else {
             return Err(OptionsFault::Memory);
         };
-        let Ok(ranked) = fresh_heights(alloc, &frame) else {
+        let Ok(ranked) = fresh_by_height(alloc, &frame) else {
             return Err(OptionsFault::Memory);
         };
         Ok(AtlasAllocator {
@@ -164,11 +164,11 @@ impl AtlasAllocator {
     /// The atlas of a snapshot that keeps all rules, with these shelves and so many items in use.
     pub(crate) fn of_judged(
         atlas: LoadedAtlas,
-        ranked: RankedShelves,
+        ranked: ShelvesByHeight,
         items_in_use: u32,
     ) -> AtlasAllocator
-        requires kept { AreKept atlas.frame atlas.lists }
-        requires ranked { AreRanked atlas.frame atlas.lists ranked.items }
+        requires kept { AreKept atlas.frame atlas.records }
+        requires ranked { AreRanked atlas.frame atlas.records ranked.items }
         requires space { atlas.allocated_space ≡ pos (space.space_in (state_spelled atlas).shelves) }
         requires items { items_in_use ≡ state.items_in_use (state_spelled atlas).shelves }
         ensures state { result ≡ state_spelled atlas }
@@ -199,7 +199,7 @@ impl AtlasAllocator {
     /// Gives a rectangle that is at least as large as the size in pixels, or none where there is no place.
     ///
     /// `Err` comes only where the place is to be split and there was no memory. Nothing changes after an `Err`
-    /// or none. A split takes memory only where no record that was put aside is left for it, or no room in the list
+    /// or none. A split takes memory only where no unused record is left for it, or no room in the list
     /// of shelves by height; a size that needs no split takes none. Finds by binary search where the shelves begin that
     /// are tall enough, and goes through them by height, in each that may have an item wide enough through its free
     /// list up to the first one that is. Where a shelf is split, those that are taller move in their list.
@@ -302,7 +302,7 @@ impl AtlasAllocator {
         index_of(&self.records, id)
     }
 
-    /// The atlas as it is saved: its frame and all its records, those put aside too.
+    /// The atlas as it is saved: its frame and all its records, unused ones too.
     ///
     /// The error comes only where there was no memory. Takes memory for all records, and goes through them.
     pub fn snapshot(&self) -> Result<AtlasSnapshot, AllocError>
@@ -377,7 +377,7 @@ impl AtlasAllocator {
         ensures promises { KeepsPromises self.new }
     {
         reset_records(&self.frame, &mut self.records);
-        reset_heights(&self.frame, &mut self.ranked);
+        reset_by_height(&self.frame, &mut self.ranked);
         self.items_in_use = self.frame.columns;
         self.allocated_space = 0;
     }

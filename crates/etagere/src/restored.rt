@@ -17,7 +17,7 @@ ghost use Rattle.shelf_model.specs.State.{items_in_use};
 use crate::atlas::AtlasAllocator;
 use etagere_base::{Frame, RestoreFault};
 use etagere_links::Records;
-use shelf_heights::ranked::RankedShelves;
+use shelf_heights::ranked::ShelvesByHeight;
 use shelf_records::snapshots::AtlasSnapshot;
 use shelf_restoring::judging::WalkedShelf;
 use shelf_restoring::loaded_atlas::LoadedAtlas;
@@ -44,12 +44,12 @@ fn ranked_shelves(
     frame: &Frame,
     records: &Records,
     shelves: &[WalkedShelf],
-) -> Result<RankedShelves, AllocError>
+) -> Result<ShelvesByHeight, AllocError>
     requires kept { AreKept frame.now records.now }
     requires met { shelf_numbers shelves.now ≡ (shelf_walk records.now).met }
     ensures { IfOk result (λ ranked. AreRanked frame.now records.now ranked.items) }
 {
-    let mut ranked = RankedShelves::with_room(alloc, records.shelves().len())?;
+    let mut ranked = ShelvesByHeight::with_room(alloc, records.shelves().len())?;
     for shelf in shelves {
         ranked.push(newly_ranked(frame, usize::from(shelf.number)));
     }
@@ -68,16 +68,16 @@ fn judge_atlas(
     requires counts { HasCounts atlas.now }
     requires steps { steps.old ≡ 0 }
     ensures ok { OnOk result (StandsFor atlas.now (state_spelled atlas.now)) }
-    ensures kept { OnOk result (AreKept atlas.now.frame atlas.now.lists) }
-    ensures met { IfOk result (λ shelves. shelf_numbers shelves.items ≡ (shelf_walk atlas.now.lists).met) }
+    ensures kept { OnOk result (AreKept atlas.now.frame atlas.now.records) }
+    ensures met { IfOk result (λ shelves. shelf_numbers shelves.items ≡ (shelf_walk atlas.now.records).met) }
     ensures items { IfOk result
         (λ shelves. length (item_numbers shelves.items) ≡ items_in_use (state_spelled atlas.now).shelves) }
     ensures fault { IfErr result (IsBroken atlas.now) }
-    ensures all { OnOk result (steps.new ≡ links_of_all atlas.now.lists) }
-    ensures end { OnOk result (links_followed atlas.now.lists ≡ links_of_all atlas.now.lists) }
-    ensures until { IfErr result (StopsAfter (links_followed atlas.now.lists) steps.new) }
+    ensures all { OnOk result (steps.new ≡ links_of_all atlas.now.records) }
+    ensures end { OnOk result (links_followed atlas.now.records ≡ links_of_all atlas.now.records) }
+    ensures until { IfErr result (StopsAfter (links_followed atlas.now.records) steps.new) }
     ensures bound { steps.new
-        ≤ 4 * (length atlas.now.lists.shelves + length atlas.now.lists.items) }
+        ≤ 4 * (length atlas.now.records.shelves + length atlas.now.records.items) }
     ensures each { OnOk result
         (length (state_spelled atlas.now).shelves + items_in_use (state_spelled atlas.now).shelves ≤ steps.new) }
 {

@@ -77,7 +77,7 @@ pub enum RestoreFault {
     /// A record is in no list or in two, or a list doesn't end.
     #[error("Sharing")]
     Sharing,
-    /// A record that was put aside is marked as allocated.
+    /// A record that became unused is marked as allocated.
     #[error("Unused")]
     Unused,
     /// The allocated space is not that of what is allocated.

@@ -26,7 +26,7 @@ pub record NewShelves : Type 0 where
   pub asked : NewShelf
 
 -- what these shelves leave
-abbrev pub left_to : Frame → List BucketShelf → Left
+abbrev pub left_to : Frame → List BucketShelf → Remaining
 left_to frame shelves =
     record {
       column = current_column shelves;
@@ -56,23 +56,23 @@ abbrev pub new_count : Frame → ℕ → ℕ → ℕ → ℕ
 new_count frame width height left = min (bucket_count (frame.column_width / max width height)) left
 
 -- there is a column after the current one
-abbrev pub has_later_column : Frame → Left → Bool
+abbrev pub has_later_column : Frame → Remaining → Bool
 has_later_column frame left = nat_lt (left.column + 1) frame.columns
 
 -- a filler takes the available height where that is too short and the next column has to open
-abbrev pub needs_filler : Frame → Left → ℕ → Bool
+abbrev pub needs_filler : Frame → Remaining → ℕ → Bool
 needs_filler frame left height =
     nat_lt 0 left.height && (nat_lt left.height height && has_later_column frame left)
 
 -- a shelf this tall can be added: there is height or another column, and a bucket for each shelf
 -- that is made
-abbrev pub can_add : Frame → Left → ℕ → Bool
+abbrev pub can_add : Frame → Remaining → ℕ → Bool
 can_add frame left height =
     (nat_le height left.height || has_later_column frame left)
     && nat_le (if needs_filler frame left height then 2 else 1) left.buckets
 
 -- the shelf that fills the current column, which leaves one bucket for the shelf asked for
-abbrev pub filler : Frame → Left → NewShelf
+abbrev pub filler : Frame → Remaining → NewShelf
 filler frame left =
     record {
       column = left.column;
@@ -87,7 +87,7 @@ asked_shelf frame column available left sides =
     record { column = column; height = height; count = new_count frame sides.along height left }
 
 -- the shelves to be added for these sides: the one asked for, behind a filler where one is needed
-abbrev pub new_shelves : Frame → Left → Sides → List NewShelf
+abbrev pub new_shelves : Frame → Remaining → Sides → List NewShelf
 new_shelves frame left sides =
     let next = left.column + 1 in
     let filling = filler frame left in

@@ -13,7 +13,7 @@ use Rattle.etagere_bucketed.specs.StandsFor.{HasBuckets, shelf_of}
 abbrev pub shelf_walk : BucketRecords → LinkedBucketShelf → Walked
 shelf_walk atlas shelf = bucket_walk atlas.buckets shelf.first_bucket
 
--- all walks: along the buckets of each shelf, then along those put aside
+-- all walks: along the buckets of each shelf, then along the unused ones
 abbrev pub walks : BucketRecords → List Walked
 walks atlas =
     map (shelf_walk atlas) atlas.shelves ++ bucket_walk atlas.buckets atlas.unused ∷ []
@@ -32,7 +32,7 @@ pub record Passes (atlas : BucketRecords) (before : List ℕ) (number : ℕ)
 
 -- so many links are read of shelves, of which the first has this number, after walks that met these:
 -- those of each walk up to the first shelf that does not pass, and where all pass those of the
--- buckets put aside
+-- unused buckets
 abbrev pub AreReadFrom : BucketRecords → List ℕ → ℕ → List LinkedBucketShelf → ℕ → Type 0
 AreReadFrom atlas before number [] links =
     links ≡ length (bucket_walk atlas.buckets atlas.unused).met

@@ -151,7 +151,7 @@ walked_numbers buckets [] = []
 walked_numbers buckets (shelf ∷ shelves) =
     (bucket_walk buckets shelf.first_bucket).met ++ walked_numbers buckets shelves
 
--- each bucket record is in use in one place or put aside, and each walk ends at none
+-- each bucket record is in use in one place or unused, and each walk ends at none
 pub record IsShared (atlas : BucketRecords) : Type 0 where
   pub once :
       HasEachOnce (length atlas.buckets)

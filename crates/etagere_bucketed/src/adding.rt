@@ -35,13 +35,13 @@ impl Model for NewShelf {
 /// What the shelves leave: the column in which shelves are added, the height that is available there, and how many
 /// buckets can still be made.
 #[derive(Clone, Copy)]
-pub(crate) struct Left {
+pub(crate) struct Remaining {
     pub column: u32,
     pub height: u32,
     pub buckets: u32,
 }
 
-impl Model for Left {
+impl Model for Remaining {
     ghost use Rattle.etagere_bucketed.specs.Adding as adding;
 
     ghost Value = { adding.Left };
@@ -155,14 +155,14 @@ fn new_count(frame: &Frame, width: u32, height: u32, left: u32) -> u32
     bucket_count(frame.column_width / width.max(height)).min(left)
 }
 
-fn has_later_column(frame: &Frame, left: &Left) -> bool
+fn has_later_column(frame: &Frame, left: &Remaining) -> bool
     requires { left.now.column < 2 ^ 31 }
     ensures { result ≡ spec.has_later_column frame.now left.now }
 {
     left.column + 1 < frame.columns
 }
 
-fn needs_filler(frame: &Frame, left: &Left, height: u32) -> bool
+fn needs_filler(frame: &Frame, left: &Remaining, height: u32) -> bool
     requires { left.now.column < 2 ^ 31 }
     ensures { result ≡ spec.needs_filler frame.now left.now height }
 {
@@ -170,7 +170,7 @@ fn needs_filler(frame: &Frame, left: &Left, height: u32) -> bool
 }
 
 /// Whether a shelf this tall can be added.
-pub(crate) fn can_add(frame: &Frame, left: &Left, height: u32) -> bool
+pub(crate) fn can_add(frame: &Frame, left: &Remaining, height: u32) -> bool
     requires { left.now.column < 2 ^ 31 }
     ensures { result ≡ spec.can_add frame.now left.now height }
 {
@@ -182,7 +182,7 @@ pub(crate) fn can_add(frame: &Frame, left: &Left, height: u32) -> bool
     (height <= left.height || has_later_column(frame, left)) && needed <= left.buckets
 }
 
-fn asked_shelf(frame: &Frame, left: &Left, sides: &Sides) -> NewShelf
+fn asked_shelf(frame: &Frame, left: &Remaining, sides: &Sides) -> NewShelf
     requires across { (0 < sides.now.across) × (sides.now.across < 2 ^ 31) }
     requires height { 0 < left.now.height }
     ensures { result
@@ -197,14 +197,14 @@ fn asked_shelf(frame: &Frame, left: &Left, sides: &Sides) -> NewShelf
 }
 
 /// The shelves to be added for these sides, where some can be.
-pub(crate) fn new_shelves(frame: &Frame, left: &Left, sides: &Sides) -> NewShelves
+pub(crate) fn new_shelves(frame: &Frame, left: &Remaining, sides: &Sides) -> NewShelves
     requires frame { IsBucketedFrame frame.now }
     requires across { (0 < sides.now.across) × (sides.now.across < 2 ^ 31) }
     requires column { left.now.column < 2 ^ 31 }
     requires adds { spec.can_add frame.now left.now sides.now.across ≡ true }
     ensures { spec.news_of result ≡ spec.new_shelves frame.now left.now sides.now }
 {
-    let next = Left {
+    let next = Remaining {
         column: left.column + 1,
         height: frame.across_side(),
         buckets: left.buckets,
@@ -215,7 +215,7 @@ pub(crate) fn new_shelves(frame: &Frame, left: &Left, sides: &Sides) -> NewShelv
             height: left.height,
             count: new_count(frame, 0, left.height, left.buckets - 1),
         };
-        let rest = Left {
+        let rest = Remaining {
             column: next.column,
             height: next.height,
             buckets: left.buckets - filler.count,

@@ -27,12 +27,12 @@ ghost use Rattle.etagere_bucketed.specs.Svg.{svg, svg_into};
 ghost use Rattle.etagere_bucketed.specs.Tied.{AreTied};
 ghost use Rattle.etagere_bucketed.specs.declared.faults.GrowFault.TheVariants as grow_faults;
 
-use crate::adding::Left;
+use crate::adding::Remaining;
 use crate::drawing::{send_document, send_part, send_picture};
 use crate::faults::GrowFault;
 use crate::frames::{LONGEST_BUCKETED_SIDE, bucketed_frame, grow_fault, grown_frame};
 use crate::placing::place_of;
-use crate::restoring::{JudgedSnapshot, Said, restore_bucketed, snapshot_of};
+use crate::restoring::{JudgedSnapshot, Totals, restore_bucketed, snapshot_of};
 use crate::returning::bucket_number;
 use crate::searching::MOST_BUCKETS;
 use crate::snapshots::BucketedSnapshot;
@@ -155,7 +155,7 @@ impl BucketedAtlasAllocator {
         let shelves = self.store.shelf_records()?;
         let buckets = self.store.bucket_records()?;
         let unused = self.store.first_unused();
-        let said = Said {
+        let said = Totals {
             column: self.current_column,
             height: self.available_height,
             space: self.allocated_space,
@@ -203,7 +203,7 @@ impl BucketedAtlasAllocator {
     ///
     /// `Err` comes only where a shelf is to be added and there was no memory. Nothing changes after an
     /// `Err` or none. An added shelf takes memory for its record, and for those of its buckets as far as
-    /// too few were put aside; a size that needs none takes none. Goes through all shelves a few times,
+    /// too few were unused; a size that needs none takes none. Goes through all shelves a few times,
     /// and looks only at buckets of shelves that are tall enough, have wide enough buckets and room.
     pub fn allocate(&mut self, size: Size) -> Result<Option<Allocation>, AllocError>
         ensures placed { IfOk result
@@ -232,7 +232,7 @@ impl BucketedAtlasAllocator {
         let Some(sides) = asked(&self.frame, size) else {
             return Ok(None);
         };
-        let left = Left {
+        let left = Remaining {
             column: self.current_column,
             height: self.available_height,
             buckets: MOST_BUCKETS - self.buckets_in_use,
@@ -284,7 +284,7 @@ impl BucketedAtlasAllocator {
     ///
     /// Returns the first fault; `Memory` only where there is no other, buckets are to be made and there
     /// was no memory. Nothing changes after a fault. Takes memory for the records of buckets as far as too
-    /// few were put aside, and goes through all shelves.
+    /// few were unused, and goes through all shelves.
     pub fn grow(&mut self, size: Size) -> Result<(), GrowFault>
         ensures ok { OnOk result (Grows self.old size self.new) }
         ensures fault { IfSome (growing.grow_fault self.old.frame size)

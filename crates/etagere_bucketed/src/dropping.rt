@@ -1,6 +1,6 @@
 //! Dropping the shelves at the end that hold nothing live, and what the others leave.
 //!
-//! Definitions: `Private/Returns`. The buckets of a dropped shelf are put aside as a whole, in their order.
+//! Definitions: `Private/Returns`. The buckets of a dropped shelf are unused as a whole, in their order.
 
 ghost use Rattle.std.specs.Prelude.{◌≡◌, ◌<◌, ◌≤◌, ◌+◌, Some, length, vec_len, vec_capacity};
 ghost use Rattle.etagere_links.specs.Edits.{changed_by};
@@ -80,7 +80,7 @@ fn put_row_aside(buckets: &mut [LinkedBucket], unused: &mut Link, first: Link) -
     end.count
 }
 
-/// Drops the shelves at the end that hold nothing live, and answers how many buckets that put aside.
+/// Drops the shelves at the end that hold nothing live, and answers how many buckets became unused.
 pub(crate) fn drop_idle_end(
     shelves: &mut Vec<KeptShelf>,
     buckets: &mut [LinkedBucket],

@@ -1,4 +1,4 @@
-//! Makes buckets: from records put aside, the one put aside last first, else from new records.
+//! Makes buckets: from unused records, the one that became unused last first, else from new records.
 //!
 //! Definitions: `StoreEdits`. Memory is taken before, by `reserve_records`: nothing else fails.
 

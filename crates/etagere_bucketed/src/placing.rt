@@ -8,7 +8,7 @@ ghost use Rattle.etagere_bucketed.specs.Frames.{IsBucketedFrame};
 ghost use Rattle.etagere_bucketed.specs.Private.Searching as spec;
 ghost use Rattle.etagere_bucketed.specs.Private.StoreEdits as edits;
 
-use crate::adding::{Left, NewShelves, can_add, new_shelves};
+use crate::adding::{NewShelves, Remaining, can_add, new_shelves};
 use crate::merging::{Group, mergeable_shelves};
 use crate::searching::{Found, pick};
 use crate::store::Store;
@@ -39,7 +39,12 @@ impl Place {
 }
 
 /// The place for these sides: the bucket that is picked, else a shelf to be added, else shelves to be merged.
-pub(crate) fn place_of(frame: &Frame, left: &Left, sides: &Sides, store: &Store) -> Option<Place>
+pub(crate) fn place_of(
+    frame: &Frame,
+    left: &Remaining,
+    sides: &Sides,
+    store: &Store,
+) -> Option<Place>
     requires frame { IsBucketedFrame frame.now }
     requires across { (0 < sides.now.across) × (sides.now.across < 2 ^ 31) }
     requires column { left.now.column < 2 ^ 31 }

@@ -20,14 +20,14 @@ pub struct LinkedBucketShelf {
     pub first_bucket: Link,
 }
 
-/// A bucket of a shelf, or a record put aside for one. Lengths and places are in pixels.
+/// A bucket of a shelf, or an unused record for one. Lengths and places are in pixels.
 #[derive(Clone, Copy, Debug, PartialEq, Eq, Serialize, Deserialize)]
 pub struct LinkedBucket {
     /// Where the bucket begins along the shelf.
     pub x: u16,
     /// The width that it has left.
     pub free_space: u16,
-    /// The bucket that is searched after it; of a record put aside, the one that is used after it.
+    /// The bucket that is searched after it; of an unused record, the one that is used after it.
     pub next: Link,
     /// How many of its items are live.
     pub refcount: u16,

@@ -184,7 +184,7 @@ impl Store {
         bucket_records(*self.buckets.allocator(), &self.buckets)
     }
 
-    /// Where the records begin that are put aside.
+    /// Where the records begin that are unused.
     pub(crate) fn first_unused(&self) -> Link
         ensures { result ≡ self.now.unused }
     {
@@ -194,7 +194,7 @@ impl Store {
 
 /// What an atlas says beside its records: the current column, the height that it leaves, and the space.
 #[derive(Clone, Copy)]
-pub(crate) struct Said {
+pub(crate) struct Totals {
     pub column: u32,
     pub height: u32,
     pub space: u32,
@@ -203,7 +203,7 @@ pub(crate) struct Said {
 /// The snapshot of these records.
 pub(crate) fn snapshot_of(
     frame: &Frame,
-    said: Said,
+    said: Totals,
     unused: Link,
     shelves: Vec<LinkedBucketShelf>,
     buckets: Vec<LinkedBucket>,

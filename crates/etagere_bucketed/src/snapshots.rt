@@ -28,7 +28,7 @@ pub struct BucketedSnapshot {
     pub current_column: u16,
     /// The height that the shelves of that column leave.
     pub available_height: u16,
-    /// The bucket record put aside that is used first.
+    /// The unused bucket record that is used first.
     pub first_unallocated_bucket: Link,
     /// The areas that buckets have used, added up, in square pixels.
     pub allocated_space: i32,

@@ -106,7 +106,7 @@ impl Store {
     }
 
     /// Makes the new shelves, with their buckets, where so many are in use. Takes memory for the records
-    /// of shelves, and for those of buckets as far as too few were put aside. The error comes only where
+    /// of shelves, and for those of buckets as far as too few were unused. The error comes only where
     /// there was no memory, and then nothing has changed.
     pub(crate) fn add(
         &mut self,
@@ -293,7 +293,7 @@ impl Store {
     }
 
     /// Gives the shelves their buckets for a width that is added at a place, where so many are left, and
-    /// answers how many they are. Takes memory as far as too few records were put aside. The error comes
+    /// answers how many they are. Takes memory as far as too few records were unused. The error comes
     /// only where there was none, and then nothing has changed.
     pub(crate) fn widen(&mut self, place: u32, added: u32, left: u32) -> Result<u32, AllocError>
         requires shelves { length self.old.shelves ≤ most_buckets }

@@ -186,7 +186,7 @@ pub(crate) fn judged_shelves(
     })
 }
 
-/// Follows the list of the records put aside, after which all records are marked.
+/// Follows the list of the unused records, after which all records are marked.
 fn judge_unused(
     alloc: Global,
     room: &mut WalkRoom,

@@ -15,12 +15,12 @@ items-next n m items made h is = rw (h, is) refl
 pub shelves-next : (n m : ℕ) (shelves made : List LinkedShelf) → n ≡ suc m → made ≡ shelves ++ new_shelf ∷ [] → with_new_shelves m made ≡ with_new_shelves n shelves
 shelves-next n m shelves made h is = rw (h, is) refl
 
--- where none was put aside all are missing
+-- where none was unused all are missing
 pub missing-none : {T : Type 0} (family : Family T) (n : ℕ) (at : Option ℕ) (records : List T) → at ≡ None → missing family n at records ≡ n
 missing-none family zero at records h = refl
 missing-none family (suc n) at records h = rw h refl
 
--- one that was put aside isn't missing
+-- one that became unused isn't missing
 pub missing-next : {T : Type 0} (family : Family T) (n m number : ℕ) (at next : Option ℕ) (records : List T) → n ≡ suc m → at ≡ Some number
     → next ≡ link_at family.next records number → missing family m next records ≡ missing family n at records
 missing-next family n m number at next records h is follows = rw (h, is, follows) refl

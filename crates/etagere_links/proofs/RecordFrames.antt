@@ -1,4 +1,4 @@
--- What stays of records when one is taken out of a list, put into one or put aside.
+-- What stays of records when one is taken out of a list, put into one or made unused.
 use Rattle.std.proofs.Common.{◌≡◌, ◌≢◌, ℕ, Option, None, Some, List, ◌∷◌, ◌++◌, length, map, arith, ◌∙◌}
 use Rattle.std.specs.Prelude.{slice_get}
 use Rattle.etagere_links.specs.Chains.{IsChainIn}
@@ -30,7 +30,7 @@ map-linked_between {T} family f kept records before after at =
     ∙ map-changed_by f (family.with_previous before) one (Some at) (kept.previous before)
     ∙ map-changed_by f (family.with_next after) records (Some at) (kept.next after)
 
--- what the links of a list are no part of stays when a record is put aside
+-- what the links of a list are no part of stays when a record becomes unused
 pub map-put_aside : {T X : Type 0} (family : Family T) (f : T → X) → IsUnchanged family f → (records : List T) (top : Option ℕ) (at : ℕ) → map f (put_aside family top at records) ≡ map f records
 map-put_aside family f kept records top at = map-changed_by f (family.with_next top) records (Some at) (kept.next top)
 
@@ -53,7 +53,7 @@ length-linked_between {T} family records before after at =
     ∙ length-changed_by (family.with_previous before) one (Some at)
     ∙ length-changed_by (family.with_next after) records (Some at)
 
--- putting aside keeps the number of records
+-- making unused keeps the number of records
 pub length-put_aside : {T : Type 0} (family : Family T) (records : List T) (top : Option ℕ) (at : ℕ) → length (put_aside family top at records) ≡ length records
 length-put_aside family records top at = length-changed_by (family.with_next top) records (Some at)
 

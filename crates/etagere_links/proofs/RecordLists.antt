@@ -1,4 +1,4 @@
--- Lists of records: taking out, putting in, putting aside and taking change one list as a list.
+-- Lists of records: taking out, putting in, making unused and taking change one list as a list.
 use Rattle.std.proofs.Common.{◌≡◌, ◌≢◌, ℕ, ◌<◌, ◌≤◌, Option, None, Some, List, [], ◌∷◌, ◌++◌, length, refl, arith, subst, append_assoc, ◌∙◌}
 use Rattle.etagere_links.specs.Chains.{Leads, IsChainIn, IsPileIn}
 use Rattle.etagere_links.specs.Edits.{changed_by, link_at, unlinked, first_without, linked_between, put_aside}

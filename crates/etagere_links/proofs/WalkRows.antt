@@ -68,8 +68,8 @@ two_items =
             generation = 1;
           } ∷ [];
       first_shelf = Some 0;
-      free_items = None;
-      free_shelves = None;
+      unused_items = None;
+      unused_shelves = None;
     }
 
 -- its lists

@@ -46,14 +46,14 @@ PutsAfter {T} family =
     (linked_between family (Some previous) (link_at family.next records previous) number records)
     first (front ++ previous ∷ number ∷ back)
 
--- a record that is put aside lies on top of those that were put aside before
+-- a record that becomes unused lies on top of those that were unused before
 abbrev pub PutsAside : {T : Type 0} → Family T → Type 0
 PutsAside {T} family =
     (records : List T) (top : Option ℕ) (numbers : List ℕ) (number : ℕ)
     → IsPileIn family records top numbers → IsOutside records numbers number
     → IsPileIn family (put_aside family top number records) (Some number) (number ∷ numbers)
 
--- the record that is taken off what was put aside is the one that lies on top, and the others are left
+-- the record that is taken off what became unused is the one that lies on top, and the others are left
 abbrev pub TakesOffTop : {T : Type 0} → Family T → Type 0
 TakesOffTop {T} family =
     (records : List T) (top : Option ℕ) (number : ℕ) (numbers : List ℕ)
@@ -61,7 +61,7 @@ TakesOffTop {T} family =
     → (top ≡ Some number)
     × IsPileIn family records (option_and_then (link_at family.next records) top) numbers
 
--- nothing is taken where nothing was put aside
+-- nothing is taken where nothing was unused
 abbrev pub TakesNone : {T : Type 0} → Family T → Type 0
 TakesNone {T} family =
     (records : List T) (top : Option ℕ)

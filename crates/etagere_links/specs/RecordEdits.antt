@@ -88,20 +88,20 @@ free_inserted_after previous number records =
           number records.items;
     }
 
--- an item record put aside
+-- an unused item record
 abbrev pub item_put_aside : ℕ → Records → Records
 item_put_aside number records =
     record records {
-      items = put_aside item_chain records.free_items number records.items;
-      free_items = Some number;
+      items = put_aside item_chain records.unused_items number records.items;
+      unused_items = Some number;
     }
 
--- the item record taken that was put aside last
+-- the item record taken that became unused last
 abbrev pub item_taken : Records → Records
 item_taken records =
     record records {
-      free_items = option_and_then (link_at item_chain.next records.items)
-          records.free_items;
+      unused_items = option_and_then (link_at item_chain.next records.items)
+          records.unused_items;
     }
 
 -- a shelf taken out of the chain of shelves
@@ -123,20 +123,20 @@ shelf_inserted_after previous number records =
           (link_at shelf_chain.next records.shelves previous) number records.shelves;
     }
 
--- a shelf record put aside
+-- an unused shelf record
 abbrev pub shelf_put_aside : ℕ → Records → Records
 shelf_put_aside number records =
     record records {
-      shelves = put_aside shelf_chain records.free_shelves number records.shelves;
-      free_shelves = Some number;
+      shelves = put_aside shelf_chain records.unused_shelves number records.shelves;
+      unused_shelves = Some number;
     }
 
--- the shelf record taken that was put aside last
+-- the shelf record taken that became unused last
 abbrev pub shelf_taken : Records → Records
 shelf_taken records =
     record records {
-      free_shelves = option_and_then (link_at shelf_chain.next records.shelves)
-          records.free_shelves;
+      unused_shelves = option_and_then (link_at shelf_chain.next records.shelves)
+          records.unused_shelves;
     }
 
 -- an item record changed
@@ -162,6 +162,6 @@ abbrev pub truncated : ℕ → Records → Records
 truncated count records =
     record records { shelves = take count records.shelves; items = take count records.items }
 
--- records that begin with the shelf of number 0, and none of which is put aside
+-- records that begin with the shelf of number 0, and none of which is unused
 abbrev pub restarted : Records → Records
-restarted records = record records { first_shelf = Some 0; free_items = None; free_shelves = None }
+restarted records = record records { first_shelf = Some 0; unused_items = None; unused_shelves = None }

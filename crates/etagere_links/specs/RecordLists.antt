@@ -14,8 +14,8 @@ pub record Records : Type 0 where
   pub shelves : List LinkedShelf
   pub items : List LinkedItem
   pub first_shelf : Option ℕ
-  pub free_items : Option ℕ
-  pub free_shelves : Option ℕ
+  pub unused_items : Option ℕ
+  pub unused_shelves : Option ℕ
 
 -- a field of the record of this number; where there is none, the other value
 abbrev pub field_at : {T X : Type 0} → (T → X) → X → List T → ℕ → X
@@ -39,13 +39,13 @@ walk_by link records start = walk (map (λ here. bits_of (link here)) records) (
 abbrev pub shelf_walk : Records → Walked
 shelf_walk records = walk_by shelf_chain.next records.shelves records.first_shelf
 
--- the shelf records put aside
+-- the unused shelf records
 abbrev pub unused_shelf_walk : Records → Walked
-unused_shelf_walk records = walk_by shelf_chain.next records.shelves records.free_shelves
+unused_shelf_walk records = walk_by shelf_chain.next records.shelves records.unused_shelves
 
--- the item records put aside
+-- the unused item records
 abbrev pub unused_item_walk : Records → Walked
-unused_item_walk records = walk_by item_chain.next records.items records.free_items
+unused_item_walk records = walk_by item_chain.next records.items records.unused_items
 
 -- the items of the shelf of this number
 abbrev pub item_walk : Records → ℕ → Walked
@@ -62,7 +62,7 @@ pub record Entry : Type 0 where
   pub items : List ℕ
   pub free_list : List ℕ
 
--- all lists of records: the shelves in use with their items, and what was put aside
+-- all lists of records: the shelves in use with their items, and what became unused
 pub record Lists : Type 0 where
   pub entries : List Entry
   pub unused_items : List ℕ
@@ -110,13 +110,13 @@ pub record IsEntry (records : Records) (entry : Entry) : Type 0 where
   pub members : (number : ℕ) → times number entry.free_list ≤ times number entry.items
 
 -- links spell all lists, and each record stands in one of them, once, or is one of those in no list
-pub record IsLinkedBut (records : Records) (lists : Lists) (loose_items loose_shelves : List ℕ)
+pub record IsLinkedExcept (records : Records) (lists : Lists) (loose_items loose_shelves : List ℕ)
     : Type 0 where
   pub shelves : IsChainIn shelf_chain records.shelves records.first_shelf
       (shelf_numbers lists.entries)
   pub entries : Each (IsEntry records) lists.entries
-  pub unused_items : IsPileIn item_chain records.items records.free_items lists.unused_items
-  pub unused_shelves : IsPileIn shelf_chain records.shelves records.free_shelves
+  pub unused_items : IsPileIn item_chain records.items records.unused_items lists.unused_items
+  pub unused_shelves : IsPileIn shelf_chain records.shelves records.unused_shelves
       lists.unused_shelves
   pub shelves_once : HasEachOnce (length records.shelves)
       (shelf_numbers lists.entries ++ lists.unused_shelves ++ loose_shelves)
@@ -125,4 +125,4 @@ pub record IsLinkedBut (records : Records) (lists : Lists) (loose_items loose_sh
 
 -- links spell all lists, and each record stands in one of them, once
 abbrev pub IsLinked : Records → Lists → Type 0
-IsLinked records lists = IsLinkedBut records lists [] []
+IsLinked records lists = IsLinkedExcept records lists [] []

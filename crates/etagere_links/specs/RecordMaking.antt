@@ -23,13 +23,13 @@ records_made items shelves records =
       shelves = with_new_shelves shelves records.shelves;
     }
 
--- the records once the item record was put to use again that was put aside last, where one was
+-- the records once the item record was put to use again that became unused last, where one was
 abbrev pub item_used_again : Records → Records
-item_used_again records = item_used (is_some records.free_items) records
+item_used_again records = item_used (is_some records.unused_items) records
 
--- the records once the shelf record was put to use again that was put aside last, where one was
+-- the records once the shelf record was put to use again that became unused last, where one was
 abbrev pub shelf_used_again : Records → Records
-shelf_used_again records = shelf_used (is_some records.free_shelves) records
+shelf_used_again records = shelf_used (is_some records.unused_shelves) records
 
 -- an item record that begins anew: free, in no list, with this place, width and shelf
 abbrev pub started : ℕ → ℕ → ℕ → LinkedItem → LinkedItem

@@ -1,4 +1,4 @@
--- What putting records to use does: the one put aside last, or a new one after all others.
+-- What putting records to use does: the one that became unused last, or a new one after all others.
 use Rattle.std.specs.Prelude.{ℕ, zero, suc, ◌+◌, ◌%◌, Bool, true, false, Option, None, Some, option_and_then, IfSome, ◌<◌, List, [], ◌∷◌, ◌++◌, length, if◌then◌else◌}
 use Rattle.etagere_links.specs.declared.records.LinkedItem.{LinkedItem}
 use Rattle.etagere_links.specs.declared.records.LinkedShelf.{LinkedShelf}
@@ -22,7 +22,7 @@ number_used false unused records = None
 number_used true None records = Some (length records)
 number_used true (Some number) records = Some number
 
--- the record put aside last once one was put to use, where one is wanted
+-- the record that became unused last, once one was put to use where one is wanted
 abbrev pub unused_after : {T : Type 0} → Family T → Bool → Option ℕ → List T → Option ℕ
 unused_after family false unused records = unused
 unused_after family true unused records = option_and_then (link_at family.next records) unused
@@ -80,16 +80,16 @@ shelves_used true (Some number) shelves = shelves
 abbrev pub item_used : Bool → Records → Records
 item_used wanted records =
     record records {
-      items = items_used wanted records.free_items records.items;
-      free_items = unused_after item_chain wanted records.free_items records.items;
+      items = items_used wanted records.unused_items records.items;
+      unused_items = unused_after item_chain wanted records.unused_items records.items;
     }
 
 -- the records once a shelf record was put to use, where one is wanted
 abbrev pub shelf_used : Bool → Records → Records
 shelf_used wanted records =
     record records {
-      shelves = shelves_used wanted records.free_shelves records.shelves;
-      free_shelves = unused_after shelf_chain wanted records.free_shelves records.shelves;
+      shelves = shelves_used wanted records.unused_shelves records.shelves;
+      unused_shelves = unused_after shelf_chain wanted records.unused_shelves records.shelves;
     }
 
 -- the records once those for the rest of a shelf were put to use, where it is split
@@ -104,9 +104,9 @@ rests_used of_shelf of_item records = item_used of_item (shelf_rest_used of_shel
 -- so many new records are needed, of items and of shelves, for the rests of a split
 abbrev pub rests_missing : Bool → Bool → Records → ℕ
 rests_missing of_shelf of_item records =
-    missing item_chain ((if of_shelf then 1 else 0) + (if of_item then 1 else 0)) records.free_items
+    missing item_chain ((if of_shelf then 1 else 0) + (if of_item then 1 else 0)) records.unused_items
     records.items
-    + missing shelf_chain (if of_shelf then 1 else 0) records.free_shelves records.shelves
+    + missing shelf_chain (if of_shelf then 1 else 0) records.unused_shelves records.shelves
 
 -- the numbers are those of links
 pub record AreSmall (rests : Rests) : Type 0 where
@@ -118,9 +118,9 @@ pub record AreSmall (rests : Rests) : Type 0 where
 abbrev pub rests_of : Bool → Bool → Records → Rests
 rests_of of_shelf of_item records =
     record {
-      shelf = number_used of_shelf records.free_shelves records.shelves;
-      shelf_item = number_used of_shelf records.free_items records.items;
+      shelf = number_used of_shelf records.unused_shelves records.shelves;
+      shelf_item = number_used of_shelf records.unused_items records.items;
       item =
-          number_used of_item (item_used of_shelf records).free_items
+          number_used of_item (item_used of_shelf records).unused_items
           (item_used of_shelf records).items;
     }

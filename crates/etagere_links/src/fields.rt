@@ -79,7 +79,7 @@ pub fn set_allocated(items: &mut [LinkedItem], number: usize, allocated: bool)
 }
 
 /// Changes the width of an item that is there.
-pub fn set_width_among(items: &mut [LinkedItem], number: usize, width: u16)
+pub fn set_width_present(items: &mut [LinkedItem], number: usize, width: u16)
     requires { number < length items.old }
     ensures { items.new ≡ edits.with_width number width items.old }
 {
@@ -88,7 +88,7 @@ pub fn set_width_among(items: &mut [LinkedItem], number: usize, width: u16)
 }
 
 /// Says that an item that is there is free, and puts its record onto the pile whose top record `top` names.
-pub fn free_and_put_aside_among(items: &mut [LinkedItem], top: &mut Link, number: usize)
+pub fn free_and_put_aside_present(items: &mut [LinkedItem], top: &mut Link, number: usize)
     requires here { number < length items.old }
     requires small { number < no_link }
     ensures items { items.new
@@ -103,7 +103,7 @@ pub fn free_and_put_aside_among(items: &mut [LinkedItem], top: &mut Link, number
 
 /// Says that an item that is there is free, and puts it in front of the free list whose first item `first`
 /// names, which is there too.
-pub fn free_in_front_among(items: &mut [LinkedItem], first: &mut Link, number: usize)
+pub fn free_in_front_present(items: &mut [LinkedItem], first: &mut Link, number: usize)
     requires here { number < length items.old }
     requires small { number < no_link }
     requires first { NamesOneOf items.old first.old }
@@ -119,7 +119,7 @@ pub fn free_in_front_among(items: &mut [LinkedItem], first: &mut Link, number: u
     here.allocated = false;
     here.next_unallocated = second;
     here.prev_unallocated = Link::none();
-    lists::set_previous_among::<FreeList, LinkedItem>(items, second, link);
+    lists::set_previous_present::<FreeList, LinkedItem>(items, second, link);
 }
 
 /// Changes the width of an item, and says that it is allocated.

@@ -104,7 +104,7 @@ pub fn unlink<List, T: Linked<List>>(records: &mut [T], first: &mut Link, number
 }
 
 /// Changes the link to the next one in the record that `from` names, if any, which is there.
-fn set_next_among<List, T: Linked<List>>(records: &mut [T], from: Link, next: Link)
+fn set_next_present<List, T: Linked<List>>(records: &mut [T], from: Link, next: Link)
     requires { NamesOneOf records.old from }
     ensures { records.new ≡ spec.changed_by from (T.family.with_next next) records.old }
 {
@@ -114,7 +114,7 @@ fn set_next_among<List, T: Linked<List>>(records: &mut [T], from: Link, next: Li
 }
 
 /// Changes the link to the previous one in the record that `from` names, if any, which is there.
-pub fn set_previous_among<List, T: Linked<List>>(records: &mut [T], from: Link, previous: Link)
+pub fn set_previous_present<List, T: Linked<List>>(records: &mut [T], from: Link, previous: Link)
     requires { NamesOneOf records.old from }
     ensures { records.new ≡ spec.changed_by from (T.family.with_previous previous) records.old }
 {
@@ -124,7 +124,7 @@ pub fn set_previous_among<List, T: Linked<List>>(records: &mut [T], from: Link, 
 }
 
 /// Takes a record out of its list as `unlink` does, where it and its neighbours are there.
-pub fn unlink_among<List, T: Linked<List>>(records: &mut [T], first: &mut Link, number: usize)
+pub fn unlink_present<List, T: Linked<List>>(records: &mut [T], first: &mut Link, number: usize)
     requires { HasNeighbours T.family records.old number }
     ensures records { records.new ≡ spec.unlinked T.family number records.old }
     ensures first { first.new
@@ -135,8 +135,8 @@ pub fn unlink_among<List, T: Linked<List>>(records: &mut [T], first: &mut Link, 
 {
     let previous = records[number].previous();
     let next = records[number].next();
-    set_next_among::<List, T>(records, previous, next);
-    set_previous_among::<List, T>(records, next, previous);
+    set_next_present::<List, T>(records, previous, next);
+    set_previous_present::<List, T>(records, next, previous);
     set_first_without(first, previous, next);
 }
 
@@ -189,7 +189,7 @@ pub fn put_aside<List, T: Linked<List>>(records: &mut [T], top: &mut Link, numbe
 }
 
 /// Puts a record aside as `put_aside` does, where it is there.
-pub fn put_aside_among<List, T: Linked<List>>(records: &mut [T], top: &mut Link, number: usize)
+pub fn put_aside_present<List, T: Linked<List>>(records: &mut [T], top: &mut Link, number: usize)
     requires here { number < length records.old }
     requires small { number < no_link }
     ensures records { records.new ≡ spec.put_aside T.family top.old number records.old }
@@ -199,7 +199,7 @@ pub fn put_aside_among<List, T: Linked<List>>(records: &mut [T], top: &mut Link,
     *top = Link::to(number);
 }
 
-/// Takes the record that was put aside last off the pile whose top record `top` names; none where the pile
+/// Takes the record that became unused last off the pile whose top record `top` names; none where the pile
 /// is empty.
 pub fn take<List, T: Linked<List>>(records: &[T], top: &mut Link) -> Option<usize>
     ensures number { result ≡ top.old }

@@ -4,7 +4,7 @@
 
 ghost use Rattle.etagere_links.specs.Laws.{EditsEachList};
 
-/// Inserting, taking out, putting aside and taking what was put aside last change a list of records as a list.
+/// Inserting, taking out, making unused and taking what became unused last change a list of records as a list.
 pub(crate) fn each_edit_changes_a_list()
     ensures { EditsEachList }
 {}

@@ -8,7 +8,7 @@ use crate::chained::{Chain, FreeList, Linked};
 use crate::links::Link;
 use serde::{Deserialize, Serialize};
 
-/// A stretch of a shelf, or a record put aside for one. Lengths and places are in pixels.
+/// A stretch of a shelf, or an unused record for one. Lengths and places are in pixels.
 #[derive(Clone, Copy, Debug, PartialEq, Eq, Serialize, Deserialize)]
 pub struct LinkedItem {
     /// Where the item begins along the shelf.
@@ -17,7 +17,7 @@ pub struct LinkedItem {
     pub width: u16,
     /// The item before it in the shelf.
     pub prev: Link,
-    /// The item after it in the shelf; of a record put aside, the one put aside before it.
+    /// The item after it in the shelf; of an unused record, the one that became unused before it.
     pub next: Link,
     /// The item before it in the free list of its shelf.
     pub prev_unallocated: Link,
@@ -31,7 +31,7 @@ pub struct LinkedItem {
     pub generation: u16,
 }
 
-/// A strip across a column, or a record put aside for one. Lengths and places are in pixels.
+/// A strip across a column, or an unused record for one. Lengths and places are in pixels.
 #[derive(Clone, Copy, Debug, PartialEq, Eq, Serialize, Deserialize)]
 pub struct LinkedShelf {
     /// Where its column begins along the shelves.
@@ -42,7 +42,7 @@ pub struct LinkedShelf {
     pub height: u16,
     /// The shelf before it.
     pub prev: Link,
-    /// The shelf after it; of a record put aside, the one put aside before it.
+    /// The shelf after it; of an unused record, the one that became unused before it.
     pub next: Link,
     /// The first of its items.
     pub first_item: Link,

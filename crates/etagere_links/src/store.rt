@@ -15,7 +15,7 @@ use crate::{fields, lists, uses};
 use std::alloc::{AllocError, Global};
 use std::marker::Model;
 
-/// The item and shelf records of an atlas, those in use and those put aside, and where its lists begin.
+/// The item and shelf records of an atlas, those in use and the unused ones, and where its lists begin.
 ///
 /// A step changes just what it says. One that names a record past the last changes nothing there.
 #[derive(Drop)]
@@ -36,8 +36,8 @@ impl Model for Records {
       shelves = r.shelf_records.items;
       items = r.item_records.items;
       first_shelf = r.first;
-      free_items = r.unused_items;
-      free_shelves = r.unused_shelves;
+      unused_items = r.unused_items;
+      unused_shelves = r.unused_shelves;
     } };
 }
 
@@ -56,24 +56,24 @@ impl Records {
         shelves: Vec<LinkedShelf>,
         items: Vec<LinkedItem>,
         first_shelf: Link,
-        free_items: Link,
-        free_shelves: Link,
+        unused_items: Link,
+        unused_shelves: Link,
     ) -> Records
         ensures { result
             ≡ record {
               shelves = shelves.items;
               items = items.items;
               first_shelf = first_shelf;
-              free_items = free_items;
-              free_shelves = free_shelves;
+              unused_items = unused_items;
+              unused_shelves = unused_shelves;
             } }
     {
         Records {
             shelf_records: shelves,
             item_records: items,
             first: first_shelf,
-            unused_items: free_items,
-            unused_shelves: free_shelves,
+            unused_items: unused_items,
+            unused_shelves: unused_shelves,
         }
     }
 
@@ -85,7 +85,7 @@ impl Records {
         self.item_records.truncate(count);
     }
 
-    /// Makes the shelf of number 0 the first one, and forgets what was put aside.
+    /// Makes the shelf of number 0 the first one, and forgets what became unused.
     pub fn restart(&mut self)
         ensures { self.new ≡ edits.restarted self.old }
     {
@@ -115,16 +115,16 @@ impl Records {
         self.first
     }
 
-    /// The link to the item record that was put aside last.
+    /// The link to the item record that became unused last.
     pub fn unused_items(&self) -> Link
-        ensures { result ≡ self.now.free_items }
+        ensures { result ≡ self.now.unused_items }
     {
         self.unused_items
     }
 
-    /// The link to the shelf record that was put aside last.
+    /// The link to the shelf record that became unused last.
     pub fn unused_shelves(&self) -> Link
-        ensures { result ≡ self.now.free_shelves }
+        ensures { result ≡ self.now.unused_shelves }
     {
         self.unused_shelves
     }
@@ -143,7 +143,7 @@ impl Records {
         self.shelf_records.clone()
     }
 
-    /// Puts the records to use that the rests of a split need: those put aside last, and new ones where
+    /// Puts the records to use that the rests of a split need: those that became unused last, and new ones where
     /// there are too few, for the rest of a shelf before the rest of an item. The error comes only where there
     /// are too few and there was no memory, and then nothing has changed.
     pub fn use_rests(&mut self, of_shelf: bool, of_item: bool) -> Result<Rests, AllocError>
@@ -171,14 +171,14 @@ impl Records {
 
     /// How many item records are missing to put so many to use.
     pub fn missing_items(&self, wanted: usize) -> usize
-        ensures { result ≡ using.missing item_chain wanted self.now.free_items self.now.items }
+        ensures { result ≡ using.missing item_chain wanted self.now.unused_items self.now.items }
     {
         uses::missing::<LinkedItem>(&self.item_records, self.unused_items, wanted)
     }
 
     /// How many shelf records are missing to put so many to use.
     pub fn missing_shelves(&self, wanted: usize) -> usize
-        ensures { result ≡ using.missing shelf_chain wanted self.now.free_shelves self.now.shelves }
+        ensures { result ≡ using.missing shelf_chain wanted self.now.unused_shelves self.now.shelves }
     {
         uses::missing::<LinkedShelf>(&self.shelf_records, self.unused_shelves, wanted)
     }
@@ -201,18 +201,18 @@ impl Records {
         Ok(())
     }
 
-    /// Puts the item record to use again that was put aside last; none where none was.
+    /// Puts the item record to use again that became unused last; none where none was.
     pub fn use_item_again(&mut self) -> Option<usize>
-        ensures number { result ≡ self.old.free_items }
+        ensures number { result ≡ self.old.unused_items }
         ensures small { IfSome result (λ number. number < no_link) }
         ensures records { self.new ≡ making.item_used_again self.old }
     {
         uses::use_item_again(&mut self.item_records, &mut self.unused_items)
     }
 
-    /// Puts the shelf record to use again that was put aside last; none where none was.
+    /// Puts the shelf record to use again that became unused last; none where none was.
     pub fn use_shelf_again(&mut self) -> Option<usize>
-        ensures number { result ≡ self.old.free_shelves }
+        ensures number { result ≡ self.old.unused_shelves }
         ensures small { IfSome result (λ number. number < no_link) }
         ensures records { self.new ≡ making.shelf_used_again self.old }
     {
@@ -358,7 +358,7 @@ impl Records {
         fields::write_shelf(&mut self.shelf_records, number, shelf);
     }
 
-    /// Gives an item this width, and lets it take the place of the free one after it, which is put aside. The
+    /// Gives an item this width, and lets it take the place of the free one after it, which becomes unused. The
     /// shelf and both items are there, and what the links of the free one name: no range is tested.
     pub fn absorb_free(&mut self, shelf: usize, number: usize, next: usize, width: u16)
         requires shelf { shelf < length self.old.shelves }
@@ -370,14 +370,14 @@ impl Records {
     {
         let here = &mut self.shelf_records[shelf];
         let items: &mut [LinkedItem] = &mut self.item_records;
-        lists::unlink_among::<FreeList, LinkedItem>(items, &mut here.first_unallocated, next);
-        lists::unlink_among::<Chain, LinkedItem>(items, &mut here.first_item, next);
-        lists::put_aside_among::<Chain, LinkedItem>(items, &mut self.unused_items, next);
-        fields::set_width_among(items, number, width);
+        lists::unlink_present::<FreeList, LinkedItem>(items, &mut here.first_unallocated, next);
+        lists::unlink_present::<Chain, LinkedItem>(items, &mut here.first_item, next);
+        lists::put_aside_present::<Chain, LinkedItem>(items, &mut self.unused_items, next);
+        fields::set_width_present(items, number, width);
     }
 
     /// Gives a free item this width, and lets it take the place of the allocated one after it, which becomes free
-    /// and is put aside. The shelf and both items are there, and what the links of the later one in the shelf
+    /// and becomes unused. The shelf and both items are there, and what the links of the later one in the shelf
     /// name: no range is tested.
     pub fn absorb_allocated(&mut self, shelf: usize, number: usize, next: usize, width: u16)
         requires shelf { shelf < length self.old.shelves }
@@ -388,9 +388,9 @@ impl Records {
     {
         let here = &mut self.shelf_records[shelf];
         let items: &mut [LinkedItem] = &mut self.item_records;
-        lists::unlink_among::<Chain, LinkedItem>(items, &mut here.first_item, next);
-        fields::free_and_put_aside_among(items, &mut self.unused_items, next);
-        fields::set_width_among(items, number, width);
+        lists::unlink_present::<Chain, LinkedItem>(items, &mut here.first_item, next);
+        fields::free_and_put_aside_present(items, &mut self.unused_items, next);
+        fields::set_width_present(items, number, width);
     }
 
     /// Says that an item is free, and puts it in front of the free list of its shelf. The item and the shelf are
@@ -403,7 +403,7 @@ impl Records {
         ensures { self.new ≡ merges.item_freed shelf number self.old }
     {
         let here = &mut self.shelf_records[shelf];
-        fields::free_in_front_among(&mut self.item_records, &mut here.first_unallocated, number);
+        fields::free_in_front_present(&mut self.item_records, &mut here.first_unallocated, number);
     }
 
     /// Gives the whole of a free item of a shelf.

@@ -1,4 +1,4 @@
-//! Puts records to use: those put aside last, and new ones where there are too few.
+//! Puts records to use: those that became unused last, and new ones where there are too few.
 //!
 //! Definitions: `RecordUses` for what a split puts to use, and `RecordMaking` for making many records and using one
 //! again. Room is made for all before the first is put to use; this has to stay so.
@@ -68,7 +68,7 @@ pub(crate) fn reserve_items(
     Ok(())
 }
 
-/// Makes room for a shelf record where one is wanted and none was put aside. The error comes only there, and
+/// Makes room for a shelf record where one is wanted and none was unused. The error comes only there, and
 /// only where there was no memory.
 pub(crate) fn reserve_shelf(
     shelves: &mut Vec<LinkedShelf>,
@@ -132,7 +132,7 @@ fn new_shelf() -> LinkedShelf
     }
 }
 
-/// How many records are missing to put so many to use: as many as were not put aside.
+/// How many records are missing to put so many to use: as many as were not unused.
 pub(crate) fn missing<T: Linked<Chain>>(records: &[T], unused: Link, wanted: usize) -> usize
     ensures value { result ≡ spec.missing T.family wanted unused records.now }
     ensures few { result ≤ wanted }
@@ -167,7 +167,7 @@ pub(crate) fn make_shelves(shelves: &mut Vec<LinkedShelf>, count: usize)
     }
 }
 
-/// Puts the item record to use again that was put aside last; none where none was.
+/// Puts the item record to use again that became unused last; none where none was.
 pub(crate) fn use_item_again(items: &mut [LinkedItem], unused: &mut Link) -> Option<usize>
     ensures number { result ≡ unused.old }
     ensures small { IfSome result (λ number. number < no_link) }

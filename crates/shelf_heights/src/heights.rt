@@ -9,7 +9,7 @@ ghost use Rattle.etagere_links.specs.Links.{no_link};
 ghost use Rattle.shelf_heights.specs.Private.ByHeight as spec;
 ghost use Rattle.shelf_heights.specs.Private.ByHeight.{AreInOrder, IsStart};
 
-use crate::ranked::{RankedShelf, RankedShelves};
+use crate::ranked::{RankedShelf, ShelvesByHeight};
 use etagere_links::LinkedShelf;
 
 /// Where the shelves begin that don't come before an order, and how many shelves were looked at for it.
@@ -80,7 +80,12 @@ pub fn order_or_zero(shelves: &[LinkedShelf], shelf: usize) -> u64
 }
 
 /// Where the shelves begin that don't come before this height and place, by binary search.
-pub fn first_from(shelves: &[LinkedShelf], ranked: &RankedShelves, height: u32, place: u32) -> Start
+pub fn first_from(
+    shelves: &[LinkedShelf],
+    ranked: &ShelvesByHeight,
+    height: u32,
+    place: u32,
+) -> Start
     requires { AreInOrder shelves.now ranked.now.items }
     ensures start { IsStart shelves.now ranked.now.items (spec.order_at height place) result.index
         result.probes }
@@ -104,7 +109,7 @@ pub fn first_from(shelves: &[LinkedShelf], ranked: &RankedShelves, height: u32, 
 }
 
 /// Where the shelves begin that don't come before this one.
-fn start_of(shelves: &[LinkedShelf], ranked: &RankedShelves, shelf: usize) -> Start
+fn start_of(shelves: &[LinkedShelf], ranked: &ShelvesByHeight, shelf: usize) -> Start
     requires order { AreInOrder shelves.now ranked.now.items }
     requires within { shelf < length shelves.now }
     ensures { IsStart shelves.now ranked.now.items (spec.order_of shelves.now shelf) result.index
@@ -116,7 +121,7 @@ fn start_of(shelves: &[LinkedShelf], ranked: &RankedShelves, shelf: usize) -> St
 }
 
 /// Where a shelf stands: where it did last time if it still does, else by binary search.
-fn position_of(shelves: &[LinkedShelf], ranked: &mut RankedShelves, shelf: usize) -> usize
+fn position_of(shelves: &[LinkedShelf], ranked: &mut ShelvesByHeight, shelf: usize) -> usize
     requires order { AreInOrder shelves.now ranked.old.items }
     requires stands { 1 ≤ times shelf (spec.ranked_numbers ranked.old.items) }
     ensures within { result < length ranked.old.items }
@@ -132,7 +137,7 @@ fn position_of(shelves: &[LinkedShelf], ranked: &mut RankedShelves, shelf: usize
 /// Where a shelf stands, found by binary search; the position is kept. Never inlined, so that `position_of` is small
 /// enough to be.
 #[inline(never)]
-fn position_by_halves(shelves: &[LinkedShelf], ranked: &mut RankedShelves, shelf: usize) -> usize
+fn position_by_halves(shelves: &[LinkedShelf], ranked: &mut ShelvesByHeight, shelf: usize) -> usize
     requires order { AreInOrder shelves.now ranked.old.items }
     requires stands { 1 ≤ times shelf (spec.ranked_numbers ranked.old.items) }
     ensures within { result < length ranked.old.items }
@@ -145,7 +150,7 @@ fn position_by_halves(shelves: &[LinkedShelf], ranked: &mut RankedShelves, shelf
 }
 
 /// Takes a shelf out, and gives its bound.
-pub fn take_out(shelves: &[LinkedShelf], ranked: &mut RankedShelves, shelf: usize) -> u16
+pub fn take_out(shelves: &[LinkedShelf], ranked: &mut ShelvesByHeight, shelf: usize) -> u16
     requires order { AreInOrder shelves.now ranked.old.items }
     requires stands { 1 ≤ times shelf (spec.ranked_numbers ranked.old.items) }
     ensures ranked { ranked.new.items ≡ spec.taken_out shelf ranked.old.items }
@@ -159,7 +164,7 @@ pub fn take_out(shelves: &[LinkedShelf], ranked: &mut RankedShelves, shelf: usiz
 }
 
 /// Puts a shelf in where it stands in the order, for which there is room.
-pub fn put_in(shelves: &[LinkedShelf], ranked: &mut RankedShelves, one: RankedShelf)
+pub fn put_in(shelves: &[LinkedShelf], ranked: &mut ShelvesByHeight, one: RankedShelf)
     requires order { AreInOrder shelves.now ranked.old.items }
     requires within { one.shelf < length shelves.now }
     requires room { length ranked.old.items < ranked.old.capacity }
@@ -174,7 +179,7 @@ pub fn put_in(shelves: &[LinkedShelf], ranked: &mut RankedShelves, one: RankedSh
 }
 
 /// Raises the bound of a shelf to this width, where it is less.
-pub fn raise(shelves: &[LinkedShelf], ranked: &mut RankedShelves, shelf: usize, width: u16)
+pub fn raise(shelves: &[LinkedShelf], ranked: &mut ShelvesByHeight, shelf: usize, width: u16)
     requires order { AreInOrder shelves.now ranked.old.items }
     requires stands { 1 ≤ times shelf (spec.ranked_numbers ranked.old.items) }
     ensures { ranked.new.items ≡ spec.raised shelf width ranked.old.items }

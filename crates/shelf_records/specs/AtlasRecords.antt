@@ -10,7 +10,7 @@ use Rattle.shelf_model.specs.State.{Item, Shelf, AtlasState}
 -- an atlas: its frame, its records, and the area that it says is allocated
 pub record AtlasRecords : Type 0 where
   pub frame : Frame
-  pub lists : Records
+  pub records : Records
   pub allocated_space : ℤ
 
 -- whether the item of this number is allocated
@@ -62,10 +62,10 @@ width_of items number = (item_at items number).width
 abbrev pub spelled_shelf : AtlasRecords → Entry → Shelf
 spelled_shelf atlas entry =
     record {
-      column = along_of atlas.lists.shelves entry.number / atlas.frame.column_width;
-      height = height_of atlas.lists.shelves entry.number;
-      items = map (item_at atlas.lists.items) entry.items;
-      free_list = map (place_of atlas.lists.items) entry.free_list;
+      column = along_of atlas.records.shelves entry.number / atlas.frame.column_width;
+      height = height_of atlas.records.shelves entry.number;
+      items = map (item_at atlas.records.items) entry.items;
+      free_list = map (place_of atlas.records.items) entry.free_list;
     }
 
 -- the state that these lists of records spell
@@ -74,9 +74,9 @@ spelled_state atlas entries =
     record {
       frame = atlas.frame;
       shelves = map (spelled_shelf atlas) entries;
-      records = length atlas.lists.items;
+      records = length atlas.records.items;
     }
 
 -- the lists of each shelf that walks meet
 abbrev pub walked_entries : AtlasRecords → List Entry
-walked_entries atlas = map (walked_entry atlas.lists) (shelf_walk atlas.lists).met
+walked_entries atlas = map (walked_entry atlas.records) (shelf_walk atlas.records).met

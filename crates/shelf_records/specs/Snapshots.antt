@@ -34,13 +34,13 @@ abbrev pub snapshot_records : AtlasSnapshot → AtlasRecords
 snapshot_records snapshot =
     record {
       frame = snapshot_frame snapshot;
-      lists =
+      records =
           record {
             shelves = snapshot.shelves.items;
             items = snapshot.items.items;
             first_shelf = snapshot.first_shelf;
-            free_items = snapshot.free_items;
-            free_shelves = snapshot.free_shelves;
+            unused_items = snapshot.free_items;
+            unused_shelves = snapshot.free_shelves;
           };
       allocated_space = snapshot.allocated_space;
     }
@@ -60,7 +60,7 @@ Keeps atlas Neighbours = HasNeighbours (state_spelled atlas)
 Keeps atlas FreeList = Each (HasFreeList atlas) (walked_entries atlas)
 Keeps atlas Sharing = IsShared atlas
 Keeps atlas Unused =
-    Each (λ item. is_allocated_at atlas.lists.items item ≡ false) (unused_item_walk atlas.lists).met
+    Each (λ item. is_allocated_at atlas.records.items item ≡ false) (unused_item_walk atlas.records).met
 Keeps atlas Space = atlas.allocated_space ≡ pos (space_in (state_spelled atlas).shelves)
 Keeps atlas Memory = Unit {0}
 

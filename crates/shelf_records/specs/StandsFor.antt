@@ -19,8 +19,8 @@ use Rattle.shelf_model.specs.Valid.{IsItem, is_out_of_order}
 
 -- the records are at least one and at most 65535
 pub record HasCounts (atlas : AtlasRecords) : Type 0 where
-  pub shelves : (1 ≤ length atlas.lists.shelves) × (length atlas.lists.shelves ≤ no_link)
-  pub items : (1 ≤ length atlas.lists.items) × (length atlas.lists.items ≤ no_link)
+  pub shelves : (1 ≤ length atlas.records.shelves) × (length atlas.records.shelves ≤ no_link)
+  pub items : (1 ≤ length atlas.records.items) × (length atlas.records.items ≤ no_link)
 
 -- a walk stops at none or before a record
 abbrev pub StopsInRange : ℕ → Walked → Type 0
@@ -28,18 +28,18 @@ StopsInRange count walked = IsTrue (walked.end == no_link || nat_lt walked.end c
 
 -- the walks of a shelf stop in range; its items link back to the one before, and name the shelf
 pub record HasItemLinks (atlas : AtlasRecords) (entry : Entry) : Type 0 where
-  pub items : StopsInRange (length atlas.lists.items) (item_walk atlas.lists entry.number)
-  pub free_list : StopsInRange (length atlas.lists.items) (free_walk atlas.lists entry.number)
-  pub back : LeadsBack (link_at item_chain.previous atlas.lists.items) None entry.items
-  pub owners : Each (λ item. shelf_of atlas.lists.items item ≡ entry.number) entry.items
+  pub items : StopsInRange (length atlas.records.items) (item_walk atlas.records entry.number)
+  pub free_list : StopsInRange (length atlas.records.items) (free_walk atlas.records entry.number)
+  pub back : LeadsBack (link_at item_chain.previous atlas.records.items) None entry.items
+  pub owners : Each (λ item. shelf_of atlas.records.items item ≡ entry.number) entry.items
 
 -- no walk stops out of range, and the shelves link back to the one before
 pub record HasLinks (atlas : AtlasRecords) : Type 0 where
-  pub shelves : StopsInRange (length atlas.lists.shelves) (shelf_walk atlas.lists)
-  pub unused_shelves : StopsInRange (length atlas.lists.shelves) (unused_shelf_walk atlas.lists)
-  pub unused_items : StopsInRange (length atlas.lists.items) (unused_item_walk atlas.lists)
-  pub back : LeadsBack (link_at shelf_chain.previous atlas.lists.shelves) None
-      (shelf_walk atlas.lists).met
+  pub shelves : StopsInRange (length atlas.records.shelves) (shelf_walk atlas.records)
+  pub unused_shelves : StopsInRange (length atlas.records.shelves) (unused_shelf_walk atlas.records)
+  pub unused_items : StopsInRange (length atlas.records.items) (unused_item_walk atlas.records)
+  pub back : LeadsBack (link_at shelf_chain.previous atlas.records.shelves) None
+      (shelf_walk atlas.records).met
   pub each_shelf : Each (HasItemLinks atlas) (walked_entries atlas)
 
 -- the heights of the shelves of these numbers that stand in a column, added up
@@ -63,10 +63,10 @@ pub record HasShelves (atlas : AtlasRecords) (state : AtlasState) : Type 0 where
   pub ordered : NoNeighbours is_out_of_order state.shelves
   pub along :
       Each
-      (λ (entry : Entry). along_of atlas.lists.shelves entry.number % atlas.frame.column_width ≡ 0)
+      (λ (entry : Entry). along_of atlas.records.shelves entry.number % atlas.frame.column_width ≡ 0)
       (walked_entries atlas)
-  pub across : AreStacked atlas.lists.shelves atlas.frame.column_width []
-      (shelf_walk atlas.lists).met
+  pub across : AreStacked atlas.records.shelves atlas.frame.column_width []
+      (shelf_walk atlas.records).met
   pub heights : Each (λ (shelf : Shelf). 1 ≤ shelf.height) state.shelves
   pub filled : (column : ℕ) → column < state.frame.columns
       → column_height column state.shelves ≡ across_side state.frame
@@ -79,10 +79,10 @@ LieFrom items here (number ∷ numbers) =
 
 -- the items of a shelf fill its column, and its record says whether it is empty
 pub record HasItems (atlas : AtlasRecords) (entry : Entry) : Type 0 where
-  pub places : LieFrom atlas.lists.items (along_of atlas.lists.shelves entry.number) entry.items
+  pub places : LieFrom atlas.records.items (along_of atlas.records.shelves entry.number) entry.items
   pub items : Each (IsItem atlas.frame) (spelled_shelf atlas entry).items
   pub width : total_width (spelled_shelf atlas entry).items ≡ atlas.frame.column_width
-  pub is_empty : is_empty_at atlas.lists.shelves entry.number ≡ is_empty (spelled_shelf atlas entry)
+  pub is_empty : is_empty_at atlas.records.shelves entry.number ≡ is_empty (spelled_shelf atlas entry)
 
 -- no two free items stand side by side, and no two empty shelves of a column
 pub record HasNeighbours (state : AtlasState) : Type 0 where
@@ -93,21 +93,21 @@ pub record HasNeighbours (state : AtlasState) : Type 0 where
 pub record HasFreeList (atlas : AtlasRecords) (entry : Entry) : Type 0 where
   pub items :
       (item : ℕ) → times item entry.free_list
-      ≡ times item (filter (λ member. not (is_allocated_at atlas.lists.items member)) entry.items)
-  pub back : LeadsBack (link_at free_list.previous atlas.lists.items) None entry.free_list
-  pub ends : (free_walk atlas.lists entry.number).end ≡ no_link
+      ≡ times item (filter (λ member. not (is_allocated_at atlas.records.items member)) entry.items)
+  pub back : LeadsBack (link_at free_list.previous atlas.records.items) None entry.free_list
+  pub ends : (free_walk atlas.records entry.number).end ≡ no_link
 
--- each record is in use in one place or put aside, and each walk through them ends at none
+-- each record is in use in one place or unused, and each walk through them ends at none
 pub record IsShared (atlas : AtlasRecords) : Type 0 where
-  pub shelves : HasEachOnce (length atlas.lists.shelves)
-      ((shelf_walk atlas.lists).met ++ (unused_shelf_walk atlas.lists).met)
-  pub items : HasEachOnce (length atlas.lists.items)
-      (item_numbers (walked_entries atlas) ++ (unused_item_walk atlas.lists).met)
-  pub shelf_end : (shelf_walk atlas.lists).end ≡ no_link
-  pub unused_shelf_end : (unused_shelf_walk atlas.lists).end ≡ no_link
-  pub item_ends : Each (λ (entry : Entry). (item_walk atlas.lists entry.number).end ≡ no_link)
+  pub shelves : HasEachOnce (length atlas.records.shelves)
+      ((shelf_walk atlas.records).met ++ (unused_shelf_walk atlas.records).met)
+  pub items : HasEachOnce (length atlas.records.items)
+      (item_numbers (walked_entries atlas) ++ (unused_item_walk atlas.records).met)
+  pub shelf_end : (shelf_walk atlas.records).end ≡ no_link
+  pub unused_shelf_end : (unused_shelf_walk atlas.records).end ≡ no_link
+  pub item_ends : Each (λ (entry : Entry). (item_walk atlas.records entry.number).end ≡ no_link)
       (walked_entries atlas)
-  pub unused_item_end : (unused_item_walk atlas.lists).end ≡ no_link
+  pub unused_item_end : (unused_item_walk atlas.records).end ≡ no_link
 
 -- the records keep each rule, and spell the state
 pub record StandsFor (atlas : AtlasRecords) (state : AtlasState) : Type 0 where
@@ -121,6 +121,6 @@ pub record StandsFor (atlas : AtlasRecords) (state : AtlasState) : Type 0 where
   pub neighbours : HasNeighbours state
   pub free_lists : Each (HasFreeList atlas) (walked_entries atlas)
   pub sharing : IsShared atlas
-  pub unused : Each (λ item. is_allocated_at atlas.lists.items item ≡ false)
-      (unused_item_walk atlas.lists).met
+  pub unused : Each (λ item. is_allocated_at atlas.records.items item ≡ false)
+      (unused_item_walk atlas.records).met
   pub space : atlas.allocated_space ≡ pos (space_in state.shelves)

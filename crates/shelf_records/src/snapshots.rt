@@ -30,9 +30,9 @@ pub struct AtlasSnapshot {
     pub shelf_width: u16,
     /// The first shelf.
     pub first_shelf: Link,
-    /// The item record that was put aside last.
+    /// The item record that became unused last.
     pub free_items: Link,
-    /// The shelf record that was put aside last.
+    /// The shelf record that became unused last.
     pub free_shelves: Link,
     /// The areas of everything that is allocated, added up, in square pixels.
     pub allocated_space: i32,
@@ -52,7 +52,7 @@ pub fn snapshot_of(
     requires columns { HasAllColumns frame.now }
     requires space { allocated_space < 2 ^ 31 }
     ensures { IfOk result (λ snapshot. snapshot_records snapshot
-        ≡ record { frame = frame.now; lists = records.now; allocated_space = pos allocated_space }) }
+        ≡ record { frame = frame.now; records = records.now; allocated_space = pos allocated_space }) }
 {
     Ok(AtlasSnapshot {
         width: frame.width as i32,

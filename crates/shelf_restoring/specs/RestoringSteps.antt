@@ -6,11 +6,11 @@ use Rattle.etagere_links.specs.LinksRead.{links_in, links_until}
 use Rattle.etagere_links.specs.RecordLists.{Records, free_walk, item_walk, shelf_walk, unused_item_walk, unused_shelf_walk}
 use Rattle.etagere_links.specs.Walks.{Walked}
 
--- the walks along shelves: those in use, then those put aside
+-- the walks along shelves: those in use, then the unused ones
 abbrev pub shelf_walks : Records → List Walked
 shelf_walks records = shelf_walk records ∷ unused_shelf_walk records ∷ []
 
--- the walks along items: those put aside, then those of each shelf in use
+-- the walks along items: the unused ones, then those of each shelf in use
 abbrev pub item_walks : Records → List Walked
 item_walks records = unused_item_walk records ∷ map (item_walk records) (shelf_walk records).met
 

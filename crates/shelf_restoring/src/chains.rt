@@ -37,16 +37,16 @@ pub fn walk_items(
     numbers: &[u16],
     steps: &mut u64,
 ) -> Result<WalkedItems, RestoreFault>
-    requires few { length atlas.now.lists.items ≤ no_link }
-    requires numbers { numbers.now ≡ (shelf_walk atlas.now.lists).met }
+    requires few { length atlas.now.records.items ≤ no_link }
+    requires numbers { numbers.now ≡ (shelf_walk atlas.now.records).met }
     requires steps { steps.old < 2 ^ 30 }
     ensures ok { IfOk result (λ walked. HasItemLists atlas.now walked.shelves.items walked.unused.items) }
     ensures fault { IfErr result (IsBroken atlas.now) }
-    ensures all { OnOk result (steps.new ≡ steps.old + links_in (item_walks atlas.now.lists)) }
+    ensures all { OnOk result (steps.new ≡ steps.old + links_in (item_walks atlas.now.records)) }
     ensures until { IfErr result (λ fault. (more : ℕ) → StopsAfter
-        (steps.old + links_until (length atlas.now.lists.items) more [] (item_walks atlas.now.lists))
+        (steps.old + links_until (length atlas.now.records.items) more [] (item_walks atlas.now.records))
         steps.new fault) }
-    ensures bound { steps.new ≤ steps.old + 2 * length atlas.now.lists.items }
+    ensures bound { steps.new ≤ steps.old + 2 * length atlas.now.records.items }
     ensures each { IfOk result
         (λ walked. steps.old + length (item_numbers walked.shelves.items) ≤ steps.new) }
 {
@@ -72,22 +72,22 @@ fn follow_items(
     numbers: &[u16],
     steps: &mut u64,
 ) -> Result<WalkedItems, RestoreFault>
-    requires few { length atlas.now.lists.items ≤ no_link }
+    requires few { length atlas.now.records.items ≤ no_link }
     requires links { links.now
-        ≡ map (λ here. bits_of (item_chain.next here)) atlas.now.lists.items }
-    requires fit { AreFitting item_chain.next atlas.now.lists.items }
+        ≡ map (λ here. bits_of (item_chain.next here)) atlas.now.records.items }
+    requires fit { AreFitting item_chain.next atlas.now.records.items }
     requires room { length links.now ≤ room.old }
     requires marks { length marks.old ≡ length links.now }
     requires marked { IsMarkedBy marks.old [] }
-    requires numbers { numbers.now ≡ (shelf_walk atlas.now.lists).met }
+    requires numbers { numbers.now ≡ (shelf_walk atlas.now.records).met }
     requires steps { steps.old < 2 ^ 30 }
     ensures ok { IfOk result (λ walked. HasItemLists atlas.now walked.shelves.items walked.unused.items) }
     ensures fault { IfErr result (IsBroken atlas.now) }
-    ensures all { OnOk result (steps.new ≡ steps.old + links_in (item_walks atlas.now.lists)) }
+    ensures all { OnOk result (steps.new ≡ steps.old + links_in (item_walks atlas.now.records)) }
     ensures until { IfErr result (λ fault. (more : ℕ) → StopsAfter
-        (steps.old + links_until (length atlas.now.lists.items) more [] (item_walks atlas.now.lists))
+        (steps.old + links_until (length atlas.now.records.items) more [] (item_walks atlas.now.records))
         steps.new fault) }
-    ensures bound { steps.new ≤ steps.old + 2 * length atlas.now.lists.items }
+    ensures bound { steps.new ≤ steps.old + 2 * length atlas.now.records.items }
     ensures each { IfOk result
         (λ walked. steps.old + length (item_numbers walked.shelves.items) ≤ steps.new) }
 {
@@ -113,28 +113,28 @@ fn walk_chains(
     numbers: &[u16],
     steps: &mut u64,
 ) -> Result<Vec<WalkedShelf>, RestoreFault>
-    requires few { length atlas.now.lists.items ≤ no_link }
+    requires few { length atlas.now.records.items ≤ no_link }
     requires links { links.now
-        ≡ map (λ here. bits_of (item_chain.next here)) atlas.now.lists.items }
+        ≡ map (λ here. bits_of (item_chain.next here)) atlas.now.records.items }
     requires room { length links.now ≤ room.old }
     requires marks { length marks.old ≡ length links.now }
-    requires numbers { numbers.now ≡ (shelf_walk atlas.now.lists).met }
-    requires marked { IsMarkedBy marks.old (unused_item_walk atlas.now.lists).met }
+    requires numbers { numbers.now ≡ (shelf_walk atlas.now.records).met }
+    requires marked { IsMarkedBy marks.old (unused_item_walk atlas.now.records).met }
     requires steps { steps.old < 2 ^ 31 }
     ensures room { room.new ≡ room.old }
-    ensures ok { IfOk result (λ shelves. shelves.items ≡ map (chain_entry atlas.now.lists) numbers.now) }
-    ensures chains { OnOk result (Each (HasChain atlas.now.lists) numbers.now) }
+    ensures ok { IfOk result (λ shelves. shelves.items ≡ map (chain_entry atlas.now.records) numbers.now) }
+    ensures chains { OnOk result (Each (HasChain atlas.now.records) numbers.now) }
     ensures marked { IfOk result (λ shelves.
-        IsMarkedBy marks.new ((unused_item_walk atlas.now.lists).met ++ item_numbers shelves.items)) }
+        IsMarkedBy marks.new ((unused_item_walk atlas.now.records).met ++ item_numbers shelves.items)) }
     ensures fault { IfErr result (IsBroken atlas.now) }
     ensures steps { IfOk result (λ shelves.
         steps.new ≡ steps.old + length (item_numbers shelves.items)) }
     ensures until { IfErr result (λ fault. (more : ℕ) → StopsAfter
-        (steps.old + links_until (length atlas.now.lists.items) more (unused_item_walk atlas.now.lists).met
-        (map (item_walk atlas.now.lists) numbers.now))
+        (steps.old + links_until (length atlas.now.records.items) more (unused_item_walk atlas.now.records).met
+        (map (item_walk atlas.now.records) numbers.now))
         steps.new fault) }
-    ensures bound { steps.new + length (unused_item_walk atlas.now.lists).met
-        ≤ steps.old + 2 * length atlas.now.lists.items }
+    ensures bound { steps.new + length (unused_item_walk atlas.now.records).met
+        ≤ steps.old + 2 * length atlas.now.records.items }
 {
     let mut shelves = Vec::new(alloc);
     for number in numbers {

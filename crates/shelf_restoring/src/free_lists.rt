@@ -31,22 +31,22 @@ pub fn walk_free_lists(
     shelves: Vec<WalkedShelf>,
     steps: &mut u64,
 ) -> Result<Vec<WalkedShelf>, RestoreFault>
-    requires few { length atlas.now.lists.items ≤ no_link }
+    requires few { length atlas.now.records.items ≤ no_link }
     requires shelves { shelves.items
-        ≡ map (chain_entry atlas.now.lists) (shelf_walk atlas.now.lists).met }
-    requires once { HasEachOnce (length atlas.now.lists.items)
-        (item_numbers (walked_entries atlas.now) ++ (unused_item_walk atlas.now.lists).met) }
+        ≡ map (chain_entry atlas.now.records) (shelf_walk atlas.now.records).met }
+    requires once { HasEachOnce (length atlas.now.records.items)
+        (item_numbers (walked_entries atlas.now) ++ (unused_item_walk atlas.now.records).met) }
     requires steps { steps.old < 2 ^ 31 }
     ensures ok { IfOk result (λ entries. entries.items ≡ walked_entries atlas.now) }
-    ensures free { OnOk result (Each (HasFree atlas.now.lists) (shelf_walk atlas.now.lists).met) }
-    ensures fit { OnOk result (AreFitting free_list.next atlas.now.lists.items) }
+    ensures free { OnOk result (Each (HasFree atlas.now.records) (shelf_walk atlas.now.records).met) }
+    ensures fit { OnOk result (AreFitting free_list.next atlas.now.records.items) }
     ensures fault { IfErr result (IsBroken atlas.now) }
-    ensures all { OnOk result (steps.new ≡ steps.old + links_in (free_walks atlas.now.lists)) }
+    ensures all { OnOk result (steps.new ≡ steps.old + links_in (free_walks atlas.now.records)) }
     ensures own { OnOk result
-        (links_until 0 0 [] (free_walks atlas.now.lists) ≡ links_in (free_walks atlas.now.lists)) }
+        (links_until 0 0 [] (free_walks atlas.now.records) ≡ links_in (free_walks atlas.now.records)) }
     ensures until { IfErr result (StopsAfter
-        (steps.old + links_until 0 0 [] (free_walks atlas.now.lists)) steps.new) }
-    ensures bound { steps.new ≤ steps.old + 2 * length atlas.now.lists.items }
+        (steps.old + links_until 0 0 [] (free_walks atlas.now.records)) steps.new) }
+    ensures bound { steps.new ≤ steps.old + 2 * length atlas.now.records.items }
     ensures more { OnOk result (steps.old ≤ steps.new) }
 {
     let Ok(links) = next_bits::<FreeList, LinkedItem>(alloc, atlas.records.items()) else {
@@ -71,26 +71,26 @@ fn with_free_lists(
     shelves: Vec<WalkedShelf>,
     steps: &mut u64,
 ) -> Result<Vec<WalkedShelf>, RestoreFault>
-    requires few { length atlas.now.lists.items ≤ no_link }
+    requires few { length atlas.now.records.items ≤ no_link }
     requires links { links.now
-        ≡ map (λ here. bits_of (free_list.next here)) atlas.now.lists.items }
+        ≡ map (λ here. bits_of (free_list.next here)) atlas.now.records.items }
     requires room { length links.now ≤ room.old }
     requires marks { length marks.old ≡ length links.now }
     requires marked { IsMarkedBy marks.old [] }
     requires shelves { shelves.items
-        ≡ map (chain_entry atlas.now.lists) (shelf_walk atlas.now.lists).met }
-    requires once { HasEachOnce (length atlas.now.lists.items)
-        (item_numbers (walked_entries atlas.now) ++ (unused_item_walk atlas.now.lists).met) }
+        ≡ map (chain_entry atlas.now.records) (shelf_walk atlas.now.records).met }
+    requires once { HasEachOnce (length atlas.now.records.items)
+        (item_numbers (walked_entries atlas.now) ++ (unused_item_walk atlas.now.records).met) }
     requires steps { steps.old < 2 ^ 31 }
     ensures ok { IfOk result (λ entries. entries.items ≡ walked_entries atlas.now) }
-    ensures free { OnOk result (Each (HasFree atlas.now.lists) (shelf_walk atlas.now.lists).met) }
+    ensures free { OnOk result (Each (HasFree atlas.now.records) (shelf_walk atlas.now.records).met) }
     ensures fault { IfErr result (IsBroken atlas.now) }
-    ensures all { OnOk result (steps.new ≡ steps.old + links_in (free_walks atlas.now.lists)) }
+    ensures all { OnOk result (steps.new ≡ steps.old + links_in (free_walks atlas.now.records)) }
     ensures own { OnOk result
-        (links_until 0 0 [] (free_walks atlas.now.lists) ≡ links_in (free_walks atlas.now.lists)) }
+        (links_until 0 0 [] (free_walks atlas.now.records) ≡ links_in (free_walks atlas.now.records)) }
     ensures until { IfErr result (StopsAfter
-        (steps.old + links_until 0 0 [] (free_walks atlas.now.lists)) steps.new) }
-    ensures bound { steps.new ≤ steps.old + 2 * length atlas.now.lists.items }
+        (steps.old + links_until 0 0 [] (free_walks atlas.now.records)) steps.new) }
+    ensures bound { steps.new ≤ steps.old + 2 * length atlas.now.records.items }
     ensures more { OnOk result (steps.old ≤ steps.new) }
 {
     let mut entries = Vec::new(alloc);

@@ -22,7 +22,7 @@ impl Model for LoadedAtlas {
 
     ghost view = { λ atlas. record {
       frame = atlas.frame;
-      lists = atlas.records;
+      records = atlas.records;
       allocated_space = atlas.allocated_space;
     } };
 }

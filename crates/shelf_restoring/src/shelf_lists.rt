@@ -26,14 +26,14 @@ pub fn walk_shelves(
     atlas: &LoadedAtlas,
     steps: &mut u64,
 ) -> Result<Vec<u16>, RestoreFault>
-    requires few { length atlas.now.lists.shelves ≤ no_link }
+    requires few { length atlas.now.records.shelves ≤ no_link }
     requires steps { steps.old ≡ 0 }
     ensures ok { IfOk result (λ numbers. HasShelfLists atlas.now numbers.items) }
     ensures fault { IfErr result (IsBroken atlas.now) }
-    ensures all { OnOk result (steps.new ≡ links_in (shelf_walks atlas.now.lists)) }
+    ensures all { OnOk result (steps.new ≡ links_in (shelf_walks atlas.now.records)) }
     ensures until { IfErr result (λ fault. (more : ℕ) → StopsAfter
-        (links_until (length atlas.now.lists.shelves) more [] (shelf_walks atlas.now.lists)) steps.new fault) }
-    ensures bound { steps.new ≤ 2 * length atlas.now.lists.shelves }
+        (links_until (length atlas.now.records.shelves) more [] (shelf_walks atlas.now.records)) steps.new fault) }
+    ensures bound { steps.new ≤ 2 * length atlas.now.records.shelves }
     ensures each { IfOk result (λ numbers. length numbers.items ≤ steps.new) }
 {
     let Ok(links) = next_bits::<Chain, LinkedShelf>(alloc, atlas.records.shelves()) else {
@@ -57,20 +57,20 @@ fn follow_shelves(
     links: &[u16],
     steps: &mut u64,
 ) -> Result<Vec<u16>, RestoreFault>
-    requires few { length atlas.now.lists.shelves ≤ no_link }
+    requires few { length atlas.now.records.shelves ≤ no_link }
     requires links { links.now
-        ≡ map (λ here. bits_of (shelf_chain.next here)) atlas.now.lists.shelves }
-    requires fit { AreFitting shelf_chain.next atlas.now.lists.shelves }
+        ≡ map (λ here. bits_of (shelf_chain.next here)) atlas.now.records.shelves }
+    requires fit { AreFitting shelf_chain.next atlas.now.records.shelves }
     requires room { length links.now ≤ room.old }
     requires marks { length marks.old ≡ length links.now }
     requires marked { IsMarkedBy marks.old [] }
     requires steps { steps.old ≡ 0 }
     ensures ok { IfOk result (λ numbers. HasShelfLists atlas.now numbers.items) }
     ensures fault { IfErr result (IsBroken atlas.now) }
-    ensures all { OnOk result (steps.new ≡ links_in (shelf_walks atlas.now.lists)) }
+    ensures all { OnOk result (steps.new ≡ links_in (shelf_walks atlas.now.records)) }
     ensures until { IfErr result (λ fault. (more : ℕ) → StopsAfter
-        (links_until (length atlas.now.lists.shelves) more [] (shelf_walks atlas.now.lists)) steps.new fault) }
-    ensures bound { steps.new ≤ 2 * length atlas.now.lists.shelves }
+        (links_until (length atlas.now.records.shelves) more [] (shelf_walks atlas.now.records)) steps.new fault) }
+    ensures bound { steps.new ≤ 2 * length atlas.now.records.shelves }
     ensures each { IfOk result (λ numbers. length numbers.items ≤ steps.new) }
 {
     let first = atlas.records.first_shelf().bits();

@@ -26,16 +26,16 @@ pub fn walk_records(
     atlas: &LoadedAtlas,
     steps: &mut u64,
 ) -> Result<WalkedItems, RestoreFault>
-    requires shelves { length atlas.now.lists.shelves ≤ no_link }
-    requires items { length atlas.now.lists.items ≤ no_link }
+    requires shelves { length atlas.now.records.shelves ≤ no_link }
+    requires items { length atlas.now.records.items ≤ no_link }
     requires steps { steps.old ≡ 0 }
     ensures ok { IfOk result (λ walked. IsWalked atlas.now walked.shelves.items walked.unused.items) }
     ensures fault { IfErr result (IsBroken atlas.now) }
-    ensures all { OnOk result (steps.new ≡ links_of_all atlas.now.lists) }
-    ensures end { OnOk result (links_followed atlas.now.lists ≡ links_of_all atlas.now.lists) }
-    ensures until { IfErr result (StopsAfter (links_followed atlas.now.lists) steps.new) }
+    ensures all { OnOk result (steps.new ≡ links_of_all atlas.now.records) }
+    ensures end { OnOk result (links_followed atlas.now.records ≡ links_of_all atlas.now.records) }
+    ensures until { IfErr result (StopsAfter (links_followed atlas.now.records) steps.new) }
     ensures bound { steps.new
-        ≤ 4 * (length atlas.now.lists.shelves + length atlas.now.lists.items) }
+        ≤ 4 * (length atlas.now.records.shelves + length atlas.now.records.items) }
     ensures each { IfOk result
         (λ walked. length walked.shelves.items + length (item_numbers walked.shelves.items) ≤ steps.new) }
 {

@@ -26,7 +26,7 @@ ghost use Rattle.shelf_model.specs.State as state;
 use etagere_base::{Frame, Sides, Size, asked, step};
 use etagere_links::{LinkedShelf, Records};
 use shelf_heights::heights::{first_from, place_number};
-use shelf_heights::ranked::{RankedShelf, RankedShelves};
+use shelf_heights::ranked::{RankedShelf, ShelvesByHeight};
 use shelf_model::placements::Placement;
 
 /// An atlas has no more items than this.
@@ -67,7 +67,7 @@ enum Searched {
 pub fn placement_of(
     frame: &Frame,
     records: &Records,
-    ranked: &mut RankedShelves,
+    ranked: &mut ShelvesByHeight,
     items_in_use: u32,
     size: Size,
 ) -> Option<Placement>
@@ -107,7 +107,7 @@ pub fn fits_when_empty(frame: &Frame, size: Size) -> bool
 fn chosen(
     frame: &Frame,
     records: &Records,
-    ranked: &mut RankedShelves,
+    ranked: &mut ShelvesByHeight,
     sides: Sides,
 ) -> Option<Placement>
     requires kept { AreKept frame.now records.now }
@@ -140,7 +140,7 @@ fn shelf_height(frame: &Frame, height: u32) -> u32
 /// The first good fit by height; where there is none, the fit in the first place.
 fn best_candidate(
     records: &Records,
-    ranked: &mut RankedShelves,
+    ranked: &mut ShelvesByHeight,
     column_width: u32,
     width: u32,
     height: u32,
@@ -168,7 +168,7 @@ fn best_candidate(
 /// the fit in the first place.
 fn first_of_rest(
     records: &Records,
-    ranked: &mut RankedShelves,
+    ranked: &mut ShelvesByHeight,
     rest: usize,
     column_width: u32,
     width: u32,
@@ -202,7 +202,7 @@ fn first_of_rest(
 /// shelf before it has a free item that is wide enough: their bounds were too small, or their free lists were searched.
 fn first_good(
     records: &Records,
-    ranked: &mut RankedShelves,
+    ranked: &mut ShelvesByHeight,
     start: usize,
     width: u32,
     height: u32,
@@ -235,7 +235,7 @@ fn first_good(
 /// empty shelf has one item, as wide as the column, so its bound is at least that; where another's is, it falls.
 fn first_empty(
     records: &Records,
-    ranked: &mut RankedShelves,
+    ranked: &mut ShelvesByHeight,
     start: usize,
     column_width: u32,
     width: u32,
@@ -269,7 +269,7 @@ fn first_empty(
 /// What the shelf at this position offers where it is empty. Where it isn't, its bound falls below the width of a column.
 fn empty_at(
     records: &Records,
-    ranked: &mut RankedShelves,
+    ranked: &mut ShelvesByHeight,
     index: usize,
     column_width: u32,
     width: u32,
@@ -301,7 +301,7 @@ fn empty_at(
 /// the first place is gone through, and only where none of its items fits, and its bound falls, the next one's.
 fn first_placed(
     records: &Records,
-    ranked: &mut RankedShelves,
+    ranked: &mut ShelvesByHeight,
     start: usize,
     width: u32,
     height: u32,
@@ -333,7 +333,7 @@ fn first_placed(
 /// stand in the order of their places, so only the first such one of each height is looked at.
 fn earliest_wide(
     shelves: &[LinkedShelf],
-    ranked: &mut RankedShelves,
+    ranked: &mut ShelvesByHeight,
     start: usize,
     width: u32,
 ) -> Option<usize>
@@ -356,7 +356,7 @@ fn earliest_wide(
 /// Of two positions the one whose shelf has the earlier place.
 fn earlier(
     shelves: &[LinkedShelf],
-    ranked: &RankedShelves,
+    ranked: &ShelvesByHeight,
     one: Option<usize>,
     other: usize,
 ) -> usize
@@ -372,7 +372,7 @@ fn earlier(
 }
 
 /// Where the shelf at this position begins, as one number.
-fn place_at(shelves: &[LinkedShelf], ranked: &RankedShelves, index: usize) -> u32
+fn place_at(shelves: &[LinkedShelf], ranked: &ShelvesByHeight, index: usize) -> u32
     requires order { AreInOrder shelves.now ranked.now.items }
     requires index { index < length ranked.now.items }
     ensures { result ≡ opening.place_at shelves.now ranked.now.items index }
@@ -382,7 +382,7 @@ fn place_at(shelves: &[LinkedShelf], ranked: &RankedShelves, index: usize) -> u3
 
 /// A position behind this one, up to which all shelves have its height, and so a later place. Where the next shelf has its
 /// height, it is that behind all shelves of it.
-fn behind_height(shelves: &[LinkedShelf], ranked: &RankedShelves, index: usize) -> usize
+fn behind_height(shelves: &[LinkedShelf], ranked: &ShelvesByHeight, index: usize) -> usize
     requires order { AreInOrder shelves.now ranked.now.items }
     requires places { ArePlaced shelves.now ranked.now.items }
     requires few { length ranked.now.items < 2 ^ 64 }
@@ -435,7 +435,7 @@ fn is_good(records: &Records, height: u32, shelf: usize) -> bool
 /// What the shelf at this position offers, which is tall enough.
 fn fit_at(
     records: &Records,
-    ranked: &mut RankedShelves,
+    ranked: &mut ShelvesByHeight,
     index: usize,
     width: u32,
     height: u32,

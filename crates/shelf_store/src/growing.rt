@@ -24,7 +24,7 @@ use crate::growing::widening::widen_shelves;
 use crate::starting::rank_shelves;
 use etagere_base::Frame;
 use etagere_links::Records;
-use shelf_heights::ranked::RankedShelves;
+use shelf_heights::ranked::ShelvesByHeight;
 use std::alloc::AllocError;
 
 /// How many records a growth needs: of items, and of shelves.
@@ -45,7 +45,7 @@ pub struct Made {
 /// comes only where some are needed, changes nothing.
 pub fn grow_shelves(
     records: &mut Records,
-    ranked: &mut RankedShelves,
+    ranked: &mut ShelvesByHeight,
     frame: &Frame,
     grown: &Frame,
     needed: Needed,

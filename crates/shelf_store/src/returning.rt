@@ -16,10 +16,10 @@ ghost use Rattle.etagere_links.specs.Neighbours.{NamesOneOf};
 
 use etagere_links::{Chain, Link, LinkedItem, LinkedShelf, Records, next_of, previous_of};
 use shelf_heights::heights::{put_in, raise, ranked_shelf, take_out};
-use shelf_heights::ranked::RankedShelves;
+use shelf_heights::ranked::ShelvesByHeight;
 use shelf_records::fields;
 
-/// The item that remains where one was freed, and how many item records were put aside.
+/// The item that remains where one was freed, and how many item records became unused.
 #[derive(Drop)]
 struct Merged {
     item: usize,
@@ -27,10 +27,10 @@ struct Merged {
 }
 
 /// Frees the item of this number, which is allocated in this shelf, merges what is free with its neighbours, and
-/// answers how many item records were put aside.
+/// answers how many item records became unused.
 pub fn return_item(
     records: &mut Records,
-    ranked: &mut RankedShelves,
+    ranked: &mut ShelvesByHeight,
     shelf: usize,
     number: usize,
 ) -> u32
@@ -159,7 +159,7 @@ fn free_after(records: &mut Records, shelf: usize, number: usize) -> Merged
 }
 
 /// Merges a shelf with its neighbours, where it and they are empty and stand in one column.
-fn merge_shelves(records: &mut Records, ranked: &mut RankedShelves, shelf: usize) -> u32
+fn merge_shelves(records: &mut Records, ranked: &mut ShelvesByHeight, shelf: usize) -> u32
     requires fits { CanMergeShelves shelf records.old }
     requires ranked { CanMergeRanks shelf records.old ranked.old.items }
     ensures records { records.new ≡ (returned.shelves_merged shelf records.old).records }
@@ -174,7 +174,7 @@ fn merge_shelves(records: &mut Records, ranked: &mut RankedShelves, shelf: usize
 }
 
 /// Merges the shelf that a link names with the next one, where both are empty and stand in one column.
-fn merge_named_shelf(records: &mut Records, ranked: &mut RankedShelves, link: Link) -> u32
+fn merge_named_shelf(records: &mut Records, ranked: &mut ShelvesByHeight, link: Link) -> u32
     requires fits { (n : ℕ) → link ≡ Some n → HeightsFit n records.old.shelves }
     requires ranked { CanMergeNamedRank link records.old ranked.old.items }
     ensures records { records.new ≡ (returned.named_shelf_merged link records.old).records }
@@ -190,7 +190,7 @@ fn merge_named_shelf(records: &mut Records, ranked: &mut RankedShelves, link: Li
 }
 
 /// Merges a shelf with the next one, where both are empty and stand in one column.
-fn merge_shelf(records: &mut Records, ranked: &mut RankedShelves, shelf: usize) -> u32
+fn merge_shelf(records: &mut Records, ranked: &mut ShelvesByHeight, shelf: usize) -> u32
     requires fits { HeightsFit shelf records.old.shelves }
     requires ranked { CanMergeRank shelf records.old ranked.old.items }
     ensures records { records.new ≡ (returned.shelf_merged shelf records.old).records }
@@ -208,7 +208,12 @@ fn merge_shelf(records: &mut Records, ranked: &mut RankedShelves, shelf: usize) 
 /// An empty shelf takes the place of the next one, which has this number and is empty too. Never inlined, so that a
 /// return that merges no shelves doesn't carry it.
 #[inline(never)]
-fn absorb_shelf(records: &mut Records, ranked: &mut RankedShelves, shelf: usize, next: usize) -> u32
+fn absorb_shelf(
+    records: &mut Records,
+    ranked: &mut ShelvesByHeight,
+    shelf: usize,
+    next: usize,
+) -> u32
     requires next { returned.empty_next records.old.shelves shelf ≡ Some next }
     requires small { next < no_link }
     requires fits { HeightsFit shelf records.old.shelves }

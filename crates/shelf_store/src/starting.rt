@@ -16,7 +16,7 @@ ghost use Rattle.shelf_records.specs.Private.Kept.{AreKept};
 use etagere_base::Frame;
 use etagere_links::{Chain, Link, LinkedItem, LinkedShelf, Records, next_of};
 use shelf_heights::heights::ranked_shelf;
-use shelf_heights::ranked::{RankedShelf, RankedShelves};
+use shelf_heights::ranked::{RankedShelf, ShelvesByHeight};
 use std::alloc::{AllocError, Global};
 
 /// The generation of a record that was just made.
@@ -37,18 +37,18 @@ pub fn fresh_records(alloc: Global, frame: &Frame) -> Result<Records, AllocError
 }
 
 /// The ranked shelves of a new atlas.
-pub fn fresh_heights(alloc: Global, frame: &Frame) -> Result<RankedShelves, AllocError>
+pub fn fresh_by_height(alloc: Global, frame: &Frame) -> Result<ShelvesByHeight, AllocError>
     requires frame { IsFrame longest_side frame.now }
     requires columns { HasAllColumns frame.now }
     ensures { IfOk result (λ ranked. AreRanked frame.now (spec.fresh_records frame.now) ranked.items) }
 {
-    let mut ranked = RankedShelves::with_room(alloc, frame.columns as usize)?;
+    let mut ranked = ShelvesByHeight::with_room(alloc, frame.columns as usize)?;
     rank_columns(frame, &mut ranked);
     Ok(ranked)
 }
 
 /// Makes the ranked shelves those of a new atlas, in the memory that they have.
-pub fn reset_heights(frame: &Frame, ranked: &mut RankedShelves)
+pub fn reset_by_height(frame: &Frame, ranked: &mut ShelvesByHeight)
     requires frame { IsFrame longest_side frame.now }
     requires columns { HasAllColumns frame.now }
     requires many { frame.now.columns ≤ length ranked.old.items }
@@ -59,7 +59,7 @@ pub fn reset_heights(frame: &Frame, ranked: &mut RankedShelves)
 }
 
 /// Ranks the shelf of each column of a new atlas in an empty list, for which there is room.
-fn rank_columns(frame: &Frame, ranked: &mut RankedShelves)
+fn rank_columns(frame: &Frame, ranked: &mut ShelvesByHeight)
     requires frame { IsFrame longest_side frame.now }
     requires columns { HasAllColumns frame.now }
     requires empty { ranked.old.items ≡ [] }
@@ -72,7 +72,7 @@ fn rank_columns(frame: &Frame, ranked: &mut RankedShelves)
 }
 
 /// Ranks the shelves in use of records, in the memory that the list has.
-pub fn rank_shelves(frame: &Frame, records: &Records, ranked: &mut RankedShelves)
+pub fn rank_shelves(frame: &Frame, records: &Records, ranked: &mut ShelvesByHeight)
     requires kept { AreKept frame.now records.now }
     requires room { length (shelf_walk records.now).met
         ≤ max (length ranked.old.items) ranked.old.capacity }
@@ -83,7 +83,7 @@ pub fn rank_shelves(frame: &Frame, records: &Records, ranked: &mut RankedShelves
 }
 
 /// Makes the list that of the shelves in use by their chain, newly ranked, in the memory that it has.
-fn collect_shelves(frame: &Frame, records: &Records, ranked: &mut RankedShelves)
+fn collect_shelves(frame: &Frame, records: &Records, ranked: &mut ShelvesByHeight)
     requires kept { AreKept frame.now records.now }
     requires room { length (shelf_walk records.now).met
         ≤ max (length ranked.old.items) ranked.old.capacity }

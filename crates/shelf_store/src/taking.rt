@@ -13,7 +13,7 @@ ghost use Rattle.shelf_store.specs.Private.PlacementTaken.{CanRank, CanTakeFrom,
 use etagere_base::{AllocId, INDEX_MODULUS};
 use etagere_links::{Link, LinkedItem, LinkedShelf, Records};
 use shelf_heights::heights::{put_in, ranked_shelf, take_out};
-use shelf_heights::ranked::RankedShelves;
+use shelf_heights::ranked::ShelvesByHeight;
 use shelf_model::placements::Placement;
 use std::alloc::AllocError;
 
@@ -21,7 +21,7 @@ use std::alloc::AllocError;
 /// `Err`, which comes only where something is split, changes nothing.
 pub fn take_placement(
     records: &mut Records,
-    ranked: &mut RankedShelves,
+    ranked: &mut ShelvesByHeight,
     found: &Placement,
     column_width: u16,
 ) -> Result<AllocId, AllocError>
@@ -57,7 +57,7 @@ pub fn take_placement(
 /// Splits the shelf of a placement, where these are the numbers of the records of the rest and of its item.
 fn make_shelf_rest(
     records: &mut Records,
-    ranked: &mut RankedShelves,
+    ranked: &mut ShelvesByHeight,
     found: &Placement,
     column_width: u16,
     shelf: Option<usize>,
@@ -87,7 +87,7 @@ fn make_shelf_rest(
 /// of ranked shelves has room for one more.
 fn split_shelf(
     records: &mut Records,
-    ranked: &mut RankedShelves,
+    ranked: &mut ShelvesByHeight,
     found: &Placement,
     column_width: u16,
     shelf: usize,

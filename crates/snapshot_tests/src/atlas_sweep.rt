@@ -368,7 +368,7 @@ fn sized(options: &AllocatorOptions, along: i32, across: i32) -> Size {
 }
 
 /// An atlas of two columns after several sizes, of which some were returned. Shelves and items were
-/// split and merged, so that records of both kinds were put aside.
+/// split and merged, so that records of both kinds became unused.
 fn worn(
     rt: &(impl AllocGlobal + Abort),
     options: &AllocatorOptions,

@@ -179,7 +179,7 @@ fn two_shelves_share_no_items(rt: HostRuntime) -> Result<(), Fail> {
     Ok(())
 }
 
-/// A snapshot with one item record that was put aside.
+/// A snapshot with one item record that became unused.
 fn with_unused(
     rt: &impl AllocGlobal,
     allocated: bool,
@@ -305,7 +305,7 @@ fn a_chain_that_many_shelves_share_is_followed_once(rt: HostRuntime) -> Result<(
     Ok(())
 }
 
-/// An atlas with two columns of vertical shelves, where records were put aside.
+/// An atlas with two columns of vertical shelves, where records became unused.
 fn used_atlas(rt: &impl AllocGlobal) -> Result<AtlasAllocator, Fail> {
     let options = AllocatorOptions {
         alignment: size2(2, 4),

@@ -25,7 +25,7 @@ pub fn quiet_shelves(rt: &(impl Print + AllocGlobal)) -> Result<(), ReplayFault>
     try_shelves(rt, restored, kept)
 }
 
-/// The rest of a shelf is filled without a split, another shelf is split by records that were put aside, and after the
+/// The rest of a shelf is filled without a split, another shelf is split by records that were unused, and after the
 /// clear the whole atlas is filled. Where nothing is allocated, a growth needs no record, nor does one to the present
 /// size.
 fn try_shelves(

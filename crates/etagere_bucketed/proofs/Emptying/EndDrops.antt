@@ -12,7 +12,7 @@ use Rattle.etagere_bucketed.proofs.Shelving.Shelves.{buckets_in_use-append}
 use Rattle.etagere_bucketed.proofs.Spelling.FoundFirst.{live-idle}
 use Rattle.etagere_bucketed.proofs.Spelling.KeptShelves.{has-end, HasEnd, last-kept}
 
--- the records after the end was dropped, and how many buckets that put aside
+-- the records after the end was dropped, and how many buckets became unused
 pub record DropsAll (frame : Frame) (done after : Dropping) (xs : List BucketShelf) : Type 0 where
   pub unused : List ℕ
   pub spells : Spells frame after.stored unused (without_idle_end xs)

@@ -1,4 +1,4 @@
--- Records spell the shelves without the last one, where that holds nothing live and its buckets are put aside.
+-- Records spell the shelves without the last one, where that holds nothing live and its buckets are unused.
 use Rattle.std.proofs.Common.{◌≡◌, ◌≢◌, ℕ, zero, suc, ◌+◌, ◌-◌, ◌<◌, ◌≤◌, Bool, true, false, cond, Option, None, Some, List, [], ◌∷◌, ◌++◌, length, take, refl, ap, arith, subst, sym, ◌∙◌, append_assoc, append-nil, length-append, ◌==◌}
 use Rattle.std.proofs.Math.Seq.{take-append_seam}
 use Rattle.std.proofs.lemmas.Bool.{and_parts, eqb-true}
@@ -55,13 +55,13 @@ idle-lives records shelf width (b ∷ bs) spelled idle =
       idle-lives records shelf width bs spelled.1 parts.1,
     )
 
--- the records after a list of idle buckets was put aside: which stay, and which are unused
+-- the records after a list of idle buckets became unused: which stay, and which are unused
 pub record IsAside (records : List LinkedBucket) (top : Option ℕ) (front unused : List ℕ) (bs : List Bucket) : Type 0 where
   pub stays : (k : ℕ) → 1 ≤ times k front → slice_get (row_aside (first_link bs) top records) k ≡ slice_get records k
   pub pool : IsPool (row_aside (first_link bs) top records) (or_else (first_link bs) top) front (numbers_of bs ++ unused)
   pub count : row_count records (first_link bs) ≡ length bs
 
--- idle buckets are put aside
+-- idle buckets are unused
 pub row-set_aside : (records : List LinkedBucket) (top : Option ℕ) (front unused : List ℕ) (shelf width : ℕ) (bs : List Bucket)
     → AreBucketsSpelled records shelf width bs → list_all is_idle_bucket bs ≡ true → IsPool records top (front ++ numbers_of bs) unused
     → IsAside records top front unused bs
@@ -168,7 +168,7 @@ end-idle steps rest done kept e last idle =
     is-zero : (n : ℕ) → n ≤ 0 → (n == 0) ≡ true
     is-zero n h = grind arith
 
--- putting aside keeps the number of records
+-- making unused keeps the number of records
 pub length-aside : (first top : Option ℕ) (records : List LinkedBucket) → length (row_aside first top records) ≡ length records
 length-aside None top records = refl
 length-aside (Some first) top records = length-changed_by (linked_to top) records (Some (row_end records first).last)

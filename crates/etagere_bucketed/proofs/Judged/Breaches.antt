@@ -58,7 +58,7 @@ walk-breaks-unused buckets marks unused Sharing h = λ end numbers marked once.
 walk-breaks-unused buckets marks unused Memory h = h
 walk-breaks-unused buckets marks unused _ h = absurd h
 
--- a rule that is broken by the records put aside is broken
+-- a rule that is broken by the unused records is broken
 pub unused-breaks : (frame : Frame) (buckets : List LinkedBucket) (shelves : List LinkedBucketShelf) (atlas : BucketRecords) (marks : List Bool) (unused : Option ℕ) (fault : RestoreFault)
     → IsMarkedBy marks (walked_numbers buckets shelves) → BreaksUnused buckets marks unused fault
     → atlas.frame ≡ frame → atlas.shelves ≡ shelves → atlas.buckets ≡ buckets → atlas.unused ≡ unused → Breaks atlas fault

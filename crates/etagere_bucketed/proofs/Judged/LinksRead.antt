@@ -30,7 +30,7 @@ use Rattle.etagere_bucketed.proofs.Judged.JudgedShelves.{length_of_take, split-a
 bucket-once : (buckets : List LinkedBucket) (link : Option ℕ) → length buckets ≤ most_buckets → (k : ℕ) → times k (bucket_walk buckets link).met ≤ 1
 bucket-once buckets link few = (walk-leads (links_of buckets) (bits_of link) (omega (arith, few, links-length buckets))).once
 
--- the links of all walks are those of the buckets in use and of those put aside
+-- the links of all walks are those of the buckets in use and of the unused ones
 pub all-links : (atlas : BucketRecords) → links_of_all atlas ≡ length (walked_numbers atlas.buckets atlas.shelves) + length (bucket_walk atlas.buckets atlas.unused).met
 all-links atlas = along atlas.shelves
   where
@@ -165,7 +165,7 @@ whole-read atlas steps judged once all =
     (subst (λ (ss : List LinkedBucketShelf). AreReadFrom atlas [] 0 ss (length (walked_numbers atlas.buckets atlas.shelves) + length (bucket_walk atlas.buckets atlas.unused).met)) (append-nil atlas.shelves)
     (front-read atlas [] 0 atlas.shelves [] (length (bucket_walk atlas.buckets atlas.unused).met) judged once refl))
 
--- the buckets put aside break a rule, behind shelves that were judged
+-- the unused buckets break a rule, behind shelves that were judged
 pub unused-read : (atlas : BucketRecords) (marks : List Bool) (steps : ℕ) (fault : RestoreFault) → AreJudged atlas.frame atlas.buckets 0 atlas.shelves
     → IsMarkedBy marks (walked_numbers atlas.buckets atlas.shelves) → BreaksUnused atlas.buckets marks atlas.unused fault
     → StopsAfter (length (walked_numbers atlas.buckets atlas.shelves) + length (bucket_walk atlas.buckets atlas.unused).met) steps fault → IsRead atlas steps fault

@@ -214,7 +214,7 @@ once-length count ns once =
     one k below h = grind (arith, h)
 
 module _ (atlas : BucketRecords) (fit : LinksFit atlas) (stands : StandsFor atlas (spelled_state atlas.frame atlas.shelves atlas.buckets)) where
-  -- the shelves that are spelled, the numbers of their buckets, and those that are put aside
+  -- the shelves that are spelled, the numbers of their buckets, and those that are unused
   abbrev spelled : List BucketShelf
   spelled = map (spelled_shelf atlas.frame atlas.buckets) atlas.shelves
 

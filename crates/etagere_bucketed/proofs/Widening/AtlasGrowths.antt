@@ -64,7 +64,7 @@ after-growth inside size frame new made consistent fits resized widened count =
       space = consistent.totals.space ∙ sym g.space;
     }
 
--- a growth uses records that were put aside before it makes new ones
+-- a growth uses records that were unused before it makes new ones
 pub growth-uses : (inside : Inside) (size : Size) (frame : Frame) → IsConsistent inside → grow_fault inside.frame size ≡ None → frame ≡ grown_frame inside.frame size
     → UsesUnused inside.frame.column_width (frame.column_width - inside.frame.column_width) (4095 - inside.buckets_in_use) inside.store
 growth-uses inside size frame consistent fits resized =

@@ -63,7 +63,7 @@ shelves_widened (suc count) number place added left stored =
     shelves_widened count (suc number) place added (left - share_)
     (shelf_widened number place share_ stored)
 
--- records put aside are used before new ones are made, where so many buckets are left before
+-- unused records are used before new ones are made, where so many buckets are left before
 -- shelves get theirs
 abbrev pub UsesUnused : ℕ → ℕ → ℕ → Stored → Type 0
 UsesUnused place added left stored =

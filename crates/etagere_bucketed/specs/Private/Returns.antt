@@ -93,7 +93,7 @@ row_end buckets first = row_from (length buckets) buckets 1 first
 abbrev pub linked_to : Option ℕ → LinkedBucket → LinkedBucket
 linked_to next bucket = record bucket { next = next }
 
--- records from which shelves at the end are dropped, and how many buckets that put aside
+-- records from which shelves at the end are dropped, and how many buckets became unused
 pub record Dropping : Type 0 where
   pub stored : Stored
   pub count : ℕ
@@ -105,7 +105,7 @@ dropping_of shelves buckets unused count =
       count = count;
     }
 
--- the same of records, of which so many buckets were put aside
+-- the same of records, of which so many buckets became unused
 abbrev pub dropping_from : Stored → ℕ → Dropping
 dropping_from stored count = dropping_of stored.shelves stored.buckets stored.unused count
 
@@ -124,7 +124,7 @@ row_count buckets (Some first) = (row_end buckets first).count
 abbrev pub last_kept : List KeptShelf → Option KeptShelf
 last_kept shelves = slice_get shelves (length shelves - 1)
 
--- the last shelf was dropped, and its buckets put aside
+-- the last shelf was dropped, and its unused buckets
 abbrev pub last_dropped : KeptShelf → Dropping → Dropping
 last_dropped kept done =
     let first = kept.shelf.first_bucket in

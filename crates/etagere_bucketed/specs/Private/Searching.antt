@@ -11,7 +11,7 @@ pub use Rattle.etagere_bucketed.specs.declared.searching.Wanted.{Wanted}
 use Rattle.etagere_bucketed.specs.declared.searching.Wanted.TheVariants.{Roomy, Exact}
 pub use Rattle.etagere_bucketed.specs.declared.searching.Found.{Found}
 use Rattle.etagere_bucketed.specs.Picking.{or_else}
-use Rattle.etagere_bucketed.specs.Adding.{Left, NewShelf, can_add, new_shelves, news_of}
+use Rattle.etagere_bucketed.specs.Adding.{Remaining, NewShelf, can_add, new_shelves, news_of}
 use Rattle.etagere_bucketed.specs.declared.placing.Place as code
 use Rattle.etagere_bucketed.specs.declared.placing.Place.TheVariants as places
 use Rattle.etagere_bucketed.specs.Merging.{Group}
@@ -152,7 +152,7 @@ serves_at sides others (kept ∷ shelves) = kept_serves sides others kept shelve
 
 -- the place for these sides: the bucket that is picked, else shelves to be added, else shelves to
 -- be merged
-abbrev pub kept_place : Frame → Left → Sides → List KeptShelf → List LinkedBucket → Option Place
+abbrev pub kept_place : Frame → Remaining → Sides → List KeptShelf → List LinkedBucket → Option Place
 kept_place frame left sides shelves buckets =
     let adds = can_add frame left sides.across in
     or_else

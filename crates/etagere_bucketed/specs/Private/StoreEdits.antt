@@ -61,7 +61,7 @@ made_again new made number old =
       first = Some number;
     }
 
--- one more bucket in front of a shelf: in the record put aside last, or else in a new one
+-- one more bucket in front of a shelf: in the record that became unused last, or else in a new one
 abbrev pub made_one : NewBuckets → Made → Made
 made_one new made =
     option_map_or
@@ -269,8 +269,8 @@ StayShort frame [] stored = Unit {0}
 StayShort frame (new ∷ news) stored =
     IsShort frame stored.shelves × StayShort frame news (stored_shelf frame new stored)
 
--- new shelves can be made with the records that there are, where so many buckets are in use: those
--- put aside are used before new ones are made
+-- new shelves can be made with the records that there are, where so many buckets are in use: unused
+-- ones are used before new ones are made
 pub record CanStore (frame : Frame) (news : List NewShelf) (in_use : ℕ) (stored : Stored)
     : Type 0 where
   pub each : Each (IsNewShelf frame) news

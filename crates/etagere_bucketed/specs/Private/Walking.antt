@@ -80,7 +80,7 @@ BreaksShelf frame buckets marks number shelf Sharing =
 BreaksShelf frame buckets marks number shelf Memory = Unit {0}
 BreaksShelf frame buckets marks number shelf fault = ⊥
 
--- the rule that a fault names is broken by the records put aside, where these were marked before
+-- the rule that a fault names is broken by the unused records, where these were marked before
 abbrev pub BreaksUnused : List LinkedBucket → List Bool → Option ℕ → RestoreFault → Type 0
 BreaksUnused buckets marks unused Link = StopsInRange (length buckets) (bucket_walk buckets unused) → ⊥
 BreaksUnused buckets marks unused Sharing =

@@ -1,10 +1,10 @@
--- Linked records stay linked where the lists of one shelf change, or records are put aside or taken.
+-- Linked records stay linked where the lists of one shelf change, or records become unused or are taken.
 use Rattle.std.proofs.Common.{◌≡◌, ℕ, ◌+◌, List, ◌∷◌, ◌++◌, length, ap, arith, sym, ◌∙◌}
 use Rattle.etagere_base.proofs.EachLemmas.{Each-append, Each-front, Each-back}
 use Rattle.etagere_base.proofs.TimesLemmas.{times-append}
 use Rattle.etagere_base.specs.Lists.{Each, times}
 use Rattle.etagere_links.specs.Edits.{link_at}
-use Rattle.etagere_links.specs.RecordLists.{Records, Entry, Lists, shelf_numbers, item_numbers, IsEntry, IsLinkedBut}
+use Rattle.etagere_links.specs.RecordLists.{Records, Entry, Lists, shelf_numbers, item_numbers, IsEntry, IsLinkedExcept}
 use Rattle.etagere_links.specs.Records.{item_chain, shelf_chain}
 use Rattle.etagere_links.proofs.AllLists.LinkedFrames.{SameAt, SameFirsts, chain-same, pile-frame, pile-same, entries-frame, item_numbers-append, shelf_numbers-append}
 
@@ -23,8 +23,8 @@ pub record EditsEntry (records new : Records) (before after : List Entry) (unuse
   pub shelf_previous : (k : ℕ) → link_at shelf_chain.previous new.shelves k ≡ link_at shelf_chain.previous records.shelves k
   pub firsts : SameFirsts records.shelves new.shelves (shelf_numbers before ++ shelf_numbers after)
   pub first_shelf : new.first_shelf ≡ records.first_shelf
-  pub free_items : new.free_items ≡ records.free_items
-  pub free_shelves : new.free_shelves ≡ records.free_shelves
+  pub unused_items : new.unused_items ≡ records.unused_items
+  pub unused_shelves : new.unused_shelves ≡ records.unused_shelves
   pub lists : IsEntry new edited
   pub members : (k : ℕ) → times k edited.items + times k loose' ≡ times k entry.items + times k loose
 
@@ -41,7 +41,7 @@ same-numbers before after entry edited same =
     ∙ sym (shelf_numbers-append before (entry ∷ after))
 
 -- the lists of one shelf were edited
-pub entry-edited : (records new : Records) (before after : List Entry) (entry edited : Entry) (unused_items unused_shelves loose loose' loose_shelves : List ℕ) → EditsEntry records new before after unused_items loose loose' entry edited → IsLinkedBut records (with_entry before entry after unused_items unused_shelves) loose loose_shelves → IsLinkedBut new (with_entry before edited after unused_items unused_shelves) loose' loose_shelves
+pub entry-edited : (records new : Records) (before after : List Entry) (entry edited : Entry) (unused_items unused_shelves loose loose' loose_shelves : List ℕ) → EditsEntry records new before after unused_items loose loose' entry edited → IsLinkedExcept records (with_entry before entry after unused_items unused_shelves) loose loose_shelves → IsLinkedExcept new (with_entry before edited after unused_items unused_shelves) loose' loose_shelves
 entry-edited records new before after entry edited unused_items unused_shelves loose loose' loose_shelves edits linked =
     let numbers : shelf_numbers (before ++ edited ∷ after) ≡ shelf_numbers (before ++ entry ∷ after) = same-numbers before after entry edited edits.number in
     let others : (k : ℕ) → times k (item_numbers before ++ item_numbers after ++ unused_items) ≡ times k (item_numbers before) + times k (item_numbers after) + times k unused_items =
@@ -63,8 +63,8 @@ entry-edited records new before after entry edited unused_items unused_shelves l
     record {
       shelves = rw (numbers, edits.first_shelf) (chain-same shelf_chain records.shelves new.shelves records.first_shelf (shelf_numbers (before ++ entry ∷ after)) edits.shelf_next edits.shelf_previous linked.shelves);
       entries = Each-append (IsEntry new) before (edited ∷ after) front (edits.lists, back);
-      unused_items = rw edits.free_items (pile-frame item_chain records.items new.items records.free_items unused_items (λ k stands. edits.items k (omega (arith, others k, stands))) linked.unused_items);
-      unused_shelves = rw edits.free_shelves (pile-same shelf_chain records.shelves new.shelves records.free_shelves unused_shelves edits.shelf_next linked.unused_shelves);
+      unused_items = rw edits.unused_items (pile-frame item_chain records.items new.items records.unused_items unused_items (λ k stands. edits.items k (omega (arith, others k, stands))) linked.unused_items);
+      unused_shelves = rw edits.unused_shelves (pile-same shelf_chain records.shelves new.shelves records.unused_shelves unused_shelves edits.shelf_next linked.unused_shelves);
       shelves_once = rw (numbers, edits.shelf_count) linked.shelves_once;
       items_once = λ k. rw edits.item_count (same_count k ∙ linked.items_once k);
     }

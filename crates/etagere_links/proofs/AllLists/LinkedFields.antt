@@ -8,7 +8,7 @@ use Rattle.etagere_links.specs.declared.records.LinkedItem.{LinkedItem}
 use Rattle.etagere_links.specs.declared.records.LinkedShelf.{LinkedShelf}
 use Rattle.etagere_links.specs.Edits.{changed_by, link_at}
 use Rattle.etagere_links.specs.RecordEdits.{item_changed, shelf_changed, item_made, shelf_made}
-use Rattle.etagere_links.specs.RecordLists.{Records, Entry, first_item_of, first_free_of, shelf_numbers, item_numbers, HasEachOnce, IsEntry, IsLinkedBut}
+use Rattle.etagere_links.specs.RecordLists.{Records, Entry, first_item_of, first_free_of, shelf_numbers, item_numbers, HasEachOnce, IsEntry, IsLinkedExcept}
 use Rattle.etagere_links.specs.Records.{item_chain, free_list, shelf_chain}
 use Rattle.etagere_links.proofs.FirstLinks.{field_at-kept, field_at-other}
 use Rattle.etagere_links.proofs.AllLists.LinkedFrames.{chain-frame, chain-same, pile-frame, pile-same, entries-frame}
@@ -50,21 +50,21 @@ entries-same records number change keeps (entry ∷ entries) are =
     )
 
 -- a field of an item record was changed that is no link
-pub item_changed-linked : (records : Records) (number : ℕ) (change : LinkedItem → LinkedItem) (entries : List Entry) (unused_items unused_shelves loose loose_shelves : List ℕ) → KeepsItemLinks change → IsLinkedBut records (lists_of entries unused_items unused_shelves) loose loose_shelves → IsLinkedBut (item_changed number change records) (lists_of entries unused_items unused_shelves) loose loose_shelves
+pub item_changed-linked : (records : Records) (number : ℕ) (change : LinkedItem → LinkedItem) (entries : List Entry) (unused_items unused_shelves loose loose_shelves : List ℕ) → KeepsItemLinks change → IsLinkedExcept records (lists_of entries unused_items unused_shelves) loose loose_shelves → IsLinkedExcept (item_changed number change records) (lists_of entries unused_items unused_shelves) loose loose_shelves
 item_changed-linked records number change entries unused_items unused_shelves loose loose_shelves keeps linked =
     let items : List LinkedItem = records.items in
     let new : List LinkedItem = changed_by (Some number) change items in
     record {
       shelves = linked.shelves;
       entries = entries-same records number change keeps entries linked.entries;
-      unused_items = pile-same item_chain items new records.free_items unused_items (λ k. link_at-same item_chain.next items new k (map-changed_by item_chain.next change items (Some number) keeps.next)) linked.unused_items;
+      unused_items = pile-same item_chain items new records.unused_items unused_items (λ k. link_at-same item_chain.next items new k (map-changed_by item_chain.next change items (Some number) keeps.next)) linked.unused_items;
       unused_shelves = linked.unused_shelves;
       shelves_once = linked.shelves_once;
       items_once = λ k. rw (length-changed_by change items (Some number)) (linked.items_once k);
     }
 
 -- a field of a shelf record was changed that is no link
-pub shelf_changed-linked : (records : Records) (number : ℕ) (change : LinkedShelf → LinkedShelf) (entries : List Entry) (unused_items unused_shelves loose loose_shelves : List ℕ) → KeepsShelfLinks change → IsLinkedBut records (lists_of entries unused_items unused_shelves) loose loose_shelves → IsLinkedBut (shelf_changed number change records) (lists_of entries unused_items unused_shelves) loose loose_shelves
+pub shelf_changed-linked : (records : Records) (number : ℕ) (change : LinkedShelf → LinkedShelf) (entries : List Entry) (unused_items unused_shelves loose loose_shelves : List ℕ) → KeepsShelfLinks change → IsLinkedExcept records (lists_of entries unused_items unused_shelves) loose loose_shelves → IsLinkedExcept (shelf_changed number change records) (lists_of entries unused_items unused_shelves) loose loose_shelves
 shelf_changed-linked records number change entries unused_items unused_shelves loose loose_shelves keeps linked =
     let shelves : List LinkedShelf = records.shelves in
     let new : List LinkedShelf = changed_by (Some number) change shelves in
@@ -79,7 +79,7 @@ shelf_changed-linked records number change entries unused_items unused_shelves l
             field_at-kept (λ (x : LinkedShelf). x.first_unallocated) None change shelves number k keeps.first_unallocated,
           )) linked.entries;
       unused_items = linked.unused_items;
-      unused_shelves = pile-same shelf_chain shelves new records.free_shelves unused_shelves next linked.unused_shelves;
+      unused_shelves = pile-same shelf_chain shelves new records.unused_shelves unused_shelves next linked.unused_shelves;
       shelves_once = λ k. rw (length-changed_by change shelves (Some number)) (linked.shelves_once k);
       items_once = linked.items_once;
     }
@@ -92,7 +92,7 @@ differs n k xs absent stands e =
     omega (arith, absent)
 
 -- an item record in no list was written anew
-pub item_written-linked : (records : Records) (number : ℕ) (change : LinkedItem → LinkedItem) (entries : List Entry) (unused_items unused_shelves loose loose_shelves : List ℕ) → IsLinkedBut records (lists_of entries unused_items unused_shelves) (number ∷ loose) loose_shelves → IsLinkedBut (item_changed number change records) (lists_of entries unused_items unused_shelves) (number ∷ loose) loose_shelves
+pub item_written-linked : (records : Records) (number : ℕ) (change : LinkedItem → LinkedItem) (entries : List Entry) (unused_items unused_shelves loose loose_shelves : List ℕ) → IsLinkedExcept records (lists_of entries unused_items unused_shelves) (number ∷ loose) loose_shelves → IsLinkedExcept (item_changed number change records) (lists_of entries unused_items unused_shelves) (number ∷ loose) loose_shelves
 item_written-linked records number change entries unused_items unused_shelves loose loose_shelves linked =
     let items : List LinkedItem = records.items in
     let new : List LinkedItem = changed_by (Some number) change items in
@@ -102,7 +102,7 @@ item_written-linked records number change entries unused_items unused_shelves lo
       entries = entries-frame records (item_changed number change records) entries
           (λ k stands. get-changed_by-other change items (Some number) k (differs number k (item_numbers entries) is.no_used stands))
           (λ k stands. (refl, refl)) linked.entries;
-      unused_items = pile-frame item_chain items new records.free_items unused_items
+      unused_items = pile-frame item_chain items new records.unused_items unused_items
           (λ k stands. get-changed_by-other change items (Some number) k (differs number k unused_items is.no_unused stands)) linked.unused_items;
       unused_shelves = linked.unused_shelves;
       shelves_once = linked.shelves_once;
@@ -110,7 +110,7 @@ item_written-linked records number change entries unused_items unused_shelves lo
     }
 
 -- a shelf record in no list was written anew
-pub shelf_written-linked : (records : Records) (number : ℕ) (change : LinkedShelf → LinkedShelf) (entries : List Entry) (unused_items unused_shelves loose loose_shelves : List ℕ) → IsLinkedBut records (lists_of entries unused_items unused_shelves) loose (number ∷ loose_shelves) → IsLinkedBut (shelf_changed number change records) (lists_of entries unused_items unused_shelves) loose (number ∷ loose_shelves)
+pub shelf_written-linked : (records : Records) (number : ℕ) (change : LinkedShelf → LinkedShelf) (entries : List Entry) (unused_items unused_shelves loose loose_shelves : List ℕ) → IsLinkedExcept records (lists_of entries unused_items unused_shelves) loose (number ∷ loose_shelves) → IsLinkedExcept (shelf_changed number change records) (lists_of entries unused_items unused_shelves) loose (number ∷ loose_shelves)
 shelf_written-linked records number change entries unused_items unused_shelves loose loose_shelves linked =
     let shelves : List LinkedShelf = records.shelves in
     let new : List LinkedShelf = changed_by (Some number) change shelves in
@@ -125,7 +125,7 @@ shelf_written-linked records number change entries unused_items unused_shelves l
             field_at-other (λ (x : LinkedShelf). x.first_unallocated) None change shelves (Some number) k (differs number k used is.no_used stands),
           )) linked.entries;
       unused_items = linked.unused_items;
-      unused_shelves = pile-frame shelf_chain shelves new records.free_shelves unused_shelves
+      unused_shelves = pile-frame shelf_chain shelves new records.unused_shelves unused_shelves
           (λ k stands. get-changed_by-other change shelves (Some number) k (differs number k unused_shelves is.no_unused stands)) linked.unused_shelves;
       shelves_once = λ k. rw (length-changed_by change shelves (Some number)) (linked.shelves_once k);
       items_once = linked.items_once;
@@ -149,7 +149,7 @@ each-more count used unused loose once k =
     by_test false e = let other : count ≢ k = grind arith in let none : times k (count ∷ []) ≡ 0 = times-other k count [] other in grind (arith, none, once k)
 
 -- an item record was made: it stands in no list
-pub item_made-linked : (records : Records) (item : LinkedItem) (entries : List Entry) (unused_items unused_shelves loose loose_shelves : List ℕ) → IsLinkedBut records (lists_of entries unused_items unused_shelves) loose loose_shelves → IsLinkedBut (item_made item records) (lists_of entries unused_items unused_shelves) (length records.items ∷ loose) loose_shelves
+pub item_made-linked : (records : Records) (item : LinkedItem) (entries : List Entry) (unused_items unused_shelves loose loose_shelves : List ℕ) → IsLinkedExcept records (lists_of entries unused_items unused_shelves) loose loose_shelves → IsLinkedExcept (item_made item records) (lists_of entries unused_items unused_shelves) (length records.items ∷ loose) loose_shelves
 item_made-linked records item entries unused_items unused_shelves loose loose_shelves linked =
     let items : List LinkedItem = records.items in
     let new : List LinkedItem = items ++ item ∷ [] in
@@ -162,7 +162,7 @@ item_made-linked records item entries unused_items unused_shelves loose loose_sh
       entries = entries-frame records (item_made item records) entries
           (λ k stands. get-made items item k (within k (times k used) (omega (arith, three-count used unused_items loose k)) stands))
           (λ k stands. (refl, refl)) linked.entries;
-      unused_items = pile-frame item_chain items new records.free_items unused_items
+      unused_items = pile-frame item_chain items new records.unused_items unused_items
           (λ k stands. get-made items item k (within k (times k unused_items) (omega (arith, three-count used unused_items loose k)) stands)) linked.unused_items;
       unused_shelves = linked.unused_shelves;
       shelves_once = linked.shelves_once;
@@ -170,7 +170,7 @@ item_made-linked records item entries unused_items unused_shelves loose loose_sh
     }
 
 -- a shelf record was made: it stands in no list
-pub shelf_made-linked : (records : Records) (shelf : LinkedShelf) (entries : List Entry) (unused_items unused_shelves loose loose_shelves : List ℕ) → IsLinkedBut records (lists_of entries unused_items unused_shelves) loose loose_shelves → IsLinkedBut (shelf_made shelf records) (lists_of entries unused_items unused_shelves) loose (length records.shelves ∷ loose_shelves)
+pub shelf_made-linked : (records : Records) (shelf : LinkedShelf) (entries : List Entry) (unused_items unused_shelves loose loose_shelves : List ℕ) → IsLinkedExcept records (lists_of entries unused_items unused_shelves) loose loose_shelves → IsLinkedExcept (shelf_made shelf records) (lists_of entries unused_items unused_shelves) loose (length records.shelves ∷ loose_shelves)
 shelf_made-linked records shelf entries unused_items unused_shelves loose loose_shelves linked =
     let shelves : List LinkedShelf = records.shelves in
     let new : List LinkedShelf = shelves ++ shelf ∷ [] in
@@ -188,7 +188,7 @@ shelf_made-linked records shelf entries unused_items unused_shelves loose loose_
             ap (λ r. option_map_or (λ (x : LinkedShelf). x.first_unallocated) r None) (same k stands),
           )) linked.entries;
       unused_items = linked.unused_items;
-      unused_shelves = pile-frame shelf_chain shelves new records.free_shelves unused_shelves
+      unused_shelves = pile-frame shelf_chain shelves new records.unused_shelves unused_shelves
           (λ k stands. get-made shelves shelf k (within k (times k unused_shelves) (omega (arith, three-count used unused_shelves loose_shelves k)) stands)) linked.unused_shelves;
       shelves_once = λ k. rw longer (each-more (length shelves) used unused_shelves loose_shelves linked.shelves_once k);
       items_once = linked.items_once;

@@ -11,7 +11,7 @@ use Rattle.etagere_links.specs.Edits.{link_at, unlinked, first_without, linked_b
 use Rattle.etagere_links.specs.Families.{IsUnchanged}
 use Rattle.etagere_links.specs.Lists.{first_or, last_or}
 use Rattle.etagere_links.specs.RecordEdits.{with_first_item, with_first_free, item_unlinked, item_inserted_after, free_unlinked, free_inserted_front, free_inserted_after}
-use Rattle.etagere_links.specs.RecordLists.{Records, Entry, first_item_of, first_free_of, shelf_numbers, item_numbers, IsEntry, IsLinkedBut}
+use Rattle.etagere_links.specs.RecordLists.{Records, Entry, first_item_of, first_free_of, shelf_numbers, item_numbers, IsEntry, IsLinkedExcept}
 use Rattle.etagere_links.specs.Records.{item_chain, free_list}
 use Rattle.etagere_links.proofs.Chains.{Leads-start, next-is, previous-is}
 use Rattle.etagere_links.proofs.Families.{item_chain-laws, free_list-laws}
@@ -48,7 +48,7 @@ shelves-count before after entry unused loose k =
     rw all (omega (arith, times-append k (shelf_numbers before ++ shelf_numbers (entry ∷ after) ++ unused) loose, times-append k (shelf_numbers before ++ shelf_numbers (entry ∷ after)) unused, times-append k (shelf_numbers before) (shelf_numbers (entry ∷ after)), times-append k (shelf_numbers before) (shelf_numbers after)))
 
 -- linked records are apart
-pub linked-apart : (records : Records) (before after : List Entry) (entry : Entry) (unused_items unused_shelves loose loose_shelves : List ℕ) → IsLinkedBut records (with_entry before entry after unused_items unused_shelves) loose loose_shelves → IsApart records before after unused_items loose entry
+pub linked-apart : (records : Records) (before after : List Entry) (entry : Entry) (unused_items unused_shelves loose loose_shelves : List ℕ) → IsLinkedExcept records (with_entry before entry after unused_items unused_shelves) loose loose_shelves → IsApart records before after unused_items loose entry
 linked-apart records before after entry unused_items unused_shelves loose loose_shelves linked =
     let all : List ℕ = item_numbers (before ++ entry ∷ after) ++ unused_items ++ loose in
     let all_shelves : List ℕ = shelf_numbers (before ++ entry ∷ after) ++ unused_shelves ++ loose_shelves in
@@ -97,7 +97,7 @@ members-without free front back n k absent less = by_test (n == k) refl
         omega (arith, less, times-other k n back other, times-append k front (n ∷ back), times-append k front back)
 
 -- an item was taken out of its shelf: it stands in no list
-pub item_unlinked-linked : (records : Records) (before after : List Entry) (shelf number : ℕ) (front back free unused_items unused_shelves loose loose_shelves : List ℕ) → times number free ≡ 0 → IsLinkedBut records (with_entry before (record { number = shelf; items = front ++ number ∷ back; free_list = free }) after unused_items unused_shelves) loose loose_shelves → IsLinkedBut (item_unlinked shelf number records) (with_entry before (record { number = shelf; items = front ++ back; free_list = free }) after unused_items unused_shelves) (number ∷ loose) loose_shelves
+pub item_unlinked-linked : (records : Records) (before after : List Entry) (shelf number : ℕ) (front back free unused_items unused_shelves loose loose_shelves : List ℕ) → times number free ≡ 0 → IsLinkedExcept records (with_entry before (record { number = shelf; items = front ++ number ∷ back; free_list = free }) after unused_items unused_shelves) loose loose_shelves → IsLinkedExcept (item_unlinked shelf number records) (with_entry before (record { number = shelf; items = front ++ back; free_list = free }) after unused_items unused_shelves) (number ∷ loose) loose_shelves
 item_unlinked-linked records before after shelf number front back free unused_items unused_shelves loose loose_shelves absent linked =
     let entry : Entry = record { number = shelf; items = front ++ number ∷ back; free_list = free } in
     let edited : Entry = record { number = shelf; items = front ++ back; free_list = free } in
@@ -129,8 +129,8 @@ item_unlinked-linked records before after shelf number front back free unused_it
         field_at-other (λ (x : LinkedShelf). x.first_unallocated) None (to_first_item link) records.shelves (Some shelf) k (apart.numbers k stands),
       );
       first_shelf = refl;
-      free_items = refl;
-      free_shelves = refl;
+      unused_items = refl;
+      unused_shelves = refl;
       lists = record {
         items = rw (first_new, link_is) spelled;
         free_list = rw free_same (chain-same free_list items (unlinked item_chain number items) (first_free_of records.shelves shelf) free
@@ -144,7 +144,7 @@ item_unlinked-linked records before after shelf number front back free unused_it
     linked
 
 -- an item was taken out of the free list of its shelf
-pub free_unlinked-linked : (records : Records) (before after : List Entry) (shelf number : ℕ) (numbers front back unused_items unused_shelves loose loose_shelves : List ℕ) → IsLinkedBut records (with_entry before (record { number = shelf; items = numbers; free_list = front ++ number ∷ back }) after unused_items unused_shelves) loose loose_shelves → IsLinkedBut (free_unlinked shelf number records) (with_entry before (record { number = shelf; items = numbers; free_list = front ++ back }) after unused_items unused_shelves) loose loose_shelves
+pub free_unlinked-linked : (records : Records) (before after : List Entry) (shelf number : ℕ) (numbers front back unused_items unused_shelves loose loose_shelves : List ℕ) → IsLinkedExcept records (with_entry before (record { number = shelf; items = numbers; free_list = front ++ number ∷ back }) after unused_items unused_shelves) loose loose_shelves → IsLinkedExcept (free_unlinked shelf number records) (with_entry before (record { number = shelf; items = numbers; free_list = front ++ back }) after unused_items unused_shelves) loose loose_shelves
 free_unlinked-linked records before after shelf number numbers front back unused_items unused_shelves loose loose_shelves linked =
     let entry : Entry = record { number = shelf; items = numbers; free_list = front ++ number ∷ back } in
     let edited : Entry = record { number = shelf; items = numbers; free_list = front ++ back } in
@@ -179,8 +179,8 @@ free_unlinked-linked records before after shelf number numbers front back unused
         field_at-other (λ (x : LinkedShelf). x.first_unallocated) None (to_first_free link) records.shelves (Some shelf) k (apart.numbers k stands),
       );
       first_shelf = refl;
-      free_items = refl;
-      free_shelves = refl;
+      unused_items = refl;
+      unused_shelves = refl;
       lists = record {
         items = rw item_same (chain-same item_chain items new (first_item_of records.shelves shelf) numbers
             (λ k. link_at-same item_chain.next items new k (map-unlinked free_list item_chain.next frees-keep_next items number))
@@ -207,7 +207,7 @@ members-with numbers free more n k stands absent less e = by_test (n == k) refl
     by_test false t = let other : n ≢ k = grind arith in omega (arith, less, e, times-other k n free other)
 
 -- an item was put in front of the free list of its shelf
-pub free_inserted_front-linked : (records : Records) (before after : List Entry) (shelf number : ℕ) (numbers free unused_items unused_shelves loose loose_shelves : List ℕ) → 1 ≤ times number numbers → times number free ≡ 0 → IsLinkedBut records (with_entry before (record { number = shelf; items = numbers; free_list = free }) after unused_items unused_shelves) loose loose_shelves → IsLinkedBut (free_inserted_front shelf number records) (with_entry before (record { number = shelf; items = numbers; free_list = number ∷ free }) after unused_items unused_shelves) loose loose_shelves
+pub free_inserted_front-linked : (records : Records) (before after : List Entry) (shelf number : ℕ) (numbers free unused_items unused_shelves loose loose_shelves : List ℕ) → 1 ≤ times number numbers → times number free ≡ 0 → IsLinkedExcept records (with_entry before (record { number = shelf; items = numbers; free_list = free }) after unused_items unused_shelves) loose loose_shelves → IsLinkedExcept (free_inserted_front shelf number records) (with_entry before (record { number = shelf; items = numbers; free_list = number ∷ free }) after unused_items unused_shelves) loose loose_shelves
 free_inserted_front-linked records before after shelf number numbers free unused_items unused_shelves loose loose_shelves stands absent linked =
     let entry : Entry = record { number = shelf; items = numbers; free_list = free } in
     let edited : Entry = record { number = shelf; items = numbers; free_list = number ∷ free } in
@@ -239,8 +239,8 @@ free_inserted_front-linked records before after shelf number numbers free unused
         field_at-other (λ (x : LinkedShelf). x.first_unallocated) None (to_first_free (Some number)) records.shelves (Some shelf) k (apart.numbers k other),
       );
       first_shelf = refl;
-      free_items = refl;
-      free_shelves = refl;
+      unused_items = refl;
+      unused_shelves = refl;
       lists = record {
         items = rw item_same (chain-same item_chain items new (first_item_of records.shelves shelf) numbers
             (λ k. link_at-same item_chain.next items new k (map-linked_between free_list item_chain.next frees-keep_next items None first number))
@@ -254,7 +254,7 @@ free_inserted_front-linked records before after shelf number numbers free unused
     linked
 
 -- an item was put after another one in the free list of its shelf
-pub free_inserted_after-linked : (records : Records) (before after : List Entry) (shelf previous number : ℕ) (numbers front back unused_items unused_shelves loose loose_shelves : List ℕ) → 1 ≤ times number numbers → times number (front ++ previous ∷ back) ≡ 0 → IsLinkedBut records (with_entry before (record { number = shelf; items = numbers; free_list = front ++ previous ∷ back }) after unused_items unused_shelves) loose loose_shelves → IsLinkedBut (free_inserted_after previous number records) (with_entry before (record { number = shelf; items = numbers; free_list = front ++ previous ∷ number ∷ back }) after unused_items unused_shelves) loose loose_shelves
+pub free_inserted_after-linked : (records : Records) (before after : List Entry) (shelf previous number : ℕ) (numbers front back unused_items unused_shelves loose loose_shelves : List ℕ) → 1 ≤ times number numbers → times number (front ++ previous ∷ back) ≡ 0 → IsLinkedExcept records (with_entry before (record { number = shelf; items = numbers; free_list = front ++ previous ∷ back }) after unused_items unused_shelves) loose loose_shelves → IsLinkedExcept (free_inserted_after previous number records) (with_entry before (record { number = shelf; items = numbers; free_list = front ++ previous ∷ number ∷ back }) after unused_items unused_shelves) loose loose_shelves
 free_inserted_after-linked records before after shelf previous number numbers front back unused_items unused_shelves loose loose_shelves stands absent linked =
     let free : List ℕ = front ++ previous ∷ back in
     let more : List ℕ = front ++ previous ∷ number ∷ back in
@@ -283,8 +283,8 @@ free_inserted_after-linked records before after shelf previous number numbers fr
       shelf_previous = λ k. refl;
       firsts = λ k other. (refl, refl);
       first_shelf = refl;
-      free_items = refl;
-      free_shelves = refl;
+      unused_items = refl;
+      unused_shelves = refl;
       lists = record {
         items = chain-same item_chain items new (first_item_of records.shelves shelf) numbers
             (λ k. link_at-same item_chain.next items new k (map-linked_between free_list item_chain.next frees-keep_next items (Some previous) next number))
@@ -298,7 +298,7 @@ free_inserted_after-linked records before after shelf previous number numbers fr
     linked
 
 -- an item that stood in no list was put after another one of a shelf
-pub item_inserted_after-linked : (records : Records) (before after : List Entry) (shelf previous number : ℕ) (front back free unused_items unused_shelves loose loose_shelves : List ℕ) → IsLinkedBut records (with_entry before (record { number = shelf; items = front ++ previous ∷ back; free_list = free }) after unused_items unused_shelves) (number ∷ loose) loose_shelves → IsLinkedBut (item_inserted_after previous number records) (with_entry before (record { number = shelf; items = front ++ previous ∷ number ∷ back; free_list = free }) after unused_items unused_shelves) loose loose_shelves
+pub item_inserted_after-linked : (records : Records) (before after : List Entry) (shelf previous number : ℕ) (front back free unused_items unused_shelves loose loose_shelves : List ℕ) → IsLinkedExcept records (with_entry before (record { number = shelf; items = front ++ previous ∷ back; free_list = free }) after unused_items unused_shelves) (number ∷ loose) loose_shelves → IsLinkedExcept (item_inserted_after previous number records) (with_entry before (record { number = shelf; items = front ++ previous ∷ number ∷ back; free_list = free }) after unused_items unused_shelves) loose loose_shelves
 item_inserted_after-linked records before after shelf previous number front back free unused_items unused_shelves loose loose_shelves linked =
     let numbers : List ℕ = front ++ previous ∷ back in
     let more : List ℕ = front ++ previous ∷ number ∷ back in
@@ -329,8 +329,8 @@ item_inserted_after-linked records before after shelf previous number front back
       shelf_previous = λ k. refl;
       firsts = λ k other. (refl, refl);
       first_shelf = refl;
-      free_items = refl;
-      free_shelves = refl;
+      unused_items = refl;
+      unused_shelves = refl;
       lists = record {
         items = spelled;
         free_list = chain-same free_list items new (first_free_of records.shelves shelf) free

@@ -9,7 +9,7 @@ use Rattle.etagere_links.specs.Edits.{link_at, unlinked, first_without, linked_b
 use Rattle.etagere_links.specs.Families.{IsUnchanged}
 use Rattle.etagere_links.specs.Lists.{first_or, last_or}
 use Rattle.etagere_links.specs.RecordEdits.{shelf_unlinked, shelf_inserted_after}
-use Rattle.etagere_links.specs.RecordLists.{Records, Entry, shelf_numbers, item_numbers, HasEachOnce, IsEntry, IsLinkedBut}
+use Rattle.etagere_links.specs.RecordLists.{Records, Entry, shelf_numbers, item_numbers, HasEachOnce, IsEntry, IsLinkedExcept}
 use Rattle.etagere_links.specs.Records.{shelf_chain}
 use Rattle.etagere_links.proofs.Chains.{Leads-start, next-is, previous-is}
 use Rattle.etagere_links.proofs.Families.{shelf_chain-laws}
@@ -33,7 +33,7 @@ numbers-of : (before after : List Entry) (entry : Entry) → shelf_numbers (befo
 numbers-of before after entry = shelf_numbers-append before (entry ∷ after)
 
 -- a shelf was taken out of the chain: neither it nor its items stand in a list
-pub shelf_unlinked-linked : (records : Records) (before after : List Entry) (entry : Entry) (unused_items unused_shelves loose loose_shelves : List ℕ) → IsLinkedBut records (lists_of (before ++ entry ∷ after) unused_items unused_shelves) loose loose_shelves → IsLinkedBut (shelf_unlinked entry.number records) (lists_of (before ++ after) unused_items unused_shelves) (entry.items ++ loose) (entry.number ∷ loose_shelves)
+pub shelf_unlinked-linked : (records : Records) (before after : List Entry) (entry : Entry) (unused_items unused_shelves loose loose_shelves : List ℕ) → IsLinkedExcept records (lists_of (before ++ entry ∷ after) unused_items unused_shelves) loose loose_shelves → IsLinkedExcept (shelf_unlinked entry.number records) (lists_of (before ++ after) unused_items unused_shelves) (entry.items ++ loose) (entry.number ∷ loose_shelves)
 shelf_unlinked-linked records before after entry unused_items unused_shelves loose loose_shelves linked =
     let shelves : List LinkedShelf = records.shelves in
     let number : ℕ = entry.number in
@@ -72,7 +72,7 @@ shelf_unlinked-linked records before after entry unused_items unused_shelves loo
           (frame before (Each-front (IsEntry records) before (entry ∷ after) linked.entries))
           (frame after (Each-back (IsEntry records) before (entry ∷ after) linked.entries).1);
       unused_items = linked.unused_items;
-      unused_shelves = pile-frame shelf_chain shelves new records.free_shelves unused_shelves
+      unused_shelves = pile-frame shelf_chain shelves new records.unused_shelves unused_shelves
           (λ k stands. get-unlinked shelf_chain shelves records.first_shelf front back number k chain
           (let most : times k all ≤ 1 = (once-part (length shelves) all k (times k all) once (omega arith)).0 in
           omega (arith, most, stands, parts k, three-count (front ++ number ∷ back) unused_shelves loose_shelves k))) linked.unused_shelves;
@@ -81,7 +81,7 @@ shelf_unlinked-linked records before after entry unused_items unused_shelves loo
     }
 
 -- a shelf that stood in no list, with an item that stood in none, was put after another one
-pub shelf_inserted_after-linked : (records : Records) (before after : List Entry) (entry added : Entry) (unused_items unused_shelves loose loose_shelves : List ℕ) → IsEntry records added → IsLinkedBut records (lists_of (before ++ entry ∷ after) unused_items unused_shelves) (added.items ++ loose) (added.number ∷ loose_shelves) → IsLinkedBut (shelf_inserted_after entry.number added.number records) (lists_of (before ++ entry ∷ added ∷ after) unused_items unused_shelves) loose loose_shelves
+pub shelf_inserted_after-linked : (records : Records) (before after : List Entry) (entry added : Entry) (unused_items unused_shelves loose loose_shelves : List ℕ) → IsEntry records added → IsLinkedExcept records (lists_of (before ++ entry ∷ after) unused_items unused_shelves) (added.items ++ loose) (added.number ∷ loose_shelves) → IsLinkedExcept (shelf_inserted_after entry.number added.number records) (lists_of (before ++ entry ∷ added ∷ after) unused_items unused_shelves) loose loose_shelves
 shelf_inserted_after-linked records before after entry added unused_items unused_shelves loose loose_shelves is_entry linked =
     let shelves : List LinkedShelf = records.shelves in
     let number : ℕ = added.number in
@@ -121,7 +121,7 @@ shelf_inserted_after-linked records before after entry added unused_items unused
           (frame before (Each-front (IsEntry records) before (entry ∷ after) linked.entries))
           (frame (entry ∷ added ∷ after) ((Each-back (IsEntry records) before (entry ∷ after) linked.entries).0, (is_entry, (Each-back (IsEntry records) before (entry ∷ after) linked.entries).1)));
       unused_items = linked.unused_items;
-      unused_shelves = pile-frame shelf_chain shelves new records.free_shelves unused_shelves
+      unused_shelves = pile-frame shelf_chain shelves new records.unused_shelves unused_shelves
           (λ k stands. get-linked shelf_chain shelves (Some previous) next number k
           (λ e. let here : 1 ≤ times k (number ∷ loose_shelves) = subst (λ (m : ℕ). 1 ≤ times m (number ∷ loose_shelves)) e (omega (arith, times-here number loose_shelves)) in omega (arith, most k, here, stands))
           (λ e. let same : previous ≡ k = cc in let here : 1 ≤ times k (previous ∷ back) = rw same (omega (arith, times-here k back)) in omega (arith, most k, count k, here, stands))

@@ -3,7 +3,7 @@ use Rattle.std.proofs.Common.{◌≡◌, ℕ, ◌<◌, None, Some, List, [], ◌
 use Rattle.etagere_links.specs.declared.records.LinkedItem.{LinkedItem}
 use Rattle.etagere_links.specs.declared.records.LinkedShelf.{LinkedShelf}
 use Rattle.etagere_links.specs.RecordEdits.{item_changed, shelf_changed, shelf_inserted_after}
-use Rattle.etagere_links.specs.RecordLists.{Records, Entry, shelf_numbers, item_numbers, IsEntry, IsLinkedBut}
+use Rattle.etagere_links.specs.RecordLists.{Records, Entry, shelf_numbers, item_numbers, IsEntry, IsLinkedExcept}
 use Rattle.etagere_links.specs.RecordMerges.{shelf_split}
 use Rattle.etagere_links.specs.Records.{item_chain, free_list}
 use Rattle.etagere_links.proofs.FirstLinks.{field_at-changed}
@@ -46,7 +46,7 @@ alone-entry records shelf item shelf_record item_record alone shelf_within item_
     }
 
 -- a shelf was split: the rest stands after it, with one free item
-pub shelf_split-linked : (records : Records) (before after : List Entry) (entry : Entry) (rest rest_item height : ℕ) (rest_shelf : LinkedShelf) (item : LinkedItem) (unused_items unused_shelves loose loose_shelves : List ℕ) → IsAlone item rest_shelf rest_item → IsLinkedBut records (lists_of (before ++ entry ∷ after) unused_items unused_shelves) (rest_item ∷ loose) (rest ∷ loose_shelves) → IsLinkedBut (shelf_split entry.number rest rest_item height rest_shelf item records) (lists_of (before ++ entry ∷ entry_of rest (rest_item ∷ []) (rest_item ∷ []) ∷ after) unused_items unused_shelves) loose loose_shelves
+pub shelf_split-linked : (records : Records) (before after : List Entry) (entry : Entry) (rest rest_item height : ℕ) (rest_shelf : LinkedShelf) (item : LinkedItem) (unused_items unused_shelves loose loose_shelves : List ℕ) → IsAlone item rest_shelf rest_item → IsLinkedExcept records (lists_of (before ++ entry ∷ after) unused_items unused_shelves) (rest_item ∷ loose) (rest ∷ loose_shelves) → IsLinkedExcept (shelf_split entry.number rest rest_item height rest_shelf item records) (lists_of (before ++ entry ∷ entry_of rest (rest_item ∷ []) (rest_item ∷ []) ∷ after) unused_items unused_shelves) loose loose_shelves
 shelf_split-linked records before after entry rest rest_item height rest_shelf item unused_items unused_shelves loose loose_shelves alone linked =
     let entries : List Entry = before ++ entry ∷ after in
     let added : Entry = entry_of rest (rest_item ∷ []) (rest_item ∷ []) in
@@ -55,7 +55,7 @@ shelf_split-linked records before after entry rest rest_item height rest_shelf i
     let three : Records = shelf_inserted_after entry.number rest two in
     let loose_item : IsLoose (length records.items) (item_numbers entries) unused_items rest_item = loose-of (length records.items) (item_numbers entries) unused_items loose rest_item linked.items_once in
     let loose_shelf : IsLoose (length records.shelves) (shelf_numbers entries) unused_shelves rest = loose-of (length records.shelves) (shelf_numbers entries) unused_shelves loose_shelves rest linked.shelves_once in
-    let written : IsLinkedBut two (lists_of entries unused_items unused_shelves) (rest_item ∷ loose) (rest ∷ loose_shelves) =
+    let written : IsLinkedExcept two (lists_of entries unused_items unused_shelves) (rest_item ∷ loose) (rest ∷ loose_shelves) =
     shelf_written-linked one rest (λ _. rest_shelf) entries unused_items unused_shelves (rest_item ∷ loose) loose_shelves
     (item_written-linked records rest_item (λ _. item) entries unused_items unused_shelves loose (rest ∷ loose_shelves) linked) in
     shelf_changed-linked three entry.number (λ (here : LinkedShelf). record here { height = height }) (before ++ entry ∷ added ∷ after) unused_items unused_shelves loose loose_shelves (keeps-height height)

@@ -1,4 +1,4 @@
--- Linked records stay linked when a record in no list is put aside, when one is taken, and when one is made.
+-- Linked records stay linked when a record in no list becomes unused, when one is taken, and when one is made.
 use Rattle.std.proofs.Common.{◌≡◌, ◌≢◌, ℕ, ◌+◌, ◌<◌, ◌≤◌, None, Some, List, ◌∷◌, ◌++◌, length, refl, arith, ◌∙◌}
 use Rattle.etagere_base.proofs.TimesLemmas.{times-append}
 use Rattle.etagere_base.specs.Lists.{times}
@@ -6,7 +6,7 @@ use Rattle.etagere_links.specs.declared.records.LinkedItem.{LinkedItem}
 use Rattle.etagere_links.specs.declared.records.LinkedShelf.{LinkedShelf}
 use Rattle.etagere_links.specs.Edits.{put_aside}
 use Rattle.etagere_links.specs.RecordEdits.{item_put_aside, item_taken, shelf_put_aside, shelf_taken}
-use Rattle.etagere_links.specs.RecordLists.{Records, Entry, Lists, shelf_numbers, item_numbers, HasEachOnce, IsLinkedBut}
+use Rattle.etagere_links.specs.RecordLists.{Records, Entry, Lists, shelf_numbers, item_numbers, HasEachOnce, IsLinkedExcept}
 use Rattle.etagere_links.specs.Records.{item_chain, shelf_chain}
 use Rattle.etagere_links.proofs.Families.{item_chain-laws, shelf_chain-laws}
 use Rattle.etagere_links.proofs.FirstLinks.{field_at-kept}
@@ -16,7 +16,7 @@ use Rattle.etagere_links.proofs.ListEnds.{times-here}
 use Rattle.etagere_links.proofs.RecordFrames.{length-put_aside, get-put_aside}
 use Rattle.etagere_links.proofs.RecordLists.{put_aside-spells}
 
--- lists of shelves, and of what was put aside
+-- lists of shelves, and of what became unused
 abbrev pub lists_of : List Entry → List ℕ → List ℕ → Lists
 lists_of entries unused_items unused_shelves =
     record { entries = entries; unused_items = unused_items; unused_shelves = unused_shelves }
@@ -47,31 +47,31 @@ loose-of count used unused loose number once =
 differs : (n k : ℕ) (xs : List ℕ) → times n xs ≡ 0 → 1 ≤ times k xs → n ≢ k
 differs n k xs absent stands e = let again : 1 ≤ times n xs = rw e stands in omega (arith, absent)
 
--- an item record in no list was put aside
-pub item_put_aside-linked : (records : Records) (entries : List Entry) (number : ℕ) (unused_items unused_shelves loose loose_shelves : List ℕ) → IsLinkedBut records (lists_of entries unused_items unused_shelves) (number ∷ loose) loose_shelves → IsLinkedBut (item_put_aside number records) (lists_of entries (number ∷ unused_items) unused_shelves) loose loose_shelves
+-- an item record in no list became unused
+pub item_put_aside-linked : (records : Records) (entries : List Entry) (number : ℕ) (unused_items unused_shelves loose loose_shelves : List ℕ) → IsLinkedExcept records (lists_of entries unused_items unused_shelves) (number ∷ loose) loose_shelves → IsLinkedExcept (item_put_aside number records) (lists_of entries (number ∷ unused_items) unused_shelves) loose loose_shelves
 item_put_aside-linked records entries number unused_items unused_shelves loose loose_shelves linked =
     let items : List LinkedItem = records.items in
-    let new : List LinkedItem = put_aside item_chain records.free_items number items in
+    let new : List LinkedItem = put_aside item_chain records.unused_items number items in
     let used : List ℕ = item_numbers entries in
     let is : IsLoose (length items) used unused_items number = loose-of (length items) used unused_items loose number linked.items_once in
     record {
       shelves = linked.shelves;
       entries = entries-frame records (item_put_aside number records) entries
-          (λ k stands. get-put_aside item_chain items records.free_items number k (differs number k used is.no_used stands))
+          (λ k stands. get-put_aside item_chain items records.unused_items number k (differs number k used is.no_used stands))
           (λ k stands. (refl, refl)) linked.entries;
-      unused_items = put_aside-spells item_chain item_chain-laws items records.free_items unused_items number is.within is.no_unused linked.unused_items;
+      unused_items = put_aside-spells item_chain item_chain-laws items records.unused_items unused_items number is.within is.no_unused linked.unused_items;
       unused_shelves = linked.unused_shelves;
       shelves_once = linked.shelves_once;
-      items_once = λ k. rw (length-put_aside item_chain items records.free_items number) (moved k ∙ linked.items_once k);
+      items_once = λ k. rw (length-put_aside item_chain items records.unused_items number) (moved k ∙ linked.items_once k);
     }
   where
     moved : (k : ℕ) → times k (item_numbers entries ++ (number ∷ unused_items) ++ loose) ≡ times k (item_numbers entries ++ unused_items ++ number ∷ loose)
     moved k = omega (arith, three-count (item_numbers entries) (number ∷ unused_items) loose k, three-count (item_numbers entries) unused_items (number ∷ loose) k)
 
--- the item record that was put aside last was taken: it stands in no list
-pub item_taken-linked : (records : Records) (entries : List Entry) (number : ℕ) (unused_items unused_shelves loose loose_shelves : List ℕ) → IsLinkedBut records (lists_of entries (number ∷ unused_items) unused_shelves) loose loose_shelves → IsLinkedBut (item_taken records) (lists_of entries unused_items unused_shelves) (number ∷ loose) loose_shelves
+-- the item record that became unused last was taken: it stands in no list
+pub item_taken-linked : (records : Records) (entries : List Entry) (number : ℕ) (unused_items unused_shelves loose loose_shelves : List ℕ) → IsLinkedExcept records (lists_of entries (number ∷ unused_items) unused_shelves) loose loose_shelves → IsLinkedExcept (item_taken records) (lists_of entries unused_items unused_shelves) (number ∷ loose) loose_shelves
 item_taken-linked records entries number unused_items unused_shelves loose loose_shelves linked =
-    let top : records.free_items ≡ Some number = linked.unused_items.0 in
+    let top : records.unused_items ≡ Some number = linked.unused_items.0 in
     record {
       shelves = linked.shelves;
       entries = entries-frame records (item_taken records) entries (λ k stands. refl) (λ k stands. (refl, refl)) linked.entries;
@@ -81,35 +81,35 @@ item_taken-linked records entries number unused_items unused_shelves loose loose
       items_once = λ k. omega (arith, linked.items_once k, three-count (item_numbers entries) unused_items (number ∷ loose) k, three-count (item_numbers entries) (number ∷ unused_items) loose k);
     }
 
--- a shelf record in no list was put aside
-pub shelf_put_aside-linked : (records : Records) (entries : List Entry) (number : ℕ) (unused_items unused_shelves loose loose_shelves : List ℕ) → IsLinkedBut records (lists_of entries unused_items unused_shelves) loose (number ∷ loose_shelves) → IsLinkedBut (shelf_put_aside number records) (lists_of entries unused_items (number ∷ unused_shelves)) loose loose_shelves
+-- a shelf record in no list became unused
+pub shelf_put_aside-linked : (records : Records) (entries : List Entry) (number : ℕ) (unused_items unused_shelves loose loose_shelves : List ℕ) → IsLinkedExcept records (lists_of entries unused_items unused_shelves) loose (number ∷ loose_shelves) → IsLinkedExcept (shelf_put_aside number records) (lists_of entries unused_items (number ∷ unused_shelves)) loose loose_shelves
 shelf_put_aside-linked records entries number unused_items unused_shelves loose loose_shelves linked =
     let shelves : List LinkedShelf = records.shelves in
-    let new : List LinkedShelf = put_aside shelf_chain records.free_shelves number shelves in
+    let new : List LinkedShelf = put_aside shelf_chain records.unused_shelves number shelves in
     let used : List ℕ = shelf_numbers entries in
     let is : IsLoose (length shelves) used unused_shelves number = loose-of (length shelves) used unused_shelves loose_shelves number linked.shelves_once in
     record {
       shelves = chain-frame shelf_chain shelves new records.first_shelf used
-          (λ k stands. get-put_aside shelf_chain shelves records.free_shelves number k (differs number k used is.no_used stands)) linked.shelves;
+          (λ k stands. get-put_aside shelf_chain shelves records.unused_shelves number k (differs number k used is.no_used stands)) linked.shelves;
       entries = entries-frame records (shelf_put_aside number records) entries (λ k stands. refl)
           (λ k stands. (
-            field_at-kept (λ (x : LinkedShelf). x.first_item) None (shelf_chain.with_next records.free_shelves) shelves number k (λ x. refl),
-            field_at-kept (λ (x : LinkedShelf). x.first_unallocated) None (shelf_chain.with_next records.free_shelves) shelves number k (λ x. refl),
+            field_at-kept (λ (x : LinkedShelf). x.first_item) None (shelf_chain.with_next records.unused_shelves) shelves number k (λ x. refl),
+            field_at-kept (λ (x : LinkedShelf). x.first_unallocated) None (shelf_chain.with_next records.unused_shelves) shelves number k (λ x. refl),
           ))
           linked.entries;
       unused_items = linked.unused_items;
-      unused_shelves = put_aside-spells shelf_chain shelf_chain-laws shelves records.free_shelves unused_shelves number is.within is.no_unused linked.unused_shelves;
-      shelves_once = λ k. rw (length-put_aside shelf_chain shelves records.free_shelves number) (moved k ∙ linked.shelves_once k);
+      unused_shelves = put_aside-spells shelf_chain shelf_chain-laws shelves records.unused_shelves unused_shelves number is.within is.no_unused linked.unused_shelves;
+      shelves_once = λ k. rw (length-put_aside shelf_chain shelves records.unused_shelves number) (moved k ∙ linked.shelves_once k);
       items_once = linked.items_once;
     }
   where
     moved : (k : ℕ) → times k (shelf_numbers entries ++ (number ∷ unused_shelves) ++ loose_shelves) ≡ times k (shelf_numbers entries ++ unused_shelves ++ number ∷ loose_shelves)
     moved k = omega (arith, three-count (shelf_numbers entries) (number ∷ unused_shelves) loose_shelves k, three-count (shelf_numbers entries) unused_shelves (number ∷ loose_shelves) k)
 
--- the shelf record that was put aside last was taken: it stands in no list
-pub shelf_taken-linked : (records : Records) (entries : List Entry) (number : ℕ) (unused_items unused_shelves loose loose_shelves : List ℕ) → IsLinkedBut records (lists_of entries unused_items (number ∷ unused_shelves)) loose loose_shelves → IsLinkedBut (shelf_taken records) (lists_of entries unused_items unused_shelves) loose (number ∷ loose_shelves)
+-- the shelf record that became unused last was taken: it stands in no list
+pub shelf_taken-linked : (records : Records) (entries : List Entry) (number : ℕ) (unused_items unused_shelves loose loose_shelves : List ℕ) → IsLinkedExcept records (lists_of entries unused_items (number ∷ unused_shelves)) loose loose_shelves → IsLinkedExcept (shelf_taken records) (lists_of entries unused_items unused_shelves) loose (number ∷ loose_shelves)
 shelf_taken-linked records entries number unused_items unused_shelves loose loose_shelves linked =
-    let top : records.free_shelves ≡ Some number = linked.unused_shelves.0 in
+    let top : records.unused_shelves ≡ Some number = linked.unused_shelves.0 in
     record {
       shelves = linked.shelves;
       entries = entries-frame records (shelf_taken records) entries (λ k stands. refl) (λ k stands. (refl, refl)) linked.entries;

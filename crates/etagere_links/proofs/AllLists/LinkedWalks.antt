@@ -102,9 +102,9 @@ linked-walks records lists few_shelves few_items linked =
       shelves = walk_by-part shelf_chain.next records.shelves records.first_shelf numbers few_shelves
           (part-of (length records.shelves) all_shelves numbers linked.shelves_once (λ k. omega (arith, shelf_count k))) linked.shelves.forward;
       entries = entries-walks records all_items few_items linked.items_once lists.entries (λ k. omega (arith, item_count k)) linked.entries;
-      unused_items = walk_by-part item_chain.next records.items records.free_items lists.unused_items few_items
+      unused_items = walk_by-part item_chain.next records.items records.unused_items lists.unused_items few_items
           (part-of (length records.items) all_items lists.unused_items linked.items_once (λ k. omega (arith, item_count k))) linked.unused_items;
-      unused_shelves = walk_by-part shelf_chain.next records.shelves records.free_shelves lists.unused_shelves few_shelves
+      unused_shelves = walk_by-part shelf_chain.next records.shelves records.unused_shelves lists.unused_shelves few_shelves
           (part-of (length records.shelves) all_shelves lists.unused_shelves linked.shelves_once (λ k. omega (arith, shelf_count k))) linked.unused_shelves;
     }
 

@@ -6,7 +6,7 @@ use Rattle.etagere_base.specs.Lists.{Each}
 use Rattle.shelf_heights.specs.Private.ByHeight.{IsFirstAsWide, ranked_at, ranked_numbers}
 use Rattle.shelf_heights.specs.Private.Ranked.{IsCovered, IsFirstWide, RankedList, list_in, paired}
 use Rattle.shelf_heights.specs.declared.ranked.RankedShelf.{RankedShelf}
-use Rattle.shelf_heights.specs.declared.ranked.RankedShelves.TheInside.{Inside}
+use Rattle.shelf_heights.specs.declared.ranked.ShelvesByHeight.TheInside.{Inside}
 use Rattle.shelf_records.proofs.Spelled.Witnesses.{Each-unmap}
 
 -- a shelf of this number and bound

@@ -54,7 +54,7 @@ pub record IsRanked (atlas : AtlasRecords) (entries : List Entry) (ranked : List
     : Type 0 where
   pub once : (shelf : ℕ) → times shelf (ranked_numbers ranked)
       ≡ times shelf (shelf_numbers entries)
-  pub rising : RiseFrom 0 (map (order_of atlas.lists.shelves) (ranked_numbers ranked))
+  pub rising : RiseFrom 0 (map (order_of atlas.records.shelves) (ranked_numbers ranked))
   pub bounds : AreBounds atlas entries ranked
 
 -- the shelves in use of these records, ranked

@@ -2,7 +2,7 @@
 use Rattle.std.specs.Prelude.{◌≡◌, ℕ, ◌+◌, ◌*◌, ◌<◌, ◌≤◌, Option, None, Some, List, [], ◌∷◌, drop, get_or, length, min, take, vec_capacity}
 use Rattle.etagere_base.specs.Lists.{Each}
 use Rattle.shelf_heights.specs.declared.ranked.RankedShelf.{RankedShelf}
-use Rattle.shelf_heights.specs.declared.ranked.RankedShelves.TheInside.{Inside}
+use Rattle.shelf_heights.specs.declared.ranked.ShelvesByHeight.TheInside.{Inside}
 
 -- what the list stands for: the shelves, and for how many there is room
 pub record RankedList : Type 0 where

@@ -6,7 +6,7 @@ use Rattle.etagere_links.proofs.ListEnds.{times-here, times-other}
 use Rattle.etagere_links.specs.declared.records.LinkedItem.{LinkedItem}
 use Rattle.etagere_links.specs.RecordLists.{Entry}
 use Rattle.shelf_records.specs.AtlasRecords.{is_allocated_at}
-use Rattle.shelf_records.specs.Private.Judging.{AreOwn, ListsFree, free_among, is_own, is_own_free}
+use Rattle.shelf_records.specs.Private.Judging.{AreOwn, ListsFree, free_present, is_own, is_own_free}
 use Rattle.shelf_records.proofs.Judged.EqualTimes.{length-fewer, times-as_long}
 
 -- how often a number that passes the test stands among those that do
@@ -50,10 +50,10 @@ each-from_stands P (x ∷ xs) each =
 
 module _ (items : List LinkedItem) (marks : List Bool) (entry : Entry) where
   -- a free item of the shelf stands once among its free ones
-  once-free : AreOwn items marks entry → (k : ℕ) → is_own_free items marks entry.number k ≡ true → times k (free_among items entry.items) ≡ 1
+  once-free : AreOwn items marks entry → (k : ℕ) → is_own_free items marks entry.number k ≡ true → times k (free_present items entry.items) ≡ 1
   once-free own k free = by_own (is_own items marks entry.number k) (is_allocated_at items k) refl refl
     where
-      by_own : (o a : Bool) → is_own items marks entry.number k ≡ o → is_allocated_at items k ≡ a → times k (free_among items entry.items) ≡ 1
+      by_own : (o a : Bool) → is_own items marks entry.number k ≡ o → is_allocated_at items k ≡ a → times k (free_present items entry.items) ≡ 1
       by_own true false e f =
           let one : times k entry.items ≡ 1 = rw e at (own k) in
           times-passed (λ member. not (is_allocated_at items member)) k entry.items (rw f refl) ∙ one
@@ -61,17 +61,17 @@ module _ (items : List LinkedItem) (marks : List Bool) (entry : Entry) where
       by_own false a e f = let no : is_own_free items marks entry.number k ≡ false = rw e refl in absurd (cc)
 
   -- what stands among the free ones of the shelf is a free item of it
-  free-own : AreOwn items marks entry → (k : ℕ) → 1 ≤ times k (free_among items entry.items) → is_own_free items marks entry.number k ≡ true
+  free-own : AreOwn items marks entry → (k : ℕ) → 1 ≤ times k (free_present items entry.items) → is_own_free items marks entry.number k ≡ true
   free-own own k stands = by_own (is_own items marks entry.number k) (is_allocated_at items k) refl refl
     where
       by_own : (o a : Bool) → is_own items marks entry.number k ≡ o → is_allocated_at items k ≡ a → is_own_free items marks entry.number k ≡ true
       by_own true false e f = rw (e, f) refl
       by_own o true e f =
-          let none : times k (free_among items entry.items) ≡ 0 = times-failed (λ member. not (is_allocated_at items member)) k entry.items (rw f refl) in
+          let none : times k (free_present items entry.items) ≡ 0 = times-failed (λ member. not (is_allocated_at items member)) k entry.items (rw f refl) in
           absurd (omega (arith, none, stands))
       by_own false false e f =
           let none : times k entry.items ≡ 0 = rw e at (own k) in
-          let same : times k (free_among items entry.items) ≡ times k entry.items = times-passed (λ member. not (is_allocated_at items member)) k entry.items (rw f refl) in
+          let same : times k (free_present items entry.items) ≡ times k entry.items = times-passed (λ member. not (is_allocated_at items member)) k entry.items (rw f refl) in
           absurd (omega (arith, none, same, stands))
 
   -- a free list that has just the free items has free items of the shelf
@@ -81,24 +81,24 @@ module _ (items : List LinkedItem) (marks : List Bool) (entry : Entry) where
       (λ k stands. free-own own k (omega (arith, stands, lists k)))
 
   -- it is as long as there are free items
-  pub lists-length : ListsFree items entry → length entry.free_list ≡ length (free_among items entry.items)
+  pub lists-length : ListsFree items entry → length entry.free_list ≡ length (free_present items entry.items)
   lists-length lists =
       omega (
         arith,
-        length-fewer entry.free_list (free_among items entry.items) (λ k. omega (arith, lists k)),
-        length-fewer (free_among items entry.items) entry.free_list (λ k. omega (arith, lists k)),
+        length-fewer entry.free_list (free_present items entry.items) (λ k. omega (arith, lists k)),
+        length-fewer (free_present items entry.items) entry.free_list (λ k. omega (arith, lists k)),
       )
 
   -- a free list of as many free items of the shelf, each once, has just these
   pub own-lists : AreOwn items marks entry → ((k : ℕ) → times k entry.free_list ≤ 1)
       → Each (λ member. is_own_free items marks entry.number member ≡ true) entry.free_list
-      → length entry.free_list ≡ length (free_among items entry.items) → ListsFree items entry
-  own-lists own once each long = times-as_long entry.free_list (free_among items entry.items) fewer long
+      → length entry.free_list ≡ length (free_present items entry.items) → ListsFree items entry
+  own-lists own once each long = times-as_long entry.free_list (free_present items entry.items) fewer long
     where
-      fewer : (k : ℕ) → times k entry.free_list ≤ times k (free_among items entry.items)
+      fewer : (k : ℕ) → times k entry.free_list ≤ times k (free_present items entry.items)
       fewer k = by_count (times k entry.free_list) refl
         where
-          by_count : (n : ℕ) → times k entry.free_list ≡ n → times k entry.free_list ≤ times k (free_among items entry.items)
+          by_count : (n : ℕ) → times k entry.free_list ≡ n → times k entry.free_list ≤ times k (free_present items entry.items)
           by_count zero e = omega (arith, e)
           by_count (suc n) e =
               let free : is_own_free items marks entry.number k ≡ true =

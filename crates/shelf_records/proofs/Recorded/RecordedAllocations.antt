@@ -19,52 +19,52 @@ use Rattle.shelf_model.specs.State.{Shelf}
 module _ (atlas : AtlasRecords) where
   -- the heights of the shelves that records spell
   pub spelled-height : (column : ℕ) (entries : List Entry)
-      → column_height column (map (spelled_shelf atlas) entries) ≡ height_before atlas.lists.shelves atlas.frame.column_width column (shelf_numbers entries)
+      → column_height column (map (spelled_shelf atlas) entries) ≡ height_before atlas.records.shelves atlas.frame.column_width column (shelf_numbers entries)
   spelled-height column [] = refl
   spelled-height column (entry ∷ entries) =
-      ap (λ rest. (if along_of atlas.lists.shelves entry.number / atlas.frame.column_width == column then height_of atlas.lists.shelves entry.number else 0) + rest) (spelled-height column entries)
+      ap (λ rest. (if along_of atlas.records.shelves entry.number / atlas.frame.column_width == column then height_of atlas.records.shelves entry.number else 0) + rest) (spelled-height column entries)
 
   -- where a column begins, as its shelves say
-  pub spelled-column : (entry : Entry) → 1 ≤ atlas.frame.column_width → along_of atlas.lists.shelves entry.number % atlas.frame.column_width ≡ 0
-      → along_of atlas.lists.shelves entry.number / atlas.frame.column_width * atlas.frame.column_width ≡ along_of atlas.lists.shelves entry.number
+  pub spelled-column : (entry : Entry) → 1 ≤ atlas.frame.column_width → along_of atlas.records.shelves entry.number % atlas.frame.column_width ≡ 0
+      → along_of atlas.records.shelves entry.number / atlas.frame.column_width * atlas.frame.column_width ≡ along_of atlas.records.shelves entry.number
   spelled-column entry wide whole = omega (arith, wide, whole)
 
   -- what the items of a shelf allocate, which lie side by side
-  along-recorded : (shelf here : ℕ) (numbers : List ℕ) → Each (λ item. shelf_of atlas.lists.items item ≡ shelf) numbers → LieFrom atlas.lists.items here numbers
-      → allocations_along atlas.frame (across_of atlas.lists.shelves shelf) (height_of atlas.lists.shelves shelf) here (map (item_at atlas.lists.items) numbers)
-      ≡ flat_map (recorded_allocation atlas.frame atlas.lists) numbers
+  along-recorded : (shelf here : ℕ) (numbers : List ℕ) → Each (λ item. shelf_of atlas.records.items item ≡ shelf) numbers → LieFrom atlas.records.items here numbers
+      → allocations_along atlas.frame (across_of atlas.records.shelves shelf) (height_of atlas.records.shelves shelf) here (map (item_at atlas.records.items) numbers)
+      ≡ flat_map (recorded_allocation atlas.frame atlas.records) numbers
   along-recorded shelf here [] owners lies = refl
   along-recorded shelf here (n ∷ ns) owners lies =
-      let item = item_at atlas.lists.items n in
+      let item = item_at atlas.records.items n in
       let at : (shelf place : ℕ) → List Allocation = λ shelf place.
-      allocation_of item.id (rectangle_at atlas.frame place (across_of atlas.lists.shelves shelf) item.width (height_of atlas.lists.shelves shelf)) in
-      let own : at (shelf_of atlas.lists.items n) (place_of atlas.lists.items n) ≡ at shelf here =
-      ap (λ s. at s (place_of atlas.lists.items n)) owners.0 ∙ ap (λ p. at shelf p) lies.0 in
+      allocation_of item.id (rectangle_at atlas.frame place (across_of atlas.records.shelves shelf) item.width (height_of atlas.records.shelves shelf)) in
+      let own : at (shelf_of atlas.records.items n) (place_of atlas.records.items n) ≡ at shelf here =
+      ap (λ s. at s (place_of atlas.records.items n)) owners.0 ∙ ap (λ p. at shelf p) lies.0 in
       ap (λ l. at shelf here ++ l) (along-recorded shelf (here + item.width) ns owners.1 lies.1)
-      ∙ ap (λ l. l ++ flat_map (recorded_allocation atlas.frame atlas.lists) ns) (sym own)
+      ∙ ap (λ l. l ++ flat_map (recorded_allocation atlas.frame atlas.records) ns) (sym own)
 
   -- what shelves allocate that stand after others
   pub after-recorded : (before entries : List Entry) → 1 ≤ atlas.frame.column_width → Each (IsPlaced atlas) entries
-      → AreStacked atlas.lists.shelves atlas.frame.column_width (shelf_numbers before) (shelf_numbers entries)
+      → AreStacked atlas.records.shelves atlas.frame.column_width (shelf_numbers before) (shelf_numbers entries)
       → allocations_after atlas.frame (map (spelled_shelf atlas) before) (map (spelled_shelf atlas) entries)
-      ≡ flat_map (recorded_allocation atlas.frame atlas.lists) (item_numbers entries)
+      ≡ flat_map (recorded_allocation atlas.frame atlas.records) (item_numbers entries)
   after-recorded before [] wide placed stacked = refl
   after-recorded before (entry ∷ entries) wide placed stacked =
       let shelf : Shelf = spelled_shelf atlas entry in
-      let across : column_height shelf.column (map (spelled_shelf atlas) before) ≡ across_of atlas.lists.shelves entry.number =
+      let across : column_height shelf.column (map (spelled_shelf atlas) before) ≡ across_of atlas.records.shelves entry.number =
       spelled-height shelf.column before ∙ sym stacked.0 in
-      let begins : shelf.column * atlas.frame.column_width ≡ along_of atlas.lists.shelves entry.number = spelled-column entry wide placed.0.along in
+      let begins : shelf.column * atlas.frame.column_width ≡ along_of atlas.records.shelves entry.number = spelled-column entry wide placed.0.along in
       let here : allocations_along atlas.frame (column_height shelf.column (map (spelled_shelf atlas) before)) shelf.height (shelf.column * atlas.frame.column_width) shelf.items
-      ≡ flat_map (recorded_allocation atlas.frame atlas.lists) entry.items =
+      ≡ flat_map (recorded_allocation atlas.frame atlas.records) entry.items =
       ap (λ a. allocations_along atlas.frame a shelf.height (shelf.column * atlas.frame.column_width) shelf.items) across
-      ∙ ap (λ b. allocations_along atlas.frame (across_of atlas.lists.shelves entry.number) shelf.height b shelf.items) begins
-      ∙ along-recorded entry.number (along_of atlas.lists.shelves entry.number) entry.items placed.0.owners placed.0.places in
-      let later : AreStacked atlas.lists.shelves atlas.frame.column_width (shelf_numbers (before ++ entry ∷ [])) (shelf_numbers entries) =
+      ∙ ap (λ b. allocations_along atlas.frame (across_of atlas.records.shelves entry.number) shelf.height b shelf.items) begins
+      ∙ along-recorded entry.number (along_of atlas.records.shelves entry.number) entry.items placed.0.owners placed.0.places in
+      let later : AreStacked atlas.records.shelves atlas.frame.column_width (shelf_numbers (before ++ entry ∷ [])) (shelf_numbers entries) =
       rw (shelf_numbers-append before (entry ∷ [])) stacked.1 in
       let rest : allocations_after atlas.frame (map (spelled_shelf atlas) before ++ shelf ∷ []) (map (spelled_shelf atlas) entries)
-      ≡ flat_map (recorded_allocation atlas.frame atlas.lists) (item_numbers entries) =
+      ≡ flat_map (recorded_allocation atlas.frame atlas.records) (item_numbers entries) =
       ap (λ ss. allocations_after atlas.frame ss (map (spelled_shelf atlas) entries)) (sym (map-append (spelled_shelf atlas) before (entry ∷ [])))
       ∙ after-recorded (before ++ entry ∷ []) entries wide placed.1 later in
       ap (λ l. l ++ allocations_after atlas.frame (map (spelled_shelf atlas) before ++ shelf ∷ []) (map (spelled_shelf atlas) entries)) here
-      ∙ ap (λ l. flat_map (recorded_allocation atlas.frame atlas.lists) entry.items ++ l) rest
-      ∙ sym (flat_map-append (recorded_allocation atlas.frame atlas.lists) entry.items (item_numbers entries))
+      ∙ ap (λ l. flat_map (recorded_allocation atlas.frame atlas.records) entry.items ++ l) rest
+      ∙ sym (flat_map-append (recorded_allocation atlas.frame atlas.records) entry.items (item_numbers entries))

@@ -106,7 +106,7 @@ marked-within [] k marked = absurd (cc)
 marked-within (x ∷ xs) zero marked = omega arith
 marked-within (x ∷ xs) (suc k) marked = omega (arith, marked-within xs k marked)
 
--- an item that is marked allocated is no record put aside
+-- an item that is marked allocated is no unused record
 in_use : (items : List LinkedItem) (used unused : List ℕ) (number : ℕ) → HasEachOnce (length items) (used ++ unused ++ []) → Each (λ item. is_allocated_at items item ≡ false) unused → is_allocated_at items number ≡ true → 1 ≤ times number used
 in_use items used unused number once free marked = by_count (times number unused) refl
   where

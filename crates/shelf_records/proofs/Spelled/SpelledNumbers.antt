@@ -76,19 +76,19 @@ items-numbers items (x ∷ xs) few =
     ∙ filter-cons (is_allocated_at items x) x (filter (is_allocated_at items) xs)
 
 -- the same of the items of shelves
-shelves-numbers : (atlas : AtlasRecords) (entries : List Entry) → length atlas.lists.items ≤ no_link
-    → map record_number (ids (map (spelled_shelf atlas) entries)) ≡ filter (is_allocated_at atlas.lists.items) (item_numbers entries)
+shelves-numbers : (atlas : AtlasRecords) (entries : List Entry) → length atlas.records.items ≤ no_link
+    → map record_number (ids (map (spelled_shelf atlas) entries)) ≡ filter (is_allocated_at atlas.records.items) (item_numbers entries)
 shelves-numbers atlas [] few = refl
 shelves-numbers atlas (entry ∷ entries) few =
-    let items = atlas.lists.items in
+    let items = atlas.records.items in
     map-append record_number (item_ids (map (item_at items) entry.items)) (ids (map (spelled_shelf atlas) entries))
     ∙ ap (λ ns. ns ++ map record_number (ids (map (spelled_shelf atlas) entries))) (items-numbers items entry.items few)
     ∙ ap (λ ns. filter (is_allocated_at items) entry.items ++ ns) (shelves-numbers atlas entries few)
     ∙ sym (filter-append (is_allocated_at items) entry.items (item_numbers entries))
 
 -- the record numbers of what records spell as allocated are those of the items that are marked so
-pub spelled-numbers : (atlas : AtlasRecords) (entries : List Entry) → length atlas.lists.items ≤ no_link
-    → allocated_numbers (spelled_state atlas entries) ≡ filter (is_allocated_at atlas.lists.items) (item_numbers entries)
+pub spelled-numbers : (atlas : AtlasRecords) (entries : List Entry) → length atlas.records.items ≤ no_link
+    → allocated_numbers (spelled_state atlas entries) ≡ filter (is_allocated_at atlas.records.items) (item_numbers entries)
 spelled-numbers atlas entries few =
     allocated_numbers-ids (spelled_state atlas entries) ∙ shelves-numbers atlas entries few
 
@@ -117,12 +117,12 @@ unmarked-new items number (x ∷ xs) free = by_test (is_allocated_at items x) re
     by_test false e later = later
 
 -- the number in an id of a record that isn't marked allocated is new among what the records spell as allocated
-pub new-number : (atlas : AtlasRecords) (entries : List Entry) (number generation : ℕ) → length atlas.lists.items ≤ no_link
-    → number < 65536 → is_allocated_at atlas.lists.items number ≡ false
+pub new-number : (atlas : AtlasRecords) (entries : List Entry) (number generation : ℕ) → length atlas.records.items ≤ no_link
+    → number < 65536 → is_allocated_at atlas.records.items number ≡ false
     → times (record_number (number + 65536 * generation)) (allocated_numbers (spelled_state atlas entries)) ≡ 0
 new-number atlas entries number generation few small free =
     rw (number-of_record number generation small, spelled-numbers atlas entries few)
-    (unmarked-new atlas.lists.items number (item_numbers entries) free)
+    (unmarked-new atlas.records.items number (item_numbers entries) free)
 
 -- shelves have as many items as they have records of items
 pub items_in_use-spelled : (atlas : AtlasRecords) (entries : List Entry) → items_in_use (map (spelled_shelf atlas) entries) ≡ length (item_numbers entries)
@@ -130,7 +130,7 @@ items_in_use-spelled atlas [] = refl
 items_in_use-spelled atlas (entry ∷ entries) =
     omega (
       arith,
-      length-map entry.items (item_at atlas.lists.items),
+      length-map entry.items (item_at atlas.records.items),
       items_in_use-spelled atlas entries,
       length-append entry.items (item_numbers entries),
     )

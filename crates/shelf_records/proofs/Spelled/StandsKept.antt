@@ -30,13 +30,13 @@ along-spelled along width aligned = omega (arith, div-add-mod' along width, alig
 
 module _ (atlas : AtlasRecords) where
   -- the free list that a shelf's record spells has the place of each free item once
-  free_list-spelled : (entry : Entry) → along_of atlas.lists.shelves entry.number % atlas.frame.column_width ≡ 0
+  free_list-spelled : (entry : Entry) → along_of atlas.records.shelves entry.number % atlas.frame.column_width ≡ 0
       → HasItems atlas entry → HasFreeList atlas entry → (place : ℕ)
       → times place (spelled_shelf atlas entry).free_list
       ≡ times place (free_places (column_place atlas.frame (spelled_shelf atlas entry)) (spelled_shelf atlas entry).items)
   free_list-spelled entry aligned has free place =
-      let items = atlas.lists.items in
-      let along = along_of atlas.lists.shelves entry.number in
+      let items = atlas.records.items in
+      let along = along_of atlas.records.shelves entry.number in
       times-map (place_of items) entry.free_list (filter (λ member. not (is_allocated_at items member)) entry.items) free.items place
       ∙ ap (times place) (sym (free_places-spelled items along entry.items has.places))
       ∙ ap (λ (n : ℕ). times place (free_places n (map (item_at items) entry.items))) (sym (along-spelled along atlas.frame.column_width aligned))
@@ -48,7 +48,7 @@ module _ (atlas : AtlasRecords) where
       → Each (HasItems atlas) entries
       → Each (λ (shelf : Shelf). NoNeighbours both_free shelf.items) (map (spelled_shelf atlas) entries)
       → Each (HasFreeList atlas) entries
-      → Each (λ (entry : Entry). along_of atlas.lists.shelves entry.number % atlas.frame.column_width ≡ 0) entries
+      → Each (λ (entry : Entry). along_of atlas.records.shelves entry.number % atlas.frame.column_width ≡ 0) entries
       → Each (IsShelf atlas.frame) (map (spelled_shelf atlas) entries)
   shelves-spelled [] columns heights has apart free along = tt
   shelves-spelled (entry ∷ entries) columns heights has apart free along = (
@@ -65,7 +65,7 @@ module _ (atlas : AtlasRecords) where
 
   -- what a shelf's record and those of its items say, from the rules
   entries-placed : (entries : List Entry) → Each (HasItemLinks atlas) entries
-      → Each (λ (entry : Entry). along_of atlas.lists.shelves entry.number % atlas.frame.column_width ≡ 0) entries
+      → Each (λ (entry : Entry). along_of atlas.records.shelves entry.number % atlas.frame.column_width ≡ 0) entries
       → Each (HasItems atlas) entries → Each (HasFreeList atlas) entries → Each (IsPlaced atlas) entries
   entries-placed [] links along has free = tt
   entries-placed (entry ∷ entries) links along has free = (
@@ -79,10 +79,10 @@ module _ (atlas : AtlasRecords) where
     numbers = item_numbers (walked_entries atlas)
 
     -- each is that of a record, and stands in one place
-    numbers-part : IsPart (length atlas.lists.items) numbers
+    numbers-part : IsPart (length atlas.records.items) numbers
     numbers-part =
-        part-of (length atlas.lists.items) (numbers ++ (unused_item_walk atlas.lists).met) numbers stands.sharing.items
-        (λ k. omega (arith, times-append k numbers (unused_item_walk atlas.lists).met))
+        part-of (length atlas.records.items) (numbers ++ (unused_item_walk atlas.records).met) numbers stands.sharing.items
+        (λ k. omega (arith, times-append k numbers (unused_item_walk atlas.records).met))
 
     -- the state that the records spell
     abbrev spelled : AtlasState
@@ -101,11 +101,11 @@ module _ (atlas : AtlasRecords) where
           ordered = shelves.ordered;
           heights = shelves.filled;
           apart = neighbours.shelves;
-          numbers = λ k. omega (arith, ap (times k) marked, filter-times (is_allocated_at atlas.lists.items) numbers k, numbers-part.once k);
-          below = Each-unmap (λ (n : ℕ). n < length atlas.lists.items) (λ (a : Allocation). record_number a.id) (allocations spelled)
-              (subst (Each (λ (n : ℕ). n < length atlas.lists.items)) (sym marked) (marked-below atlas.lists.items numbers));
+          numbers = λ k. omega (arith, ap (times k) marked, filter-times (is_allocated_at atlas.records.items) numbers k, numbers-part.once k);
+          below = Each-unmap (λ (n : ℕ). n < length atlas.records.items) (λ (a : Allocation). record_number a.id) (allocations spelled)
+              (subst (Each (λ (n : ℕ). n < length atlas.records.items)) (sym marked) (marked-below atlas.records.items numbers));
           records = (
-            omega (arith, items_in_use-spelled atlas (walked_entries atlas), length-once (length atlas.lists.items) numbers numbers-part.once numbers-part.within),
+            omega (arith, items_in_use-spelled atlas (walked_entries atlas), length-once (length atlas.records.items) numbers numbers-part.once numbers-part.within),
             stands.counts.items.1,
           );
         }
@@ -115,7 +115,7 @@ module _ (atlas : AtlasRecords) where
     stands-valid = subst IsValid (sym stands.spelled) spelled-valid
 
     -- the lists that walks meet are spelled by the links, and spell the state
-    pub stands-witnessed : AllFit atlas.lists → Witnessed atlas (walked_lists atlas.lists) state
+    pub stands-witnessed : AllFit atlas.records → Witnessed atlas (walked_lists atlas.records) state
     stands-witnessed fit =
         record {
           spelled = stands.spelled;
@@ -123,7 +123,7 @@ module _ (atlas : AtlasRecords) where
           linked = stands-linked atlas state fit stands;
           placed = entries-placed (walked_entries atlas) stands.links.each_shelf stands.shelves.along stands.items stands.free_lists;
           flags = Each-weaken (HasItems atlas) (HasFlag atlas) (walked_entries atlas) (λ entry has. has.is_empty) stands.items;
-          stacked = subst (AreStacked atlas.lists.shelves atlas.frame.column_width []) (sym (walked-numbers atlas.lists (shelf_walk atlas.lists).met)) stands.shelves.across;
+          stacked = subst (AreStacked atlas.records.shelves atlas.frame.column_width []) (sym (walked-numbers atlas.records (shelf_walk atlas.records).met)) stands.shelves.across;
           valid = stands-valid;
           unused = stands.unused;
           space = stands.space;

@@ -22,8 +22,8 @@ pub record AllFit (records : Records) : Type 0 where
   pub first_items : Each (λ number. Fits (first_item_of records.shelves number)) (shelf_walk records).met
   pub first_frees : Each (λ number. Fits (first_free_of records.shelves number)) (shelf_walk records).met
   pub first_shelf : Fits records.first_shelf
-  pub free_items : Fits records.free_items
-  pub free_shelves : Fits records.free_shelves
+  pub unused_items : Fits records.unused_items
+  pub unused_shelves : Fits records.unused_shelves
 
 -- what is left of a list has each member as often at most
 pub filter-times : (test : ℕ → Bool) (xs : List ℕ) (k : ℕ) → times k (filter test xs) ≤ times k xs
@@ -35,25 +35,25 @@ filter-times test (x ∷ xs) k = by_test (test x) refl (filter-times test xs k)
     by_test false e later = simp e (omega (arith, later))
 
 -- the lists of each shelf are spelled by links
-entries-linked : (atlas : AtlasRecords) → length atlas.lists.items ≤ no_link → AllFit atlas.lists → (numbers : List ℕ)
-    → Each (λ number. Fits (first_item_of atlas.lists.shelves number)) numbers
-    → Each (λ number. Fits (first_free_of atlas.lists.shelves number)) numbers
-    → Each (HasItemLinks atlas) (map (walked_entry atlas.lists) numbers)
-    → Each (HasFreeList atlas) (map (walked_entry atlas.lists) numbers)
-    → Each (λ (entry : Entry). (item_walk atlas.lists entry.number).end ≡ no_link) (map (walked_entry atlas.lists) numbers)
-    → Each (IsEntry atlas.lists) (map (walked_entry atlas.lists) numbers)
+entries-linked : (atlas : AtlasRecords) → length atlas.records.items ≤ no_link → AllFit atlas.records → (numbers : List ℕ)
+    → Each (λ number. Fits (first_item_of atlas.records.shelves number)) numbers
+    → Each (λ number. Fits (first_free_of atlas.records.shelves number)) numbers
+    → Each (HasItemLinks atlas) (map (walked_entry atlas.records) numbers)
+    → Each (HasFreeList atlas) (map (walked_entry atlas.records) numbers)
+    → Each (λ (entry : Entry). (item_walk atlas.records entry.number).end ≡ no_link) (map (walked_entry atlas.records) numbers)
+    → Each (IsEntry atlas.records) (map (walked_entry atlas.records) numbers)
 entries-linked atlas few fit [] first_items first_frees links frees ends = tt
 entries-linked atlas few fit (n ∷ ns) first_items first_frees links frees ends = (
   record {
     items = record {
-      forward = walk_by-leads item_chain.next atlas.lists.items (first_item_of atlas.lists.shelves n) fit.item_next first_items.0 few ends.0;
+      forward = walk_by-leads item_chain.next atlas.records.items (first_item_of atlas.records.shelves n) fit.item_next first_items.0 few ends.0;
       backward = links.0.back;
     };
     free_list = record {
-      forward = walk_by-leads free_list.next atlas.lists.items (first_free_of atlas.lists.shelves n) fit.free_next first_frees.0 few frees.0.ends;
+      forward = walk_by-leads free_list.next atlas.records.items (first_free_of atlas.records.shelves n) fit.free_next first_frees.0 few frees.0.ends;
       backward = frees.0.back;
     };
-    members = λ k. omega (arith, frees.0.items k, filter-times (λ member. not (is_allocated_at atlas.lists.items member)) (item_walk atlas.lists n).met k);
+    members = λ k. omega (arith, frees.0.items k, filter-times (λ member. not (is_allocated_at atlas.records.items member)) (item_walk atlas.records n).met k);
   },
   entries-linked atlas few fit ns first_items.1 first_frees.1 links.1 frees.1 ends.1,
 )
@@ -63,9 +63,9 @@ three-of : (count : ℕ) (used unused : List ℕ) → HasEachOnce count (used ++
 three-of count used unused once k = omega (arith, once k, three-count used unused [] k, times-append k used unused)
 
 -- records that stand for a state are linked, by the lists that walks meet
-pub stands-linked : (atlas : AtlasRecords) (state : AtlasState) → AllFit atlas.lists → StandsFor atlas state → IsLinked atlas.lists (walked_lists atlas.lists)
+pub stands-linked : (atlas : AtlasRecords) (state : AtlasState) → AllFit atlas.records → StandsFor atlas state → IsLinked atlas.records (walked_lists atlas.records)
 stands-linked atlas state fit stands =
-    let records : Records = atlas.lists in
+    let records : Records = atlas.records in
     let numbers : shelf_numbers (walked_entries atlas) ≡ (shelf_walk records).met = walked-numbers records (shelf_walk records).met in
     record {
       shelves = record {
@@ -73,8 +73,8 @@ stands-linked atlas state fit stands =
         backward = rw numbers stands.links.back;
       };
       entries = entries-linked atlas stands.counts.items.1 fit (shelf_walk records).met fit.first_items fit.first_frees stands.links.each_shelf stands.free_lists stands.sharing.item_ends;
-      unused_items = walk_by-leads item_chain.next records.items records.free_items fit.item_next fit.free_items stands.counts.items.1 stands.sharing.unused_item_end;
-      unused_shelves = walk_by-leads shelf_chain.next records.shelves records.free_shelves fit.shelf_next fit.free_shelves stands.counts.shelves.1 stands.sharing.unused_shelf_end;
+      unused_items = walk_by-leads item_chain.next records.items records.unused_items fit.item_next fit.unused_items stands.counts.items.1 stands.sharing.unused_item_end;
+      unused_shelves = walk_by-leads shelf_chain.next records.shelves records.unused_shelves fit.shelf_next fit.unused_shelves stands.counts.shelves.1 stands.sharing.unused_shelf_end;
       shelves_once = rw numbers (three-of (length records.shelves) (shelf_walk records).met (unused_shelf_walk records).met stands.sharing.shelves);
       items_once = three-of (length records.items) (item_numbers (walked_entries atlas)) (unused_item_walk records).met stands.sharing.items;
     }

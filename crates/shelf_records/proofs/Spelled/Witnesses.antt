@@ -38,17 +38,17 @@ stops-none : (count : ℕ) (walked : Walked) → walked.end ≡ no_link → Stop
 stops-none count walked ends = rw ends refl
 
 -- the links of a shelf's lists, from what spells them and what walks meet
-item-links : (atlas : AtlasRecords) (entry : Entry) → IsEntry atlas.lists entry → IsPlaced atlas entry → HasWalks atlas.lists entry → HasItemLinks atlas entry
+item-links : (atlas : AtlasRecords) (entry : Entry) → IsEntry atlas.records entry → IsPlaced atlas entry → HasWalks atlas.records entry → HasItemLinks atlas entry
 item-links atlas entry is placed walks =
     record {
-      items = stops-none (length atlas.lists.items) (item_walk atlas.lists entry.number) (ap (λ (w : Walked). w.end) walks.items);
-      free_list = stops-none (length atlas.lists.items) (free_walk atlas.lists entry.number) (ap (λ (w : Walked). w.end) walks.free_list);
+      items = stops-none (length atlas.records.items) (item_walk atlas.records entry.number) (ap (λ (w : Walked). w.end) walks.items);
+      free_list = stops-none (length atlas.records.items) (free_walk atlas.records entry.number) (ap (λ (w : Walked). w.end) walks.free_list);
       back = is.items.backward;
       owners = placed.owners;
     }
 
 -- the free list of a shelf, from the same
-free-list : (atlas : AtlasRecords) (entry : Entry) → IsEntry atlas.lists entry → IsPlaced atlas entry → HasWalks atlas.lists entry → HasFreeList atlas entry
+free-list : (atlas : AtlasRecords) (entry : Entry) → IsEntry atlas.records entry → IsPlaced atlas entry → HasWalks atlas.records entry → HasFreeList atlas entry
 free-list atlas entry is placed walks =
     record { items = placed.free_list; back = is.free_list.backward; ends = ap (λ (w : Walked). w.end) walks.free_list }
 
@@ -64,16 +64,16 @@ two-of count used unused once k = omega (arith, once k, three-count used unused 
 -- records that spell lists stand for the state
 pub witnessed-stands : (atlas : AtlasRecords) (lists : Lists) (state : AtlasState) → Witnessed atlas lists state → StandsFor atlas state
 witnessed-stands atlas lists state witnessed =
-    let linked : IsLinked atlas.lists lists = witnessed.linked in
-    let walks : AreWalks atlas.lists lists = linked-walks atlas.lists lists witnessed.counts.shelves.1 witnessed.counts.items.1 linked in
-    let same : lists ≡ walked_lists atlas.lists = sym (linked-lists atlas.lists lists walks) in
+    let linked : IsLinked atlas.records lists = witnessed.linked in
+    let walks : AreWalks atlas.records lists = linked-walks atlas.records lists witnessed.counts.shelves.1 witnessed.counts.items.1 linked in
+    let same : lists ≡ walked_lists atlas.records = sym (linked-lists atlas.records lists walks) in
     let entries : lists.entries ≡ walked_entries atlas = ap (λ (l : Lists). l.entries) same in
-    let numbers : shelf_numbers lists.entries ≡ (shelf_walk atlas.lists).met = sym (ap (λ (w : Walked). w.met) walks.shelves) in
-    let unused_items : lists.unused_items ≡ (unused_item_walk atlas.lists).met = ap (λ (l : Lists). l.unused_items) same in
-    let unused_shelves : lists.unused_shelves ≡ (unused_shelf_walk atlas.lists).met = ap (λ (l : Lists). l.unused_shelves) same in
-    let shelf_end : (shelf_walk atlas.lists).end ≡ no_link = ap (λ (w : Walked). w.end) walks.shelves in
-    let unused_shelf_end : (unused_shelf_walk atlas.lists).end ≡ no_link = ap (λ (w : Walked). w.end) walks.unused_shelves in
-    let unused_item_end : (unused_item_walk atlas.lists).end ≡ no_link = ap (λ (w : Walked). w.end) walks.unused_items in
+    let numbers : shelf_numbers lists.entries ≡ (shelf_walk atlas.records).met = sym (ap (λ (w : Walked). w.met) walks.shelves) in
+    let unused_items : lists.unused_items ≡ (unused_item_walk atlas.records).met = ap (λ (l : Lists). l.unused_items) same in
+    let unused_shelves : lists.unused_shelves ≡ (unused_shelf_walk atlas.records).met = ap (λ (l : Lists). l.unused_shelves) same in
+    let shelf_end : (shelf_walk atlas.records).end ≡ no_link = ap (λ (w : Walked). w.end) walks.shelves in
+    let unused_shelf_end : (unused_shelf_walk atlas.records).end ≡ no_link = ap (λ (w : Walked). w.end) walks.unused_shelves in
+    let unused_item_end : (unused_item_walk atlas.records).end ≡ no_link = ap (λ (w : Walked). w.end) walks.unused_items in
     let frame : state.frame ≡ atlas.frame = ap (λ (s : AtlasState). s.frame) witnessed.spelled in
     let shelves : state.shelves ≡ map (spelled_shelf atlas) lists.entries = ap (λ (s : AtlasState). s.shelves) witnessed.spelled in
     let are_shelves : Each (λ (entry : Entry). IsShelf atlas.frame (spelled_shelf atlas entry)) lists.entries =
@@ -87,19 +87,19 @@ witnessed-stands atlas lists state witnessed =
       counts = witnessed.counts;
       links =
           record {
-            shelves = stops-none (length atlas.lists.shelves) (shelf_walk atlas.lists) shelf_end;
-            unused_shelves = stops-none (length atlas.lists.shelves) (unused_shelf_walk atlas.lists) unused_shelf_end;
-            unused_items = stops-none (length atlas.lists.items) (unused_item_walk atlas.lists) unused_item_end;
-            back = subst (λ (ns : List ℕ). LeadsBack (link_at shelf_chain.previous atlas.lists.shelves) None ns) numbers linked.shelves.backward;
-            each_shelf = each (HasItemLinks atlas) (Each-three (IsEntry atlas.lists) (IsPlaced atlas) (HasWalks atlas.lists) (HasItemLinks atlas) (item-links atlas) lists.entries linked.entries witnessed.placed walks.entries);
+            shelves = stops-none (length atlas.records.shelves) (shelf_walk atlas.records) shelf_end;
+            unused_shelves = stops-none (length atlas.records.shelves) (unused_shelf_walk atlas.records) unused_shelf_end;
+            unused_items = stops-none (length atlas.records.items) (unused_item_walk atlas.records) unused_item_end;
+            back = subst (λ (ns : List ℕ). LeadsBack (link_at shelf_chain.previous atlas.records.shelves) None ns) numbers linked.shelves.backward;
+            each_shelf = each (HasItemLinks atlas) (Each-three (IsEntry atlas.records) (IsPlaced atlas) (HasWalks atlas.records) (HasItemLinks atlas) (item-links atlas) lists.entries linked.entries witnessed.placed walks.entries);
           };
       shelves =
           record {
             columns = Each-weaken (IsShelf state.frame) (λ (shelf : Shelf). shelf.column < state.frame.columns) state.shelves (λ shelf is. is.column) witnessed.valid.shelves;
             ordered = witnessed.valid.ordered;
-            along = each (λ (entry : Entry). along_of atlas.lists.shelves entry.number % atlas.frame.column_width ≡ 0)
-                (Each-weaken (IsPlaced atlas) (λ (entry : Entry). along_of atlas.lists.shelves entry.number % atlas.frame.column_width ≡ 0) lists.entries (λ entry placed. placed.along) witnessed.placed);
-            across = subst (λ (ns : List ℕ). AreStacked atlas.lists.shelves atlas.frame.column_width [] ns) numbers witnessed.stacked;
+            along = each (λ (entry : Entry). along_of atlas.records.shelves entry.number % atlas.frame.column_width ≡ 0)
+                (Each-weaken (IsPlaced atlas) (λ (entry : Entry). along_of atlas.records.shelves entry.number % atlas.frame.column_width ≡ 0) lists.entries (λ entry placed. placed.along) witnessed.placed);
+            across = subst (λ (ns : List ℕ). AreStacked atlas.records.shelves atlas.frame.column_width [] ns) numbers witnessed.stacked;
             heights = Each-weaken (IsShelf state.frame) (λ (shelf : Shelf). 1 ≤ shelf.height) state.shelves (λ shelf is. is.height) witnessed.valid.shelves;
             filled = witnessed.valid.heights;
           };
@@ -109,22 +109,22 @@ witnessed-stands atlas lists state witnessed =
             items = Each-weaken (IsShelf state.frame) (λ (shelf : Shelf). NoNeighbours both_free shelf.items) state.shelves (λ shelf is. is.apart) witnessed.valid.shelves;
             shelves = witnessed.valid.apart;
           };
-      free_lists = each (HasFreeList atlas) (Each-three (IsEntry atlas.lists) (IsPlaced atlas) (HasWalks atlas.lists) (HasFreeList atlas) (free-list atlas) lists.entries linked.entries witnessed.placed walks.entries);
+      free_lists = each (HasFreeList atlas) (Each-three (IsEntry atlas.records) (IsPlaced atlas) (HasWalks atlas.records) (HasFreeList atlas) (free-list atlas) lists.entries linked.entries witnessed.placed walks.entries);
       sharing =
           record {
-            shelves = subst (λ (ns : List ℕ). HasEachOnce (length atlas.lists.shelves) (ns ++ (unused_shelf_walk atlas.lists).met)) numbers
-                (subst (λ (us : List ℕ). HasEachOnce (length atlas.lists.shelves) (shelf_numbers lists.entries ++ us)) unused_shelves
-                (two-of (length atlas.lists.shelves) (shelf_numbers lists.entries) lists.unused_shelves linked.shelves_once));
-            items = subst (λ (es : List Entry). HasEachOnce (length atlas.lists.items) (item_numbers es ++ (unused_item_walk atlas.lists).met)) entries
-                (subst (λ (us : List ℕ). HasEachOnce (length atlas.lists.items) (item_numbers lists.entries ++ us)) unused_items
-                (two-of (length atlas.lists.items) (item_numbers lists.entries) lists.unused_items linked.items_once));
+            shelves = subst (λ (ns : List ℕ). HasEachOnce (length atlas.records.shelves) (ns ++ (unused_shelf_walk atlas.records).met)) numbers
+                (subst (λ (us : List ℕ). HasEachOnce (length atlas.records.shelves) (shelf_numbers lists.entries ++ us)) unused_shelves
+                (two-of (length atlas.records.shelves) (shelf_numbers lists.entries) lists.unused_shelves linked.shelves_once));
+            items = subst (λ (es : List Entry). HasEachOnce (length atlas.records.items) (item_numbers es ++ (unused_item_walk atlas.records).met)) entries
+                (subst (λ (us : List ℕ). HasEachOnce (length atlas.records.items) (item_numbers lists.entries ++ us)) unused_items
+                (two-of (length atlas.records.items) (item_numbers lists.entries) lists.unused_items linked.items_once));
             shelf_end = shelf_end;
             unused_shelf_end = unused_shelf_end;
-            item_ends = each (λ (entry : Entry). (item_walk atlas.lists entry.number).end ≡ no_link)
-                (Each-weaken (HasWalks atlas.lists) (λ (entry : Entry). (item_walk atlas.lists entry.number).end ≡ no_link) lists.entries (λ entry walked. ap (λ (w : Walked). w.end) walked.items) walks.entries);
+            item_ends = each (λ (entry : Entry). (item_walk atlas.records entry.number).end ≡ no_link)
+                (Each-weaken (HasWalks atlas.records) (λ (entry : Entry). (item_walk atlas.records entry.number).end ≡ no_link) lists.entries (λ entry walked. ap (λ (w : Walked). w.end) walked.items) walks.entries);
             unused_item_end = unused_item_end;
           };
-      unused = subst (λ (us : List ℕ). Each (λ item. is_allocated_at atlas.lists.items item ≡ false) us) unused_items witnessed.unused;
+      unused = subst (λ (us : List ℕ). Each (λ item. is_allocated_at atlas.records.items item ≡ false) us) unused_items witnessed.unused;
       space = witnessed.space;
     }
 
@@ -140,12 +140,12 @@ witnessed-kept frame records lists witnessed =
     subst (λ (l : Lists). Witnessed (atlas_of frame records) l (state_of frame records)) same witnessed
 
 -- records that spell the lists of a state keep every rule, and spell that state
-pub kept-of : (frame : Frame) (records : Records) (lists : Lists) (state : AtlasState) → Witnessed (record { frame = frame; lists = records; allocated_space = pos (space_in state.shelves) }) lists state → (state_of frame records ≡ state) × AreKept frame records
+pub kept-of : (frame : Frame) (records : Records) (lists : Lists) (state : AtlasState) → Witnessed (record { frame = frame; records = records; allocated_space = pos (space_in state.shelves) }) lists state → (state_of frame records ≡ state) × AreKept frame records
 kept-of frame records lists state witnessed =
     let met : walked_lists records ≡ lists =
     linked-lists records lists (linked-walks records lists witnessed.counts.shelves.1 witnessed.counts.items.1 witnessed.linked) in
     let same : state_of frame records ≡ state =
     ap (λ (l : Lists). spelled_state (bare frame records) l.entries) met ∙ sym witnessed.spelled in
-    let spells : (s : AtlasState) → s ≡ state → Witnessed (record { frame = frame; lists = records; allocated_space = pos (space_in s.shelves) }) lists s =
-    λ s is. subst (λ (t : AtlasState). Witnessed (record { frame = frame; lists = records; allocated_space = pos (space_in t.shelves) }) lists t) (sym is) witnessed in
+    let spells : (s : AtlasState) → s ≡ state → Witnessed (record { frame = frame; records = records; allocated_space = pos (space_in s.shelves) }) lists s =
+    λ s is. subst (λ (t : AtlasState). Witnessed (record { frame = frame; records = records; allocated_space = pos (space_in t.shelves) }) lists t) (sym is) witnessed in
     (same, witnessed-kept frame records lists (spells (state_of frame records) same))

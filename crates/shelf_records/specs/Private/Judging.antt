@@ -22,13 +22,13 @@ abbrev pub judged : Frame → List LinkedShelf → List LinkedItem → AtlasReco
 judged frame shelves items =
     record {
       frame = frame;
-      lists =
+      records =
           record {
             shelves = shelves;
             items = items;
             first_shelf = None;
-            free_items = None;
-            free_shelves = None;
+            unused_items = None;
+            unused_shelves = None;
           };
       allocated_space = pos 0;
     }
@@ -75,9 +75,9 @@ pub record HasShelvesIn (atlas : AtlasRecords) (entries : List Entry) : Type 0 w
   pub ordered : NoNeighbours is_out_of_order (map (spelled_shelf atlas) entries)
   pub along :
       Each
-      (λ (entry : Entry). along_of atlas.lists.shelves entry.number % atlas.frame.column_width ≡ 0)
+      (λ (entry : Entry). along_of atlas.records.shelves entry.number % atlas.frame.column_width ≡ 0)
       entries
-  pub across : AreStacked atlas.lists.shelves atlas.frame.column_width [] (shelf_numbers entries)
+  pub across : AreStacked atlas.records.shelves atlas.frame.column_width [] (shelf_numbers entries)
   pub heights : Each (λ (shelf : Shelf). 1 ≤ shelf.height) (map (spelled_shelf atlas) entries)
   pub filled :
       (column : ℕ) → column < atlas.frame.columns
@@ -108,13 +108,13 @@ is_own_free items marks shelf item =
     is_own items marks shelf item && not (is_allocated_at items item)
 
 -- the free ones of these items
-abbrev pub free_among : List LinkedItem → List ℕ → List ℕ
-free_among items numbers = filter (λ member. not (is_allocated_at items member)) numbers
+abbrev pub free_present : List LinkedItem → List ℕ → List ℕ
+free_present items numbers = filter (λ member. not (is_allocated_at items member)) numbers
 
 -- the free list has each free item of its shelf once, and no other
 abbrev pub ListsFree : List LinkedItem → Entry → Type 0
 ListsFree items entry =
-    (item : ℕ) → times item entry.free_list ≡ times item (free_among items entry.items)
+    (item : ℕ) → times item entry.free_list ≡ times item (free_present items entry.items)
 
 -- it does, and links back to the one before
 pub record FreeBack (records : List LinkedItem) (entry : Entry) : Type 0 where

@@ -13,34 +13,34 @@ use Rattle.shelf_model.specs.Valid.{IsValid}
 
 -- what the records of a shelf and of its items say beside their links
 pub record IsPlaced (atlas : AtlasRecords) (entry : Entry) : Type 0 where
-  pub owners : Each (λ item. shelf_of atlas.lists.items item ≡ entry.number) entry.items
-  pub along : along_of atlas.lists.shelves entry.number % atlas.frame.column_width ≡ 0
-  pub places : LieFrom atlas.lists.items (along_of atlas.lists.shelves entry.number) entry.items
+  pub owners : Each (λ item. shelf_of atlas.records.items item ≡ entry.number) entry.items
+  pub along : along_of atlas.records.shelves entry.number % atlas.frame.column_width ≡ 0
+  pub places : LieFrom atlas.records.items (along_of atlas.records.shelves entry.number) entry.items
   pub free_list :
       (item : ℕ) → times item entry.free_list
-      ≡ times item (filter (λ member. not (is_allocated_at atlas.lists.items member)) entry.items)
+      ≡ times item (filter (λ member. not (is_allocated_at atlas.records.items member)) entry.items)
 
 -- the record of a shelf says whether it is empty
 abbrev pub HasFlag : AtlasRecords → Entry → Type 0
 HasFlag atlas entry =
-    is_empty_at atlas.lists.shelves entry.number ≡ is_empty (spelled_shelf atlas entry)
+    is_empty_at atlas.records.shelves entry.number ≡ is_empty (spelled_shelf atlas entry)
 
 -- the records spell these lists, and these the state
 pub record Witnessed (atlas : AtlasRecords) (lists : Lists) (state : AtlasState) : Type 0 where
   pub spelled : state ≡ spelled_state atlas lists.entries
   pub counts : HasCounts atlas
-  pub linked : IsLinked atlas.lists lists
+  pub linked : IsLinked atlas.records lists
   pub placed : Each (IsPlaced atlas) lists.entries
   pub flags : Each (HasFlag atlas) lists.entries
-  pub stacked : AreStacked atlas.lists.shelves atlas.frame.column_width []
+  pub stacked : AreStacked atlas.records.shelves atlas.frame.column_width []
       (shelf_numbers lists.entries)
   pub valid : IsValid state
-  pub unused : Each (λ item. is_allocated_at atlas.lists.items item ≡ false) lists.unused_items
+  pub unused : Each (λ item. is_allocated_at atlas.records.items item ≡ false) lists.unused_items
   pub space : atlas.allocated_space ≡ pos (space_in state.shelves)
 
 -- an atlas of these records that says that nothing is allocated
 abbrev pub bare : Frame → Records → AtlasRecords
-bare frame records = record { frame = frame; lists = records; allocated_space = pos 0 }
+bare frame records = record { frame = frame; records = records; allocated_space = pos 0 }
 
 -- the state that records spell in a frame
 abbrev pub state_of : Frame → Records → AtlasState
@@ -51,7 +51,7 @@ abbrev pub atlas_of : Frame → Records → AtlasRecords
 atlas_of frame records =
     record {
       frame = frame;
-      lists = records;
+      records = records;
       allocated_space = pos (space_in (state_of frame records).shelves);
     }
 

@@ -32,13 +32,13 @@ Fits link = link_of (bits_of link) ≡ link
 
 -- these are the shelves in use; each shelf record is one of them or unused, and both lists end at none
 pub record HasShelfLists (atlas : AtlasRecords) (numbers : List ℕ) : Type 0 where
-  pub met : numbers ≡ (shelf_walk atlas.lists).met
-  pub end : (shelf_walk atlas.lists).end ≡ no_link
-  pub unused_end : (unused_shelf_walk atlas.lists).end ≡ no_link
-  pub once : HasEachOnce (length atlas.lists.shelves) ((shelf_walk atlas.lists).met ++ (unused_shelf_walk atlas.lists).met)
-  pub next_fits : AreFitting shelf_chain.next atlas.lists.shelves
-  pub first_fits : Fits atlas.lists.first_shelf
-  pub unused_fits : Fits atlas.lists.free_shelves
+  pub met : numbers ≡ (shelf_walk atlas.records).met
+  pub end : (shelf_walk atlas.records).end ≡ no_link
+  pub unused_end : (unused_shelf_walk atlas.records).end ≡ no_link
+  pub once : HasEachOnce (length atlas.records.shelves) ((shelf_walk atlas.records).met ++ (unused_shelf_walk atlas.records).met)
+  pub next_fits : AreFitting shelf_chain.next atlas.records.shelves
+  pub first_fits : Fits atlas.records.first_shelf
+  pub unused_fits : Fits atlas.records.unused_shelves
 
 -- the chain of items of a shelf ends at none
 pub record HasChain (records : Records) (number : ℕ) : Type 0 where
@@ -57,13 +57,13 @@ chain_entry records number = record { number = number; items = (item_walk record
 -- these are the items of the shelves in use, and the unused ones; each item record is one of them, and all lists end
 -- at none
 pub record HasItemLists (atlas : AtlasRecords) (shelves : List Entry) (unused : List ℕ) : Type 0 where
-  pub met : shelves ≡ map (chain_entry atlas.lists) (shelf_walk atlas.lists).met
-  pub unused_met : unused ≡ (unused_item_walk atlas.lists).met
-  pub chains : Each (HasChain atlas.lists) (shelf_walk atlas.lists).met
-  pub unused_end : (unused_item_walk atlas.lists).end ≡ no_link
-  pub once : HasEachOnce (length atlas.lists.items) (item_numbers shelves ++ unused)
-  pub next_fits : AreFitting item_chain.next atlas.lists.items
-  pub unused_fits : Fits atlas.lists.free_items
+  pub met : shelves ≡ map (chain_entry atlas.records) (shelf_walk atlas.records).met
+  pub unused_met : unused ≡ (unused_item_walk atlas.records).met
+  pub chains : Each (HasChain atlas.records) (shelf_walk atlas.records).met
+  pub unused_end : (unused_item_walk atlas.records).end ≡ no_link
+  pub once : HasEachOnce (length atlas.records.items) (item_numbers shelves ++ unused)
+  pub next_fits : AreFitting item_chain.next atlas.records.items
+  pub unused_fits : Fits atlas.records.unused_items
 
 -- the free items of all shelves
 abbrev pub free_numbers : List Entry → List ℕ
@@ -74,9 +74,9 @@ free_numbers (entry ∷ entries) = entry.free_list ++ free_numbers entries
 -- each list ends at none, and the shelves link back to the one before
 pub record IsWalked (atlas : AtlasRecords) (entries : List Entry) (unused : List ℕ) : Type 0 where
   pub entries_met : entries ≡ walked_entries atlas
-  pub unused_met : unused ≡ (unused_item_walk atlas.lists).met
-  pub shelves : HasShelfLists atlas (shelf_walk atlas.lists).met
-  pub back : LeadsBack (link_at shelf_chain.previous atlas.lists.shelves) None (shelf_walk atlas.lists).met
-  pub items : HasItemLists atlas (map (chain_entry atlas.lists) (shelf_walk atlas.lists).met) (unused_item_walk atlas.lists).met
-  pub free : Each (HasFree atlas.lists) (shelf_walk atlas.lists).met
-  pub free_fits : AreFitting free_list.next atlas.lists.items
+  pub unused_met : unused ≡ (unused_item_walk atlas.records).met
+  pub shelves : HasShelfLists atlas (shelf_walk atlas.records).met
+  pub back : LeadsBack (link_at shelf_chain.previous atlas.records.shelves) None (shelf_walk atlas.records).met
+  pub items : HasItemLists atlas (map (chain_entry atlas.records) (shelf_walk atlas.records).met) (unused_item_walk atlas.records).met
+  pub free : Each (HasFree atlas.records) (shelf_walk atlas.records).met
+  pub free_fits : AreFitting free_list.next atlas.records.items

@@ -11,7 +11,7 @@ use Rattle.shelf_records.specs.StandsFor.{AreStacked, HasFreeList, HasItems, Has
 
 -- the records of an atlas as passes see them
 abbrev pub judged_of : AtlasRecords → AtlasRecords
-judged_of atlas = judged atlas.frame atlas.lists.shelves atlas.lists.items
+judged_of atlas = judged atlas.frame atlas.records.shelves atlas.records.items
 
 -- the items of a shelf
 items-of : (atlas : AtlasRecords) (entry : Entry) → HasItems (judged_of atlas) entry → HasItems atlas entry
@@ -34,8 +34,8 @@ pub neighbours-of : (atlas : AtlasRecords) (entries : List Entry) → HasNeighbo
 neighbours-of atlas entries has = has
 
 -- the numbers of the shelves that a walk meets
-numbers-of : (atlas : AtlasRecords) → shelf_numbers (walked_entries atlas) ≡ (shelf_walk atlas.lists).met
-numbers-of atlas = walked-numbers atlas.lists (shelf_walk atlas.lists).met
+numbers-of : (atlas : AtlasRecords) → shelf_numbers (walked_entries atlas) ≡ (shelf_walk atlas.records).met
+numbers-of atlas = walked-numbers atlas.records (shelf_walk atlas.records).met
 
 -- the shelves
 pub shelves-of : (atlas : AtlasRecords) → HasShelvesIn (judged_of atlas) (walked_entries atlas) → HasShelves atlas (spelled_state atlas (walked_entries atlas))
@@ -44,7 +44,7 @@ shelves-of atlas has =
       columns = has.columns;
       ordered = has.ordered;
       along = has.along;
-      across = subst (AreStacked atlas.lists.shelves atlas.frame.column_width []) (numbers-of atlas) has.across;
+      across = subst (AreStacked atlas.records.shelves atlas.frame.column_width []) (numbers-of atlas) has.across;
       heights = has.heights;
       filled = has.filled;
     }
@@ -56,15 +56,15 @@ of-shelves atlas has =
       columns = has.columns;
       ordered = has.ordered;
       along = has.along;
-      across = subst (AreStacked atlas.lists.shelves atlas.frame.column_width []) (sym (numbers-of atlas)) has.across;
+      across = subst (AreStacked atlas.records.shelves atlas.frame.column_width []) (sym (numbers-of atlas)) has.across;
       heights = has.heights;
       filled = has.filled;
     }
 
 -- a free list, where its walk ends at none
-pub free-of : (atlas : AtlasRecords) (entry : Entry) → (free_walk atlas.lists entry.number).end ≡ no_link → FreeBack atlas.lists.items entry → HasFreeList atlas entry
+pub free-of : (atlas : AtlasRecords) (entry : Entry) → (free_walk atlas.records entry.number).end ≡ no_link → FreeBack atlas.records.items entry → HasFreeList atlas entry
 free-of atlas entry ends has = record { items = has.items; back = has.back; ends = ends }
 
 -- and back
-pub of-free : (atlas : AtlasRecords) (entry : Entry) → HasFreeList atlas entry → FreeBack atlas.lists.items entry
+pub of-free : (atlas : AtlasRecords) (entry : Entry) → HasFreeList atlas entry → FreeBack atlas.records.items entry
 of-free atlas entry has = record { items = has.items; back = has.back }

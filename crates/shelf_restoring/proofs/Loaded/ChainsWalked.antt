@@ -89,17 +89,17 @@ image-at records (n ∷ ns) (suc i) entry within is =
 
 -- each item stands once in the lists that walks meet
 pub once-walked : (atlas : AtlasRecords) (entries : List Entry) (unused : List ℕ) → HasItemLists atlas entries unused
-    → HasEachOnce (length atlas.lists.items) (item_numbers (walked_entries atlas) ++ (unused_item_walk atlas.lists).met)
+    → HasEachOnce (length atlas.records.items) (item_numbers (walked_entries atlas) ++ (unused_item_walk atlas.records).met)
 once-walked atlas entries unused has k =
-    let numbers : List ℕ = (shelf_walk atlas.lists).met in
+    let numbers : List ℕ = (shelf_walk atlas.records).met in
     omega (
       arith,
       has.once k,
       times-append k (item_numbers entries) unused,
       ap (λ (es : List Entry). times k (item_numbers es)) has.met,
-      items-times atlas.lists numbers k,
+      items-times atlas.records numbers k,
       ap (times k) has.unused_met,
-      times-append k (item_numbers (walked_entries atlas)) (unused_item_walk atlas.lists).met,
+      times-append k (item_numbers (walked_entries atlas)) (unused_item_walk atlas.records).met,
     )
 
 -- as many items, of which only the items matter
@@ -110,10 +110,10 @@ items-length records (n ∷ ns) =
     omega (arith, items-length records ns, length-append (item_walk records n).met (item_numbers (map (chain_entry records) ns)), length-append (item_walk records n).met (item_numbers (map (walked_entry records) ns)))
 
 -- as many shelves and items as walks have met
-pub counted-walked : (atlas : AtlasRecords) (entries chains : List Entry) (numbers unused : List ℕ) → numbers ≡ (shelf_walk atlas.lists).met
+pub counted-walked : (atlas : AtlasRecords) (entries chains : List Entry) (numbers unused : List ℕ) → numbers ≡ (shelf_walk atlas.records).met
     → HasItemLists atlas chains unused → entries ≡ walked_entries atlas
     → (length entries ≡ length numbers) × (length (item_numbers entries) ≡ length (item_numbers chains))
 counted-walked atlas entries chains numbers unused met has are = (
-  ap length are ∙ length-map (shelf_walk atlas.lists).met (walked_entry atlas.lists) ∙ sym (ap length met),
-  ap (λ (es : List Entry). length (item_numbers es)) are ∙ sym (items-length atlas.lists (shelf_walk atlas.lists).met) ∙ sym (ap (λ (es : List Entry). length (item_numbers es)) has.met),
+  ap length are ∙ length-map (shelf_walk atlas.records).met (walked_entry atlas.records) ∙ sym (ap length met),
+  ap (λ (es : List Entry). length (item_numbers es)) are ∙ sym (items-length atlas.records (shelf_walk atlas.records).met) ∙ sym (ap (λ (es : List Entry). length (item_numbers es)) has.met),
 )

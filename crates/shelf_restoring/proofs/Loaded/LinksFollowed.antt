@@ -172,7 +172,7 @@ module _ (records : Records) where
       (first-refused (length records.shelves) more 0 steps (shelf_walk records) (unused_shelf_walk records ∷ []) marks fault unmarked breaks
       (walk-once shelf_chain.next records.shelves records.first_shelf few) (omega (arith, counted)))
 
-  -- the walk along the shelves put aside is refused
+  -- the walk along the unused shelves is refused
   pub unused-refused : (more steps : ℕ) (marks : List Bool) (fault : WalkFault) → length records.shelves ≤ no_link → (shelf_walk records).end ≡ no_link → IsMarkedBy marks (shelf_walk records).met
       → BreaksOff marks (length records.shelves) (unused_shelf_walk records) fault → steps ≡ length (shelf_walk records).met + links_by (unused_shelf_walk records) fault
       → StopsAfter (links_until (length records.shelves) more [] (shelf_walks records)) steps (chain_fault fault)
@@ -181,9 +181,9 @@ module _ (records : Records) where
       (chain-stops (0 + links_until (length records.shelves) more [] (shelf_walks records)) steps fault
       (refused-after (length records.shelves) more 0 steps [] (shelf_walk records ∷ []) [] (unused_shelf_walk records) marks (length records.shelves) fault (end, tt)
       (subst (IsMarkedBy marks) (sym (append-nil (shelf_walk records).met)) marked) breaks
-      (walk-once shelf_chain.next records.shelves records.free_shelves few) (omega (arith, counted))))
+      (walk-once shelf_chain.next records.shelves records.unused_shelves few) (omega (arith, counted))))
 
-  -- the walks along chains go on after that along the items put aside
+  -- the walks along chains go on after that along the unused items
   pub items-on : (more from here : ℕ) (marks : List Bool) → (unused_item_walk records).end ≡ no_link → IsMarkedBy marks (unused_item_walk records).met → here ≡ from + length (unused_item_walk records).met
       → here + links_until (length records.items) more (unused_item_walk records).met (map (item_walk records) (shelf_walk records).met) ≡ from + links_until (length records.items) more [] (item_walks records)
   items-on more from here marks end marked counted =
@@ -230,34 +230,34 @@ module _ (records : Records) where
 
 module _ (atlas : AtlasRecords) where
   -- the walks along shelves were along lists of their own
-  pub shelves-go : (numbers : List ℕ) (more : ℕ) → HasShelfLists atlas numbers → links_until (length atlas.lists.shelves) more [] (shelf_walks atlas.lists) ≡ links_in (shelf_walks atlas.lists) + more
+  pub shelves-go : (numbers : List ℕ) (more : ℕ) → HasShelfLists atlas numbers → links_until (length atlas.records.shelves) more [] (shelf_walks atlas.records) ≡ links_in (shelf_walks atlas.records) + more
   shelves-go numbers more has =
-      each-goes atlas.lists more (length atlas.lists.shelves) (shelf_walks atlas.lists) (has.end, (has.unused_end, tt))
-      (subst (λ (ns : List ℕ). HasEachOnce (length atlas.lists.shelves) ((shelf_walk atlas.lists).met ++ ns)) (sym (append-nil (unused_shelf_walk atlas.lists).met)) has.once)
+      each-goes atlas.records more (length atlas.records.shelves) (shelf_walks atlas.records) (has.end, (has.unused_end, tt))
+      (subst (λ (ns : List ℕ). HasEachOnce (length atlas.records.shelves) ((shelf_walk atlas.records).met ++ ns)) (sym (append-nil (unused_shelf_walk atlas.records).met)) has.once)
 
   -- the walks along items were along lists of their own
-  pub items-go : (entries : List Entry) (unused : List ℕ) (more : ℕ) → HasItemLists atlas entries unused → links_until (length atlas.lists.items) more [] (item_walks atlas.lists) ≡ links_in (item_walks atlas.lists) + more
+  pub items-go : (entries : List Entry) (unused : List ℕ) (more : ℕ) → HasItemLists atlas entries unused → links_until (length atlas.records.items) more [] (item_walks atlas.records) ≡ links_in (item_walks atlas.records) + more
   items-go entries unused more has =
-      each-goes atlas.lists more (length atlas.lists.items) (item_walks atlas.lists) (has.unused_end, chains-end atlas.lists (shelf_walk atlas.lists).met has.chains)
+      each-goes atlas.records more (length atlas.records.items) (item_walks atlas.records) (has.unused_end, chains-end atlas.records (shelf_walk atlas.records).met has.chains)
       (λ k. omega (
         arith,
         has.once k,
         times-append k (item_numbers entries) unused,
-        times-append k (unused_item_walk atlas.lists).met (met_by (map (item_walk atlas.lists) (shelf_walk atlas.lists).met)),
+        times-append k (unused_item_walk atlas.records).met (met_by (map (item_walk atlas.records) (shelf_walk atlas.records).met)),
         ap (times k) has.unused_met,
         ap (λ (es : List Entry). times k (item_numbers es)) has.met,
-        ap (times k) (items-met atlas.lists (shelf_walk atlas.lists).met),
+        ap (times k) (items-met atlas.records (shelf_walk atlas.records).met),
       ))
 
   -- the links followed in the walks along shelves and along items, and then along free lists
   pub all-followed : (numbers : List ℕ) (entries : List Entry) (unused : List ℕ) → HasShelfLists atlas numbers → HasItemLists atlas entries unused
-      → links_followed atlas.lists ≡ links_in (shelf_walks atlas.lists) + (links_in (item_walks atlas.lists) + links_until 0 0 [] (free_walks atlas.lists))
+      → links_followed atlas.records ≡ links_in (shelf_walks atlas.records) + (links_in (item_walks atlas.records) + links_until 0 0 [] (free_walks atlas.records))
   all-followed numbers entries unused shelves items =
-      shelves-go numbers (links_until (length atlas.lists.items) (links_until 0 0 [] (free_walks atlas.lists)) [] (item_walks atlas.lists)) shelves
-      ∙ ap (λ (n : ℕ). links_in (shelf_walks atlas.lists) + n) (items-go entries unused (links_until 0 0 [] (free_walks atlas.lists)) items)
+      shelves-go numbers (links_until (length atlas.records.items) (links_until 0 0 [] (free_walks atlas.records)) [] (item_walks atlas.records)) shelves
+      ∙ ap (λ (n : ℕ). links_in (shelf_walks atlas.records) + n) (items-go entries unused (links_until 0 0 [] (free_walks atlas.records)) items)
 
   -- where no walk is refused, the links of all are followed
   pub all-links : (numbers : List ℕ) (entries : List Entry) (unused : List ℕ) → HasShelfLists atlas numbers → HasItemLists atlas entries unused
-      → links_until 0 0 [] (free_walks atlas.lists) ≡ links_in (free_walks atlas.lists) → links_followed atlas.lists ≡ links_of_all atlas.lists
+      → links_until 0 0 [] (free_walks atlas.records) ≡ links_in (free_walks atlas.records) → links_followed atlas.records ≡ links_of_all atlas.records
   all-links numbers entries unused shelves items free =
       omega (arith, all-followed numbers entries unused shelves items, free)

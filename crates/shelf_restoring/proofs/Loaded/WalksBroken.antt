@@ -27,35 +27,35 @@ not-twice count xs all twice part once = omega (arith, twice.1, (once-part count
 
 -- the walk along the shelves in use is refused
 pub shelves-broken : (atlas : AtlasRecords) (marks : List Bool) (fault : WalkFault)
-    → BreaksOff marks (length atlas.lists.shelves) (shelf_walk atlas.lists) fault → IsMarkedBy marks [] → IsBroken atlas (chain_fault fault)
+    → BreaksOff marks (length atlas.records.shelves) (shelf_walk atlas.records) fault → IsMarkedBy marks [] → IsBroken atlas (chain_fault fault)
 shelves-broken atlas marks OutOfRange breaks marked = λ (links : HasLinks atlas).
-    not-in-range (length atlas.lists.shelves) (shelf_walk atlas.lists) breaks.0 breaks.1 links.shelves
+    not-in-range (length atlas.records.shelves) (shelf_walk atlas.records) breaks.0 breaks.1 links.shelves
 shelves-broken atlas marks Marked breaks marked = λ (shared : IsShared atlas).
-    not-twice (length atlas.lists.shelves) (shelf_walk atlas.lists).met ((shelf_walk atlas.lists).met ++ (unused_shelf_walk atlas.lists).met)
-    (breaks [] marked) (λ k. omega (arith, times-append k (shelf_walk atlas.lists).met (unused_shelf_walk atlas.lists).met)) shared.shelves
+    not-twice (length atlas.records.shelves) (shelf_walk atlas.records).met ((shelf_walk atlas.records).met ++ (unused_shelf_walk atlas.records).met)
+    (breaks [] marked) (λ k. omega (arith, times-append k (shelf_walk atlas.records).met (unused_shelf_walk atlas.records).met)) shared.shelves
 shelves-broken atlas marks Circular breaks marked = λ (shared : IsShared atlas). breaks shared.shelf_end
 shelves-broken atlas marks Memory breaks marked = tt
 
 -- the walk along the unused shelves is refused
 pub unused_shelves-broken : (atlas : AtlasRecords) (marks : List Bool) (fault : WalkFault)
-    → BreaksOff marks (length atlas.lists.shelves) (unused_shelf_walk atlas.lists) fault → IsMarkedBy marks (shelf_walk atlas.lists).met
+    → BreaksOff marks (length atlas.records.shelves) (unused_shelf_walk atlas.records) fault → IsMarkedBy marks (shelf_walk atlas.records).met
     → IsBroken atlas (chain_fault fault)
 unused_shelves-broken atlas marks OutOfRange breaks marked = λ (links : HasLinks atlas).
-    not-in-range (length atlas.lists.shelves) (unused_shelf_walk atlas.lists) breaks.0 breaks.1 links.unused_shelves
+    not-in-range (length atlas.records.shelves) (unused_shelf_walk atlas.records) breaks.0 breaks.1 links.unused_shelves
 unused_shelves-broken atlas marks Marked breaks marked = λ (shared : IsShared atlas).
-    not-twice (length atlas.lists.shelves) ((shelf_walk atlas.lists).met ++ (unused_shelf_walk atlas.lists).met) ((shelf_walk atlas.lists).met ++ (unused_shelf_walk atlas.lists).met)
-    (breaks (shelf_walk atlas.lists).met marked) (λ k. omega arith) shared.shelves
+    not-twice (length atlas.records.shelves) ((shelf_walk atlas.records).met ++ (unused_shelf_walk atlas.records).met) ((shelf_walk atlas.records).met ++ (unused_shelf_walk atlas.records).met)
+    (breaks (shelf_walk atlas.records).met marked) (λ k. omega arith) shared.shelves
 unused_shelves-broken atlas marks Circular breaks marked = λ (shared : IsShared atlas). breaks shared.unused_shelf_end
 unused_shelves-broken atlas marks Memory breaks marked = tt
 
 -- the walk along the unused items is refused
 pub unused_items-broken : (atlas : AtlasRecords) (marks : List Bool) (fault : WalkFault)
-    → BreaksOff marks (length atlas.lists.items) (unused_item_walk atlas.lists) fault → IsMarkedBy marks [] → IsBroken atlas (chain_fault fault)
+    → BreaksOff marks (length atlas.records.items) (unused_item_walk atlas.records) fault → IsMarkedBy marks [] → IsBroken atlas (chain_fault fault)
 unused_items-broken atlas marks OutOfRange breaks marked = λ (links : HasLinks atlas).
-    not-in-range (length atlas.lists.items) (unused_item_walk atlas.lists) breaks.0 breaks.1 links.unused_items
+    not-in-range (length atlas.records.items) (unused_item_walk atlas.records) breaks.0 breaks.1 links.unused_items
 unused_items-broken atlas marks Marked breaks marked = λ (shared : IsShared atlas).
-    not-twice (length atlas.lists.items) (unused_item_walk atlas.lists).met (item_numbers (walked_entries atlas) ++ (unused_item_walk atlas.lists).met)
-    (breaks [] marked) (λ k. omega (arith, times-append k (item_numbers (walked_entries atlas)) (unused_item_walk atlas.lists).met)) shared.items
+    not-twice (length atlas.records.items) (unused_item_walk atlas.records).met (item_numbers (walked_entries atlas) ++ (unused_item_walk atlas.records).met)
+    (breaks [] marked) (λ k. omega (arith, times-append k (item_numbers (walked_entries atlas)) (unused_item_walk atlas.records).met)) shared.items
 unused_items-broken atlas marks Circular breaks marked = λ (shared : IsShared atlas). breaks shared.unused_item_end
 unused_items-broken atlas marks Memory breaks marked = tt
 
@@ -88,57 +88,57 @@ next-times records (x ∷ xs) (suc i) n k within is =
     omega (arith, next-times records xs i n k (omega arith) is, times-append k (item_walk records x).met (item_numbers (map (walked_entry records) xs)), times-append k (item_walk records x).met (item_numbers (map (chain_entry records) (take i xs))))
 
 -- the walk along the items of the next shelf is refused
-pub chain-broken : (atlas : AtlasRecords) (marks : List Bool) (numbers : List ℕ) (i n : ℕ) (fault : WalkFault) → numbers ≡ (shelf_walk atlas.lists).met
+pub chain-broken : (atlas : AtlasRecords) (marks : List Bool) (numbers : List ℕ) (i n : ℕ) (fault : WalkFault) → numbers ≡ (shelf_walk atlas.records).met
     → i < length numbers → n ≡ get_or numbers i 0
-    → BreaksOff marks (length atlas.lists.items) (item_walk atlas.lists n) fault
-    → IsMarkedBy marks ((unused_item_walk atlas.lists).met ++ item_numbers (map (chain_entry atlas.lists) (take i numbers)))
+    → BreaksOff marks (length atlas.records.items) (item_walk atlas.records n) fault
+    → IsMarkedBy marks ((unused_item_walk atlas.records).met ++ item_numbers (map (chain_entry atlas.records) (take i numbers)))
     → IsBroken atlas (chain_fault fault)
 chain-broken atlas marks numbers i n OutOfRange met within is breaks marked = λ (links : HasLinks atlas).
-    let each : Each (HasItemLinks atlas) (map (walked_entry atlas.lists) numbers) = subst (λ (ns : List ℕ). Each (HasItemLinks atlas) (map (walked_entry atlas.lists) ns)) (sym met) links.each_shelf in
-    not-in-range (length atlas.lists.items) (item_walk atlas.lists n) breaks.0 breaks.1 (Each-image (HasItemLinks atlas) (walked_entry atlas.lists) numbers i n within is each).items
+    let each : Each (HasItemLinks atlas) (map (walked_entry atlas.records) numbers) = subst (λ (ns : List ℕ). Each (HasItemLinks atlas) (map (walked_entry atlas.records) ns)) (sym met) links.each_shelf in
+    not-in-range (length atlas.records.items) (item_walk atlas.records n) breaks.0 breaks.1 (Each-image (HasItemLinks atlas) (walked_entry atlas.records) numbers i n within is each).items
 chain-broken atlas marks numbers i n Marked met within is breaks marked = λ (shared : IsShared atlas).
-    let unused = (unused_item_walk atlas.lists).met in
-    let before = item_numbers (map (chain_entry atlas.lists) (take i numbers)) in
-    let all = item_numbers (map (walked_entry atlas.lists) numbers) in
-    let once : HasEachOnce (length atlas.lists.items) (all ++ unused) = subst (λ (ns : List ℕ). HasEachOnce (length atlas.lists.items) (item_numbers (map (walked_entry atlas.lists) ns) ++ unused)) (sym met) shared.items in
-    not-twice (length atlas.lists.items) ((unused ++ before) ++ (item_walk atlas.lists n).met) (all ++ unused) (breaks (unused ++ before) marked)
-    (λ k. omega (arith, next-times atlas.lists numbers i n k within is, times-append k (unused ++ before) (item_walk atlas.lists n).met, times-append k unused before, times-append k all unused)) once
+    let unused = (unused_item_walk atlas.records).met in
+    let before = item_numbers (map (chain_entry atlas.records) (take i numbers)) in
+    let all = item_numbers (map (walked_entry atlas.records) numbers) in
+    let once : HasEachOnce (length atlas.records.items) (all ++ unused) = subst (λ (ns : List ℕ). HasEachOnce (length atlas.records.items) (item_numbers (map (walked_entry atlas.records) ns) ++ unused)) (sym met) shared.items in
+    not-twice (length atlas.records.items) ((unused ++ before) ++ (item_walk atlas.records n).met) (all ++ unused) (breaks (unused ++ before) marked)
+    (λ k. omega (arith, next-times atlas.records numbers i n k within is, times-append k (unused ++ before) (item_walk atlas.records n).met, times-append k unused before, times-append k all unused)) once
 chain-broken atlas marks numbers i n Circular met within is breaks marked = λ (shared : IsShared atlas).
-    breaks (Each-image (λ (entry : Entry). (item_walk atlas.lists entry.number).end ≡ no_link) (walked_entry atlas.lists) numbers i n within is
-    (subst (λ (ns : List ℕ). Each (λ (entry : Entry). (item_walk atlas.lists entry.number).end ≡ no_link) (map (walked_entry atlas.lists) ns)) (sym met) shared.item_ends))
+    breaks (Each-image (λ (entry : Entry). (item_walk atlas.records entry.number).end ≡ no_link) (walked_entry atlas.records) numbers i n within is
+    (subst (λ (ns : List ℕ). Each (λ (entry : Entry). (item_walk atlas.records entry.number).end ≡ no_link) (map (walked_entry atlas.records) ns)) (sym met) shared.item_ends))
 chain-broken atlas marks numbers i n Memory met within is breaks marked = tt
 
 -- a free item of a shelf is an item of it
-free-items : (atlas : AtlasRecords) (n k : ℕ) → HasFreeList atlas (walked_entry atlas.lists n) → times k (free_walk atlas.lists n).met ≤ times k (item_walk atlas.lists n).met
-free-items atlas n k free = omega (arith, free.items k, filter-times (λ member. not (is_allocated_at atlas.lists.items member)) (item_walk atlas.lists n).met k)
+free-items : (atlas : AtlasRecords) (n k : ℕ) → HasFreeList atlas (walked_entry atlas.records n) → times k (free_walk atlas.records n).met ≤ times k (item_walk atlas.records n).met
+free-items atlas n k free = omega (arith, free.items k, filter-times (λ member. not (is_allocated_at atlas.records.items member)) (item_walk atlas.records n).met k)
 
 -- how often a number is a free item of shelves and of the next one, where free items are items: no more than of all items
-pub free-times : (atlas : AtlasRecords) (numbers : List ℕ) (i n k : ℕ) → Each (HasFreeList atlas) (map (walked_entry atlas.lists) numbers)
+pub free-times : (atlas : AtlasRecords) (numbers : List ℕ) (i n k : ℕ) → Each (HasFreeList atlas) (map (walked_entry atlas.records) numbers)
     → i < length numbers → n ≡ get_or numbers i 0
-    → times k (free_numbers (map (walked_entry atlas.lists) (take i numbers))) + times k (free_walk atlas.lists n).met
-    ≤ times k (item_numbers (map (walked_entry atlas.lists) numbers))
+    → times k (free_numbers (map (walked_entry atlas.records) (take i numbers))) + times k (free_walk atlas.records n).met
+    ≤ times k (item_numbers (map (walked_entry atlas.records) numbers))
 free-times atlas [] i n k each within is = absurd (omega arith)
 free-times atlas (x ∷ xs) zero n k each within is =
-    let same : times k (free_walk atlas.lists n).met ≡ times k (free_walk atlas.lists x).met = ap (λ (m : ℕ). times k (free_walk atlas.lists m).met) is in
-    omega (arith, same, free-items atlas x k each.0, times-append k (item_walk atlas.lists x).met (item_numbers (map (walked_entry atlas.lists) xs)))
+    let same : times k (free_walk atlas.records n).met ≡ times k (free_walk atlas.records x).met = ap (λ (m : ℕ). times k (free_walk atlas.records m).met) is in
+    omega (arith, same, free-items atlas x k each.0, times-append k (item_walk atlas.records x).met (item_numbers (map (walked_entry atlas.records) xs)))
 free-times atlas (x ∷ xs) (suc i) n k each within is =
-    omega (arith, free-items atlas x k each.0, free-times atlas xs i n k each.1 (omega arith) is, times-append k (item_walk atlas.lists x).met (item_numbers (map (walked_entry atlas.lists) xs)), times-append k (free_walk atlas.lists x).met (free_numbers (map (walked_entry atlas.lists) (take i xs))))
+    omega (arith, free-items atlas x k each.0, free-times atlas xs i n k each.1 (omega arith) is, times-append k (item_walk atlas.records x).met (item_numbers (map (walked_entry atlas.records) xs)), times-append k (free_walk atlas.records x).met (free_numbers (map (walked_entry atlas.records) (take i xs))))
 
 -- the walk along the free list of the next shelf is refused
 pub free-broken : (atlas : AtlasRecords) (marks : List Bool) (i n : ℕ) (fault : WalkFault)
-    → HasEachOnce (length atlas.lists.items) (item_numbers (walked_entries atlas) ++ (unused_item_walk atlas.lists).met)
-    → i < length (shelf_walk atlas.lists).met → n ≡ get_or (shelf_walk atlas.lists).met i 0
-    → BreaksOff marks (length atlas.lists.items) (free_walk atlas.lists n) fault
-    → IsMarkedBy marks (free_numbers (map (walked_entry atlas.lists) (take i (shelf_walk atlas.lists).met)))
+    → HasEachOnce (length atlas.records.items) (item_numbers (walked_entries atlas) ++ (unused_item_walk atlas.records).met)
+    → i < length (shelf_walk atlas.records).met → n ≡ get_or (shelf_walk atlas.records).met i 0
+    → BreaksOff marks (length atlas.records.items) (free_walk atlas.records n) fault
+    → IsMarkedBy marks (free_numbers (map (walked_entry atlas.records) (take i (shelf_walk atlas.records).met)))
     → IsBroken atlas (free_fault fault)
 free-broken atlas marks i n OutOfRange once within is breaks marked = λ (links : HasLinks atlas).
-    not-in-range (length atlas.lists.items) (free_walk atlas.lists n) breaks.0 breaks.1 (Each-image (HasItemLinks atlas) (walked_entry atlas.lists) (shelf_walk atlas.lists).met i n within is links.each_shelf).free_list
+    not-in-range (length atlas.records.items) (free_walk atlas.records n) breaks.0 breaks.1 (Each-image (HasItemLinks atlas) (walked_entry atlas.records) (shelf_walk atlas.records).met i n within is links.each_shelf).free_list
 free-broken atlas marks i n Marked once within is breaks marked = λ (free : Each (HasFreeList atlas) (walked_entries atlas)).
-    let unused = (unused_item_walk atlas.lists).met in
-    let before = free_numbers (map (walked_entry atlas.lists) (take i (shelf_walk atlas.lists).met)) in
+    let unused = (unused_item_walk atlas.records).met in
+    let before = free_numbers (map (walked_entry atlas.records) (take i (shelf_walk atlas.records).met)) in
     let all = item_numbers (walked_entries atlas) in
-    not-twice (length atlas.lists.items) (before ++ (free_walk atlas.lists n).met) (all ++ unused) (breaks before marked)
-    (λ k. omega (arith, free-times atlas (shelf_walk atlas.lists).met i n k free within is, times-append k before (free_walk atlas.lists n).met, times-append k all unused)) once
+    not-twice (length atlas.records.items) (before ++ (free_walk atlas.records n).met) (all ++ unused) (breaks before marked)
+    (λ k. omega (arith, free-times atlas (shelf_walk atlas.records).met i n k free within is, times-append k before (free_walk atlas.records n).met, times-append k all unused)) once
 free-broken atlas marks i n Circular once within is breaks marked = λ (free : Each (HasFreeList atlas) (walked_entries atlas)).
-    breaks (Each-image (HasFreeList atlas) (walked_entry atlas.lists) (shelf_walk atlas.lists).met i n within is free).ends
+    breaks (Each-image (HasFreeList atlas) (walked_entry atlas.records) (shelf_walk atlas.records).met i n within is free).ends
 free-broken atlas marks i n Memory once within is breaks marked = tt

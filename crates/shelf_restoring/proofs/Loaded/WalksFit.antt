@@ -34,55 +34,55 @@ frees-once records few (n ∷ ns) =
 
 module _ (atlas : AtlasRecords) (entries : List Entry) (unused : List ℕ) (walked : IsWalked atlas entries unused) where
   -- the links of the records fit their bits
-  pub walked-fit : AllFit atlas.lists
+  pub walked-fit : AllFit atlas.records
   walked-fit =
       record {
         shelf_next = walked.shelves.next_fits;
         item_next = walked.items.next_fits;
         free_next = walked.free_fits;
-        first_items = Each-weaken (HasChain atlas.lists) (λ number. Fits (first_item_of atlas.lists.shelves number))
-            (shelf_walk atlas.lists).met (λ number has. has.first_fits) walked.items.chains;
-        first_frees = Each-weaken (HasFree atlas.lists) (λ number. Fits (first_free_of atlas.lists.shelves number))
-            (shelf_walk atlas.lists).met (λ number has. has.first_fits) walked.free;
+        first_items = Each-weaken (HasChain atlas.records) (λ number. Fits (first_item_of atlas.records.shelves number))
+            (shelf_walk atlas.records).met (λ number has. has.first_fits) walked.items.chains;
+        first_frees = Each-weaken (HasFree atlas.records) (λ number. Fits (first_free_of atlas.records.shelves number))
+            (shelf_walk atlas.records).met (λ number has. has.first_fits) walked.free;
         first_shelf = walked.shelves.first_fits;
-        free_items = walked.items.unused_fits;
-        free_shelves = walked.shelves.unused_fits;
+        unused_items = walked.items.unused_fits;
+        unused_shelves = walked.shelves.unused_fits;
       }
 
   -- each item record is an item of a shelf or unused, once
-  pub walked-items : HasEachOnce (length atlas.lists.items) (item_numbers entries ++ unused)
+  pub walked-items : HasEachOnce (length atlas.records.items) (item_numbers entries ++ unused)
   walked-items =
-      subst (λ (es : List Entry). HasEachOnce (length atlas.lists.items) (item_numbers es ++ unused)) (sym walked.entries_met)
-      (subst (λ (us : List ℕ). HasEachOnce (length atlas.lists.items) (item_numbers (walked_entries atlas) ++ us)) (sym walked.unused_met)
-      (subst (λ (ns : List ℕ). HasEachOnce (length atlas.lists.items) (ns ++ (unused_item_walk atlas.lists).met))
-      (same-items atlas.lists (shelf_walk atlas.lists).met) walked.items.once))
+      subst (λ (es : List Entry). HasEachOnce (length atlas.records.items) (item_numbers es ++ unused)) (sym walked.entries_met)
+      (subst (λ (us : List ℕ). HasEachOnce (length atlas.records.items) (item_numbers (walked_entries atlas) ++ us)) (sym walked.unused_met)
+      (subst (λ (ns : List ℕ). HasEachOnce (length atlas.records.items) (ns ++ (unused_item_walk atlas.records).met))
+      (same-items atlas.records (shelf_walk atlas.records).met) walked.items.once))
 
   -- each shelf record is in use or unused, once
-  pub walked-shelves : HasEachOnce (length atlas.lists.shelves) (shelf_numbers entries ++ (unused_shelf_walk atlas.lists).met)
+  pub walked-shelves : HasEachOnce (length atlas.records.shelves) (shelf_numbers entries ++ (unused_shelf_walk atlas.records).met)
   walked-shelves =
-      let numbers : shelf_numbers entries ≡ (shelf_walk atlas.lists).met =
-      ap shelf_numbers walked.entries_met ∙ walked-numbers atlas.lists (shelf_walk atlas.lists).met in
-      subst (λ (ns : List ℕ). HasEachOnce (length atlas.lists.shelves) (ns ++ (unused_shelf_walk atlas.lists).met)) (sym numbers)
+      let numbers : shelf_numbers entries ≡ (shelf_walk atlas.records).met =
+      ap shelf_numbers walked.entries_met ∙ walked-numbers atlas.records (shelf_walk atlas.records).met in
+      subst (λ (ns : List ℕ). HasEachOnce (length atlas.records.shelves) (ns ++ (unused_shelf_walk atlas.records).met)) (sym numbers)
       walked.shelves.once
 
   -- a shelf has no more items than links can name
-  pub walked-short : length atlas.lists.items ≤ no_link → Each (λ (entry : Entry). length entry.items ≤ no_link) entries
+  pub walked-short : length atlas.records.items ≤ no_link → Each (λ (entry : Entry). length entry.items ≤ no_link) entries
   walked-short few =
-      Each-weaken (λ (entry : Entry). length entry.items ≤ length atlas.lists.items) (λ (entry : Entry). length entry.items ≤ no_link)
-      entries (λ entry short. omega (arith, few, short)) (short-items (length atlas.lists.items) entries unused walked-items)
+      Each-weaken (λ (entry : Entry). length entry.items ≤ length atlas.records.items) (λ (entry : Entry). length entry.items ≤ no_link)
+      entries (λ entry short. omega (arith, few, short)) (short-items (length atlas.records.items) entries unused walked-items)
 
   -- there are no more shelves than links can name
-  pub walked-few : length atlas.lists.shelves ≤ no_link → length entries ≤ no_link
+  pub walked-few : length atlas.records.shelves ≤ no_link → length entries ≤ no_link
   walked-few few =
-      omega (arith, few, few-shelves (length atlas.lists.shelves) entries (unused_shelf_walk atlas.lists).met walked-shelves)
+      omega (arith, few, few-shelves (length atlas.records.shelves) entries (unused_shelf_walk atlas.records).met walked-shelves)
 
   -- each shelf was met once at most
   pub walked-once : (number : ℕ) → times number (shelf_numbers entries) ≤ 1
-  walked-once = once-shelves (length atlas.lists.shelves) entries (unused_shelf_walk atlas.lists).met walked-shelves
+  walked-once = once-shelves (length atlas.records.shelves) entries (unused_shelf_walk atlas.records).met walked-shelves
 
   -- a free list has an item once at most
-  pub walked-frees : length atlas.lists.items ≤ no_link
+  pub walked-frees : length atlas.records.items ≤ no_link
       → Each (λ (entry : Entry). (item : ℕ) → times item entry.free_list ≤ 1) entries
   walked-frees few =
       subst (λ (es : List Entry). Each (λ (entry : Entry). (item : ℕ) → times item entry.free_list ≤ 1) es) (sym walked.entries_met)
-      (frees-once atlas.lists few (shelf_walk atlas.lists).met)
+      (frees-once atlas.records few (shelf_walk atlas.records).met)

@@ -23,14 +23,14 @@ stops count walked ends = rw ends refl
 
 module _ (atlas : AtlasRecords) where
   -- the links of each shelf's items
-  links-of : (numbers : List ℕ) → Each (HasChain atlas.lists) numbers → Each (HasFree atlas.lists) numbers
-      → Each (LinkBack atlas.lists.items) (map (walked_entry atlas.lists) numbers)
-      → Each (HasItemLinks atlas) (map (walked_entry atlas.lists) numbers)
+  links-of : (numbers : List ℕ) → Each (HasChain atlas.records) numbers → Each (HasFree atlas.records) numbers
+      → Each (LinkBack atlas.records.items) (map (walked_entry atlas.records) numbers)
+      → Each (HasItemLinks atlas) (map (walked_entry atlas.records) numbers)
   links-of [] chains frees links = tt
   links-of (n ∷ ns) chains frees links = (
     record {
-      items = stops (length atlas.lists.items) (item_walk atlas.lists n) chains.0.end;
-      free_list = stops (length atlas.lists.items) (free_walk atlas.lists n) frees.0.end;
+      items = stops (length atlas.records.items) (item_walk atlas.records n) chains.0.end;
+      free_list = stops (length atlas.records.items) (free_walk atlas.records n) frees.0.end;
       back = links.0.back;
       owners = links.0.owners;
     },
@@ -38,28 +38,28 @@ module _ (atlas : AtlasRecords) where
   )
 
   -- the free list of each shelf
-  frees-of : (numbers : List ℕ) → Each (HasFree atlas.lists) numbers
-      → Each (FreeBack atlas.lists.items) (map (walked_entry atlas.lists) numbers)
-      → Each (HasFreeList atlas) (map (walked_entry atlas.lists) numbers)
+  frees-of : (numbers : List ℕ) → Each (HasFree atlas.records) numbers
+      → Each (FreeBack atlas.records.items) (map (walked_entry atlas.records) numbers)
+      → Each (HasFreeList atlas) (map (walked_entry atlas.records) numbers)
   frees-of [] frees back = tt
   frees-of (n ∷ ns) frees back = (
-    free-of atlas (walked_entry atlas.lists n) frees.0.end back.0,
+    free-of atlas (walked_entry atlas.records n) frees.0.end back.0,
     frees-of ns frees.1 back.1,
   )
 
   -- the chain of each shelf ends at none
-  ends-of : (numbers : List ℕ) → Each (HasChain atlas.lists) numbers
-      → Each (λ (entry : Entry). (item_walk atlas.lists entry.number).end ≡ no_link) (map (walked_entry atlas.lists) numbers)
+  ends-of : (numbers : List ℕ) → Each (HasChain atlas.records) numbers
+      → Each (λ (entry : Entry). (item_walk atlas.records entry.number).end ≡ no_link) (map (walked_entry atlas.records) numbers)
   ends-of [] chains = tt
   ends-of (n ∷ ns) chains = (chains.0.end, ends-of ns chains.1)
 
   -- where walks met these entries themselves
-  stands-of : IsWalked atlas (walked_entries atlas) (unused_item_walk atlas.lists).met
-      → KeepsRules atlas.frame atlas.lists.shelves atlas.lists.items (walked_entries atlas) (unused_item_walk atlas.lists).met atlas.allocated_space
+  stands-of : IsWalked atlas (walked_entries atlas) (unused_item_walk atlas.records).met
+      → KeepsRules atlas.frame atlas.records.shelves atlas.records.items (walked_entries atlas) (unused_item_walk atlas.records).met atlas.allocated_space
       → IsFrame longest_side atlas.frame → HasAllColumns atlas.frame → HasCounts atlas
       → StandsFor atlas (state_spelled atlas)
   stands-of walked keeps frame columns counts =
-      let numbers : List ℕ = (shelf_walk atlas.lists).met in
+      let numbers : List ℕ = (shelf_walk atlas.records).met in
       record {
         spelled = refl;
         frame = frame;
@@ -67,9 +67,9 @@ module _ (atlas : AtlasRecords) where
         counts = counts;
         links =
             record {
-              shelves = stops (length atlas.lists.shelves) (shelf_walk atlas.lists) walked.shelves.end;
-              unused_shelves = stops (length atlas.lists.shelves) (unused_shelf_walk atlas.lists) walked.shelves.unused_end;
-              unused_items = stops (length atlas.lists.items) (unused_item_walk atlas.lists) walked.items.unused_end;
+              shelves = stops (length atlas.records.shelves) (shelf_walk atlas.records) walked.shelves.end;
+              unused_shelves = stops (length atlas.records.shelves) (unused_shelf_walk atlas.records) walked.shelves.unused_end;
+              unused_items = stops (length atlas.records.items) (unused_item_walk atlas.records) walked.items.unused_end;
               back = walked.back;
               each_shelf = links-of numbers walked.items.chains walked.free keeps.links;
             };
@@ -80,8 +80,8 @@ module _ (atlas : AtlasRecords) where
         sharing =
             record {
               shelves = walked.shelves.once;
-              items = subst (λ (ns : List ℕ). HasEachOnce (length atlas.lists.items) (ns ++ (unused_item_walk atlas.lists).met))
-                  (same-items atlas.lists numbers) walked.items.once;
+              items = subst (λ (ns : List ℕ). HasEachOnce (length atlas.records.items) (ns ++ (unused_item_walk atlas.records).met))
+                  (same-items atlas.records numbers) walked.items.once;
               shelf_end = walked.shelves.end;
               unused_shelf_end = walked.shelves.unused_end;
               item_ends = ends-of numbers walked.items.chains;
@@ -93,21 +93,21 @@ module _ (atlas : AtlasRecords) where
 
   -- records that walks have followed, and whose rules hold, stand for the state that they spell
   pub walked-stands : (entries : List Entry) (unused : List ℕ) → IsWalked atlas entries unused
-      → KeepsRules atlas.frame atlas.lists.shelves atlas.lists.items entries unused atlas.allocated_space
+      → KeepsRules atlas.frame atlas.records.shelves atlas.records.items entries unused atlas.allocated_space
       → IsFrame longest_side atlas.frame → HasAllColumns atlas.frame → HasCounts atlas
       → StandsFor atlas (state_spelled atlas)
   walked-stands entries unused walked keeps =
-      let met : IsWalked atlas (walked_entries atlas) (unused_item_walk atlas.lists).met =
+      let met : IsWalked atlas (walked_entries atlas) (unused_item_walk atlas.records).met =
       subst (λ (us : List ℕ). IsWalked atlas (walked_entries atlas) us) walked.unused_met
       (subst (λ (es : List Entry). IsWalked atlas es unused) walked.entries_met walked) in
-      let kept : KeepsRules atlas.frame atlas.lists.shelves atlas.lists.items (walked_entries atlas) (unused_item_walk atlas.lists).met atlas.allocated_space =
-      subst (λ (us : List ℕ). KeepsRules atlas.frame atlas.lists.shelves atlas.lists.items (walked_entries atlas) us atlas.allocated_space) walked.unused_met
-      (subst (λ (es : List Entry). KeepsRules atlas.frame atlas.lists.shelves atlas.lists.items es unused atlas.allocated_space) walked.entries_met keeps) in
+      let kept : KeepsRules atlas.frame atlas.records.shelves atlas.records.items (walked_entries atlas) (unused_item_walk atlas.records).met atlas.allocated_space =
+      subst (λ (us : List ℕ). KeepsRules atlas.frame atlas.records.shelves atlas.records.items (walked_entries atlas) us atlas.allocated_space) walked.unused_met
+      (subst (λ (es : List Entry). KeepsRules atlas.frame atlas.records.shelves atlas.records.items es unused atlas.allocated_space) walked.entries_met keeps) in
       stands-of met kept
 
   -- such records are kept
   pub walked-kept : (entries : List Entry) (unused : List ℕ) → IsWalked atlas entries unused → StandsFor atlas (state_spelled atlas)
-      → AreKept atlas.frame atlas.lists
+      → AreKept atlas.frame atlas.records
   walked-kept entries unused walked stands =
-      stands-kept atlas.frame atlas.lists (walked-fit atlas entries unused walked)
-      (subst (λ (space : ℤ). StandsFor (record { frame = atlas.frame; lists = atlas.lists; allocated_space = space }) (state_spelled atlas)) stands.space stands)
+      stands-kept atlas.frame atlas.records (walked-fit atlas entries unused walked)
+      (subst (λ (space : ℤ). StandsFor (record { frame = atlas.frame; records = atlas.records; allocated_space = space }) (state_spelled atlas)) stands.space stands)

@@ -132,7 +132,7 @@ fn is_own_free(items: &[LinkedItem], marks: &[bool], shelf: u16, number: usize) 
 
 /// How many of these items are free.
 fn free_count(items: &[LinkedItem], numbers: &[u16]) -> usize
-    ensures { result ≡ length (judging.free_among items.now numbers.now) }
+    ensures { result ≡ length (judging.free_present items.now numbers.now) }
 {
     let mut count = 0;
     for number in numbers {

@@ -96,18 +96,18 @@ previous-within items width widest rest =
             (Each-append (IsWithin widest) (map (item_at items) xs) (free_item (width_of items last + width) ∷ rest) front ((λ _. wide), after))
 
 -- how wide an item of a shelf is with its free neighbours, by where it stands
-freed_width-is : (atlas : AtlasRecords) (shelf number : ℕ) (front back free : List ℕ) → IsEntry atlas.lists (entry_of shelf (front ++ number ∷ back) free) → freed_width atlas.lists.items number ≡ width_of atlas.lists.items number + named_width atlas.lists.items (free_named atlas.lists.items (first_or None back)) + named_width atlas.lists.items (free_named atlas.lists.items (last_or None front))
+freed_width-is : (atlas : AtlasRecords) (shelf number : ℕ) (front back free : List ℕ) → IsEntry atlas.records (entry_of shelf (front ++ number ∷ back) free) → freed_width atlas.records.items number ≡ width_of atlas.records.items number + named_width atlas.records.items (free_named atlas.records.items (first_or None back)) + named_width atlas.records.items (free_named atlas.records.items (last_or None front))
 freed_width-is atlas shelf number front back free is =
-    let items : List LinkedItem = atlas.lists.items in
-    let next : link_at item_chain.next items number ≡ first_or None back = next-is (link_at item_chain.next items) front back number (first_item_of atlas.lists.shelves shelf) None is.items.forward in
+    let items : List LinkedItem = atlas.records.items in
+    let next : link_at item_chain.next items number ≡ first_or None back = next-is (link_at item_chain.next items) front back number (first_item_of atlas.records.shelves shelf) None is.items.forward in
     let previous : link_at item_chain.previous items number ≡ last_or None front = previous-is (link_at item_chain.previous items) front back number None is.items.backward in
     ap (λ (o : Option ℕ). width_of items number + named_width items (free_named items o) + named_width items (free_named items (link_at item_chain.previous items number))) next
     ∙ ap (λ (o : Option ℕ). width_of items number + named_width items (free_named items (first_or None back)) + named_width items (free_named items o)) previous
 
 -- the free items of a shelf after one of its items became free
-pub freed-within : (atlas : AtlasRecords) (shelf number : ℕ) (front back free : List ℕ) (widest : ℕ) → IsEntry atlas.lists (entry_of shelf (front ++ number ∷ back) free) → NoNeighbours both_free (map (item_at atlas.lists.items) (front ++ number ∷ back)) → Each (IsWithin widest) (map (item_at atlas.lists.items) (front ++ number ∷ back)) → freed_width atlas.lists.items number ≤ widest → Each (IsWithin widest) (merged_items (freed (length front) (map (item_at atlas.lists.items) (front ++ number ∷ back))))
+pub freed-within : (atlas : AtlasRecords) (shelf number : ℕ) (front back free : List ℕ) (widest : ℕ) → IsEntry atlas.records (entry_of shelf (front ++ number ∷ back) free) → NoNeighbours both_free (map (item_at atlas.records.items) (front ++ number ∷ back)) → Each (IsWithin widest) (map (item_at atlas.records.items) (front ++ number ∷ back)) → freed_width atlas.records.items number ≤ widest → Each (IsWithin widest) (merged_items (freed (length front) (map (item_at atlas.records.items) (front ++ number ∷ back))))
 freed-within atlas shelf number front back free widest is apart within low =
-    let items : List LinkedItem = atlas.lists.items in
+    let items : List LinkedItem = atlas.records.items in
     let whole : map (item_at items) (front ++ number ∷ back) ≡ map (item_at items) front ++ item_at items number ∷ map (item_at items) back = map-append (item_at items) front (number ∷ back) in
     let parts : Each (IsWithin widest) (map (item_at items) front ++ item_at items number ∷ map (item_at items) back) = subst (λ (is : List Item). Each (IsWithin widest) is) whole within in
     let next : IsNextMerged items front back (width_of items number) widest =

@@ -28,16 +28,16 @@ use Rattle.shelf_store.proofs.Spelled.SpelledLists.{with_lists, IsSpelled}
 -- what an item that became free leaves of ranked shelves, and of those whose bound was raised once its shelf says
 -- whether it is empty
 pub record FreesRanks (atlas new : AtlasRecords) (merged : List LinkedShelf) (entries edited : List Entry) (shelf width : ℕ) : Type 0 where
-  pub order : (ranked : List RankedShelf) → AreInOrder atlas.lists.shelves ranked → AreInOrder merged ranked
+  pub order : (ranked : List RankedShelf) → AreInOrder atlas.records.shelves ranked → AreInOrder merged ranked
   pub ranks : (ranked : List RankedShelf) → Ranks atlas entries ranked → Ranks new edited (raised shelf width ranked)
 
 -- an item became free, and its shelf says whether it is empty
-pub frees-ranks : (atlas : AtlasRecords) (before after : List Entry) (shelf number : ℕ) (front back free unused shelves : List ℕ) → IsShelf atlas.frame (spelled_shelf atlas (entry_of shelf (front ++ number ∷ back) free)) → IsSpelled atlas (lists_of (before ++ entry_of shelf (front ++ number ∷ back) free ∷ after) unused shelves) → (merges : MergesItem atlas (item_merged shelf number atlas.lists) before after shelf number front back free unused shelves) → map (spelled_shelf (with_lists atlas (emptiness_said shelf (item_merged shelf number atlas.lists).records))) (before ++ entry_of shelf merges.numbers merges.free_list ∷ after) ≡ map (spelled_shelf (with_lists atlas (item_merged shelf number atlas.lists).records)) (before ++ entry_of shelf merges.numbers merges.free_list ∷ after) → FreesRanks atlas (with_lists atlas (emptiness_said shelf (item_merged shelf number atlas.lists).records)) (item_merged shelf number atlas.lists).records.shelves (before ++ entry_of shelf (front ++ number ∷ back) free ∷ after) (before ++ entry_of shelf merges.numbers merges.free_list ∷ after) shelf (freed_width atlas.lists.items number)
+pub frees-ranks : (atlas : AtlasRecords) (before after : List Entry) (shelf number : ℕ) (front back free unused shelves : List ℕ) → IsShelf atlas.frame (spelled_shelf atlas (entry_of shelf (front ++ number ∷ back) free)) → IsSpelled atlas (lists_of (before ++ entry_of shelf (front ++ number ∷ back) free ∷ after) unused shelves) → (merges : MergesItem atlas (item_merged shelf number atlas.records) before after shelf number front back free unused shelves) → map (spelled_shelf (with_lists atlas (emptiness_said shelf (item_merged shelf number atlas.records).records))) (before ++ entry_of shelf merges.numbers merges.free_list ∷ after) ≡ map (spelled_shelf (with_lists atlas (item_merged shelf number atlas.records).records)) (before ++ entry_of shelf merges.numbers merges.free_list ∷ after) → FreesRanks atlas (with_lists atlas (emptiness_said shelf (item_merged shelf number atlas.records).records)) (item_merged shelf number atlas.records).records.shelves (before ++ entry_of shelf (front ++ number ∷ back) free ∷ after) (before ++ entry_of shelf merges.numbers merges.free_list ∷ after) shelf (freed_width atlas.records.items number)
 frees-ranks atlas before after shelf number front back free unused shelves valid spelled merges said =
-    let old : List LinkedShelf = atlas.lists.shelves in
+    let old : List LinkedShelf = atlas.records.shelves in
     let entry : Entry = entry_of shelf (front ++ number ∷ back) free in
     let edited : Entry = entry_of shelf merges.numbers merges.free_list in
-    let one : Records = (item_merged shelf number atlas.lists).records in
+    let one : Records = (item_merged shelf number atlas.records).records in
     let two : Records = emptiness_said shelf one in
     let middle : AtlasRecords = with_lists atlas one in
     let new : AtlasRecords = with_lists atlas two in
@@ -46,12 +46,12 @@ frees-ranks atlas before after shelf number front back free unused shelves valid
     let across : (k : ℕ) → across_of two.shelves k ≡ across_of old k = λ k. field_at-kept (λ (x : LinkedShelf). x.y) 0 change one.shelves shelf k (λ x. refl) ∙ (merges.same k).across in
     let height : (k : ℕ) → height_of two.shelves k ≡ height_of old k = λ k. field_at-kept (λ (x : LinkedShelf). x.height) 0 change one.shelves shelf k (λ x. refl) ∙ (merges.same k).height in
     let places : (k : ℕ) → place_number two.shelves k ≡ place_number old k = λ k. omega (arith, along k, across k) in
-    let lengths : SameLengths atlas.lists two = emptied-lengths shelf number atlas.lists in
-    let is : IsEntry atlas.lists entry = Each-middle (IsEntry atlas.lists) before entry after spelled.linked.entries in
+    let lengths : SameLengths atlas.records two = emptied-lengths shelf number atlas.records in
+    let is : IsEntry atlas.records entry = Each-middle (IsEntry atlas.records) before entry after spelled.linked.entries in
     let others = map-parts (spelled_shelf new) (spelled_shelf middle) before edited (spelled_shelf middle edited) after (said ∙ map-append (spelled_shelf middle) before (edited ∷ after)) in
     record {
       order = λ ranked order. in_order-kept old one.shelves ranked (omega (arith, lengths.shelves, length-changed_by change one.shelves (Some shelf))) (λ k stands. omega (arith, (merges.same k).along, (merges.same k).across, (merges.same k).height)) order;
-      ranks = λ ranked ranks. raised-ranks atlas new before after entry edited (freed_width atlas.lists.items number) ranked refl lengths.shelves places height
+      ranks = λ ranked ranks. raised-ranks atlas new before after entry edited (freed_width atlas.records.items number) ranked refl lengths.shelves places height
           (others.0 ∙ merges.before_same) (others.1 ∙ merges.after_same)
           (λ widest bound wide. subst (λ (s : Shelf). Each (IsWithin widest) s.items) (sym merges.returned) (freed-within atlas shelf number front back free widest is valid.apart bound wide))
           ranks;

@@ -30,10 +30,10 @@ pub record HaveOwnPlaces (shelves : List LinkedShelf) (numbers : List ℕ) : Typ
 -- the shelves in use, ranked, between the steps of a return
 pub record Ranks (atlas : AtlasRecords) (entries : List Entry) (ranked : List RankedShelf) : Type 0 where
   pub once : (k : ℕ) → times k (ranked_numbers ranked) ≡ times k (shelf_numbers entries)
-  pub order : AreInOrder atlas.lists.shelves ranked
+  pub order : AreInOrder atlas.records.shelves ranked
   pub bounds : AreBounds atlas entries ranked
-  pub few : length atlas.lists.shelves ≤ no_link
-  pub places : HaveOwnPlaces atlas.lists.shelves (shelf_numbers entries)
+  pub few : length atlas.records.shelves ≤ no_link
+  pub places : HaveOwnPlaces atlas.records.shelves (shelf_numbers entries)
 
 -- a width that none of the free items passes of the shelf of this number
 abbrev pub IsBoundOf : AtlasRecords → ℕ → ℕ → Entry → Type 0
@@ -67,10 +67,10 @@ orders-apart shelves numbers k m places stands other same =
     (apart-orders (place_number shelves k) (place_number shelves m) (height_of shelves k) (height_of shelves m) (places.small k stands) (places.small m other) same)
 
 -- what an item that became free leaves ranked, where the bound of its shelf was raised
-pub raised-ranks : (atlas new : AtlasRecords) (before after : List Entry) (entry edited : Entry) (width : ℕ) (ranked : List RankedShelf) → edited.number ≡ entry.number → length new.lists.shelves ≡ length atlas.lists.shelves → ((k : ℕ) → place_number new.lists.shelves k ≡ place_number atlas.lists.shelves k) → ((k : ℕ) → height_of new.lists.shelves k ≡ height_of atlas.lists.shelves k) → map (spelled_shelf new) before ≡ map (spelled_shelf atlas) before → map (spelled_shelf new) after ≡ map (spelled_shelf atlas) after → ((widest : ℕ) → IsBound widest (spelled_shelf atlas entry) → width ≤ widest → IsBound widest (spelled_shelf new edited)) → Ranks atlas (before ++ entry ∷ after) ranked → Ranks new (before ++ edited ∷ after) (raised entry.number width ranked)
+pub raised-ranks : (atlas new : AtlasRecords) (before after : List Entry) (entry edited : Entry) (width : ℕ) (ranked : List RankedShelf) → edited.number ≡ entry.number → length new.records.shelves ≡ length atlas.records.shelves → ((k : ℕ) → place_number new.records.shelves k ≡ place_number atlas.records.shelves k) → ((k : ℕ) → height_of new.records.shelves k ≡ height_of atlas.records.shelves k) → map (spelled_shelf new) before ≡ map (spelled_shelf atlas) before → map (spelled_shelf new) after ≡ map (spelled_shelf atlas) after → ((widest : ℕ) → IsBound widest (spelled_shelf atlas entry) → width ≤ widest → IsBound widest (spelled_shelf new edited)) → Ranks atlas (before ++ entry ∷ after) ranked → Ranks new (before ++ edited ∷ after) (raised entry.number width ranked)
 raised-ranks atlas new before after entry edited width ranked number lengths places heights before_same after_same own ranks =
-    let old : List LinkedShelf = atlas.lists.shelves in
-    let shelves : List LinkedShelf = new.lists.shelves in
+    let old : List LinkedShelf = atlas.records.shelves in
+    let shelves : List LinkedShelf = new.records.shelves in
     let numbers : shelf_numbers (before ++ edited ∷ after) ≡ shelf_numbers (before ++ entry ∷ after) =
     shelf_numbers-append before (edited ∷ after)
     ∙ ap (λ n. shelf_numbers before ++ n ∷ shelf_numbers after) number
@@ -163,7 +163,7 @@ hit-own k = grind arith
 pub ranked-pair : (atlas : AtlasRecords) (before after : List Entry) (entry gone : Entry) (ranked : List RankedShelf) → Ranks atlas (before ++ entry ∷ gone ∷ after) ranked → IsPair entry.number gone.number ranked
 ranked-pair atlas before after entry gone ranked ranks =
     let count : (k : ℕ) → times k (ranked_numbers ranked) ≡ times k (shelf_numbers before) + (hit entry.number k + (hit gone.number k + times k (shelf_numbers after))) = λ k. ranks.once k ∙ all-count before after entry gone k in
-    let once : (k : ℕ) → times k (ranked_numbers ranked) ≤ 1 = λ k. in_order-once atlas.lists.shelves ranked k ranks.order in
+    let once : (k : ℕ) → times k (ranked_numbers ranked) ≤ 1 = λ k. in_order-once atlas.records.shelves ranked k ranks.order in
     record {
       own = omega (arith, once entry.number, count entry.number, hit-own entry.number);
       other = omega (arith, once gone.number, count gone.number, hit-own gone.number);
@@ -173,7 +173,7 @@ ranked-pair atlas before after entry gone ranked ranks =
     }
 
 -- ranked shelves, after one of them took the place of the next one
-module _ (atlas : AtlasRecords) (lists : Records) (before after : List Entry) (entry gone : Entry) (height : ℕ) (ranked : List RankedShelf) (taller : IsTaller atlas.lists lists entry.number height) (ranks : Ranks atlas (before ++ entry ∷ gone ∷ after) ranked) where
+module _ (atlas : AtlasRecords) (lists : Records) (before after : List Entry) (entry gone : Entry) (height : ℕ) (ranked : List RankedShelf) (taller : IsTaller atlas.records lists entry.number height) (ranks : Ranks atlas (before ++ entry ∷ gone ∷ after) ranked) where
   abbrev Others : List RankedShelf
   Others = taken_out entry.number (taken_out gone.number ranked)
 
@@ -187,15 +187,15 @@ module _ (atlas : AtlasRecords) (lists : Records) (before after : List Entry) (e
   bounds-kept one bounds =
       Each-weaken (IsBoundOf atlas one.shelf one.widest) (IsBoundOf new one.shelf one.widest) (before ++ entry ∷ after)
       (λ (e : Entry) bound named.
-      let items : map (item_at lists.items) e.items ≡ map (item_at atlas.lists.items) e.items = map-agrees (item_at lists.items) (item_at atlas.lists.items) e.items (λ k stands. (taller.items k).item) in
+      let items : map (item_at lists.items) e.items ≡ map (item_at atlas.records.items) e.items = map-agrees (item_at lists.items) (item_at atlas.records.items) e.items (λ k stands. (taller.items k).item) in
       subst (λ (is : List Item). Each (IsWithin one.widest) is) (sym items) (bound named))
       (fewer-bounds atlas one.shelf one.widest before after entry gone bounds)
 
   fewer-places : HaveOwnPlaces lists.shelves (shelf_numbers (before ++ entry ∷ after))
   fewer-places =
-      places-fewer atlas.lists.shelves lists.shelves (shelf_numbers (before ++ entry ∷ gone ∷ after)) (shelf_numbers (before ++ entry ∷ after)) (λ k. omega (arith, taller.along k, taller.across k)) (λ k. omega (arith, all-count before after entry gone k, fewer-count before after entry k)) ranks.places
+      places-fewer atlas.records.shelves lists.shelves (shelf_numbers (before ++ entry ∷ gone ∷ after)) (shelf_numbers (before ++ entry ∷ after)) (λ k. omega (arith, taller.along k, taller.across k)) (λ k. omega (arith, all-count before after entry gone k, fewer-count before after entry k)) ranks.places
 
-  pub absorbed-ranks : entry.number < length atlas.lists.shelves → Ranks new (before ++ entry ∷ after) (rank_absorbed lists.shelves entry.number gone.number ranked)
+  pub absorbed-ranks : entry.number < length atlas.records.shelves → Ranks new (before ++ entry ∷ after) (rank_absorbed lists.shelves entry.number gone.number ranked)
   absorbed-ranks within =
       let pair : IsPair entry.number gone.number ranked = ranked-pair atlas before after entry gone ranked ranks in
       let one : RankedShelf = record { widest = bound_of entry.number (taken_out gone.number ranked); shelf = entry.number } in
@@ -211,7 +211,7 @@ module _ (atlas : AtlasRecords) (lists : Records) (before after : List Entry) (e
             let equal : k ≡ entry.number = orders-apart lists.shelves (shelf_numbers (before ++ entry ∷ after)) k entry.number fewer-places listed own same in
             let again : 1 ≤ times entry.number (ranked_numbers Others) = subst (λ (n : ℕ). 1 ≤ times n (ranked_numbers Others)) equal stands in
             omega (arith, again, numbers entry.number, hit-own entry.number, pair.own))
-            (others-in_order entry.number gone.number ranked pair atlas.lists.shelves lists.shelves (omega (arith, taller.as_many)) taller.others ranks.order);
+            (others-in_order entry.number gone.number ranked pair atlas.records.shelves lists.shelves (omega (arith, taller.as_many)) taller.others ranks.order);
         bounds = Each-put_in Bounds lists.shelves one Others
             (bound_of-each Bounds entry.number (taken_out gone.number ranked) (omega (arith, still-there entry.number gone.number ranked pair)) without)
             (Each-taken_out Bounds Bounds entry.number (taken_out gone.number ranked) (λ (other : RankedShelf) _ bounds. bounds) without);

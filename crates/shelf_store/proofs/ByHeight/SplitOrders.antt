@@ -37,12 +37,12 @@ order-same shelves new k same =
 -- shelves say the same once records were put to use
 pub same-used : (of_shelf of_item : Bool) (records : Records) (k : ℕ) → SameShelf records.shelves (rests_used of_shelf of_item records).shelves k
 same-used false of_item records k = same-shelf records.shelves k
-same-used true of_item records k = shelves-used records.free_shelves records.shelves k
+same-used true of_item records k = shelves-used records.unused_shelves records.shelves k
 
 -- there are no fewer then
 pub length-used : (of_shelf of_item : Bool) (records : Records) → length records.shelves ≤ length (rests_used of_shelf of_item records).shelves
 length-used false of_item records = omega arith
-length-used true of_item records = by_link records.free_shelves
+length-used true of_item records = by_link records.unused_shelves
   where
     by_link : (unused : Option ℕ) → length records.shelves ≤ length (shelves_used true unused records.shelves)
     by_link None = omega (arith, length-append records.shelves (new_shelf ∷ []))

@@ -89,13 +89,13 @@ taken-ranked frame records placement found ranked kept made split_same are = by_
     change widest = bound-taken frame widest placement (id_of records.items found.item) made.spells.whole made.spells.takes
 
     -- the numbers of the records for the rest, where this says whether the shelf is split
-    shelf_used : (b : Bool) → placement.splits_shelf ≡ b → number_used found.splits_shelf records.free_shelves records.shelves ≡ link_where b made.spells.rest
+    shelf_used : (b : Bool) → placement.splits_shelf ≡ b → number_used found.splits_shelf records.unused_shelves records.shelves ≡ link_where b made.spells.rest
     shelf_used b e =
-        ap (λ (s : Bool). number_used s records.free_shelves records.shelves) split_same ∙ made.spells.rest_is ∙ ap (λ (s : Bool). link_where s made.spells.rest) e
+        ap (λ (s : Bool). number_used s records.unused_shelves records.shelves) split_same ∙ made.spells.rest_is ∙ ap (λ (s : Bool). link_where s made.spells.rest) e
 
-    item_used : (b : Bool) → placement.splits_shelf ≡ b → number_used found.splits_shelf records.free_items records.items ≡ link_where b made.spells.item
+    item_used : (b : Bool) → placement.splits_shelf ≡ b → number_used found.splits_shelf records.unused_items records.items ≡ link_where b made.spells.item
     item_used b e =
-        ap (λ (s : Bool). number_used s records.free_items records.items) split_same ∙ made.spells.item_is ∙ ap (λ (s : Bool). link_where s made.spells.item) e
+        ap (λ (s : Bool). number_used s records.unused_items records.items) split_same ∙ made.spells.item_is ∙ ap (λ (s : Bool). link_where s made.spells.item) e
 
     numbers : (b : Bool) → placement.splits_shelf ≡ b → shelf_numbers (walked_lists new).entries ≡ made.spells.front ++ found.shelf ∷ (list_where b made.spells.rest ++ made.spells.back)
     numbers b e = made.spells.new_numbers ∙ ap (λ (s : Bool). made.spells.front ++ found.shelf ∷ (list_where s made.spells.rest ++ made.spells.back)) e
@@ -117,18 +117,18 @@ taken-ranked frame records placement found ranked kept made split_same are = by_
     Orders : Option ℕ → Option ℕ → Type 0
     Orders rest item = ((k : ℕ) → order_of new.shelves k ≡ order_of (split_by rest item).shelves k) × (length new.shelves ≡ length (split_by rest item).shelves)
 
-    orders : (rest item : Option ℕ) → number_used found.splits_shelf records.free_shelves records.shelves ≡ rest → number_used found.splits_shelf records.free_items records.items ≡ item → Orders rest item
+    orders : (rest item : Option ℕ) → number_used found.splits_shelf records.unused_shelves records.shelves ≡ rest → number_used found.splits_shelf records.unused_items records.items ≡ item → Orders rest item
     orders rest item e f =
         subst (λ (o : Option ℕ). Orders o item) e
-        (subst (λ (o : Option ℕ). Orders (number_used found.splits_shelf records.free_shelves records.shelves) o) f
+        (subst (λ (o : Option ℕ). Orders (number_used found.splits_shelf records.unused_shelves records.shelves) o) f
         (order-taken frame.column_width found records, length-taken frame.column_width found records))
 
-    by_numbers : (rest item : Option ℕ) → number_used found.splits_shelf records.free_shelves records.shelves ≡ rest → number_used found.splits_shelf records.free_items records.items ≡ item
+    by_numbers : (rest item : Option ℕ) → number_used found.splits_shelf records.unused_shelves records.shelves ≡ rest → number_used found.splits_shelf records.unused_items records.items ≡ item
         → Needs rest item → Leaves rest item → Ranks frame records found ranked
     by_numbers rest item e f needs leaves =
         record {
-          can = subst (λ (o : Option ℕ). Needs o (number_used found.splits_shelf records.free_items records.items)) (sym e) (subst (λ (o : Option ℕ). Needs rest o) (sym f) needs);
-          after = subst (λ (o : Option ℕ). Leaves o (number_used found.splits_shelf records.free_items records.items)) (sym e) (subst (λ (o : Option ℕ). Leaves rest o) (sym f) leaves);
+          can = subst (λ (o : Option ℕ). Needs o (number_used found.splits_shelf records.unused_items records.items)) (sym e) (subst (λ (o : Option ℕ). Needs rest o) (sym f) needs);
+          after = subst (λ (o : Option ℕ). Leaves o (number_used found.splits_shelf records.unused_items records.items)) (sym e) (subst (λ (o : Option ℕ). Leaves rest o) (sym f) leaves);
         }
 
     by_split : (b : Bool) → placement.splits_shelf ≡ b → Ranks frame records found ranked

@@ -8,7 +8,7 @@ use Rattle.etagere_base.specs.Lists.{Each}
 use Rattle.etagere_base.proofs.EachLemmas.{Each-append, Each-weaken}
 use Rattle.etagere_links.specs.Chains.{Leads}
 use Rattle.etagere_links.specs.Edits.{link_at}
-use Rattle.etagere_links.specs.RecordLists.{Entry, IsLinkedBut, Records, shelf_numbers}
+use Rattle.etagere_links.specs.RecordLists.{Entry, IsLinkedExcept, Records, shelf_numbers}
 use Rattle.etagere_links.specs.Records.{shelf_chain}
 use Rattle.etagere_links.proofs.AllLists.LinkedFrames.{shelf_numbers-append}
 use Rattle.etagere_links.proofs.AllLists.LinkedMerges.{entry_of}
@@ -56,7 +56,7 @@ last-spelled records (z ∷ zs) y leads few =
 
 -- no more shelves stand in use than there are records
 shelves-few : (records : Records) (entries : List Entry) (unused_items unused_shelves loose loose_shelves : List ℕ)
-    → IsLinkedBut records (lists_of entries unused_items unused_shelves) loose loose_shelves → length (shelf_numbers entries) ≤ length records.shelves
+    → IsLinkedExcept records (lists_of entries unused_items unused_shelves) loose loose_shelves → length (shelf_numbers entries) ≤ length records.shelves
 shelves-few records entries unused_items unused_shelves loose loose_shelves linked =
     let part : IsPart (length records.shelves) (shelf_numbers entries) =
     part-of (length records.shelves) (shelf_numbers entries ++ unused_shelves ++ loose_shelves) (shelf_numbers entries) linked.shelves_once
@@ -65,7 +65,7 @@ shelves-few records entries unused_items unused_shelves loose loose_shelves link
 
 -- the last shelf is that of the last entry
 last-entry : (records : Records) (before : List Entry) (entry : Entry) (unused_items unused_shelves loose loose_shelves : List ℕ)
-    → IsLinkedBut records (lists_of (before ++ entry ∷ []) unused_items unused_shelves) loose loose_shelves → last_shelf records ≡ Some entry.number
+    → IsLinkedExcept records (lists_of (before ++ entry ∷ []) unused_items unused_shelves) loose loose_shelves → last_shelf records ≡ Some entry.number
 last-entry records before entry unused_items unused_shelves loose loose_shelves linked =
     let numbers : shelf_numbers (before ++ entry ∷ []) ≡ shelf_numbers before ++ entry.number ∷ [] = shelf_numbers-append before (entry ∷ []) in
     last-spelled records (shelf_numbers before) entry.number

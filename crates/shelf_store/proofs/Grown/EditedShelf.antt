@@ -3,7 +3,7 @@ use Rattle.std.proofs.Common.{◌≡◌, ℕ, ◌+◌, ◌-◌, ◌<◌, ◌≤�
 use Rattle.etagere_base.specs.declared.frames.Frame.{Frame}
 use Rattle.etagere_base.specs.Lists.{Each, times}
 use Rattle.etagere_base.proofs.EachLemmas.{Each-append, Each-back, Each-front, Each-middle}
-use Rattle.etagere_links.specs.RecordLists.{Entry, IsEntry, IsLinkedBut, item_numbers, shelf_numbers}
+use Rattle.etagere_links.specs.RecordLists.{Entry, IsEntry, IsLinkedExcept, item_numbers, shelf_numbers}
 use Rattle.etagere_links.proofs.AllLists.LinkedEdits.{same-numbers}
 use Rattle.etagere_links.proofs.AllLists.LinkedUnused.{lists_of}
 use Rattle.shelf_records.specs.AtlasRecords.{AtlasRecords, is_allocated_at, is_empty_at, spelled_shelf}
@@ -20,7 +20,7 @@ use Rattle.shelf_store.proofs.Spelled.SpelledUses.{SameEntries, same-entries}
 -- records are still to be put to use
 pub record EditsShelf (frame : Frame) (old : ℕ) (growing edits : Growing) (before after : List Entry) (entry edited : Entry) (unused_items unused_shelves : List ℕ) (items shelves : ℕ) (shelf : Shelf) : Type 0 where
   pub number : edited.number ≡ entry.number
-  pub linked : IsLinkedBut edits.records (lists_of (before ++ edited ∷ after) unused_items unused_shelves)
+  pub linked : IsLinkedExcept edits.records (lists_of (before ++ edited ∷ after) unused_items unused_shelves)
       (numbers_from edits.made.item (items - length unused_items) ++ [])
       (numbers_from edits.made.shelf (shelves - length unused_shelves) ++ [])
   pub placed : IsPlaced (bare frame edits.records) edited

@@ -4,7 +4,7 @@ use Rattle.std.proofs.lemmas.Bool.{cases_lt}
 use Rattle.etagere_base.specs.declared.frames.Frame.{Frame}
 use Rattle.etagere_base.specs.declared.geometry.Size.{Size}
 use Rattle.etagere_base.proofs.EachLemmas.{Each-weaken}
-use Rattle.etagere_links.specs.RecordLists.{Entry, IsLinked, IsLinkedBut, Lists, Records}
+use Rattle.etagere_links.specs.RecordLists.{Entry, IsLinked, IsLinkedExcept, Lists, Records}
 use Rattle.etagere_links.proofs.AllLists.LinkedUnused.{lists_of}
 use Rattle.shelf_records.specs.AtlasRecords.{AtlasRecords, spelled_shelf}
 use Rattle.shelf_model.specs.Growing.{atlas_grown, grown_frame}
@@ -24,7 +24,7 @@ use Rattle.shelf_records.proofs.Spelled.Witnesses.{kept-of}
 none-left : (from unused : ℕ) → numbers_from from (0 - unused) ++ [] ≡ []
 none-left from unused = let none : 0 - unused ≡ 0 = omega arith in rw none refl
 
--- where records were made for a growth none is put aside, so where one is put aside none were made
+-- where records were made for a growth none becomes unused, so where one becomes unused none were made
 none-made : (old new unused : ℕ) → old ≤ new → (old < new → unused ≤ 0) → 1 ≤ unused → new ≡ old
 none-made old new unused more used_up some =
     ⊎_elim (λ (longer : old < new). absurd (omega (arith, some, used_up longer))) (λ (few : new ≤ old). omega (arith, few, more)) (cases_lt old new)
@@ -38,10 +38,10 @@ ended frame size records growing kept fits has =
     let state : AtlasState = atlas_grown (state_of frame records) size in
     let new : Records = growing.records in
     let lists : Lists = lists_of has.entries has.unused_items has.unused_shelves in
-    let atlas : AtlasRecords = record { frame = grown; lists = new; allocated_space = pos (space_in state.shelves) } in
+    let atlas : AtlasRecords = record { frame = grown; records = new; allocated_space = pos (space_in state.shelves) } in
     let linked : IsLinked new lists =
-    subst (λ (l : List ℕ). IsLinkedBut new lists [] l) (none-left growing.made.shelf (length has.unused_shelves))
-    (subst (λ (l : List ℕ). IsLinkedBut new lists l (numbers_from growing.made.shelf (0 - length has.unused_shelves) ++ []))
+    subst (λ (l : List ℕ). IsLinkedExcept new lists [] l) (none-left growing.made.shelf (length has.unused_shelves))
+    (subst (λ (l : List ℕ). IsLinkedExcept new lists l (numbers_from growing.made.shelf (0 - length has.unused_shelves) ++ []))
     (none-left growing.made.item (length has.unused_items)) has.is.spelled.linked) in
     let in_use : items_in_use state.shelves + length has.unused_items ≡ length new.items =
     ap (λ (ss : List Shelf). items_in_use ss + length has.unused_items) (sym has.spelled) ∙ in-use-counted (bare grown new) lists linked in

@@ -47,8 +47,8 @@ nothing-grown frame grown needed records is none =
     ap (λ (g : Growing). (with_columns frame grown (with_height frame grown g)).records) (no-width frame grown (with_missing needed records) tests.0)
     ∙ ap (λ (g : Growing). (with_columns frame grown g).records) (no-height frame grown (with_missing needed records) tests.1)
     ∙ ap (λ (g : Growing). g.records) (no-columns frame grown (with_missing needed records) tests.2)
-    ∙ ap (λ (n : ℕ). records_made (missing item_chain n records.free_items records.items) (missing shelf_chain needed.shelves records.free_shelves records.shelves) records) no_items
-    ∙ ap (λ (n : ℕ). records_made 0 (missing shelf_chain n records.free_shelves records.shelves) records) no_shelves
+    ∙ ap (λ (n : ℕ). records_made (missing item_chain n records.unused_items records.items) (missing shelf_chain needed.shelves records.unused_shelves records.shelves) records) no_items
+    ∙ ap (λ (n : ℕ). records_made 0 (missing shelf_chain n records.unused_shelves records.shelves) records) no_shelves
 
 -- shelves are ranked in one frame as in another
 pub ranked-elsewhere : (frame grown : Frame) (old new : Records) (before after : List RankedShelf) → new ≡ old → after ≡ before → AreRanked frame old before → AreRanked grown new after

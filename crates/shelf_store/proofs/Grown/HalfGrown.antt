@@ -22,7 +22,7 @@ use Rattle.shelf_store.proofs.Grown.MadeLinked.{numbers_from}
 use Rattle.shelf_records.proofs.Spelled.RecordValues.{SameShelf}
 use Rattle.shelf_store.proofs.Spelled.SpelledLists.{IsSpelledBut}
 
--- records that spell these lists, while so many of each kind are still to be put to use: those that were put aside, and
+-- records that spell these lists, while so many of each kind are still to be put to use: those that became unused, and
 -- then those that were made for it; before the growth there were so many items
 pub record IsGrowing (frame : Frame) (old : ℕ) (growing : Growing) (entries : List Entry) (unused_items unused_shelves : List ℕ) (items shelves : ℕ) : Type 0 where
   pub spelled : IsSpelledBut (bare frame growing.records) (lists_of entries unused_items unused_shelves)

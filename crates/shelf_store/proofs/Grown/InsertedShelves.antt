@@ -8,7 +8,7 @@ use Rattle.etagere_links.specs.declared.records.LinkedItem.{LinkedItem}
 use Rattle.etagere_links.specs.declared.records.LinkedShelf.{LinkedShelf}
 use Rattle.etagere_links.specs.Edits.{changed_by, link_at, linked_between}
 use Rattle.etagere_links.specs.RecordEdits.{item_changed, shelf_changed, shelf_inserted_after}
-use Rattle.etagere_links.specs.RecordLists.{Entry, IsEntry, IsLinkedBut, Records, item_numbers, shelf_numbers}
+use Rattle.etagere_links.specs.RecordLists.{Entry, IsEntry, IsLinkedExcept, Records, item_numbers, shelf_numbers}
 use Rattle.etagere_links.specs.RecordMaking.{started}
 use Rattle.etagere_links.specs.RecordUses.{shelves_used}
 use Rattle.etagere_links.specs.Records.{free_list, item_chain, shelf_chain}
@@ -214,8 +214,8 @@ module _ (frame : Frame) (records : Records) (before after : List Entry) (entry 
 
   -- an empty shelf put after another one stays linked
   added-linked : shelf < length records.shelves → item < length records.items
-      → IsLinkedBut records (lists_of (before ++ entry ∷ after) unused_items unused_shelves) (item ∷ loose) (shelf ∷ loose_shelves)
-      → IsLinkedBut new_records (lists_of (before ++ entry ∷ entry_of shelf (item ∷ []) (item ∷ []) ∷ after) unused_items unused_shelves) loose loose_shelves
+      → IsLinkedExcept records (lists_of (before ++ entry ∷ after) unused_items unused_shelves) (item ∷ loose) (shelf ∷ loose_shelves)
+      → IsLinkedExcept new_records (lists_of (before ++ entry ∷ entry_of shelf (item ∷ []) (item ∷ []) ∷ after) unused_items unused_shelves) loose loose_shelves
   added-linked within item_within linked =
       let entries : List Entry = before ++ entry ∷ after in
       let one : Records = item_changed item (started along_column frame.column_width shelf) records in
@@ -297,7 +297,7 @@ made-item : (unused : Option ℕ) (made : Made) → (made_after_shelf unused mad
 made-item None made = refl
 made-item (Some number) made = refl
 
--- putting a shelf to use that was put aside, or made before, keeps all shelf records
+-- putting a shelf to use that became unused, or made before, keeps all shelf records
 kept-shelves : (unused : Option ℕ) (shelves : List LinkedShelf) → shelves_used (is_some unused) unused shelves ≡ shelves
 kept-shelves None shelves = refl
 kept-shelves (Some number) shelves = refl
@@ -338,21 +338,21 @@ ready frame growing entries unused_items unused_shelves items shelves spelled fl
     numbers-left growing.made.shelf middle.made.shelf (suc shelves - length unused_shelves) (suc shelves - length unused_shelves) (sym (shelf-unused growing)) refl in
     let items_left : loose ≡ next_item growing ∷ left_items used rest_items items =
     ap (λ (l : List ℕ). next_item growing ∷ l)
-    (numbers-left middle.made.item used.made.item (suc items - 1 - length rest_items) (items - length rest_items) (sym (made-item growing.records.free_shelves middle.made)) (omega arith)) in
+    (numbers-left middle.made.item used.made.item (suc items - 1 - length rest_items) (items - length rest_items) (sym (made-item growing.records.unused_shelves middle.made)) (omega arith)) in
     let shelves_left : next_shelf middle ∷ (numbers_from used.made.shelf (suc shelves - 1 - length rest_shelves) ++ []) ≡ next_shelf middle ∷ left_shelves used rest_shelves shelves =
     ap (λ (l : List ℕ). next_shelf middle ∷ l)
     (numbers-left used.made.shelf used.made.shelf (suc shelves - 1 - length rest_shelves) (shelves - length rest_shelves) refl (omega arith)) in
-    let linked : IsLinkedBut used.records (lists_of entries rest_items rest_shelves) (next_item growing ∷ left_items used rest_items items) (next_shelf middle ∷ left_shelves used rest_shelves shelves) =
-    subst (λ (l : List ℕ). IsLinkedBut used.records (lists_of entries rest_items rest_shelves) l (next_shelf middle ∷ left_shelves used rest_shelves shelves)) items_left
-    (subst (λ (l : List ℕ). IsLinkedBut used.records (lists_of entries rest_items rest_shelves) loose l) shelves_left
+    let linked : IsLinkedExcept used.records (lists_of entries rest_items rest_shelves) (next_item growing ∷ left_items used rest_items items) (next_shelf middle ∷ left_shelves used rest_shelves shelves) =
+    subst (λ (l : List ℕ). IsLinkedExcept used.records (lists_of entries rest_items rest_shelves) l (next_shelf middle ∷ left_shelves used rest_shelves shelves)) items_left
+    (subst (λ (l : List ℕ). IsLinkedExcept used.records (lists_of entries rest_items rest_shelves) loose l) shelves_left
     (shelf-next middle entries rest_items unused_shelves loose [] (suc shelves) (omega arith)
-    (subst (λ (l : List ℕ). IsLinkedBut middle.records (lists_of entries rest_items unused_shelves) loose l) same_left
+    (subst (λ (l : List ℕ). IsLinkedExcept middle.records (lists_of entries rest_items unused_shelves) loose l) same_left
     (item-next growing entries unused_items unused_shelves [] (left_shelves growing unused_shelves (suc shelves)) (suc items) (omega arith) spelled.linked)))) in
     let free : IsLoose (length used.records.items) (item_numbers entries) rest_items (next_item growing) =
     loose-of (length used.records.items) (item_numbers entries) rest_items (left_items used rest_items items) (next_item growing) linked.items_once in
     let kept : (k : ℕ) → next_item growing ≢ k → SameItem growing.records.items used.records.items k =
-    λ k other. item-same growing.records.items used.records.items k (used-other growing.records.free_items growing.records.items growing.made.item k other) in
-    let all_shelves : used.records.shelves ≡ growing.records.shelves = kept-shelves growing.records.free_shelves growing.records.shelves in
+    λ k other. item-same growing.records.items used.records.items k (used-other growing.records.unused_items growing.records.items growing.made.item k other) in
+    let all_shelves : used.records.shelves ≡ growing.records.shelves = kept-shelves growing.records.unused_shelves growing.records.shelves in
     let same : SameEntries (bare frame growing.records) used.records entries =
     same-entries (bare frame growing.records) used.records entries
     (λ k stands. subst (λ (s : List LinkedShelf). SameShelf growing.records.shelves s k) (sym all_shelves) (same-shelf growing.records.shelves k))

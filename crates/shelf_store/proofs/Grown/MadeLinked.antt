@@ -3,7 +3,7 @@ use Rattle.std.proofs.Common.{◌≡◌, ℕ, zero, suc, List, [], ◌∷◌, �
 use Rattle.etagere_base.specs.Lists.{times}
 use Rattle.etagere_base.proofs.TimesLemmas.{times-append}
 use Rattle.etagere_links.specs.RecordEdits.{item_made, shelf_made}
-use Rattle.etagere_links.specs.RecordLists.{Entry, IsLinkedBut, Records, item_numbers, shelf_numbers}
+use Rattle.etagere_links.specs.RecordLists.{Entry, IsLinkedExcept, Records, item_numbers, shelf_numbers}
 use Rattle.etagere_links.specs.RecordMaking.{records_made, with_new_items, with_new_shelves}
 use Rattle.etagere_links.specs.RecordUses.{new_item, new_shelf}
 use Rattle.etagere_links.proofs.AllLists.LinkedFields.{item_made-linked, shelf_made-linked}
@@ -17,8 +17,8 @@ numbers_from from count = numbered (λ number. number) from count
 -- the order of records in no list doesn't matter
 loose-counted : (records : Records) (entries : List Entry) (unused_items unused_shelves loose other loose_shelves other_shelves : List ℕ)
     → ((k : ℕ) → times k other ≡ times k loose) → ((k : ℕ) → times k other_shelves ≡ times k loose_shelves)
-    → IsLinkedBut records (lists_of entries unused_items unused_shelves) loose loose_shelves
-    → IsLinkedBut records (lists_of entries unused_items unused_shelves) other other_shelves
+    → IsLinkedExcept records (lists_of entries unused_items unused_shelves) loose loose_shelves
+    → IsLinkedExcept records (lists_of entries unused_items unused_shelves) other other_shelves
 loose-counted records entries unused_items unused_shelves loose other loose_shelves other_shelves same same_shelves linked =
     record {
       shelves = linked.shelves;
@@ -49,8 +49,8 @@ moved from last count loose k is =
 
 -- item records were made
 pub items-made : (count : ℕ) (records : Records) (entries : List Entry) (unused_items unused_shelves loose loose_shelves : List ℕ)
-    → IsLinkedBut records (lists_of entries unused_items unused_shelves) loose loose_shelves
-    → IsLinkedBut (record records { items = with_new_items count records.items }) (lists_of entries unused_items unused_shelves)
+    → IsLinkedExcept records (lists_of entries unused_items unused_shelves) loose loose_shelves
+    → IsLinkedExcept (record records { items = with_new_items count records.items }) (lists_of entries unused_items unused_shelves)
     (numbers_from (length records.items) count ++ loose) loose_shelves
 items-made zero records entries unused_items unused_shelves loose loose_shelves linked = linked
 items-made (suc count) records entries unused_items unused_shelves loose loose_shelves linked =
@@ -63,8 +63,8 @@ items-made (suc count) records entries unused_items unused_shelves loose loose_s
 
 -- shelf records were made
 pub shelves-made : (count : ℕ) (records : Records) (entries : List Entry) (unused_items unused_shelves loose loose_shelves : List ℕ)
-    → IsLinkedBut records (lists_of entries unused_items unused_shelves) loose loose_shelves
-    → IsLinkedBut (record records { shelves = with_new_shelves count records.shelves }) (lists_of entries unused_items unused_shelves) loose
+    → IsLinkedExcept records (lists_of entries unused_items unused_shelves) loose loose_shelves
+    → IsLinkedExcept (record records { shelves = with_new_shelves count records.shelves }) (lists_of entries unused_items unused_shelves) loose
     (numbers_from (length records.shelves) count ++ loose_shelves)
 shelves-made zero records entries unused_items unused_shelves loose loose_shelves linked = linked
 shelves-made (suc count) records entries unused_items unused_shelves loose loose_shelves linked =
@@ -77,8 +77,8 @@ shelves-made (suc count) records entries unused_items unused_shelves loose loose
 
 -- records of both kinds were made
 pub records-made : (items shelves : ℕ) (records : Records) (entries : List Entry) (unused_items unused_shelves : List ℕ)
-    → IsLinkedBut records (lists_of entries unused_items unused_shelves) [] []
-    → IsLinkedBut (records_made items shelves records) (lists_of entries unused_items unused_shelves)
+    → IsLinkedExcept records (lists_of entries unused_items unused_shelves) [] []
+    → IsLinkedExcept (records_made items shelves records) (lists_of entries unused_items unused_shelves)
     (numbers_from (length records.items) items ++ []) (numbers_from (length records.shelves) shelves ++ [])
 records-made items shelves records entries unused_items unused_shelves linked =
     shelves-made shelves (record records { items = with_new_items items records.items }) entries unused_items unused_shelves

@@ -1,8 +1,8 @@
--- Linked records stay linked when a growth puts one to use: one that was put aside, and then one that was made for it.
+-- Linked records stay linked when a growth puts one to use: one that became unused, and then one that was made for it.
 use Rattle.std.proofs.Common.{◌≡◌, ℕ, zero, suc, ◌+◌, ◌-◌, ◌≤◌, Bool, true, Option, None, Some, List, [], ◌∷◌, ◌++◌, length, refl, ap, sym, subst, ◌∙◌, arith}
 use Rattle.std.specs.Prelude.{is_some}
 use Rattle.std.specs.Option.{option_map_or}
-use Rattle.etagere_links.specs.RecordLists.{Entry, IsLinkedBut}
+use Rattle.etagere_links.specs.RecordLists.{Entry, IsLinkedExcept}
 use Rattle.etagere_links.specs.RecordUses.{item_used, number_used, shelf_used}
 use Rattle.etagere_links.proofs.AllLists.LinkedUnused.{lists_of}
 use Rattle.etagere_links.proofs.AllLists.LinkedUses.{UsesItem, UsesShelf, but_first, uses-item, uses-shelf}
@@ -10,7 +10,7 @@ use Rattle.shelf_store.specs.Private.RecordsGrown.{Growing, after_item, after_sh
 use Rattle.shelf_store.specs.declared.growing.Made.{Made}
 use Rattle.shelf_store.proofs.Grown.MadeLinked.{numbers_from}
 
--- the number that is put to use is that which was put aside last
+-- the number that is put to use is that which became unused last
 used-number : {T : Type 0} (unused : Option ℕ) (records : List T) (x number : ℕ) → unused ≡ Some x → number_used true unused records ≡ Some number → x ≡ number
 used-number None records x number e is = absurd (cc)
 used-number (Some y) records x number e is = cc
@@ -23,7 +23,7 @@ numbers-first from (suc count) some =
     let left : count ≡ suc count - 1 = omega arith in
     ap (λ (n : ℕ). from ∷ numbers_from n count) next ∙ ap (λ (n : ℕ). from ∷ numbers_from (from + 1) n) left
 
--- the numbers in no list once an item that was put aside is put to use
+-- the numbers in no list once an item that became unused is put to use
 items-used : (unused : Option ℕ) (made : Made) (x number left other : ℕ) (held : List ℕ) → unused ≡ Some x → x ≡ number → left ≡ other
     → option_map_or (λ n. n) unused made.item ∷ (numbers_from (made_after_item unused made).item left ++ held) ≡ number ∷ (numbers_from made.item other ++ held)
 items-used unused made x number left other held e same count = rw (e, same, count) refl
@@ -40,61 +40,61 @@ shelves-made : (unused : Option ℕ) (made : Made) (left : ℕ) (held : List ℕ
     ≡ made.shelf ∷ (numbers_from (made.shelf + 1) left ++ held)
 shelves-made unused made left held e = rw e refl
 
--- the numbers in no list once a shelf that was put aside is put to use
+-- the numbers in no list once a shelf that became unused is put to use
 shelves-used : (unused : Option ℕ) (made : Made) (x number left other : ℕ) (held : List ℕ) → unused ≡ Some x → x ≡ number → left ≡ other
     → option_map_or (λ n. n) unused made.shelf ∷ (numbers_from (made_after_shelf unused made).shelf left ++ held) ≡ number ∷ (numbers_from made.shelf other ++ held)
 shelves-used unused made x number left other held e same count = rw (e, same, count) refl
 
 -- an item record is put to use, where some are still needed
 pub item-next : (growing : Growing) (entries : List Entry) (unused_items unused_shelves held loose_shelves : List ℕ) (needed : ℕ) → 1 ≤ needed
-    → IsLinkedBut growing.records (lists_of entries unused_items unused_shelves) (numbers_from growing.made.item (needed - length unused_items) ++ held) loose_shelves
-    → IsLinkedBut (after_item growing).records (lists_of entries (but_first unused_items) unused_shelves)
+    → IsLinkedExcept growing.records (lists_of entries unused_items unused_shelves) (numbers_from growing.made.item (needed - length unused_items) ++ held) loose_shelves
+    → IsLinkedExcept (after_item growing).records (lists_of entries (but_first unused_items) unused_shelves)
     (next_item growing ∷ (numbers_from (after_item growing).made.item (needed - 1 - length (but_first unused_items)) ++ held)) loose_shelves
 item-next growing entries [] unused_shelves held loose_shelves needed some linked =
-    let none : growing.records.free_items ≡ None = linked.unused_items in
+    let none : growing.records.unused_items ≡ None = linked.unused_items in
     let first : numbers_from growing.made.item (needed - 0) ++ held ≡ growing.made.item ∷ (numbers_from (growing.made.item + 1) (needed - 1 - 0) ++ held) =
     ap (λ (l : List ℕ). l ++ held) (numbers-first growing.made.item (needed - 0) (omega (arith, some)))
     ∙ ap (λ (n : ℕ). growing.made.item ∷ (numbers_from (growing.made.item + 1) n ++ held)) (omega arith) in
-    let now = subst (λ (l : List ℕ). IsLinkedBut growing.records (lists_of entries [] unused_shelves) l loose_shelves) first linked in
-    subst (λ (l : List ℕ). IsLinkedBut (after_item growing).records (lists_of entries [] unused_shelves) l loose_shelves)
-    (sym (items-made growing.records.free_items growing.made (needed - 1 - 0) held none))
-    (subst (λ (b : Bool). IsLinkedBut (item_used b growing.records) (lists_of entries [] unused_shelves)
+    let now = subst (λ (l : List ℕ). IsLinkedExcept growing.records (lists_of entries [] unused_shelves) l loose_shelves) first linked in
+    subst (λ (l : List ℕ). IsLinkedExcept (after_item growing).records (lists_of entries [] unused_shelves) l loose_shelves)
+    (sym (items-made growing.records.unused_items growing.made (needed - 1 - 0) held none))
+    (subst (λ (b : Bool). IsLinkedExcept (item_used b growing.records) (lists_of entries [] unused_shelves)
     (growing.made.item ∷ (numbers_from (growing.made.item + 1) (needed - 1 - 0) ++ held)) loose_shelves)
     (sym (ap is_some none)) now)
 item-next growing entries (x ∷ xs) unused_shelves held loose_shelves needed some linked =
     let loose : List ℕ = numbers_from growing.made.item (needed - length (x ∷ xs)) ++ held in
-    let top : growing.records.free_items ≡ Some x = linked.unused_items.0 in
+    let top : growing.records.unused_items ≡ Some x = linked.unused_items.0 in
     let uses : UsesItem growing.records entries (x ∷ xs) unused_shelves loose loose_shelves =
     uses-item growing.records entries (x ∷ xs) unused_shelves loose loose_shelves linked in
-    let same : x ≡ uses.number = used-number growing.records.free_items growing.records.items x uses.number top uses.is in
-    subst (λ (l : List ℕ). IsLinkedBut (after_item growing).records (lists_of entries xs unused_shelves) l loose_shelves)
-    (sym (items-used growing.records.free_items growing.made x uses.number (needed - 1 - length xs) (needed - length (x ∷ xs)) held top same (omega arith)))
-    (subst (λ (b : Bool). IsLinkedBut (item_used b growing.records) (lists_of entries xs unused_shelves) (uses.number ∷ loose) loose_shelves)
+    let same : x ≡ uses.number = used-number growing.records.unused_items growing.records.items x uses.number top uses.is in
+    subst (λ (l : List ℕ). IsLinkedExcept (after_item growing).records (lists_of entries xs unused_shelves) l loose_shelves)
+    (sym (items-used growing.records.unused_items growing.made x uses.number (needed - 1 - length xs) (needed - length (x ∷ xs)) held top same (omega arith)))
+    (subst (λ (b : Bool). IsLinkedExcept (item_used b growing.records) (lists_of entries xs unused_shelves) (uses.number ∷ loose) loose_shelves)
     (sym (ap is_some top)) uses.linked)
 
 -- a shelf record is put to use, where some are still needed
 pub shelf-next : (growing : Growing) (entries : List Entry) (unused_items unused_shelves loose held : List ℕ) (needed : ℕ) → 1 ≤ needed
-    → IsLinkedBut growing.records (lists_of entries unused_items unused_shelves) loose (numbers_from growing.made.shelf (needed - length unused_shelves) ++ held)
-    → IsLinkedBut (after_shelf growing).records (lists_of entries unused_items (but_first unused_shelves)) loose
+    → IsLinkedExcept growing.records (lists_of entries unused_items unused_shelves) loose (numbers_from growing.made.shelf (needed - length unused_shelves) ++ held)
+    → IsLinkedExcept (after_shelf growing).records (lists_of entries unused_items (but_first unused_shelves)) loose
     (next_shelf growing ∷ (numbers_from (after_shelf growing).made.shelf (needed - 1 - length (but_first unused_shelves)) ++ held))
 shelf-next growing entries unused_items [] loose held needed some linked =
-    let none : growing.records.free_shelves ≡ None = linked.unused_shelves in
+    let none : growing.records.unused_shelves ≡ None = linked.unused_shelves in
     let first : numbers_from growing.made.shelf (needed - 0) ++ held ≡ growing.made.shelf ∷ (numbers_from (growing.made.shelf + 1) (needed - 1 - 0) ++ held) =
     ap (λ (l : List ℕ). l ++ held) (numbers-first growing.made.shelf (needed - 0) (omega (arith, some)))
     ∙ ap (λ (n : ℕ). growing.made.shelf ∷ (numbers_from (growing.made.shelf + 1) n ++ held)) (omega arith) in
-    let now = subst (λ (l : List ℕ). IsLinkedBut growing.records (lists_of entries unused_items []) loose l) first linked in
-    subst (λ (l : List ℕ). IsLinkedBut (after_shelf growing).records (lists_of entries unused_items []) loose l)
-    (sym (shelves-made growing.records.free_shelves growing.made (needed - 1 - 0) held none))
-    (subst (λ (b : Bool). IsLinkedBut (shelf_used b growing.records) (lists_of entries unused_items []) loose
+    let now = subst (λ (l : List ℕ). IsLinkedExcept growing.records (lists_of entries unused_items []) loose l) first linked in
+    subst (λ (l : List ℕ). IsLinkedExcept (after_shelf growing).records (lists_of entries unused_items []) loose l)
+    (sym (shelves-made growing.records.unused_shelves growing.made (needed - 1 - 0) held none))
+    (subst (λ (b : Bool). IsLinkedExcept (shelf_used b growing.records) (lists_of entries unused_items []) loose
     (growing.made.shelf ∷ (numbers_from (growing.made.shelf + 1) (needed - 1 - 0) ++ held)))
     (sym (ap is_some none)) now)
 shelf-next growing entries unused_items (x ∷ xs) loose held needed some linked =
     let loose_shelves : List ℕ = numbers_from growing.made.shelf (needed - length (x ∷ xs)) ++ held in
-    let top : growing.records.free_shelves ≡ Some x = linked.unused_shelves.0 in
+    let top : growing.records.unused_shelves ≡ Some x = linked.unused_shelves.0 in
     let uses : UsesShelf growing.records entries unused_items (x ∷ xs) loose loose_shelves =
     uses-shelf growing.records entries unused_items (x ∷ xs) loose loose_shelves linked in
-    let same : x ≡ uses.number = used-number growing.records.free_shelves growing.records.shelves x uses.number top uses.is in
-    subst (λ (l : List ℕ). IsLinkedBut (after_shelf growing).records (lists_of entries unused_items xs) loose l)
-    (sym (shelves-used growing.records.free_shelves growing.made x uses.number (needed - 1 - length xs) (needed - length (x ∷ xs)) held top same (omega arith)))
-    (subst (λ (b : Bool). IsLinkedBut (shelf_used b growing.records) (lists_of entries unused_items xs) loose (uses.number ∷ loose_shelves))
+    let same : x ≡ uses.number = used-number growing.records.unused_shelves growing.records.shelves x uses.number top uses.is in
+    subst (λ (l : List ℕ). IsLinkedExcept (after_shelf growing).records (lists_of entries unused_items xs) loose l)
+    (sym (shelves-used growing.records.unused_shelves growing.made x uses.number (needed - 1 - length xs) (needed - length (x ∷ xs)) held top same (omega arith)))
+    (subst (λ (b : Bool). IsLinkedExcept (shelf_used b growing.records) (lists_of entries unused_items xs) loose (uses.number ∷ loose_shelves))
     (sym (ap is_some top)) uses.linked)

@@ -95,7 +95,7 @@ along-alike frame size along grows aligned within =
     at_edge : (n : ℕ) → n ≡ 0 → (n / grown_column_width frame size ≡ n / frame.column_width) × (n % grown_column_width frame size ≡ 0)
     at_edge n h = rw h (zero-div (grown_column_width frame size) ∙ sym (zero-div frame.column_width), zero-mod (grown_column_width frame size))
 
--- where links spell the records that were put aside, so many more are missing
+-- where links spell the records that were unused, so many more are missing
 missing-counted : {T : Type 0} (family : Family T) (wanted : ℕ) (unused : Option ℕ) (records : List T) (xs : List ℕ) → IsPileIn family records unused xs
     → missing family wanted unused records ≡ wanted - length xs
 missing-counted family zero unused records xs leads = omega arith
@@ -174,22 +174,22 @@ module _ (frame : Frame) (size : Size) (records : Records) (kept : AreKept frame
           (record { column = both.0; along = both.1 }, each-alike entries placed.1 are.1)
 
   -- so many items are missing
-  missing-items : missing item_chain needed.items records.free_items records.items ≡ needed.items - length unused_items
-  missing-items = missing-counted item_chain needed.items records.free_items records.items unused_items kept.linked.unused_items
+  missing-items : missing item_chain needed.items records.unused_items records.items ≡ needed.items - length unused_items
+  missing-items = missing-counted item_chain needed.items records.unused_items records.items unused_items kept.linked.unused_items
 
   -- and so many shelves
-  missing-shelves : missing shelf_chain needed.shelves records.free_shelves records.shelves ≡ needed.shelves - length unused_shelves
-  missing-shelves = missing-counted shelf_chain needed.shelves records.free_shelves records.shelves unused_shelves kept.linked.unused_shelves
+  missing-shelves : missing shelf_chain needed.shelves records.unused_shelves records.shelves ≡ needed.shelves - length unused_shelves
+  missing-shelves = missing-counted shelf_chain needed.shelves records.unused_shelves records.shelves unused_shelves kept.linked.unused_shelves
 
   -- there are so many items then
   count-items : length new.items ≡ length records.items + (needed.items - length unused_items)
   count-items =
-      omega (arith, length-items (missing item_chain needed.items records.free_items records.items) records.items, missing-items)
+      omega (arith, length-items (missing item_chain needed.items records.unused_items records.items) records.items, missing-items)
 
   -- and so many shelves
   count-shelves : length new.shelves ≡ length records.shelves + (needed.shelves - length unused_shelves)
   count-shelves =
-      omega (arith, length-shelves (missing shelf_chain needed.shelves records.free_shelves records.shelves) records.shelves, missing-shelves)
+      omega (arith, length-shelves (missing shelf_chain needed.shelves records.unused_shelves records.shelves) records.shelves, missing-shelves)
 
   -- no shelf is needed without an item
   few-shelves : needed.shelves ≤ needed.items
@@ -224,11 +224,11 @@ module _ (frame : Frame) (size : Size) (records : Records) (kept : AreKept frame
 
   -- shelves say what they said
   same_shelf : (k : ℕ) → SameShelf records.shelves new.shelves k
-  same_shelf = shelves-made (missing shelf_chain needed.shelves records.free_shelves records.shelves) records.shelves
+  same_shelf = shelves-made (missing shelf_chain needed.shelves records.unused_shelves records.shelves) records.shelves
 
   -- and so do items
   same_item : (k : ℕ) → SameItem records.items new.items k
-  same_item = items-made (missing item_chain needed.items records.free_items records.items) records.items
+  same_item = items-made (missing item_chain needed.items records.unused_items records.items) records.items
 
   -- so that all shelves in use are as they were
   same : SameEntries (bare grown records) new entries
@@ -236,11 +236,11 @@ module _ (frame : Frame) (size : Size) (records : Records) (kept : AreKept frame
 
   -- the records spell the same lists in the grown frame, but for those that were made
   spelled-made : IsSpelledBut (bare grown new) (lists_of entries unused_items unused_shelves)
-      (numbers_from (length records.items) (missing item_chain needed.items records.free_items records.items) ++ [])
-      (numbers_from (length records.shelves) (missing shelf_chain needed.shelves records.free_shelves records.shelves) ++ [])
+      (numbers_from (length records.items) (missing item_chain needed.items records.unused_items records.items) ++ [])
+      (numbers_from (length records.shelves) (missing shelf_chain needed.shelves records.unused_shelves records.shelves) ++ [])
   spelled-made =
       record {
-        linked = records-made (missing item_chain needed.items records.free_items records.items) (missing shelf_chain needed.shelves records.free_shelves records.shelves)
+        linked = records-made (missing item_chain needed.items records.unused_items records.items) (missing shelf_chain needed.shelves records.unused_shelves records.shelves)
             records entries unused_items unused_shelves kept.linked;
         placed = same.placed (placed-alike frame grown records entries alike kept.placed);
         stacked = stacked-same records.shelves new.shelves grown.column_width same_shelf [] (shelf_numbers entries)
@@ -256,7 +256,7 @@ module _ (frame : Frame) (size : Size) (records : Records) (kept : AreKept frame
       subst (λ (n : ℕ). IsSpelledBut (bare grown new) (lists_of entries unused_items unused_shelves)
       (numbers_from (length records.items) (needed.items - length unused_items) ++ []) (numbers_from (length records.shelves) n ++ [])) missing-shelves
       (subst (λ (n : ℕ). IsSpelledBut (bare grown new) (lists_of entries unused_items unused_shelves)
-      (numbers_from (length records.items) n ++ []) (numbers_from (length records.shelves) (missing shelf_chain needed.shelves records.free_shelves records.shelves) ++ []))
+      (numbers_from (length records.items) n ++ []) (numbers_from (length records.shelves) (missing shelf_chain needed.shelves records.unused_shelves records.shelves) ++ []))
       missing-items spelled-made)
 
   -- with the records that are missing all that a growth needs waits to be put to use

@@ -22,7 +22,7 @@ length-used (Some n) items = length-changed_by used_again items (Some n)
 
 -- putting an item record to use makes none
 pub used-length : (growing : Growing) → length (after_item growing).records.items ≡ length growing.records.items
-used-length growing = length-used growing.records.free_items growing.records.items
+used-length growing = length-used growing.records.unused_items growing.records.items
 
 -- no shelf that was made is put to use
 made-shelf : (unused : Option ℕ) (made : Made) → (made_after_item unused made).shelf ≡ made.shelf
@@ -31,9 +31,9 @@ made-shelf (Some n) made = refl
 
 -- putting an item record to use puts no shelf that was made to use
 pub shelf-unused : (growing : Growing) → (after_item growing).made.shelf ≡ growing.made.shelf
-shelf-unused growing = made-shelf growing.records.free_items growing.made
+shelf-unused growing = made-shelf growing.records.unused_items growing.made
 
--- one fewer is left once the first of those that were put aside is put to use
+-- one fewer is left once the first of those that became unused is put to use
 pub fewer-left : (xs : List ℕ) (n : ℕ) → length xs ≤ suc n → length (but_first xs) ≤ n
 fewer-left [] n few = omega arith
 fewer-left (x ∷ xs) n few = omega (arith, few)

@@ -9,7 +9,7 @@ use Rattle.etagere_base.proofs.TimesLemmas.{times-append, times-here}
 use Rattle.etagere_links.specs.declared.records.LinkedItem.{LinkedItem}
 use Rattle.etagere_links.specs.Edits.{changed_by}
 use Rattle.etagere_links.specs.RecordEdits.{item_changed, item_inserted_after}
-use Rattle.etagere_links.specs.RecordLists.{Entry, IsEntry, IsLinkedBut, Records, item_numbers}
+use Rattle.etagere_links.specs.RecordLists.{Entry, IsEntry, IsLinkedExcept, Records, item_numbers}
 use Rattle.etagere_links.specs.RecordMaking.{started}
 use Rattle.etagere_links.proofs.AllLists.LinkedFields.{item_changed-linked, item_written-linked}
 use Rattle.etagere_links.proofs.AllLists.LinkedFrames.{item_numbers-append}
@@ -125,13 +125,13 @@ module _ (frame grown : Frame) (old : ℕ) (growing : Growing) (before after : L
 
   -- the record that is put to use stands in no list
   next-linked : IsGrowing grown old growing (before ++ entry ∷ after) unused_items unused_shelves (suc items) shelves
-      → IsLinkedBut (after_item growing).records (lists_of (before ++ entry ∷ after) (but_first unused_items) unused_shelves)
+      → IsLinkedExcept (after_item growing).records (lists_of (before ++ entry ∷ after) (but_first unused_items) unused_shelves)
       (next ∷ loose (after_item growing) items (but_first unused_items)) (loose_shelves (after_item growing))
   next-linked is =
       let one : suc items - 1 - length (but_first unused_items) ≡ items - length (but_first unused_items) = omega arith in
-      subst (λ (n : ℕ). IsLinkedBut (after_item growing).records (lists_of (before ++ entry ∷ after) (but_first unused_items) unused_shelves)
+      subst (λ (n : ℕ). IsLinkedExcept (after_item growing).records (lists_of (before ++ entry ∷ after) (but_first unused_items) unused_shelves)
       (next ∷ loose (after_item growing) items (but_first unused_items)) (numbers_from n (shelves - length unused_shelves) ++ [])) (sym (shelf-unused growing))
-      (subst (λ (n : ℕ). IsLinkedBut (after_item growing).records (lists_of (before ++ entry ∷ after) (but_first unused_items) unused_shelves)
+      (subst (λ (n : ℕ). IsLinkedExcept (after_item growing).records (lists_of (before ++ entry ∷ after) (but_first unused_items) unused_shelves)
       (next ∷ (numbers_from (after_item growing).made.item n ++ [])) (loose_shelves growing)) one
       (item-next growing (before ++ entry ∷ after) unused_items unused_shelves [] (loose_shelves growing) (suc items) (omega arith) is.spelled.linked))
 
@@ -158,7 +158,7 @@ module _ (frame grown : Frame) (old : ℕ) (growing : Growing) (before after : L
       let held : List ℕ = loose (after_item growing) items rest in
       let atlas : AtlasRecords = bare grown growing.records in
       let entries : List Entry = before ++ entry ∷ after in
-      let linked : IsLinkedBut one (lists_of entries rest unused_shelves) (next ∷ held) (loose_shelves (after_item growing)) = next-linked is in
+      let linked : IsLinkedExcept one (lists_of entries rest unused_shelves) (next ∷ held) (loose_shelves (after_item growing)) = next-linked is in
       let loose_next : IsLoose (length one.items) (item_numbers entries) rest next = loose-of (length one.items) (item_numbers entries) rest held next linked.items_once in
       let count : (k : ℕ) → times k (item_numbers entries) ≡ times k (item_numbers before) + (times k numbers + times k (item_numbers after)) =
       λ k. omega (arith, item_numbers-append before (entry ∷ after) k, times-append k numbers (item_numbers after)) in

@@ -134,7 +134,7 @@ end-values growing shelf last place width within =
           SameItem-then items two.items new k
           (item-same items two.items k
           (get-changed_by-other (started place width shelf) one.items (Some number) k (λ e. let same : number ≡ k = cc in other same)
-          ∙ used-other growing.records.free_items items growing.made.item k other))
+          ∙ used-other growing.records.unused_items items growing.made.item k other))
           (values k);
       as_many = length-linked_between free_list three.items None (first_free_of three.shelves shelf) number
           ∙ length-linked_between item_chain two.items (Some last) (link_at item_chain.next two.items last) number

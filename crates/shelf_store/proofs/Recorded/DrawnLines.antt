@@ -34,42 +34,42 @@ colour-spelled items number =
 
 module _ (atlas : AtlasRecords) where
   -- the lines of the items of a shelf, which lie side by side
-  along-lines : (shelf here : ℕ) (numbers : List ℕ) → LieFrom atlas.lists.items here numbers
-      → drawn_lines (drawn_along atlas.frame (across_of atlas.lists.shelves shelf) (height_of atlas.lists.shelves shelf) here (map (item_at atlas.lists.items) numbers))
-      ≡ flat_map (item_line atlas.frame atlas.lists shelf) numbers
+  along-lines : (shelf here : ℕ) (numbers : List ℕ) → LieFrom atlas.records.items here numbers
+      → drawn_lines (drawn_along atlas.frame (across_of atlas.records.shelves shelf) (height_of atlas.records.shelves shelf) here (map (item_at atlas.records.items) numbers))
+      ≡ flat_map (item_line atlas.frame atlas.records shelf) numbers
   along-lines shelf here [] lies = refl
   along-lines shelf here (n ∷ ns) lies =
-      let item = item_at atlas.lists.items n in
+      let item = item_at atlas.records.items n in
       let at : Colour → ℕ → List ℕ = λ colour place.
-      drawn_line (drawn_at atlas.frame colour place (across_of atlas.lists.shelves shelf) item.width (height_of atlas.lists.shelves shelf)) in
-      let own : at (if is_allocated_at atlas.lists.items n then Allocated else Free) (place_of atlas.lists.items n) ≡ at (colour_of item) here =
-      ap (λ c. at c (place_of atlas.lists.items n)) (colour-spelled atlas.lists.items n) ∙ ap (λ p. at (colour_of item) p) lies.0 in
+      drawn_line (drawn_at atlas.frame colour place (across_of atlas.records.shelves shelf) item.width (height_of atlas.records.shelves shelf)) in
+      let own : at (if is_allocated_at atlas.records.items n then Allocated else Free) (place_of atlas.records.items n) ≡ at (colour_of item) here =
+      ap (λ c. at c (place_of atlas.records.items n)) (colour-spelled atlas.records.items n) ∙ ap (λ p. at (colour_of item) p) lies.0 in
       ap (λ l. at (colour_of item) here ++ l) (along-lines shelf (here + item.width) ns lies.1)
-      ∙ ap (λ l. l ++ flat_map (item_line atlas.frame atlas.lists shelf) ns) (sym own)
+      ∙ ap (λ l. l ++ flat_map (item_line atlas.frame atlas.records shelf) ns) (sym own)
 
   -- the lines of the items of a shelf of these lists
   abbrev entry_lines : Entry → List ℕ
-  entry_lines entry = flat_map (item_line atlas.frame atlas.lists entry.number) entry.items
+  entry_lines entry = flat_map (item_line atlas.frame atlas.records entry.number) entry.items
 
   -- the lines of shelves that stand after others
   after-lines : (before entries : List Entry) → 1 ≤ atlas.frame.column_width → Each (IsPlaced atlas) entries
-      → AreStacked atlas.lists.shelves atlas.frame.column_width (shelf_numbers before) (shelf_numbers entries)
+      → AreStacked atlas.records.shelves atlas.frame.column_width (shelf_numbers before) (shelf_numbers entries)
       → drawn_lines (drawn_after atlas.frame (map (spelled_shelf atlas) before) (map (spelled_shelf atlas) entries)) ≡ flat_map entry_lines entries
   after-lines before [] wide placed stacked = refl
   after-lines before (entry ∷ entries) wide placed stacked =
       let shelf : Shelf = spelled_shelf atlas entry in
-      let across : column_height shelf.column (map (spelled_shelf atlas) before) ≡ across_of atlas.lists.shelves entry.number =
+      let across : column_height shelf.column (map (spelled_shelf atlas) before) ≡ across_of atlas.records.shelves entry.number =
       spelled-height atlas shelf.column before ∙ sym stacked.0 in
-      let begins : shelf.column * atlas.frame.column_width ≡ along_of atlas.lists.shelves entry.number =
+      let begins : shelf.column * atlas.frame.column_width ≡ along_of atlas.records.shelves entry.number =
       spelled-column atlas entry wide placed.0.along in
       let items : ℕ → ℕ → List Drawn = λ a b. drawn_along atlas.frame a shelf.height b shelf.items in
       let first : List Drawn = items (column_height shelf.column (map (spelled_shelf atlas) before)) (shelf.column * atlas.frame.column_width) in
       let others : List Drawn = drawn_after atlas.frame (map (spelled_shelf atlas) before ++ shelf ∷ []) (map (spelled_shelf atlas) entries) in
       let here : drawn_lines first ≡ entry_lines entry =
       ap (λ a. drawn_lines (items a (shelf.column * atlas.frame.column_width))) across
-      ∙ ap (λ b. drawn_lines (items (across_of atlas.lists.shelves entry.number) b)) begins
-      ∙ along-lines entry.number (along_of atlas.lists.shelves entry.number) entry.items placed.0.places in
-      let later : AreStacked atlas.lists.shelves atlas.frame.column_width (shelf_numbers (before ++ entry ∷ [])) (shelf_numbers entries) =
+      ∙ ap (λ b. drawn_lines (items (across_of atlas.records.shelves entry.number) b)) begins
+      ∙ along-lines entry.number (along_of atlas.records.shelves entry.number) entry.items placed.0.places in
+      let later : AreStacked atlas.records.shelves atlas.frame.column_width (shelf_numbers (before ++ entry ∷ [])) (shelf_numbers entries) =
       rw (shelf_numbers-append before (entry ∷ [])) stacked.1 in
       let rest : drawn_lines others ≡ flat_map entry_lines entries =
       ap (λ ss. drawn_lines (drawn_after atlas.frame ss (map (spelled_shelf atlas) entries))) (sym (map-append (spelled_shelf atlas) before (entry ∷ [])))

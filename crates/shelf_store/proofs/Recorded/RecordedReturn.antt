@@ -24,7 +24,7 @@ use Rattle.shelf_model.proofs.Returned.ReturnedAllocated.{returned-allocated}
 use Rattle.shelf_store.proofs.Spelled.EntryValues.{id_at}
 use Rattle.shelf_store.proofs.Spelled.ItemReturned.{ReturnsItem, allocated-id, returns-item}
 
--- what holds after the item of an id was returned, of the records, of how many were put aside, and of its area
+-- what holds after the item of an id was returned, of the records, of how many became unused, and of its area
 pub record AfterReturn (frame : Frame) (records : Records) (id : ℕ) (new : Records) (put_aside area : ℕ) : Type 0 where
   pub kept : AreKept frame new
   pub state : state_of frame new ≡ returned (state_of frame records) id

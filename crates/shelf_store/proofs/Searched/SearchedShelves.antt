@@ -71,29 +71,29 @@ place-found frame items here (x ∷ front) n back are lies =
 -- an item of a shelf, as the state has it by its place
 pub record IsPlacedItem (atlas : AtlasRecords) (entry : Entry) (number : ℕ) : Type 0 where
   pub width :
-      width_at (column_place atlas.frame (spelled_shelf atlas entry)) (spelled_shelf atlas entry).items (place_of atlas.lists.items number)
-      ≡ (item_at atlas.lists.items number).width
+      width_at (column_place atlas.frame (spelled_shelf atlas entry)) (spelled_shelf atlas entry).items (place_of atlas.records.items number)
+      ≡ (item_at atlas.records.items number).width
   pub get :
-      slice_get entry.items (number_at (column_place atlas.frame (spelled_shelf atlas entry)) (spelled_shelf atlas entry).items (place_of atlas.lists.items number))
+      slice_get entry.items (number_at (column_place atlas.frame (spelled_shelf atlas entry)) (spelled_shelf atlas entry).items (place_of atlas.records.items number))
       ≡ Some number
 
 pub placed-item : (atlas : AtlasRecords) (entry : Entry) (number : ℕ) → 1 ≤ atlas.frame.column_width → IsSearched atlas entry → 1 ≤ times number entry.items → IsPlacedItem atlas entry number
 placed-item atlas entry number wide searched stands =
-    let items : List LinkedItem = atlas.lists.items in
+    let items : List LinkedItem = atlas.records.items in
     let place : ℕ = place_of items number in
     let at : IsAmong number entry.items = among number entry.items stands in
-    let begins : column_place atlas.frame (spelled_shelf atlas entry) ≡ along_of atlas.lists.shelves entry.number = spelled-column atlas entry wide searched.placed.along in
-    let found = place-found atlas.frame items (along_of atlas.lists.shelves entry.number) at.front number at.back
+    let begins : column_place atlas.frame (spelled_shelf atlas entry) ≡ along_of atlas.records.shelves entry.number = spelled-column atlas entry wide searched.placed.along in
+    let found = place-found atlas.frame items (along_of atlas.records.shelves entry.number) at.front number at.back
     (subst (λ (ns : List ℕ). Each (IsItem atlas.frame) (map (item_at items) ns)) at.whole searched.shelf.items)
-    (subst (λ (ns : List ℕ). LieFrom items (along_of atlas.lists.shelves entry.number) ns) at.whole searched.placed.places) in
+    (subst (λ (ns : List ℕ). LieFrom items (along_of atlas.records.shelves entry.number) ns) at.whole searched.placed.places) in
     let number_is : number_at (column_place atlas.frame (spelled_shelf atlas entry)) (spelled_shelf atlas entry).items place ≡ length at.front =
     ap (λ b. number_at b (map (item_at items) entry.items) place) begins
-    ∙ ap (λ (ns : List ℕ). number_at (along_of atlas.lists.shelves entry.number) (map (item_at items) ns) place) at.whole
+    ∙ ap (λ (ns : List ℕ). number_at (along_of atlas.records.shelves entry.number) (map (item_at items) ns) place) at.whole
     ∙ found.1 in
     record {
       width =
           ap (λ b. width_at b (map (item_at items) entry.items) place) begins
-          ∙ ap (λ (ns : List ℕ). width_at (along_of atlas.lists.shelves entry.number) (map (item_at items) ns) place) at.whole
+          ∙ ap (λ (ns : List ℕ). width_at (along_of atlas.records.shelves entry.number) (map (item_at items) ns) place) at.whole
           ∙ found.0;
       get =
           ap (slice_get entry.items) number_is

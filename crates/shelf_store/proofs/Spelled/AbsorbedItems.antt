@@ -123,21 +123,21 @@ items-keep_values = record { next = λ link x. refl; previous = λ link x. refl 
 pub frees-keep_values : IsUnchanged free_list item_values
 frees-keep_values = record { next = λ link x. refl; previous = λ link x. refl }
 
--- what items say after the next of one was put aside and the one became as wide as both
+-- what items say after the next of one became unused and the one became as wide as both
 pub free-widens : (records : Records) (shelf number next : ℕ) → number < length records.items → IsWidened records.items (free_absorbed shelf number next ((item_at records.items number).width + (item_at records.items next).width) records).items number ((item_at records.items number).width + (item_at records.items next).width)
 free-widens records shelf number next within =
     let items : List LinkedItem = records.items in
     let width : ℕ = (item_at items number).width + (item_at items next).width in
     let one : List LinkedItem = unlinked free_list next items in
     let two : List LinkedItem = unlinked item_chain next one in
-    let three : List LinkedItem = put_aside item_chain records.free_items next two in
+    let three : List LinkedItem = put_aside item_chain records.unused_items next two in
     let new : List LinkedItem = changed_by (Some number) (λ (x : LinkedItem). record x { width = width }) three in
     let values : map item_values three ≡ map item_values items =
-    map-put_aside item_chain item_values items-keep_values two records.free_items next
+    map-put_aside item_chain item_values items-keep_values two records.unused_items next
     ∙ map-unlinked item_chain item_values items-keep_values one next
     ∙ map-unlinked free_list item_values frees-keep_values items next in
     let long : length three ≡ length items =
-    length-put_aside item_chain two records.free_items next ∙ length-unlinked item_chain one next ∙ length-unlinked free_list items next in
+    length-put_aside item_chain two records.unused_items next ∙ length-unlinked item_chain one next ∙ length-unlinked free_list items next in
     let wide : IsWidened three new number width = widened three number width (rw long within) in
     let same : (k : ℕ) → SameItem items three k = λ k. items-same items three k values in
     record {
@@ -161,17 +161,17 @@ allocated-absorbs records shelf number next apart within =
     let unmark : LinkedItem → LinkedItem = λ x. record x { allocated = false } in
     let one : List LinkedItem = unlinked item_chain next items in
     let two : List LinkedItem = changed_by (Some next) unmark one in
-    let three : List LinkedItem = put_aside item_chain records.free_items next two in
+    let three : List LinkedItem = put_aside item_chain records.unused_items next two in
     let new : List LinkedItem = changed_by (Some number) (λ (x : LinkedItem). record x { width = width }) three in
     let long : length three ≡ length items =
-    length-put_aside item_chain two records.free_items next ∙ length-changed_by unmark one (Some next) ∙ length-unlinked item_chain items next in
+    length-put_aside item_chain two records.unused_items next ∙ length-changed_by unmark one (Some next) ∙ length-unlinked item_chain items next in
     let wide : IsWidened three new number width = widened three number width (rw long within) in
     let same : (k : ℕ) → next ≢ k → SameItem items three k = λ k other.
     SameItem-then items two three k
     (SameItem-then items one two k
     (items-same items one k (map-unlinked item_chain item_values items-keep_values items next))
     (item-same one two k (get-changed_by-other unmark one (Some next) k (λ e. let eq : next ≡ k = cc in other eq))))
-    (items-same two three k (map-put_aside item_chain item_values items-keep_values two records.free_items next)) in
+    (items-same two three k (map-put_aside item_chain item_values items-keep_values two records.unused_items next)) in
     let own : SameItem items three number = same number (λ e. apart (sym e)) in
     record {
       item = wide.item ∙ ap (λ (i : Item). record { width = width; id = i.id }) own.item;
@@ -181,7 +181,7 @@ allocated-absorbs records shelf number next apart within =
       others = λ k other next_other. SameItem-then items three new k (same k next_other) (wide.others k other);
     }
 
--- and the one put aside is not marked allocated
+-- and the unused one is not marked allocated
 pub allocated-unmarked : (records : Records) (shelf number next width : ℕ) → number ≢ next → next < length records.items → is_allocated_at (allocated_absorbed shelf number next width records).items next ≡ false
 allocated-unmarked records shelf number next width apart within =
     let items : List LinkedItem = records.items in
@@ -189,7 +189,7 @@ allocated-unmarked records shelf number next width apart within =
     let widen : LinkedItem → LinkedItem = λ x. record x { width = width } in
     let one : List LinkedItem = unlinked item_chain next items in
     let two : List LinkedItem = changed_by (Some next) unmark one in
-    let three : List LinkedItem = put_aside item_chain records.free_items next two in
+    let three : List LinkedItem = put_aside item_chain records.unused_items next two in
     field_at-kept (λ (x : LinkedItem). x.allocated) false widen three number next (λ x. refl)
-    ∙ (items-same two three next (map-put_aside item_chain item_values items-keep_values two records.free_items next)).allocated
+    ∙ (items-same two three next (map-put_aside item_chain item_values items-keep_values two records.unused_items next)).allocated
     ∙ field_at-changed (λ (x : LinkedItem). x.allocated) false unmark one next false (rw (length-unlinked item_chain items next) within) (λ x. refl)

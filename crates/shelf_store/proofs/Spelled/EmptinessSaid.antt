@@ -30,7 +30,7 @@ pub record IsFlagged (atlas : AtlasRecords) (lists : Lists) : Type 0 where
   pub flags : Each (HasFlag atlas) lists.entries
 
 -- shelves that are spelled as before and say what they said
-pub flags-same : (atlas new : AtlasRecords) (entries : List Entry) → ((k : ℕ) → 1 ≤ times k (shelf_numbers entries) → is_empty_at new.lists.shelves k ≡ is_empty_at atlas.lists.shelves k) → map (spelled_shelf new) entries ≡ map (spelled_shelf atlas) entries → Each (HasFlag atlas) entries → Each (HasFlag new) entries
+pub flags-same : (atlas new : AtlasRecords) (entries : List Entry) → ((k : ℕ) → 1 ≤ times k (shelf_numbers entries) → is_empty_at new.records.shelves k ≡ is_empty_at atlas.records.shelves k) → map (spelled_shelf new) entries ≡ map (spelled_shelf atlas) entries → Each (HasFlag atlas) entries → Each (HasFlag new) entries
 flags-same atlas new [] same spelled flags = tt
 flags-same atlas new (entry ∷ entries) same spelled flags =
     let first : spelled_shelf new entry ≡ spelled_shelf atlas entry = cc in
@@ -40,10 +40,10 @@ flags-same atlas new (entry ∷ entries) same spelled flags =
     )
 
 -- a shelf with the same place and items, and of this height
-pub shelf-is : (atlas : AtlasRecords) (lists : Records) (entry : Entry) (height : ℕ) → along_of lists.shelves entry.number ≡ along_of atlas.lists.shelves entry.number → height_of lists.shelves entry.number ≡ height → ((k : ℕ) → SameItem atlas.lists.items lists.items k) → spelled_shelf (with_lists atlas lists) entry ≡ record { column = (spelled_shelf atlas entry).column; height = height; items = (spelled_shelf atlas entry).items; free_list = (spelled_shelf atlas entry).free_list }
+pub shelf-is : (atlas : AtlasRecords) (lists : Records) (entry : Entry) (height : ℕ) → along_of lists.shelves entry.number ≡ along_of atlas.records.shelves entry.number → height_of lists.shelves entry.number ≡ height → ((k : ℕ) → SameItem atlas.records.items lists.items k) → spelled_shelf (with_lists atlas lists) entry ≡ record { column = (spelled_shelf atlas entry).column; height = height; items = (spelled_shelf atlas entry).items; free_list = (spelled_shelf atlas entry).free_list }
 shelf-is atlas lists entry height along tall same =
-    let items : map (item_at lists.items) entry.items ≡ map (item_at atlas.lists.items) entry.items = map-agrees (item_at lists.items) (item_at atlas.lists.items) entry.items (λ k stands. (same k).item) in
-    let places : map (place_of lists.items) entry.free_list ≡ map (place_of atlas.lists.items) entry.free_list = map-agrees (place_of lists.items) (place_of atlas.lists.items) entry.free_list (λ k stands. (same k).place) in
+    let items : map (item_at lists.items) entry.items ≡ map (item_at atlas.records.items) entry.items = map-agrees (item_at lists.items) (item_at atlas.records.items) entry.items (λ k stands. (same k).item) in
+    let places : map (place_of lists.items) entry.free_list ≡ map (place_of atlas.records.items) entry.free_list = map-agrees (place_of lists.items) (place_of atlas.records.items) entry.free_list (λ k stands. (same k).place) in
     ap (λ a. record { column = a / atlas.frame.column_width; height = height_of lists.shelves entry.number; items = map (item_at lists.items) entry.items; free_list = map (place_of lists.items) entry.free_list }) along
     ∙ ap (λ h. record { column = (spelled_shelf atlas entry).column; height = h; items = map (item_at lists.items) entry.items; free_list = map (place_of lists.items) entry.free_list }) tall
     ∙ ap (λ (is : List Item). record { column = (spelled_shelf atlas entry).column; height = height; items = is; free_list = map (place_of lists.items) entry.free_list }) items
@@ -85,29 +85,29 @@ keeps-emptiness : (is_empty : Bool) → KeepsShelfLinks (λ (shelf : LinkedShelf
 keeps-emptiness is_empty = record { next = λ x. refl; prev = λ x. refl; first_item = λ x. refl; first_unallocated = λ x. refl }
 
 -- the records after a shelf was made to say whether it is empty: they spell the same, and every shelf says it
-pub emptiness_said-flagged : (atlas : AtlasRecords) (before after : List Entry) (entry : Entry) (unused shelves : List ℕ) → Each (HasFlag atlas) before → Each (HasFlag atlas) after → IsSpelled atlas (lists_of (before ++ entry ∷ after) unused shelves) → IsFlagged (with_lists atlas (emptiness_said entry.number atlas.lists)) (lists_of (before ++ entry ∷ after) unused shelves) × (map (spelled_shelf (with_lists atlas (emptiness_said entry.number atlas.lists))) (before ++ entry ∷ after) ≡ map (spelled_shelf atlas) (before ++ entry ∷ after))
+pub emptiness_said-flagged : (atlas : AtlasRecords) (before after : List Entry) (entry : Entry) (unused shelves : List ℕ) → Each (HasFlag atlas) before → Each (HasFlag atlas) after → IsSpelled atlas (lists_of (before ++ entry ∷ after) unused shelves) → IsFlagged (with_lists atlas (emptiness_said entry.number atlas.records)) (lists_of (before ++ entry ∷ after) unused shelves) × (map (spelled_shelf (with_lists atlas (emptiness_said entry.number atlas.records))) (before ++ entry ∷ after) ≡ map (spelled_shelf atlas) (before ++ entry ∷ after))
 emptiness_said-flagged atlas before after entry unused shelves flags_before flags_after spelled =
-    let old : List LinkedShelf = atlas.lists.shelves in
-    let items : List LinkedItem = atlas.lists.items in
+    let old : List LinkedShelf = atlas.records.shelves in
+    let items : List LinkedItem = atlas.records.items in
     let entries : List Entry = before ++ entry ∷ after in
     let value : Bool = names_one_free items (first_item_of old entry.number) in
     let change : LinkedShelf → LinkedShelf = λ x. record x { is_empty = value } in
-    let lists : Records = emptiness_said entry.number atlas.lists in
+    let lists : Records = emptiness_said entry.number atlas.records in
     let new : AtlasRecords = with_lists atlas lists in
-    let apart : IsApart atlas.lists before after unused [] entry = linked-apart atlas.lists before after entry unused shelves [] [] spelled.linked in
+    let apart : IsApart atlas.records before after unused [] entry = linked-apart atlas.records before after entry unused shelves [] [] spelled.linked in
     let along : (k : ℕ) → along_of lists.shelves k ≡ along_of old k = λ k. field_at-kept (λ (x : LinkedShelf). x.x) 0 change old entry.number k (λ x. refl) in
     let across : (k : ℕ) → across_of lists.shelves k ≡ across_of old k = λ k. field_at-kept (λ (x : LinkedShelf). x.y) 0 change old entry.number k (λ x. refl) in
     let height : (k : ℕ) → height_of lists.shelves k ≡ height_of old k = λ k. field_at-kept (λ (x : LinkedShelf). x.height) 0 change old entry.number k (λ x. refl) in
     let same : (k : ℕ) → SameItem items lists.items k = λ k. items-same items lists.items k refl in
     let each : (es : List Entry) → map (spelled_shelf new) es ≡ map (spelled_shelf atlas) es = λ es. shelves-stay atlas lists along height same es in
-    let is : IsEntry atlas.lists entry = Each-middle (IsEntry atlas.lists) before entry after spelled.linked.entries in
+    let is : IsEntry atlas.records entry = Each-middle (IsEntry atlas.records) before entry after spelled.linked.entries in
     let among : (k : ℕ) → times k (shelf_numbers before ++ shelf_numbers after) ≡ times k (shelf_numbers before) + times k (shelf_numbers after) = λ k. times-append k (shelf_numbers before) (shelf_numbers after) in
     let other : (k : ℕ) → Some entry.number ≢ Some k → is_empty_at lists.shelves k ≡ is_empty_at old k = λ k stranger. field_at-other (λ (x : LinkedShelf). x.is_empty) false change old (Some entry.number) k stranger in
     let own : is_empty_at lists.shelves entry.number ≡ value = field_at-changed (λ (x : LinkedShelf). x.is_empty) false change old entry.number value apart.number (λ x. refl) in (
       record {
         spelled =
             record {
-              linked = shelf_changed-linked atlas.lists entry.number change entries unused shelves [] [] (keeps-emptiness value) spelled.linked;
+              linked = shelf_changed-linked atlas.records entry.number change entries unused shelves [] [] (keeps-emptiness value) spelled.linked;
               placed = still-placed atlas lists entries along same spelled.placed;
               stacked = stacked-stay old lists.shelves atlas.frame.column_width along across height [] (shelf_numbers entries) spelled.stacked;
               unused = spelled.unused;
@@ -121,8 +121,8 @@ emptiness_said-flagged atlas before after entry unused shelves flags_before flag
       each entries,
     )
   where
-    shelves-stay : (atlas : AtlasRecords) (lists : Records) → ((k : ℕ) → along_of lists.shelves k ≡ along_of atlas.lists.shelves k) → ((k : ℕ) → height_of lists.shelves k ≡ height_of atlas.lists.shelves k) → ((k : ℕ) → SameItem atlas.lists.items lists.items k) → (es : List Entry) → map (spelled_shelf (with_lists atlas lists)) es ≡ map (spelled_shelf atlas) es
+    shelves-stay : (atlas : AtlasRecords) (lists : Records) → ((k : ℕ) → along_of lists.shelves k ≡ along_of atlas.records.shelves k) → ((k : ℕ) → height_of lists.shelves k ≡ height_of atlas.records.shelves k) → ((k : ℕ) → SameItem atlas.records.items lists.items k) → (es : List Entry) → map (spelled_shelf (with_lists atlas lists)) es ≡ map (spelled_shelf atlas) es
     shelves-stay atlas lists along height same [] = refl
     shelves-stay atlas lists along height same (e ∷ es) =
-        ap (λ (s : Shelf). s ∷ map (spelled_shelf (with_lists atlas lists)) es) (shelf-is atlas lists e (height_of atlas.lists.shelves e.number) (along e.number) (height e.number) same)
+        ap (λ (s : Shelf). s ∷ map (spelled_shelf (with_lists atlas lists)) es) (shelf-is atlas lists e (height_of atlas.records.shelves e.number) (along e.number) (height e.number) same)
         ∙ ap (λ (ss : List Shelf). spelled_shelf atlas e ∷ ss) (shelves-stay atlas lists along height same es)

@@ -37,7 +37,7 @@ fresh_lists frame = record { entries = numbered fresh_entry 0 frame.columns; unu
 
 -- an atlas of these records
 abbrev fresh_atlas : Frame → AtlasRecords
-fresh_atlas frame = record { frame = frame; lists = fresh_records frame; allocated_space = pos (space_in (fresh frame).shelves) }
+fresh_atlas frame = record { frame = frame; records = fresh_records frame; allocated_space = pos (space_in (fresh frame).shelves) }
 
 -- the shelves of the columns from one on
 fresh-numbers : (from n : ℕ) → shelf_numbers (numbered fresh_entry from n) ≡ numbered (λ number. number) from n

@@ -45,12 +45,12 @@ pub record IsItemGiven (atlas : AtlasRecords) (new : Records) (before added afte
   pub own : spelled_shelf (with_lists atlas new) edited ≡ shelf
   pub flags_before : Each (HasFlag atlas) before → Each (HasFlag (with_lists atlas new)) before
   pub flags_after : Each (HasFlag atlas) after → Each (HasFlag (with_lists atlas new)) (added ++ after)
-  pub more : length atlas.lists.items ≤ length new.items
-  pub made : 1 ≤ length unused_items → length new.items ≡ length atlas.lists.items
+  pub more : length atlas.records.items ≤ length new.items
+  pub made : 1 ≤ length unused_items → length new.items ≡ length atlas.records.items
   pub few : length new.shelves ≤ no_link
 
 -- from what an edit of the items of the shelf says: the other shelves are those that they were, and the edited one is this
-given-after : (atlas : AtlasRecords) (split_records new : Records) (before added after : List Entry) (entry edited : Entry) (unused_items unused_shelves loose : List ℕ) (tall : ℕ) (rests : List Shelf) (shelf : Shelf) → Each (IsEntry atlas.lists) (before ++ entry ∷ after) → HasShelfSplit atlas split_records before added after entry unused_items unused_shelves loose tall rests → EditsItems (with_lists atlas split_records) new before (added ++ after) unused_items unused_items unused_shelves entry edited → spelled_shelf (with_lists atlas new) edited ≡ shelf → length new.items ≡ length split_records.items → length new.shelves ≡ length split_records.shelves → IsItemGiven atlas new before added after entry unused_items unused_shelves shelf rests
+given-after : (atlas : AtlasRecords) (split_records new : Records) (before added after : List Entry) (entry edited : Entry) (unused_items unused_shelves loose : List ℕ) (tall : ℕ) (rests : List Shelf) (shelf : Shelf) → Each (IsEntry atlas.records) (before ++ entry ∷ after) → HasShelfSplit atlas split_records before added after entry unused_items unused_shelves loose tall rests → EditsItems (with_lists atlas split_records) new before (added ++ after) unused_items unused_items unused_shelves entry edited → spelled_shelf (with_lists atlas new) edited ≡ shelf → length new.items ≡ length split_records.items → length new.shelves ≡ length split_records.shelves → IsItemGiven atlas new before added after entry unused_items unused_shelves shelf rests
 given-after atlas split_records new before added after entry edited unused_items unused_shelves loose tall rests shelf are_old is_split edits spelled long long_shelves =
     let base : AtlasRecords = with_lists atlas split_records in
     let last : AtlasRecords = with_lists atlas new in
@@ -63,13 +63,13 @@ given-after atlas split_records new before added after entry edited unused_items
     let other : (k : ℕ) → 1 ≤ times k (item_numbers before) + times k (item_numbers (added ++ after)) → SameItem split_records.items new.items k =
     λ k stands. edits.items k (omega (arith, apart.others k (omega (arith, count k, stands)))) in
     let tail = Each-back (IsEntry split_records) before (entry ∷ (added ++ after)) are in
-    let old_tail = Each-back (IsEntry atlas.lists) before (entry ∷ after) are_old in
+    let old_tail = Each-back (IsEntry atlas.records) before (entry ∷ after) are_old in
     let fewer : (k : ℕ) → times k (item_numbers (before ++ entry ∷ after)) ≡ times k (item_numbers before) + (times k entry.items + times k (item_numbers after)) =
     λ k. omega (arith, item_numbers-append before (entry ∷ after) k, times-append k entry.items (item_numbers after)) in
     let among : (k : ℕ) → times k (shelf_numbers before ++ shelf_numbers after) ≡ times k (shelf_numbers before) + times k (shelf_numbers after) = λ k. times-append k (shelf_numbers before) (shelf_numbers after) in
-    let to_split : (k : ℕ) → 1 ≤ times k (item_numbers (before ++ entry ∷ after)) → SameItem atlas.lists.items split_records.items k = λ k stands. item-same atlas.lists.items split_records.items k (is_split.items k stands) in
+    let to_split : (k : ℕ) → 1 ≤ times k (item_numbers (before ++ entry ∷ after)) → SameItem atlas.records.items split_records.items k = λ k stands. item-same atlas.records.items split_records.items k (is_split.items k stands) in
     let first_before : SameEntries atlas split_records before =
-    same-entries atlas split_records before (λ k stands. is_split.others k (omega (arith, among k, stands))) (λ k stands. to_split k (omega (arith, fewer k, stands))) (Each-front (IsEntry atlas.lists) before (entry ∷ after) are_old) in
+    same-entries atlas split_records before (λ k stands. is_split.others k (omega (arith, among k, stands))) (λ k stands. to_split k (omega (arith, fewer k, stands))) (Each-front (IsEntry atlas.records) before (entry ∷ after) are_old) in
     let first_after : SameEntries atlas split_records after =
     same-entries atlas split_records after (λ k stands. is_split.others k (omega (arith, among k, stands))) (λ k stands. to_split k (omega (arith, fewer k, stands))) old_tail.1 in
     let then_before : SameEntries base new before =
@@ -113,7 +113,7 @@ width-read (x ∷ items) label zero = refl
 width-read (x ∷ items) label (suc k) = width-read items label k
 
 -- what was said of the items of a shelf before one of them was given is said of the others still
-keeps-others : (atlas : AtlasRecords) (split_records : Records) (new : List LinkedItem) (before added after : List Entry) (shelf number : ℕ) (front back free_front free_back unused_items unused_shelves loose : List ℕ) (tall : ℕ) (rests : List Shelf) → HasShelfSplit atlas split_records before added after (entry_of shelf (front ++ number ∷ back) (free_front ++ number ∷ free_back)) unused_items unused_shelves loose tall rests → ((k : ℕ) → number ≢ k → SameItem split_records.items new k) → KeepsOthers atlas.lists.items new front back free_front free_back
+keeps-others : (atlas : AtlasRecords) (split_records : Records) (new : List LinkedItem) (before added after : List Entry) (shelf number : ℕ) (front back free_front free_back unused_items unused_shelves loose : List ℕ) (tall : ℕ) (rests : List Shelf) → HasShelfSplit atlas split_records before added after (entry_of shelf (front ++ number ∷ back) (free_front ++ number ∷ free_back)) unused_items unused_shelves loose tall rests → ((k : ℕ) → number ≢ k → SameItem split_records.items new k) → KeepsOthers atlas.records.items new front back free_front free_back
 keeps-others atlas split_records new before added after shelf number front back free_front free_back unused_items unused_shelves loose tall rests is_split others =
     let numbers : List ℕ = front ++ number ∷ back in
     let free : List ℕ = free_front ++ number ∷ free_back in
@@ -122,8 +122,8 @@ keeps-others atlas split_records new before added after shelf number front back 
     let members : (k : ℕ) → times k free ≤ times k numbers = (Each-middle (IsEntry split_records) before entry (added ++ after) is_split.spelled.linked.entries).members in
     let fewer : (k : ℕ) → times k (item_numbers (before ++ entry ∷ after)) ≡ times k (item_numbers before) + (times k numbers + times k (item_numbers after)) =
     λ k. omega (arith, item_numbers-append before (entry ∷ after) k, times-append k numbers (item_numbers after)) in
-    let same : (k : ℕ) → 1 ≤ times k numbers → number ≢ k → SameItem atlas.lists.items new k =
-    λ k stands other. SameItem-then atlas.lists.items split_records.items new k (item-same atlas.lists.items split_records.items k (is_split.items k (omega (arith, fewer k, stands)))) (others k other) in
+    let same : (k : ℕ) → 1 ≤ times k numbers → number ≢ k → SameItem atlas.records.items new k =
+    λ k stands other. SameItem-then atlas.records.items split_records.items new k (item-same atlas.records.items split_records.items k (is_split.items k (omega (arith, fewer k, stands)))) (others k other) in
     let count : (k : ℕ) → times k numbers ≡ times k front + times k (number ∷ back) = λ k. times-append k front (number ∷ back) in
     let free_count : (k : ℕ) → times k free ≡ times k free_front + times k (number ∷ free_back) = λ k. times-append k free_front (number ∷ free_back) in
     record {
@@ -162,9 +162,9 @@ front-shelves records shelf number rest width =
     length-changed_by (λ (x : LinkedShelf). record x { first_unallocated = link }) records.shelves (Some shelf)
 
 -- an item was given whole
-pub item-whole : (atlas : AtlasRecords) (split_records : Records) (before added after : List Entry) (shelf number : ℕ) (front back free_front free_back unused_items unused_shelves : List ℕ) (placement : Placement) (rests : List Shelf) → number < length atlas.lists.items → IsPlacedAt atlas.lists.items placement front back free_front free_back number → placement.splits_item ≡ false → Each (IsEntry atlas.lists) (before ++ entry_of shelf (front ++ number ∷ back) (free_front ++ number ∷ free_back) ∷ after) → HasShelfSplit atlas split_records before added after (entry_of shelf (front ++ number ∷ back) (free_front ++ number ∷ free_back)) unused_items unused_shelves [] placement.height rests → IsItemGiven atlas (item_given shelf number split_records) before added after (entry_of shelf (front ++ number ∷ back) (free_front ++ number ∷ free_back)) unused_items unused_shelves (taken_from false placement (id_of atlas.lists.items number) (spelled_shelf atlas (entry_of shelf (front ++ number ∷ back) (free_front ++ number ∷ free_back)))) rests
+pub item-whole : (atlas : AtlasRecords) (split_records : Records) (before added after : List Entry) (shelf number : ℕ) (front back free_front free_back unused_items unused_shelves : List ℕ) (placement : Placement) (rests : List Shelf) → number < length atlas.records.items → IsPlacedAt atlas.records.items placement front back free_front free_back number → placement.splits_item ≡ false → Each (IsEntry atlas.records) (before ++ entry_of shelf (front ++ number ∷ back) (free_front ++ number ∷ free_back) ∷ after) → HasShelfSplit atlas split_records before added after (entry_of shelf (front ++ number ∷ back) (free_front ++ number ∷ free_back)) unused_items unused_shelves [] placement.height rests → IsItemGiven atlas (item_given shelf number split_records) before added after (entry_of shelf (front ++ number ∷ back) (free_front ++ number ∷ free_back)) unused_items unused_shelves (taken_from false placement (id_of atlas.records.items number) (spelled_shelf atlas (entry_of shelf (front ++ number ∷ back) (free_front ++ number ∷ free_back)))) rests
 item-whole atlas split_records before added after shelf number front back free_front free_back unused_items unused_shelves placement rests within is no_split are_old is_split =
-    let old : List LinkedItem = atlas.lists.items in
+    let old : List LinkedItem = atlas.records.items in
     let new : Records = item_given shelf number split_records in
     let numbers : List ℕ = front ++ number ∷ back in
     let free : List ℕ = free_front ++ number ∷ free_back in
@@ -191,9 +191,9 @@ item-whole atlas split_records before added after shelf number front back free_f
     (given-length split_records shelf number) (given-shelves split_records shelf number)
 
 -- the front of an item was given, after the record of the rest was written
-pub item-front : (atlas : AtlasRecords) (split_records : Records) (before added after : List Entry) (shelf number rest generation : ℕ) (front back free_front free_back unused_items unused_shelves : List ℕ) (placement : Placement) (rests : List Shelf) → number < length atlas.lists.items → IsPlacedAt atlas.lists.items placement front back free_front free_back number → placement.splits_item ≡ true → Each (IsEntry atlas.lists) (before ++ entry_of shelf (front ++ number ∷ back) (free_front ++ number ∷ free_back) ∷ after) → HasShelfSplit atlas split_records before added after (entry_of shelf (front ++ number ∷ back) (free_front ++ number ∷ free_back)) unused_items unused_shelves (rest ∷ []) placement.height rests → IsItemGiven atlas (front_given shelf number rest placement.width (item_changed rest (λ _. rest_item (item_record split_records.items number) placement.width shelf generation) split_records)) before added after (entry_of shelf (front ++ number ∷ back) (free_front ++ number ∷ free_back)) unused_items unused_shelves (taken_from true placement (id_of atlas.lists.items number) (spelled_shelf atlas (entry_of shelf (front ++ number ∷ back) (free_front ++ number ∷ free_back)))) rests
+pub item-front : (atlas : AtlasRecords) (split_records : Records) (before added after : List Entry) (shelf number rest generation : ℕ) (front back free_front free_back unused_items unused_shelves : List ℕ) (placement : Placement) (rests : List Shelf) → number < length atlas.records.items → IsPlacedAt atlas.records.items placement front back free_front free_back number → placement.splits_item ≡ true → Each (IsEntry atlas.records) (before ++ entry_of shelf (front ++ number ∷ back) (free_front ++ number ∷ free_back) ∷ after) → HasShelfSplit atlas split_records before added after (entry_of shelf (front ++ number ∷ back) (free_front ++ number ∷ free_back)) unused_items unused_shelves (rest ∷ []) placement.height rests → IsItemGiven atlas (front_given shelf number rest placement.width (item_changed rest (λ _. rest_item (item_record split_records.items number) placement.width shelf generation) split_records)) before added after (entry_of shelf (front ++ number ∷ back) (free_front ++ number ∷ free_back)) unused_items unused_shelves (taken_from true placement (id_of atlas.records.items number) (spelled_shelf atlas (entry_of shelf (front ++ number ∷ back) (free_front ++ number ∷ free_back)))) rests
 item-front atlas split_records before added after shelf number rest generation front back free_front free_back unused_items unused_shelves placement rests within is split are_old is_split =
-    let old : List LinkedItem = atlas.lists.items in
+    let old : List LinkedItem = atlas.records.items in
     let width : ℕ = placement.width in
     let item : LinkedItem = rest_item (item_record split_records.items number) width shelf generation in
     let written : Records = item_changed rest (λ _. item) split_records in

@@ -35,15 +35,15 @@ member-width items (x ∷ xs) n stands = by_test (x == n) refl (member-width ite
     by_test false e later = let other : x ≢ n = grind arith in omega (arith, later (omega (arith, stands, times-other n x xs other)))
 
 -- what freeing an item and merging it adds up fits 16 bits, and all that it reads is there
-pub can-merge-item : (atlas : AtlasRecords) (before after : List Entry) (shelf number : ℕ) (front back free unused shelves : List ℕ) → IsFrame 65535 atlas.frame → IsShelf atlas.frame (spelled_shelf atlas (entry_of shelf (front ++ number ∷ back) free)) → is_allocated_at atlas.lists.items number ≡ true → IsSpelled atlas (lists_of (before ++ entry_of shelf (front ++ number ∷ back) free ∷ after) unused shelves) → CanMergeItem shelf number atlas.lists
+pub can-merge-item : (atlas : AtlasRecords) (before after : List Entry) (shelf number : ℕ) (front back free unused shelves : List ℕ) → IsFrame 65535 atlas.frame → IsShelf atlas.frame (spelled_shelf atlas (entry_of shelf (front ++ number ∷ back) free)) → is_allocated_at atlas.records.items number ≡ true → IsSpelled atlas (lists_of (before ++ entry_of shelf (front ++ number ∷ back) free ∷ after) unused shelves) → CanMergeItem shelf number atlas.records
 can-merge-item atlas before after shelf number front back free unused shelves is_frame valid allocated spelled =
-    let items : List LinkedItem = atlas.lists.items in
+    let items : List LinkedItem = atlas.records.items in
     let entry : Entry = entry_of shelf (front ++ number ∷ back) free in
-    let one : Step = next_absorbed shelf number (free_next items number) atlas.lists in
+    let one : Step = next_absorbed shelf number (free_next items number) atlas.records in
     let new : List LinkedItem = one.records.items in
     let next : MergesNext atlas one before after shelf number front back free unused shelves =
     merges-next atlas before after shelf number front back free unused shelves (wide-items atlas shelf (front ++ number ∷ back) free valid) allocated spelled in
-    let is : IsEntry atlas.lists entry = Each-middle (IsEntry atlas.lists) before entry after spelled.linked.entries in
+    let is : IsEntry atlas.records entry = Each-middle (IsEntry atlas.records) before entry after spelled.linked.entries in
     let later : Entry = entry_of shelf (front ++ number ∷ next.rest) next.free_list in
     let still : IsEntry one.records later = Each-middle (IsEntry one.records) before later after next.spelled.linked.entries in
     let low : widths items front + (width_of items number + widths items back) ≤ 65535 =
@@ -57,11 +57,11 @@ can-merge-item atlas before after shelf number front back free unused shelves is
     ) in
     let front_width : widths new front ≡ widths items front = sym (widths-total new front) ∙ ap total_width next.front_same ∙ widths-total items front in
     record {
-      here = are-there atlas.lists before after shelf number front back free unused shelves spelled.linked;
+      here = are-there atlas.records before after shelf number front back free unused shelves spelled.linked;
       after = free-next-there atlas before after shelf number front back free unused shelves spelled;
       next = λ n e.
           let first : first_or None back ≡ Some n =
-          sym (next-is (link_at item_chain.next items) front back number (first_item_of atlas.lists.shelves shelf) None is.items.forward) ∙ (named-is items (link_at item_chain.next items number) n e).0 in
+          sym (next-is (link_at item_chain.next items) front back number (first_item_of atlas.records.shelves shelf) None is.items.forward) ∙ (named-is items (link_at item_chain.next items number) n e).0 in
           omega (arith, low, member-width items back n (first-stands back n first));
       absorbed = are-there one.records before after shelf number front next.rest next.free_list next.aside shelves next.spelled.linked;
       previous = λ n e.

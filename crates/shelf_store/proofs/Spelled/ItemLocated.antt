@@ -65,34 +65,34 @@ allocated-within (x ∷ xs) zero e = omega arith
 allocated-within (x ∷ xs) (suc number) e = omega (arith, allocated-within xs number e)
 
 -- an allocated item stands in the lists of shelves
-pub located : (atlas : AtlasRecords) (lists : Lists) (number : ℕ) → IsLinked atlas.lists lists → Each (λ item. is_allocated_at atlas.lists.items item ≡ false) lists.unused_items → is_allocated_at atlas.lists.items number ≡ true → HasItem number lists.entries
+pub located : (atlas : AtlasRecords) (lists : Lists) (number : ℕ) → IsLinked atlas.records lists → Each (λ item. is_allocated_at atlas.records.items item ≡ false) lists.unused_items → is_allocated_at atlas.records.items number ≡ true → HasItem number lists.entries
 located atlas lists number linked unmarked allocated = by_count (times number lists.unused_items) refl
   where
     stands : times number (item_numbers lists.entries) + times number lists.unused_items ≡ 1
     stands =
-        let below : nat_lt number (length atlas.lists.items) ≡ true = grind (arith, allocated-within atlas.lists.items number allocated) in
-        let once : HasEachOnce (length atlas.lists.items) (item_numbers lists.entries ++ lists.unused_items ++ []) = linked.items_once in
+        let below : nat_lt number (length atlas.records.items) ≡ true = grind (arith, allocated-within atlas.records.items number allocated) in
+        let once : HasEachOnce (length atlas.records.items) (item_numbers lists.entries ++ lists.unused_items ++ []) = linked.items_once in
         let all : times number (item_numbers lists.entries ++ lists.unused_items ++ []) ≡ 1 = once number ∙ (simp below refl) in
         omega (arith, all, three-count (item_numbers lists.entries) lists.unused_items [] number)
 
     by_count : (m : ℕ) → times number lists.unused_items ≡ m → HasItem number lists.entries
     by_count zero e = has-item number lists.entries (omega (arith, stands, e))
     by_count (suc m) e =
-        let contrary : is_allocated_at atlas.lists.items number ≡ false =
-        each-member (λ item. is_allocated_at atlas.lists.items item ≡ false) lists.unused_items number unmarked (omega (arith, e)) in
+        let contrary : is_allocated_at atlas.records.items number ≡ false =
+        each-member (λ item. is_allocated_at atlas.records.items item ≡ false) lists.unused_items number unmarked (omega (arith, e)) in
         absurd (cc (contrary, allocated))
 
 -- the items that shelves spell are the records in their lists
 spelled-in-use : (atlas : AtlasRecords) (entries : List Entry) → items_in_use (map (spelled_shelf atlas) entries) ≡ length (item_numbers entries)
 spelled-in-use atlas [] = refl
 spelled-in-use atlas (entry ∷ entries) =
-    omega (arith, length-map entry.items (item_at atlas.lists.items), length-append entry.items (item_numbers entries), spelled-in-use atlas entries)
+    omega (arith, length-map entry.items (item_at atlas.records.items), length-append entry.items (item_numbers entries), spelled-in-use atlas entries)
 
--- the items in use, and those put aside, are all records
-pub in-use-counted : (atlas : AtlasRecords) (lists : Lists) → IsLinked atlas.lists lists → items_in_use (map (spelled_shelf atlas) lists.entries) + length lists.unused_items ≡ length atlas.lists.items
+-- the items in use, and the unused ones, are all records
+pub in-use-counted : (atlas : AtlasRecords) (lists : Lists) → IsLinked atlas.records lists → items_in_use (map (spelled_shelf atlas) lists.entries) + length lists.unused_items ≡ length atlas.records.items
 in-use-counted atlas lists linked =
     let all : List ℕ = item_numbers lists.entries ++ lists.unused_items ++ [] in
-    let count : ℕ = length atlas.lists.items in
+    let count : ℕ = length atlas.records.items in
     let once : HasEachOnce count all = linked.items_once in
     let each : (k : ℕ) → k < count → times k all ≡ 1 = λ k below.
     let test : nat_lt k count ≡ true = grind (arith, below) in

@@ -38,7 +38,7 @@ pub record MergesItem (atlas : AtlasRecords) (step : Step) (before after : List 
   pub spelled : IsSpelled (with_lists atlas step.records) (lists_of (before ++ entry_of shelf numbers free_list ∷ after) aside shelves)
   pub before_same : map (spelled_shelf (with_lists atlas step.records)) before ≡ map (spelled_shelf atlas) before
   pub after_same : map (spelled_shelf (with_lists atlas step.records)) after ≡ map (spelled_shelf atlas) after
-  pub same : (k : ℕ) → SameShelf atlas.lists.shelves step.records.shelves k
+  pub same : (k : ℕ) → SameShelf atlas.records.shelves step.records.shelves k
   pub returned :
       spelled_shelf (with_lists atlas step.records) (entry_of shelf numbers free_list)
       ≡ merged_shelf (freed_shelf atlas.frame (length front) (spelled_shelf atlas (entry_of shelf (front ++ number ∷ back) free)))
@@ -65,17 +65,17 @@ list-around items here front item others places =
     rw (free-next (item_at items) front item others, place-next items here front item others, place-here items here front (item ∷ others)) refl
 
 -- the items of a shelf are at least one pixel wide
-pub wide-items : (atlas : AtlasRecords) (shelf : ℕ) (numbers free : List ℕ) → IsShelf atlas.frame (spelled_shelf atlas (entry_of shelf numbers free)) → (n : ℕ) → 1 ≤ times n numbers → 1 ≤ width_of atlas.lists.items n
+pub wide-items : (atlas : AtlasRecords) (shelf : ℕ) (numbers free : List ℕ) → IsShelf atlas.frame (spelled_shelf atlas (entry_of shelf numbers free)) → (n : ℕ) → 1 ≤ times n numbers → 1 ≤ width_of atlas.records.items n
 wide-items atlas shelf numbers free valid n stands =
-    (each-member (λ k. IsItem atlas.frame (item_at atlas.lists.items k)) numbers n (Each-unmap (IsItem atlas.frame) (item_at atlas.lists.items) numbers valid.items) stands).width
+    (each-member (λ k. IsItem atlas.frame (item_at atlas.records.items k)) numbers n (Each-unmap (IsItem atlas.frame) (item_at atlas.records.items) numbers valid.items) stands).width
 
 -- an allocated item became free and was merged with its free neighbours
-pub merges-item : (atlas : AtlasRecords) (before after : List Entry) (shelf number : ℕ) (front back free unused shelves : List ℕ) → IsShelf atlas.frame (spelled_shelf atlas (entry_of shelf (front ++ number ∷ back) free)) → is_allocated_at atlas.lists.items number ≡ true → IsSpelled atlas (lists_of (before ++ entry_of shelf (front ++ number ∷ back) free ∷ after) unused shelves) → MergesItem atlas (item_merged shelf number atlas.lists) before after shelf number front back free unused shelves
+pub merges-item : (atlas : AtlasRecords) (before after : List Entry) (shelf number : ℕ) (front back free unused shelves : List ℕ) → IsShelf atlas.frame (spelled_shelf atlas (entry_of shelf (front ++ number ∷ back) free)) → is_allocated_at atlas.records.items number ≡ true → IsSpelled atlas (lists_of (before ++ entry_of shelf (front ++ number ∷ back) free ∷ after) unused shelves) → MergesItem atlas (item_merged shelf number atlas.records) before after shelf number front back free unused shelves
 merges-item atlas before after shelf number front back free unused shelves valid allocated spelled =
-    let items : List LinkedItem = atlas.lists.items in
+    let items : List LinkedItem = atlas.records.items in
     let entry : Entry = entry_of shelf (front ++ number ∷ back) free in
     let old : Shelf = spelled_shelf atlas entry in
-    let one : Step = next_absorbed shelf number (free_next items number) atlas.lists in
+    let one : Step = next_absorbed shelf number (free_next items number) atlas.records in
     let next : MergesNext atlas one before after shelf number front back free unused shelves =
     merges-next atlas before after shelf number front back free unused shelves (wide-items atlas shelf (front ++ number ∷ back) free valid) allocated spelled in
     let middle : AtlasRecords = with_lists atlas one.records in
@@ -84,11 +84,11 @@ merges-item atlas before after shelf number front back free unused shelves valid
     frees-item middle before after shelf number front next.rest next.free_list next.aside shelves next.allocated next.spelled in
     let new : AtlasRecords = with_lists atlas two.records in
     let placed : IsPlaced atlas entry = Each-middle (IsPlaced atlas) before entry after spelled.placed in
-    let along : ℕ = along_of atlas.lists.shelves shelf in
+    let along : ℕ = along_of atlas.records.shelves shelf in
     let here : along ≡ column_place atlas.frame old = multiple along atlas.frame.column_width placed.along in
     let whole : map (item_at items) (front ++ number ∷ back) ≡ map (item_at items) front ++ item_at items number ∷ map (item_at items) back = map-append (item_at items) front (number ∷ back) in
     let begins : place_of items number ≡ along + widths items front = (LieFrom-back items along front (number ∷ back) placed.places).0 in
-    let same : (k : ℕ) → SameShelf atlas.lists.shelves two.records.shelves k = λ k. SameShelf-then atlas.lists.shelves one.records.shelves two.records.shelves k (next.same k) (own.same k) in
+    let same : (k : ℕ) → SameShelf atlas.records.shelves two.records.shelves k = λ k. SameShelf-then atlas.records.shelves one.records.shelves two.records.shelves k (next.same k) (own.same k) in
     let merged : map (item_at two.records.items) own.numbers ≡ merged_before both_free combined_items (length front) (merged_at both_free combined_items (length front) (freed (length front) old.items)) =
     own.items
     ∙ ap (merged_before both_free combined_items (length front)) (sym next.items)

@@ -54,13 +54,13 @@ record IsFreed (atlas : AtlasRecords) (records : Records) (put_aside : ℕ) (bef
       map (spelled_shelf (with_lists atlas records)) (before ++ entry_of shelf numbers free_list ∷ after)
       ≡ map (spelled_shelf atlas) before ++ merged_shelf (freed_shelf atlas.frame (length front) (spelled_shelf atlas (entry_of shelf (front ++ number ∷ back) free))) ∷ map (spelled_shelf atlas) after
   counted : length aside ≡ put_aside + length unused
-  ranks : FreesRanks atlas (with_lists atlas records) (item_merged shelf number atlas.lists).records.shelves (before ++ entry_of shelf (front ++ number ∷ back) free ∷ after) (before ++ entry_of shelf numbers free_list ∷ after) shelf (freed_width atlas.lists.items number)
+  ranks : FreesRanks atlas (with_lists atlas records) (item_merged shelf number atlas.records).records.shelves (before ++ entry_of shelf (front ++ number ∷ back) free ∷ after) (before ++ entry_of shelf numbers free_list ∷ after) shelf (freed_width atlas.records.items number)
 
 -- an item was freed and merged, and its shelf says whether it is empty
-freed-flagged : (atlas : AtlasRecords) (before after : List Entry) (shelf number : ℕ) (front back free unused shelves : List ℕ) → IsShelf atlas.frame (spelled_shelf atlas (entry_of shelf (front ++ number ∷ back) free)) → is_allocated_at atlas.lists.items number ≡ true → IsFlagged atlas (lists_of (before ++ entry_of shelf (front ++ number ∷ back) free ∷ after) unused shelves) → IsFreed atlas (emptiness_said shelf (item_merged shelf number atlas.lists).records) (item_merged shelf number atlas.lists).put_aside before after shelf number front back free unused shelves
+freed-flagged : (atlas : AtlasRecords) (before after : List Entry) (shelf number : ℕ) (front back free unused shelves : List ℕ) → IsShelf atlas.frame (spelled_shelf atlas (entry_of shelf (front ++ number ∷ back) free)) → is_allocated_at atlas.records.items number ≡ true → IsFlagged atlas (lists_of (before ++ entry_of shelf (front ++ number ∷ back) free ∷ after) unused shelves) → IsFreed atlas (emptiness_said shelf (item_merged shelf number atlas.records).records) (item_merged shelf number atlas.records).put_aside before after shelf number front back free unused shelves
 freed-flagged atlas before after shelf number front back free unused shelves valid allocated flagged =
     let entry : Entry = entry_of shelf (front ++ number ∷ back) free in
-    let one : Step = item_merged shelf number atlas.lists in
+    let one : Step = item_merged shelf number atlas.records in
     let merges : MergesItem atlas one before after shelf number front back free unused shelves =
     merges-item atlas before after shelf number front back free unused shelves valid allocated flagged.spelled in
     let middle : AtlasRecords = with_lists atlas one.records in
@@ -113,7 +113,7 @@ record IsReturned (atlas : AtlasRecords) (step : Step) (old : List Entry) (chang
 -- records that spell lists keep every rule again where what they spell is valid
 kept-again : (frame : Frame) (records new : Records) (id aside : ℕ) (change : List RankedShelf → List RankedShelf) → AreKept frame records → SameLengths records new → IsReturned (atlas_of frame records) (record { records = new; put_aside = aside }) (walked_lists records).entries change (returned (state_of frame records) id) (walked_lists records).unused_items → (AreKept frame new × (state_of frame new ≡ returned (state_of frame records) id)) × (items_in_use (state_of frame new).shelves + aside ≡ items_in_use (state_of frame records).shelves) × ((ranked : List RankedShelf) → AreRanked frame records ranked → AreRanked frame new (change ranked))
 kept-again frame records new id aside change kept lengths is =
-    let lists : Lists = is.lists in
+    let lists : Lists = is.records in
     let linked : IsLinked new lists = is.flagged.spelled.linked in
     let counts : HasCounts (atlas_of frame new) =
     record {
@@ -216,7 +216,7 @@ returned-there frame records number has kept allocated flagged =
     record {
       after =
           record {
-            lists = lists_of merges.entries merges.aside merges.gone;
+            records = lists_of merges.entries merges.aside merges.gone;
             flagged = merges.flagged;
             spelled = shelves-after frame state.records (length has.before) (returned state (id_at records.items number)) (map (spelled_shelf middle) (has.before ++ edited ∷ has.after)) (front ++ new ∷ back)
                 (map (spelled_shelf (with_lists atlas two.records)) merges.entries) at freed.spelled merges.merged;
@@ -246,7 +246,7 @@ returned-there frame records number has kept allocated flagged =
     }
 
 -- records that keep every rule keep it after an allocated item was returned, and spell the state after its return; what
--- this adds up fits 16 bits, and as many items fewer are in use as were put aside
+-- this adds up fits 16 bits, and as many items fewer are in use as became unused
 pub returns-item : (frame : Frame) (records : Records) (number : ℕ) → AreKept frame records → is_allocated_at records.items number ≡ true → ReturnsItem frame records number
 returns-item frame records number kept allocated =
     let atlas : AtlasRecords = atlas_of frame records in

@@ -10,7 +10,7 @@ use Rattle.etagere_base.specs.Lists.{Each, times}
 use Rattle.etagere_base.specs.declared.frames.Frame.{Frame}
 use Rattle.etagere_base.specs.declared.geometry.Size.{Size}
 use Rattle.etagere_links.specs.declared.records.LinkedItem.{LinkedItem}
-use Rattle.etagere_links.specs.RecordLists.{Records, Entry, Lists, IsEntry, IsLinkedBut, walked_lists}
+use Rattle.etagere_links.specs.RecordLists.{Records, Entry, Lists, IsEntry, IsLinkedExcept, walked_lists}
 use Rattle.etagere_links.proofs.AllLists.LinkedItems.{IsApart, linked-apart}
 use Rattle.etagere_links.proofs.AllLists.LinkedMerges.{entry_of}
 use Rattle.etagere_links.proofs.AllLists.LinkedUnused.{lists_of}
@@ -129,7 +129,7 @@ located frame records size placement found kept h locates =
     let split : entry ≡ entry_of entry.number numbers places = entry-split entry numbers places whole free_member.whole in
     let apart : IsApart records at.front at.back lists.unused_items [] entry =
     linked-apart records at.front at.back entry lists.unused_items lists.unused_shelves [] []
-    (subst (λ (es : List Entry). IsLinkedBut records (lists_of es lists.unused_items lists.unused_shelves) [] []) at.whole kept.linked) in
+    (subst (λ (es : List Entry). IsLinkedExcept records (lists_of es lists.unused_items lists.unused_shelves) [] []) at.whole kept.linked) in
     let is_entry : IsEntry records entry = Each-get (IsEntry records) lists.entries placement.shelf entry locates.at kept.linked.entries in
     let once : (k : ℕ) → times k (free_member.front ++ number ∷ free_member.back) ≤ 1 = λ k. omega (arith, apart.free_once k, times-same k entry.free_list places free_member.whole) in
     let wide : Each (λ k. 1 ≤ (item_at items k).width) (front ++ number ∷ back) = subst (Each (λ k. 1 ≤ (item_at items k).width)) whole (items-wide frame items entry.items takes.valid.items) in

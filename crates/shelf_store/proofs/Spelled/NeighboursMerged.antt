@@ -44,20 +44,20 @@ one-more : {X : Type 0} (front : List X) (x : X) → length (front ++ x ∷ []) 
 one-more front x = omega (arith, length-append front (x ∷ []))
 
 -- the shelf before one, which has one before it
-last-named : (atlas : AtlasRecords) (before after : List Entry) (last entry : Entry) (unused shelves : List ℕ) → IsFlagged atlas (lists_of ((before ++ last ∷ []) ++ entry ∷ after) unused shelves) → link_at shelf_chain.previous atlas.lists.shelves entry.number ≡ Some last.number
+last-named : (atlas : AtlasRecords) (before after : List Entry) (last entry : Entry) (unused shelves : List ℕ) → IsFlagged atlas (lists_of ((before ++ last ∷ []) ++ entry ∷ after) unused shelves) → link_at shelf_chain.previous atlas.records.shelves entry.number ≡ Some last.number
 last-named atlas before after last entry unused shelves flagged =
     previous-link atlas (before ++ last ∷ []) after entry unused shelves flagged.spelled
     ∙ ap (last_or None) (shelf_numbers-append before (last ∷ []))
     ∙ last-append (shelf_numbers before) last.number None
 
 -- a shelf was merged with its neighbours, where they are empty and stand in one column
-pub merges-shelves : (atlas : AtlasRecords) (before after : List Entry) (entry : Entry) (unused shelves : List ℕ) → IsFlagged atlas (lists_of (before ++ entry ∷ after) unused shelves) → MergesShelves atlas (shelves_merged entry.number atlas.lists) (ranks_merged entry.number atlas.lists) before after entry unused shelves
+pub merges-shelves : (atlas : AtlasRecords) (before after : List Entry) (entry : Entry) (unused shelves : List ℕ) → IsFlagged atlas (lists_of (before ++ entry ∷ after) unused shelves) → MergesShelves atlas (shelves_merged entry.number atlas.records) (ranks_merged entry.number atlas.records) before after entry unused shelves
 merges-shelves atlas before after entry unused shelves flagged =
-    by_end (λ (xs : List Entry). MergesShelf atlas (shelf_merged entry.number atlas.lists) (rank_merged entry.number atlas.lists) xs after entry unused shelves → MergesShelves atlas (shelves_merged entry.number atlas.lists) (ranks_merged entry.number atlas.lists) xs after entry unused shelves)
+    by_end (λ (xs : List Entry). MergesShelf atlas (shelf_merged entry.number atlas.records) (rank_merged entry.number atlas.records) xs after entry unused shelves → MergesShelves atlas (shelves_merged entry.number atlas.records) (ranks_merged entry.number atlas.records) xs after entry unused shelves)
     first some before (merges-shelf atlas before after entry unused shelves flagged)
   where
     one : Step
-    one = shelf_merged entry.number atlas.lists
+    one = shelf_merged entry.number atlas.records
 
     middle : AtlasRecords
     middle = with_lists atlas one.records
@@ -69,15 +69,15 @@ merges-shelves atlas before after entry unused shelves flagged =
     whole named = record { records = (named_shelf_merged named one.records).records; put_aside = one.put_aside + (named_shelf_merged named one.records).put_aside }
 
     change : Option ℕ → List RankedShelf → List RankedShelf
-    change named ranked = named_rank_merged named one.records (rank_merged entry.number atlas.lists ranked)
+    change named ranked = named_rank_merged named one.records (rank_merged entry.number atlas.records ranked)
 
-    first : MergesShelf atlas one (rank_merged entry.number atlas.lists) [] after entry unused shelves → MergesShelves atlas (whole link) (change link) [] after entry unused shelves
+    first : MergesShelf atlas one (rank_merged entry.number atlas.records) [] after entry unused shelves → MergesShelves atlas (whole link) (change link) [] after entry unused shelves
     first merges =
         let none : link ≡ None = previous-link middle [] merges.rest entry merges.aside merges.gone merges.flagged.spelled in
         subst (λ (o : Option ℕ). MergesShelves atlas (whole o) (change o) [] after entry unused shelves) (sym none)
         (record { entries = entry ∷ merges.rest; aside = merges.aside; gone = merges.gone; flagged = merges.flagged; merged = merges.merged; counted = omega (arith, merges.counted); ranks = merges.ranks })
 
-    some : (xs : List Entry) (last : Entry) → MergesShelf atlas one (rank_merged entry.number atlas.lists) (xs ++ last ∷ []) after entry unused shelves → MergesShelves atlas (whole link) (change link) (xs ++ last ∷ []) after entry unused shelves
+    some : (xs : List Entry) (last : Entry) → MergesShelf atlas one (rank_merged entry.number atlas.records) (xs ++ last ∷ []) after entry unused shelves → MergesShelves atlas (whole link) (change link) (xs ++ last ∷ []) after entry unused shelves
     some xs last merges =
         let named : link ≡ Some last.number = last-named middle xs merges.rest last entry merges.aside merges.gone merges.flagged in
         let regrouped : (xs ++ last ∷ []) ++ entry ∷ merges.rest ≡ xs ++ last ∷ entry ∷ merges.rest = append_assoc xs (last ∷ []) (entry ∷ merges.rest) in
@@ -95,8 +95,8 @@ merges-shelves atlas before after entry unused shelves flagged =
               ∙ ap (merged_at both_empty combined_shelves (length xs)) merges.merged
               ∙ ap (λ n. merged_before both_empty combined_shelves n (merged_at both_empty combined_shelves (length (xs ++ last ∷ [])) (map (spelled_shelf atlas) ((xs ++ last ∷ []) ++ entry ∷ after)))) (sym (one-more xs last));
           counted = omega (arith, two.counted, merges.counted);
-          ranks = λ ranked ranks. two.ranks (rank_merged entry.number atlas.lists ranked)
-              (subst (λ (es : List Entry). Ranks middle es (rank_merged entry.number atlas.lists ranked)) regrouped (merges.ranks ranked ranks));
+          ranks = λ ranked ranks. two.ranks (rank_merged entry.number atlas.records ranked)
+              (subst (λ (es : List Entry). Ranks middle es (rank_merged entry.number atlas.records ranked)) regrouped (merges.ranks ranked ranks));
         })
 
 -- two neighbours, read by their numbers
@@ -113,27 +113,27 @@ abbrev pub AreLow : List Shelf → Type 0
 AreLow shelves = (column : ℕ) → column_height column shelves ≤ 65535
 
 -- the shelf before one links to it
-pub shelf-before : (atlas : AtlasRecords) (before after : List Entry) (entry : Entry) (unused shelves : List ℕ) → IsFlagged atlas (lists_of (before ++ entry ∷ after) unused shelves) → IsLinkedBack entry.number atlas.lists.shelves
+pub shelf-before : (atlas : AtlasRecords) (before after : List Entry) (entry : Entry) (unused shelves : List ℕ) → IsFlagged atlas (lists_of (before ++ entry ∷ after) unused shelves) → IsLinkedBack entry.number atlas.records.shelves
 shelf-before atlas before after entry unused shelves =
-    by_end (λ (xs : List Entry). IsFlagged atlas (lists_of (xs ++ entry ∷ after) unused shelves) → IsLinkedBack entry.number atlas.lists.shelves)
-    (λ flagged n e. let none : link_at shelf_chain.previous atlas.lists.shelves entry.number ≡ None = previous-link atlas [] after entry unused shelves flagged.spelled in absurd (cc (none, e)))
+    by_end (λ (xs : List Entry). IsFlagged atlas (lists_of (xs ++ entry ∷ after) unused shelves) → IsLinkedBack entry.number atlas.records.shelves)
+    (λ flagged n e. let none : link_at shelf_chain.previous atlas.records.shelves entry.number ≡ None = previous-link atlas [] after entry unused shelves flagged.spelled in absurd (cc (none, e)))
     some before
   where
-    some : (xs : List Entry) (last : Entry) → IsFlagged atlas (lists_of ((xs ++ last ∷ []) ++ entry ∷ after) unused shelves) → IsLinkedBack entry.number atlas.lists.shelves
+    some : (xs : List Entry) (last : Entry) → IsFlagged atlas (lists_of ((xs ++ last ∷ []) ++ entry ∷ after) unused shelves) → IsLinkedBack entry.number atlas.records.shelves
     some xs last flagged n e =
-        let named : link_at shelf_chain.previous atlas.lists.shelves entry.number ≡ Some last.number = last-named atlas xs after last entry unused shelves flagged in
+        let named : link_at shelf_chain.previous atlas.records.shelves entry.number ≡ Some last.number = last-named atlas xs after last entry unused shelves flagged in
         let same : last.number ≡ n = cc (named, e) in
         let regrouped : IsFlagged atlas (lists_of (xs ++ last ∷ entry ∷ after) unused shelves) =
         subst (λ (es : List Entry). IsFlagged atlas (lists_of es unused shelves)) (append_assoc xs (last ∷ []) (entry ∷ after)) flagged in
-        subst (λ m. link_at shelf_chain.next atlas.lists.shelves m ≡ Some entry.number) same
+        subst (λ m. link_at shelf_chain.next atlas.records.shelves m ≡ Some entry.number) same
         (next-link atlas xs (entry ∷ after) last unused shelves regrouped.spelled)
 
 -- the heights of a shelf and the next one fit 16 bits
-heights-fit : (atlas : AtlasRecords) (before after : List Entry) (entry : Entry) (unused shelves : List ℕ) → AreLow (map (spelled_shelf atlas) (before ++ entry ∷ after)) → IsFlagged atlas (lists_of (before ++ entry ∷ after) unused shelves) → HeightsFit entry.number atlas.lists.shelves
+heights-fit : (atlas : AtlasRecords) (before after : List Entry) (entry : Entry) (unused shelves : List ℕ) → AreLow (map (spelled_shelf atlas) (before ++ entry ∷ after)) → IsFlagged atlas (lists_of (before ++ entry ∷ after) unused shelves) → HeightsFit entry.number atlas.records.shelves
 heights-fit atlas before [] entry unused shelves low flagged n e =
-    let none : empty_next atlas.lists.shelves entry.number ≡ None = ap (empty_named atlas.lists.shelves entry.number) (next-link atlas before [] entry unused shelves flagged.spelled) in
+    let none : empty_next atlas.records.shelves entry.number ≡ None = ap (empty_named atlas.records.shelves entry.number) (next-link atlas before [] entry unused shelves flagged.spelled) in
     absurd (cc (none, e))
-heights-fit atlas before (next ∷ after) entry unused shelves low flagged n e = by_test (are_both_empty atlas.lists.shelves entry.number next.number) refl
+heights-fit atlas before (next ∷ after) entry unused shelves low flagged n e = by_test (are_both_empty atlas.records.shelves entry.number next.number) refl
   where
     near : AreNeighbours atlas entry next
     near = neighbours atlas before after entry next unused shelves flagged
@@ -141,29 +141,29 @@ heights-fit atlas before (next ∷ after) entry unused shelves low flagged n e =
     all : List Shelf
     all = map (spelled_shelf atlas) (before ++ entry ∷ next ∷ after)
 
-    by_test : (b : Bool) → are_both_empty atlas.lists.shelves entry.number next.number ≡ b → height_of atlas.lists.shelves entry.number + height_of atlas.lists.shelves n < 65536
+    by_test : (b : Bool) → are_both_empty atlas.records.shelves entry.number next.number ≡ b → height_of atlas.records.shelves entry.number + height_of atlas.records.shelves n < 65536
     by_test false t =
-        let none : empty_named atlas.lists.shelves entry.number (Some next.number) ≡ None = simp t refl in
+        let none : empty_named atlas.records.shelves entry.number (Some next.number) ≡ None = simp t refl in
         absurd (cc (near.named, none, e))
     by_test true t =
-        let some : empty_named atlas.lists.shelves entry.number (Some next.number) ≡ Some next.number = simp t refl in
+        let some : empty_named atlas.records.shelves entry.number (Some next.number) ≡ Some next.number = simp t refl in
         let same : next.number ≡ n = cc (near.named, some, e) in
-        let both : height_of atlas.lists.shelves entry.number + height_of atlas.lists.shelves next.number ≤ column_height (spelled_shelf atlas entry).column all =
+        let both : height_of atlas.records.shelves entry.number + height_of atlas.records.shelves next.number ≤ column_height (spelled_shelf atlas entry).column all =
         heights-le (length before) all (spelled_shelf atlas entry) (spelled_shelf atlas next) (get-here (spelled_shelf atlas) before entry (next ∷ after)) (get-next (spelled_shelf atlas) before entry next after) (near.touch ∙ t) in
-        subst (λ m. height_of atlas.lists.shelves entry.number + height_of atlas.lists.shelves m < 65536) same (omega (arith, both, low (spelled_shelf atlas entry).column))
+        subst (λ m. height_of atlas.records.shelves entry.number + height_of atlas.records.shelves m < 65536) same (omega (arith, both, low (spelled_shelf atlas entry).column))
 
 -- and so do those that merging it with its neighbours adds up
-pub can-merge-shelves : (atlas : AtlasRecords) (before after : List Entry) (entry : Entry) (unused shelves : List ℕ) → AreLow (map (spelled_shelf atlas) (before ++ entry ∷ after)) → IsFlagged atlas (lists_of (before ++ entry ∷ after) unused shelves) → CanMergeShelves entry.number atlas.lists
+pub can-merge-shelves : (atlas : AtlasRecords) (before after : List Entry) (entry : Entry) (unused shelves : List ℕ) → AreLow (map (spelled_shelf atlas) (before ++ entry ∷ after)) → IsFlagged atlas (lists_of (before ++ entry ∷ after) unused shelves) → CanMergeShelves entry.number atlas.records
 can-merge-shelves atlas before after entry unused shelves low flagged =
     record {
       next = heights-fit atlas before after entry unused shelves low flagged;
       previous =
-          by_end (λ (xs : List Entry). AreLow (map (spelled_shelf atlas) (xs ++ entry ∷ after)) → MergesShelf atlas one (rank_merged entry.number atlas.lists) xs after entry unused shelves → (n : ℕ) → link ≡ Some n → HeightsFit n one.records.shelves)
+          by_end (λ (xs : List Entry). AreLow (map (spelled_shelf atlas) (xs ++ entry ∷ after)) → MergesShelf atlas one (rank_merged entry.number atlas.records) xs after entry unused shelves → (n : ℕ) → link ≡ Some n → HeightsFit n one.records.shelves)
           first some before low (merges-shelf atlas before after entry unused shelves flagged);
     }
   where
     one : Step
-    one = shelf_merged entry.number atlas.lists
+    one = shelf_merged entry.number atlas.records
 
     middle : AtlasRecords
     middle = with_lists atlas one.records
@@ -171,12 +171,12 @@ can-merge-shelves atlas before after entry unused shelves low flagged =
     link : Option ℕ
     link = link_at shelf_chain.previous one.records.shelves entry.number
 
-    first : AreLow (map (spelled_shelf atlas) (entry ∷ after)) → MergesShelf atlas one (rank_merged entry.number atlas.lists) [] after entry unused shelves → (n : ℕ) → link ≡ Some n → HeightsFit n one.records.shelves
+    first : AreLow (map (spelled_shelf atlas) (entry ∷ after)) → MergesShelf atlas one (rank_merged entry.number atlas.records) [] after entry unused shelves → (n : ℕ) → link ≡ Some n → HeightsFit n one.records.shelves
     first low_ merges n e =
         let none : link ≡ None = previous-link middle [] merges.rest entry merges.aside merges.gone merges.flagged.spelled in
         absurd (cc (none, e))
 
-    some : (xs : List Entry) (last : Entry) → AreLow (map (spelled_shelf atlas) ((xs ++ last ∷ []) ++ entry ∷ after)) → MergesShelf atlas one (rank_merged entry.number atlas.lists) (xs ++ last ∷ []) after entry unused shelves → (n : ℕ) → link ≡ Some n → HeightsFit n one.records.shelves
+    some : (xs : List Entry) (last : Entry) → AreLow (map (spelled_shelf atlas) ((xs ++ last ∷ []) ++ entry ∷ after)) → MergesShelf atlas one (rank_merged entry.number atlas.records) (xs ++ last ∷ []) after entry unused shelves → (n : ℕ) → link ≡ Some n → HeightsFit n one.records.shelves
     some xs last low_ merges n e =
         let named : link ≡ Some last.number = last-named middle xs merges.rest last entry merges.aside merges.gone merges.flagged in
         let same : last.number ≡ n = cc (named, e) in
@@ -190,22 +190,22 @@ can-merge-shelves atlas before after entry unused shelves low flagged =
         (subst (λ (es : List Entry). IsFlagged middle (lists_of es merges.aside merges.gone)) regrouped merges.flagged))
 
 -- a shelf and the next one, if both are empty, are ranked
-can-merge-rank : (atlas : AtlasRecords) (before after : List Entry) (entry : Entry) (unused shelves : List ℕ) (ranked : List RankedShelf) → IsFlagged atlas (lists_of (before ++ entry ∷ after) unused shelves) → Ranks atlas (before ++ entry ∷ after) ranked → CanMergeRank entry.number atlas.lists ranked
+can-merge-rank : (atlas : AtlasRecords) (before after : List Entry) (entry : Entry) (unused shelves : List ℕ) (ranked : List RankedShelf) → IsFlagged atlas (lists_of (before ++ entry ∷ after) unused shelves) → Ranks atlas (before ++ entry ∷ after) ranked → CanMergeRank entry.number atlas.records ranked
 can-merge-rank atlas before [] entry unused shelves ranked flagged ranks =
-    let none : empty_next atlas.lists.shelves entry.number ≡ None = ap (empty_named atlas.lists.shelves entry.number) (next-link atlas before [] entry unused shelves flagged.spelled) in
+    let none : empty_next atlas.records.shelves entry.number ≡ None = ap (empty_named atlas.records.shelves entry.number) (next-link atlas before [] entry unused shelves flagged.spelled) in
     record { order = ranks.order; few = ranks.few; both = λ n e. absurd (cc (none, e)) }
 can-merge-rank atlas before (next ∷ after) entry unused shelves ranked flagged ranks =
-    record { order = ranks.order; few = ranks.few; both = λ n e. both n (named n e (are_both_empty atlas.lists.shelves entry.number next.number) refl) }
+    record { order = ranks.order; few = ranks.few; both = λ n e. both n (named n e (are_both_empty atlas.records.shelves entry.number next.number) refl) }
   where
     near : AreNeighbours atlas entry next
     near = neighbours atlas before after entry next unused shelves flagged
 
-    named : (n : ℕ) → empty_next atlas.lists.shelves entry.number ≡ Some n → (b : Bool) → are_both_empty atlas.lists.shelves entry.number next.number ≡ b → next.number ≡ n
+    named : (n : ℕ) → empty_next atlas.records.shelves entry.number ≡ Some n → (b : Bool) → are_both_empty atlas.records.shelves entry.number next.number ≡ b → next.number ≡ n
     named n e false t =
-        let none : empty_named atlas.lists.shelves entry.number (Some next.number) ≡ None = simp t refl in
+        let none : empty_named atlas.records.shelves entry.number (Some next.number) ≡ None = simp t refl in
         absurd (cc (near.named, none, e))
     named n e true t =
-        let some : empty_named atlas.lists.shelves entry.number (Some next.number) ≡ Some next.number = simp t refl in
+        let some : empty_named atlas.records.shelves entry.number (Some next.number) ≡ Some next.number = simp t refl in
         cc (near.named, some, e)
 
     pair : IsPair entry.number next.number ranked
@@ -217,17 +217,17 @@ can-merge-rank atlas before (next ∷ after) entry unused shelves ranked flagged
         (omega (arith, pair.own), omega (arith, pair.other), pair.differ)
 
 -- and so are they all when it is merged with its neighbours
-pub can-merge-ranks : (atlas : AtlasRecords) (before after : List Entry) (entry : Entry) (unused shelves : List ℕ) (ranked : List RankedShelf) → IsFlagged atlas (lists_of (before ++ entry ∷ after) unused shelves) → Ranks atlas (before ++ entry ∷ after) ranked → CanMergeRanks entry.number atlas.lists ranked
+pub can-merge-ranks : (atlas : AtlasRecords) (before after : List Entry) (entry : Entry) (unused shelves : List ℕ) (ranked : List RankedShelf) → IsFlagged atlas (lists_of (before ++ entry ∷ after) unused shelves) → Ranks atlas (before ++ entry ∷ after) ranked → CanMergeRanks entry.number atlas.records ranked
 can-merge-ranks atlas before after entry unused shelves ranked flagged ranks =
     record {
       next = can-merge-rank atlas before after entry unused shelves ranked flagged ranks;
       previous =
-          by_end (λ (xs : List Entry). Ranks atlas (xs ++ entry ∷ after) ranked → MergesShelf atlas one (rank_merged entry.number atlas.lists) xs after entry unused shelves → CanMergeNamedRank link one.records (rank_merged entry.number atlas.lists ranked))
+          by_end (λ (xs : List Entry). Ranks atlas (xs ++ entry ∷ after) ranked → MergesShelf atlas one (rank_merged entry.number atlas.records) xs after entry unused shelves → CanMergeNamedRank link one.records (rank_merged entry.number atlas.records ranked))
           first some before ranks (merges-shelf atlas before after entry unused shelves flagged);
     }
   where
     one : Step
-    one = shelf_merged entry.number atlas.lists
+    one = shelf_merged entry.number atlas.records
 
     middle : AtlasRecords
     middle = with_lists atlas one.records
@@ -235,17 +235,17 @@ can-merge-ranks atlas before after entry unused shelves ranked flagged ranks =
     link : Option ℕ
     link = link_at shelf_chain.previous one.records.shelves entry.number
 
-    first : Ranks atlas (entry ∷ after) ranked → MergesShelf atlas one (rank_merged entry.number atlas.lists) [] after entry unused shelves → CanMergeNamedRank link one.records (rank_merged entry.number atlas.lists ranked)
+    first : Ranks atlas (entry ∷ after) ranked → MergesShelf atlas one (rank_merged entry.number atlas.records) [] after entry unused shelves → CanMergeNamedRank link one.records (rank_merged entry.number atlas.records ranked)
     first ranks_ merges n e =
         let none : link ≡ None = previous-link middle [] merges.rest entry merges.aside merges.gone merges.flagged.spelled in
         absurd (cc (none, e))
 
-    some : (xs : List Entry) (last : Entry) → Ranks atlas ((xs ++ last ∷ []) ++ entry ∷ after) ranked → MergesShelf atlas one (rank_merged entry.number atlas.lists) (xs ++ last ∷ []) after entry unused shelves → CanMergeNamedRank link one.records (rank_merged entry.number atlas.lists ranked)
+    some : (xs : List Entry) (last : Entry) → Ranks atlas ((xs ++ last ∷ []) ++ entry ∷ after) ranked → MergesShelf atlas one (rank_merged entry.number atlas.records) (xs ++ last ∷ []) after entry unused shelves → CanMergeNamedRank link one.records (rank_merged entry.number atlas.records ranked)
     some xs last ranks_ merges n e =
         let named : link ≡ Some last.number = last-named middle xs merges.rest last entry merges.aside merges.gone merges.flagged in
         let same : last.number ≡ n = cc (named, e) in
         let regrouped : (xs ++ last ∷ []) ++ entry ∷ merges.rest ≡ xs ++ last ∷ entry ∷ merges.rest = append_assoc xs (last ∷ []) (entry ∷ merges.rest) in
-        subst (λ m. CanMergeRank m one.records (rank_merged entry.number atlas.lists ranked)) same
-        (can-merge-rank middle xs (entry ∷ merges.rest) last merges.aside merges.gone (rank_merged entry.number atlas.lists ranked)
+        subst (λ m. CanMergeRank m one.records (rank_merged entry.number atlas.records ranked)) same
+        (can-merge-rank middle xs (entry ∷ merges.rest) last merges.aside merges.gone (rank_merged entry.number atlas.records ranked)
         (subst (λ (es : List Entry). IsFlagged middle (lists_of es merges.aside merges.gone)) regrouped merges.flagged)
-        (subst (λ (es : List Entry). Ranks middle es (rank_merged entry.number atlas.lists ranked)) regrouped (merges.ranks ranked ranks_)))
+        (subst (λ (es : List Entry). Ranks middle es (rank_merged entry.number atlas.records ranked)) regrouped (merges.ranks ranked ranks_)))

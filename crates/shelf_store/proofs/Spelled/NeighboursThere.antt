@@ -69,15 +69,15 @@ are-there records before after shelf number front back free unused shelves linke
     }
 
 -- a free item after one has neighbours in its shelf and in the free list
-pub free-next-there : (atlas : AtlasRecords) (before after : List Entry) (shelf number : ℕ) (front back free unused shelves : List ℕ) → IsSpelled atlas (lists_of (before ++ entry_of shelf (front ++ number ∷ back) free ∷ after) unused shelves) → FreeNextIsThere number atlas.lists.items
+pub free-next-there : (atlas : AtlasRecords) (before after : List Entry) (shelf number : ℕ) (front back free unused shelves : List ℕ) → IsSpelled atlas (lists_of (before ++ entry_of shelf (front ++ number ∷ back) free ∷ after) unused shelves) → FreeNextIsThere number atlas.records.items
 free-next-there atlas before after shelf number front back free unused shelves spelled =
     record {
       in_shelf = λ n e. member-neighbours item_chain items first numbers n apart.within is.items (stands n e);
-      in_free_list = λ n e. member-neighbours free_list items (first_free_of atlas.lists.shelves shelf) free n apart.free_within is.free_list (is_free n e);
+      in_free_list = λ n e. member-neighbours free_list items (first_free_of atlas.records.shelves shelf) free n apart.free_within is.free_list (is_free n e);
     }
   where
     items : List LinkedItem
-    items = atlas.lists.items
+    items = atlas.records.items
 
     numbers : List ℕ
     numbers = front ++ number ∷ back
@@ -86,16 +86,16 @@ free-next-there atlas before after shelf number front back free unused shelves s
     entry = entry_of shelf numbers free
 
     first : Option ℕ
-    first = first_item_of atlas.lists.shelves shelf
+    first = first_item_of atlas.records.shelves shelf
 
-    is : IsEntry atlas.lists entry
-    is = Each-middle (IsEntry atlas.lists) before entry after spelled.linked.entries
+    is : IsEntry atlas.records entry
+    is = Each-middle (IsEntry atlas.records) before entry after spelled.linked.entries
 
     placed : IsPlaced atlas entry
     placed = Each-middle (IsPlaced atlas) before entry after spelled.placed
 
-    apart : IsApart atlas.lists before after unused [] entry
-    apart = linked-apart atlas.lists before after entry unused shelves [] [] spelled.linked
+    apart : IsApart atlas.records before after unused [] entry
+    apart = linked-apart atlas.records before after entry unused shelves [] [] spelled.linked
 
     stands : (n : ℕ) → free_next items number ≡ Some n → 1 ≤ times n numbers
     stands n e =

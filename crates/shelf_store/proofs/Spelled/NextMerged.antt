@@ -36,25 +36,25 @@ pub record MergesNext (atlas : AtlasRecords) (step : Step) (before after : List 
   pub spelled : IsSpelled (with_lists atlas step.records) (lists_of (before ++ entry_of shelf (front ++ number ∷ rest) free_list ∷ after) aside shelves)
   pub before_same : map (spelled_shelf (with_lists atlas step.records)) before ≡ map (spelled_shelf atlas) before
   pub after_same : map (spelled_shelf (with_lists atlas step.records)) after ≡ map (spelled_shelf atlas) after
-  pub same : (k : ℕ) → SameShelf atlas.lists.shelves step.records.shelves k
+  pub same : (k : ℕ) → SameShelf atlas.records.shelves step.records.shelves k
   pub allocated : is_allocated_at step.records.items number ≡ true
-  pub place : place_of step.records.items number ≡ place_of atlas.lists.items number
-  pub front_same : map (item_at step.records.items) front ≡ map (item_at atlas.lists.items) front
-  pub kept : (k : ℕ) → 1 ≤ times k front → SameItem atlas.lists.items step.records.items k
+  pub place : place_of step.records.items number ≡ place_of atlas.records.items number
+  pub front_same : map (item_at step.records.items) front ≡ map (item_at atlas.records.items) front
+  pub kept : (k : ℕ) → 1 ≤ times k front → SameItem atlas.records.items step.records.items k
   pub items :
-      merged_at both_free combined_items (length front) (map (item_at atlas.lists.items) front ++ free_item (width_of atlas.lists.items number) ∷ map (item_at atlas.lists.items) back)
+      merged_at both_free combined_items (length front) (map (item_at atlas.records.items) front ++ free_item (width_of atlas.records.items number) ∷ map (item_at atlas.records.items) back)
       ≡ map (item_at step.records.items) front ++ free_item (width_of step.records.items number) ∷ map (item_at step.records.items) rest
   pub places :
       map (place_of step.records.items) free_list
-      ≡ (if is_first_free (map (item_at atlas.lists.items) back)
-      then remove_place (along_of atlas.lists.shelves shelf + (widths atlas.lists.items front + width_of atlas.lists.items number)) (map (place_of atlas.lists.items) free)
-      else map (place_of atlas.lists.items) free)
-  pub width : width_of step.records.items number ≡ width_of atlas.lists.items number + named_width atlas.lists.items (free_next atlas.lists.items number)
-  pub wide : width_of step.records.items number ≤ width_of atlas.lists.items number + widths atlas.lists.items back
+      ≡ (if is_first_free (map (item_at atlas.records.items) back)
+      then remove_place (along_of atlas.records.shelves shelf + (widths atlas.records.items front + width_of atlas.records.items number)) (map (place_of atlas.records.items) free)
+      else map (place_of atlas.records.items) free)
+  pub width : width_of step.records.items number ≡ width_of atlas.records.items number + named_width atlas.records.items (free_next atlas.records.items number)
+  pub wide : width_of step.records.items number ≤ width_of atlas.records.items number + widths atlas.records.items back
   pub counted : length aside ≡ step.put_aside + length unused
 
 -- the next item is not free: nothing changes
-next-kept : (atlas : AtlasRecords) (before after : List Entry) (shelf number : ℕ) (front back free unused shelves : List ℕ) → is_allocated_at atlas.lists.items number ≡ true → is_first_free (map (item_at atlas.lists.items) back) ≡ false → free_next atlas.lists.items number ≡ None → IsSpelled atlas (lists_of (before ++ entry_of shelf (front ++ number ∷ back) free ∷ after) unused shelves) → MergesNext atlas (record { records = atlas.lists; put_aside = 0 }) before after shelf number front back free unused shelves
+next-kept : (atlas : AtlasRecords) (before after : List Entry) (shelf number : ℕ) (front back free unused shelves : List ℕ) → is_allocated_at atlas.records.items number ≡ true → is_first_free (map (item_at atlas.records.items) back) ≡ false → free_next atlas.records.items number ≡ None → IsSpelled atlas (lists_of (before ++ entry_of shelf (front ++ number ∷ back) free ∷ after) unused shelves) → MergesNext atlas (record { records = atlas.records; put_aside = 0 }) before after shelf number front back free unused shelves
 next-kept atlas before after shelf number front back free unused shelves allocated none unnamed spelled =
     record {
       rest = back;
@@ -63,12 +63,12 @@ next-kept atlas before after shelf number front back free unused shelves allocat
       spelled = spelled;
       before_same = refl;
       after_same = refl;
-      same = λ k. shelves-same atlas.lists.shelves atlas.lists.shelves k refl;
+      same = λ k. shelves-same atlas.records.shelves atlas.records.shelves k refl;
       allocated = allocated;
       place = refl;
       front_same = refl;
-      kept = λ k stands. items-same atlas.lists.items atlas.lists.items k refl;
-      items = next-stays (item_at atlas.lists.items) front (width_of atlas.lists.items number) (map (item_at atlas.lists.items) back) none;
+      kept = λ k stands. items-same atlas.records.items atlas.records.items k refl;
+      items = next-stays (item_at atlas.records.items) front (width_of atlas.records.items number) (map (item_at atlas.records.items) back) none;
       places = rw none refl;
       width = rw unnamed (omega arith);
       wide = omega arith;
@@ -84,25 +84,25 @@ widened-places items new number width k widened = by_test (number == k) refl
     by_test false e = (widened.others k (grind arith)).place
 
 -- the next item is free: it is absorbed
-next-taken : (atlas : AtlasRecords) (before after : List Entry) (shelf number next : ℕ) (front back free_front free_back unused shelves : List ℕ) → ((n : ℕ) → 1 ≤ times n (front ++ number ∷ next ∷ back) → 1 ≤ width_of atlas.lists.items n) → is_allocated_at atlas.lists.items number ≡ true → is_allocated_at atlas.lists.items next ≡ false → free_next atlas.lists.items number ≡ Some next → IsSpelled atlas (lists_of (before ++ entry_of shelf (front ++ number ∷ next ∷ back) (free_front ++ next ∷ free_back) ∷ after) unused shelves) → MergesNext atlas (next_absorbed shelf number (Some next) atlas.lists) before after shelf number front (next ∷ back) (free_front ++ next ∷ free_back) unused shelves
+next-taken : (atlas : AtlasRecords) (before after : List Entry) (shelf number next : ℕ) (front back free_front free_back unused shelves : List ℕ) → ((n : ℕ) → 1 ≤ times n (front ++ number ∷ next ∷ back) → 1 ≤ width_of atlas.records.items n) → is_allocated_at atlas.records.items number ≡ true → is_allocated_at atlas.records.items next ≡ false → free_next atlas.records.items number ≡ Some next → IsSpelled atlas (lists_of (before ++ entry_of shelf (front ++ number ∷ next ∷ back) (free_front ++ next ∷ free_back) ∷ after) unused shelves) → MergesNext atlas (next_absorbed shelf number (Some next) atlas.records) before after shelf number front (next ∷ back) (free_front ++ next ∷ free_back) unused shelves
 next-taken atlas before after shelf number next front back free_front free_back unused shelves wide allocated is_free named spelled =
-    let items : List LinkedItem = atlas.lists.items in
+    let items : List LinkedItem = atlas.records.items in
     let numbers : List ℕ = front ++ number ∷ next ∷ back in
     let free : List ℕ = free_front ++ next ∷ free_back in
     let entry : Entry = entry_of shelf numbers free in
-    let new : Records = (next_absorbed shelf number (Some next) atlas.lists).records in
+    let new : Records = (next_absorbed shelf number (Some next) atlas.records).records in
     let edits : EditsItems atlas new before after unused (next ∷ unused) shelves entry (entry_of shelf (front ++ number ∷ back) (free_front ++ free_back)) =
     free_absorbed-spelled atlas before after shelf number next front back free_front free_back unused shelves is_free spelled in
     let edited = items-edited atlas new before after unused (next ∷ unused) shelves entry (entry_of shelf (front ++ number ∷ back) (free_front ++ free_back)) spelled edits in
     let others = map-parts (spelled_shelf (with_lists atlas new)) (spelled_shelf atlas) before (entry_of shelf (front ++ number ∷ back) (free_front ++ free_back))
     (spelled_shelf (with_lists atlas new) (entry_of shelf (front ++ number ∷ back) (free_front ++ free_back))) after edited.1 in
-    let apart : IsApart atlas.lists before after unused [] entry = linked-apart atlas.lists before after entry unused shelves [] [] spelled.linked in
+    let apart : IsApart atlas.records before after unused [] entry = linked-apart atlas.records before after entry unused shelves [] [] spelled.linked in
     let placed : IsPlaced atlas entry = Each-middle (IsPlaced atlas) before entry after spelled.placed in
-    let is : IsEntry atlas.lists entry = Each-middle (IsEntry atlas.lists) before entry after spelled.linked.entries in
+    let is : IsEntry atlas.records entry = Each-middle (IsEntry atlas.records) before entry after spelled.linked.entries in
     let count : (k : ℕ) → times k numbers ≡ times k front + times k (number ∷ next ∷ back) = λ k. times-append k front (number ∷ next ∷ back) in
     let rest : IsRest front back number next = rest-of front back number next apart.once in
     let widened : IsWidened items new.items number (width_of items number + width_of items next) =
-    free-widens atlas.lists shelf number next (apart.within number (omega (arith, count number, times-here number (next ∷ back)))) in
+    free-widens atlas.records shelf number next (apart.within number (omega (arith, count number, times-here number (next ∷ back)))) in
     let absorbs : Absorbs items new.items number next = widened-absorbs items new.items number next widened in
     let differ : number ≢ next = λ e.
     let here : times next (number ∷ next ∷ back) ≡ 1 + times next (next ∷ back) = rw e (times-here next (next ∷ back)) in
@@ -114,11 +114,11 @@ next-taken atlas before after shelf number next front back free_front free_back 
     let width : width_of new.items number ≡ width_of items number + width_of items next = ap (λ (i : Item). i.width) absorbs.item in
     let free_next : is_first_free (map (item_at items) (next ∷ back)) ≡ true = free-item items next false is_free in
     let whole : (front ++ number ∷ []) ++ next ∷ back ≡ numbers = append_assoc front (number ∷ []) (next ∷ back) in
-    let begins : place_of items next ≡ along_of atlas.lists.shelves shelf + (widths items front + width_of items number) =
-    (LieFrom-back items (along_of atlas.lists.shelves shelf) (front ++ number ∷ []) (next ∷ back) (rw whole placed.places)).0
-    ∙ ap (λ w. along_of atlas.lists.shelves shelf + w) (omega (arith, widths-append items front (number ∷ []))) in
+    let begins : place_of items next ≡ along_of atlas.records.shelves shelf + (widths items front + width_of items number) =
+    (LieFrom-back items (along_of atlas.records.shelves shelf) (front ++ number ∷ []) (next ∷ back) (rw whole placed.places)).0
+    ∙ ap (λ w. along_of atlas.records.shelves shelf + w) (omega (arith, widths-append items front (number ∷ []))) in
     let others_apart : (k : ℕ) → 1 ≤ times k (free_front ++ free_back) → place_of items k ≢ place_of items next = λ k stands.
-    place-apart items (along_of atlas.lists.shelves shelf) (front ++ number ∷ []) back next k (rw whole wide) (rw whole placed.places)
+    place-apart items (along_of atlas.records.shelves shelf) (front ++ number ∷ []) back next k (rw whole wide) (rw whole placed.places)
     (rw whole (omega (arith, stands, is.members k, times-append k free_front (next ∷ free_back), times-append k free_front free_back)))
     (λ e.
     let here : times k (next ∷ free_back) ≡ 1 + times k free_back = rw e (times-here k free_back) in
@@ -149,48 +149,48 @@ next-taken atlas before after shelf number next front back free_front free_back 
     }
 
 -- an allocated item was merged with the next one where that is free
-pub merges-next : (atlas : AtlasRecords) (before after : List Entry) (shelf number : ℕ) (front back free unused shelves : List ℕ) → ((n : ℕ) → 1 ≤ times n (front ++ number ∷ back) → 1 ≤ width_of atlas.lists.items n) → is_allocated_at atlas.lists.items number ≡ true → IsSpelled atlas (lists_of (before ++ entry_of shelf (front ++ number ∷ back) free ∷ after) unused shelves) → MergesNext atlas (next_absorbed shelf number (free_next atlas.lists.items number) atlas.lists) before after shelf number front back free unused shelves
+pub merges-next : (atlas : AtlasRecords) (before after : List Entry) (shelf number : ℕ) (front back free unused shelves : List ℕ) → ((n : ℕ) → 1 ≤ times n (front ++ number ∷ back) → 1 ≤ width_of atlas.records.items n) → is_allocated_at atlas.records.items number ≡ true → IsSpelled atlas (lists_of (before ++ entry_of shelf (front ++ number ∷ back) free ∷ after) unused shelves) → MergesNext atlas (next_absorbed shelf number (free_next atlas.records.items number) atlas.records) before after shelf number front back free unused shelves
 merges-next atlas before after shelf number front [] free unused shelves wide allocated spelled =
-    let items : List LinkedItem = atlas.lists.items in
-    let is : IsEntry atlas.lists (entry_of shelf (front ++ number ∷ []) free) = Each-middle (IsEntry atlas.lists) before (entry_of shelf (front ++ number ∷ []) free) after spelled.linked.entries in
-    let link : link_at item_chain.next items number ≡ None = next-is (link_at item_chain.next items) front [] number (first_item_of atlas.lists.shelves shelf) None is.items.forward in
+    let items : List LinkedItem = atlas.records.items in
+    let is : IsEntry atlas.records (entry_of shelf (front ++ number ∷ []) free) = Each-middle (IsEntry atlas.records) before (entry_of shelf (front ++ number ∷ []) free) after spelled.linked.entries in
+    let link : link_at item_chain.next items number ≡ None = next-is (link_at item_chain.next items) front [] number (first_item_of atlas.records.shelves shelf) None is.items.forward in
     let none : free_next items number ≡ None = ap (free_named items) link in
-    subst (λ (o : Option ℕ). MergesNext atlas (next_absorbed shelf number o atlas.lists) before after shelf number front [] free unused shelves) (sym none)
+    subst (λ (o : Option ℕ). MergesNext atlas (next_absorbed shelf number o atlas.records) before after shelf number front [] free unused shelves) (sym none)
     (next-kept atlas before after shelf number front [] free unused shelves allocated refl none spelled)
 merges-next atlas before after shelf number front (next ∷ back) free unused shelves wide allocated spelled =
-    by_mark (is_allocated_at atlas.lists.items next) refl
+    by_mark (is_allocated_at atlas.records.items next) refl
   where
     entry : Entry
     entry = entry_of shelf (front ++ number ∷ next ∷ back) free
 
-    is : IsEntry atlas.lists entry
-    is = Each-middle (IsEntry atlas.lists) before entry after spelled.linked.entries
+    is : IsEntry atlas.records entry
+    is = Each-middle (IsEntry atlas.records) before entry after spelled.linked.entries
 
-    link : free_next atlas.lists.items number ≡ free_named atlas.lists.items (Some next)
-    link = ap (free_named atlas.lists.items) (next-is (link_at item_chain.next atlas.lists.items) front (next ∷ back) number (first_item_of atlas.lists.shelves shelf) None is.items.forward)
+    link : free_next atlas.records.items number ≡ free_named atlas.records.items (Some next)
+    link = ap (free_named atlas.records.items) (next-is (link_at item_chain.next atlas.records.items) front (next ∷ back) number (first_item_of atlas.records.shelves shelf) None is.items.forward)
 
-    absorbed : is_allocated_at atlas.lists.items next ≡ false → free_next atlas.lists.items number ≡ Some next → IsMember next free → MergesNext atlas (next_absorbed shelf number (Some next) atlas.lists) before after shelf number front (next ∷ back) free unused shelves
+    absorbed : is_allocated_at atlas.records.items next ≡ false → free_next atlas.records.items number ≡ Some next → IsMember next free → MergesNext atlas (next_absorbed shelf number (Some next) atlas.records) before after shelf number front (next ∷ back) free unused shelves
     absorbed is_free named member =
-        subst (λ (ns : List ℕ). MergesNext atlas (next_absorbed shelf number (Some next) atlas.lists) before after shelf number front (next ∷ back) ns unused shelves) (sym member.whole)
+        subst (λ (ns : List ℕ). MergesNext atlas (next_absorbed shelf number (Some next) atlas.records) before after shelf number front (next ∷ back) ns unused shelves) (sym member.whole)
         (next-taken atlas before after shelf number next front back member.front member.back unused shelves wide allocated is_free named
         (subst (λ (ns : List ℕ). IsSpelled atlas (lists_of (before ++ entry_of shelf (front ++ number ∷ next ∷ back) ns ∷ after) unused shelves)) member.whole spelled))
 
-    by_mark : (b : Bool) → is_allocated_at atlas.lists.items next ≡ b → MergesNext atlas (next_absorbed shelf number (free_next atlas.lists.items number) atlas.lists) before after shelf number front (next ∷ back) free unused shelves
+    by_mark : (b : Bool) → is_allocated_at atlas.records.items next ≡ b → MergesNext atlas (next_absorbed shelf number (free_next atlas.records.items number) atlas.records) before after shelf number front (next ∷ back) free unused shelves
     by_mark true e =
-        let none : free_named atlas.lists.items (Some next) ≡ None = simp e refl in
-        subst (λ (o : Option ℕ). MergesNext atlas (next_absorbed shelf number o atlas.lists) before after shelf number front (next ∷ back) free unused shelves) (sym (link ∙ none))
-        (next-kept atlas before after shelf number front (next ∷ back) free unused shelves allocated (free-item atlas.lists.items next true e) (link ∙ none) spelled)
+        let none : free_named atlas.records.items (Some next) ≡ None = simp e refl in
+        subst (λ (o : Option ℕ). MergesNext atlas (next_absorbed shelf number o atlas.records) before after shelf number front (next ∷ back) free unused shelves) (sym (link ∙ none))
+        (next-kept atlas before after shelf number front (next ∷ back) free unused shelves allocated (free-item atlas.records.items next true e) (link ∙ none) spelled)
     by_mark false e =
-        let some : free_named atlas.lists.items (Some next) ≡ Some next = simp e refl in
+        let some : free_named atlas.records.items (Some next) ≡ Some next = simp e refl in
         let placed : IsPlaced atlas entry = Each-middle (IsPlaced atlas) before entry after spelled.placed in
         let stands : 1 ≤ times next free =
         omega (
           arith,
           placed.free_list next,
-          free_count-append atlas.lists.items next (front ++ number ∷ []) (next ∷ back),
-          free_count-free atlas.lists.items next next back e,
+          free_count-append atlas.records.items next (front ++ number ∷ []) (next ∷ back),
+          free_count-free atlas.records.items next next back e,
           times-here next [],
-          ap (λ ns. free_count atlas.lists.items next ns) (append_assoc front (number ∷ []) (next ∷ back)),
+          ap (λ ns. free_count atlas.records.items next ns) (append_assoc front (number ∷ []) (next ∷ back)),
         ) in
-        subst (λ (o : Option ℕ). MergesNext atlas (next_absorbed shelf number o atlas.lists) before after shelf number front (next ∷ back) free unused shelves) (sym (link ∙ some))
+        subst (λ (o : Option ℕ). MergesNext atlas (next_absorbed shelf number o atlas.records) before after shelf number front (next ∷ back) free unused shelves) (sym (link ∙ some))
         (absorbed e (link ∙ some) (member-of next free stands))

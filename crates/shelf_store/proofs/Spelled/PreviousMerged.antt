@@ -41,24 +41,24 @@ pub record FreesItem (atlas : AtlasRecords) (step : Step) (before after : List E
   pub spelled : IsSpelled (with_lists atlas step.records) (lists_of (before ++ entry_of shelf numbers free_list ∷ after) aside shelves)
   pub before_same : map (spelled_shelf (with_lists atlas step.records)) before ≡ map (spelled_shelf atlas) before
   pub after_same : map (spelled_shelf (with_lists atlas step.records)) after ≡ map (spelled_shelf atlas) after
-  pub same : (k : ℕ) → SameShelf atlas.lists.shelves step.records.shelves k
+  pub same : (k : ℕ) → SameShelf atlas.records.shelves step.records.shelves k
   pub items :
       map (item_at step.records.items) numbers
       ≡ merged_before both_free combined_items (length front)
-      (map (item_at atlas.lists.items) front ++ free_item (width_of atlas.lists.items number) ∷ map (item_at atlas.lists.items) back)
+      (map (item_at atlas.records.items) front ++ free_item (width_of atlas.records.items number) ∷ map (item_at atlas.records.items) back)
   pub places :
       (others : List Item)
       → map (place_of step.records.items) free_list
-      ≡ (if is_free_before (length front) (map (item_at atlas.lists.items) front ++ others)
-      then map (place_of atlas.lists.items) free
-      else place_of atlas.lists.items number ∷ map (place_of atlas.lists.items) free)
+      ≡ (if is_free_before (length front) (map (item_at atlas.records.items) front ++ others)
+      then map (place_of atlas.records.items) free
+      else place_of atlas.records.items number ∷ map (place_of atlas.records.items) free)
   pub counted : length aside ≡ step.put_aside + length unused
   pub remaining_front : List ℕ
-  pub stands : numbers ≡ remaining_front ++ remaining_item number (free_previous atlas.lists.items number) ∷ back
-  pub is_free : is_allocated_at step.records.items (remaining_item number (free_previous atlas.lists.items number)) ≡ false
+  pub stands : numbers ≡ remaining_front ++ remaining_item number (free_previous atlas.records.items number) ∷ back
+  pub is_free : is_allocated_at step.records.items (remaining_item number (free_previous atlas.records.items number)) ≡ false
   pub width :
-      width_of step.records.items (remaining_item number (free_previous atlas.lists.items number))
-      ≡ width_of atlas.lists.items number + named_width atlas.lists.items (free_previous atlas.lists.items number)
+      width_of step.records.items (remaining_item number (free_previous atlas.records.items number))
+      ≡ width_of atlas.records.items number + named_width atlas.records.items (free_previous atlas.records.items number)
 
 -- the members of a list around one of them differ from it
 around-other : (front back : List ℕ) (number : ℕ) → ((k : ℕ) → times k (front ++ number ∷ back) ≤ 1) → (k : ℕ) → 1 ≤ times k front + times k back → number ≢ k
@@ -67,20 +67,20 @@ around-other front back number once k stands e =
     omega (arith, once k, stands, times-append k front (number ∷ back), here)
 
 -- the previous item is not free: the item becomes free
-item-freed : (atlas : AtlasRecords) (before after : List Entry) (shelf number : ℕ) (front back free unused shelves : List ℕ) → is_allocated_at atlas.lists.items number ≡ true → (merged_before both_free combined_items (length front) (map (item_at atlas.lists.items) front ++ free_item (width_of atlas.lists.items number) ∷ map (item_at atlas.lists.items) back) ≡ map (item_at atlas.lists.items) front ++ free_item (width_of atlas.lists.items number) ∷ map (item_at atlas.lists.items) back) → ((others : List Item) → is_free_before (length front) (map (item_at atlas.lists.items) front ++ others) ≡ false) → free_previous atlas.lists.items number ≡ None → IsSpelled atlas (lists_of (before ++ entry_of shelf (front ++ number ∷ back) free ∷ after) unused shelves) → FreesItem atlas (freed_after shelf number None atlas.lists) before after shelf number front back free unused shelves
+item-freed : (atlas : AtlasRecords) (before after : List Entry) (shelf number : ℕ) (front back free unused shelves : List ℕ) → is_allocated_at atlas.records.items number ≡ true → (merged_before both_free combined_items (length front) (map (item_at atlas.records.items) front ++ free_item (width_of atlas.records.items number) ∷ map (item_at atlas.records.items) back) ≡ map (item_at atlas.records.items) front ++ free_item (width_of atlas.records.items number) ∷ map (item_at atlas.records.items) back) → ((others : List Item) → is_free_before (length front) (map (item_at atlas.records.items) front ++ others) ≡ false) → free_previous atlas.records.items number ≡ None → IsSpelled atlas (lists_of (before ++ entry_of shelf (front ++ number ∷ back) free ∷ after) unused shelves) → FreesItem atlas (freed_after shelf number None atlas.records) before after shelf number front back free unused shelves
 item-freed atlas before after shelf number front back free unused shelves allocated stays none unnamed spelled =
-    let items : List LinkedItem = atlas.lists.items in
+    let items : List LinkedItem = atlas.records.items in
     let numbers : List ℕ = front ++ number ∷ back in
     let entry : Entry = entry_of shelf numbers free in
     let edited_entry : Entry = entry_of shelf numbers (number ∷ free) in
-    let new : Records = (freed_after shelf number None atlas.lists).records in
+    let new : Records = (freed_after shelf number None atlas.records).records in
     let edits : EditsItems atlas new before after unused unused shelves entry edited_entry =
     item_freed-spelled atlas before after shelf number front back free unused shelves allocated spelled in
     let edited = items-edited atlas new before after unused unused shelves entry edited_entry spelled edits in
     let others = map-parts (spelled_shelf (with_lists atlas new)) (spelled_shelf atlas) before edited_entry (spelled_shelf (with_lists atlas new) edited_entry) after edited.1 in
-    let apart : IsApart atlas.lists before after unused [] entry = linked-apart atlas.lists before after entry unused shelves [] [] spelled.linked in
+    let apart : IsApart atlas.records before after unused [] entry = linked-apart atlas.records before after entry unused shelves [] [] spelled.linked in
     let placed : IsPlaced atlas entry = Each-middle (IsPlaced atlas) before entry after spelled.placed in
-    let freed : IsFreed items new.items number = freed-values atlas.lists shelf number (apart.within number (omega (arith, times-append number front (number ∷ back), times-here number back))) in
+    let freed : IsFreed items new.items number = freed-values atlas.records shelf number (apart.within number (omega (arith, times-append number front (number ∷ back), times-here number back))) in
     let absent : times number free ≡ 0 = placed.free_list number ∙ free_count-none items number numbers allocated in
     let front_same : map (item_at new.items) front ≡ map (item_at items) front =
     map-agrees (item_at new.items) (item_at items) front (λ k stands. (freed.others k (around-other front back number apart.once k (omega (arith, stands)))).item) in
@@ -110,24 +110,24 @@ item-freed atlas before after shelf number front back free unused shelves alloca
     }
 
 -- the previous item is free: it absorbs the item
-item-taken : (atlas : AtlasRecords) (before after : List Entry) (shelf number previous : ℕ) (front back free unused shelves : List ℕ) → is_allocated_at atlas.lists.items number ≡ true → is_allocated_at atlas.lists.items previous ≡ false → free_previous atlas.lists.items number ≡ Some previous → IsSpelled atlas (lists_of (before ++ entry_of shelf (front ++ previous ∷ number ∷ back) free ∷ after) unused shelves) → FreesItem atlas (freed_after shelf number (Some previous) atlas.lists) before after shelf number (front ++ previous ∷ []) back free unused shelves
+item-taken : (atlas : AtlasRecords) (before after : List Entry) (shelf number previous : ℕ) (front back free unused shelves : List ℕ) → is_allocated_at atlas.records.items number ≡ true → is_allocated_at atlas.records.items previous ≡ false → free_previous atlas.records.items number ≡ Some previous → IsSpelled atlas (lists_of (before ++ entry_of shelf (front ++ previous ∷ number ∷ back) free ∷ after) unused shelves) → FreesItem atlas (freed_after shelf number (Some previous) atlas.records) before after shelf number (front ++ previous ∷ []) back free unused shelves
 item-taken atlas before after shelf number previous front back free unused shelves allocated is_free named spelled =
-    let items : List LinkedItem = atlas.lists.items in
+    let items : List LinkedItem = atlas.records.items in
     let numbers : List ℕ = front ++ previous ∷ number ∷ back in
     let entry : Entry = entry_of shelf numbers free in
     let edited_entry : Entry = entry_of shelf (front ++ previous ∷ back) free in
-    let new : Records = (freed_after shelf number (Some previous) atlas.lists).records in
+    let new : Records = (freed_after shelf number (Some previous) atlas.records).records in
     let edits : EditsItems atlas new before after unused (number ∷ unused) shelves entry edited_entry =
     allocated_absorbed-spelled atlas before after shelf previous number front back free unused shelves allocated spelled in
     let edited = items-edited atlas new before after unused (number ∷ unused) shelves entry edited_entry spelled edits in
     let others = map-parts (spelled_shelf (with_lists atlas new)) (spelled_shelf atlas) before edited_entry (spelled_shelf (with_lists atlas new) edited_entry) after edited.1 in
-    let apart : IsApart atlas.lists before after unused [] entry = linked-apart atlas.lists before after entry unused shelves [] [] spelled.linked in
+    let apart : IsApart atlas.records before after unused [] entry = linked-apart atlas.records before after entry unused shelves [] [] spelled.linked in
     let placed : IsPlaced atlas entry = Each-middle (IsPlaced atlas) before entry after spelled.placed in
     let rest : IsRest front back previous number = rest-of front back previous number apart.once in
     let count : times previous numbers ≡ times previous front + times previous (previous ∷ number ∷ back) = times-append previous front (previous ∷ number ∷ back) in
     let differ : previous ≢ number = λ e. let contrary : is_allocated_at items previous ≡ true = rw e allocated in cc in
     let absorbs : Absorbs items new.items previous number =
-    allocated-absorbs atlas.lists shelf previous number differ (apart.within previous (omega (arith, count, times-here previous (number ∷ back)))) in
+    allocated-absorbs atlas.records shelf previous number differ (apart.within previous (omega (arith, count, times-here previous (number ∷ back)))) in
     let absent : times number free ≡ 0 = placed.free_list number ∙ free_count-none items number numbers allocated in
     let last_free = free-item items previous false is_free in
     let places_same : (k : ℕ) → 1 ≤ times k free → place_of new.items k ≡ place_of items k = λ k stands.
@@ -159,25 +159,25 @@ item-taken atlas before after shelf number previous front back free unused shelv
         by_test false e = (absorbs.others k (grind arith) other).place
 
 -- an allocated item became free, and was merged with the previous one where that is free
-pub frees-item : (atlas : AtlasRecords) (before after : List Entry) (shelf number : ℕ) (front back free unused shelves : List ℕ) → is_allocated_at atlas.lists.items number ≡ true → IsSpelled atlas (lists_of (before ++ entry_of shelf (front ++ number ∷ back) free ∷ after) unused shelves) → FreesItem atlas (freed_after shelf number (free_previous atlas.lists.items number) atlas.lists) before after shelf number front back free unused shelves
+pub frees-item : (atlas : AtlasRecords) (before after : List Entry) (shelf number : ℕ) (front back free unused shelves : List ℕ) → is_allocated_at atlas.records.items number ≡ true → IsSpelled atlas (lists_of (before ++ entry_of shelf (front ++ number ∷ back) free ∷ after) unused shelves) → FreesItem atlas (freed_after shelf number (free_previous atlas.records.items number) atlas.records) before after shelf number front back free unused shelves
 frees-item atlas before after shelf number front back free unused shelves allocated =
-    by_end (λ (xs : List ℕ). IsSpelled atlas (lists_of (before ++ entry_of shelf (xs ++ number ∷ back) free ∷ after) unused shelves) → FreesItem atlas (freed_after shelf number (free_previous atlas.lists.items number) atlas.lists) before after shelf number xs back free unused shelves)
+    by_end (λ (xs : List ℕ). IsSpelled atlas (lists_of (before ++ entry_of shelf (xs ++ number ∷ back) free ∷ after) unused shelves) → FreesItem atlas (freed_after shelf number (free_previous atlas.records.items number) atlas.records) before after shelf number xs back free unused shelves)
     first some front
   where
     items : List LinkedItem
-    items = atlas.lists.items
+    items = atlas.records.items
 
     link : (xs : List ℕ) → IsSpelled atlas (lists_of (before ++ entry_of shelf (xs ++ number ∷ back) free ∷ after) unused shelves) → free_previous items number ≡ free_named items (last_or None xs)
     link xs spelled =
-        let is : IsEntry atlas.lists (entry_of shelf (xs ++ number ∷ back) free) = Each-middle (IsEntry atlas.lists) before (entry_of shelf (xs ++ number ∷ back) free) after spelled.linked.entries in
+        let is : IsEntry atlas.records (entry_of shelf (xs ++ number ∷ back) free) = Each-middle (IsEntry atlas.records) before (entry_of shelf (xs ++ number ∷ back) free) after spelled.linked.entries in
         ap (free_named items) (previous-is (link_at item_chain.previous items) xs back number None is.items.backward)
 
-    first : IsSpelled atlas (lists_of (before ++ entry_of shelf (number ∷ back) free ∷ after) unused shelves) → FreesItem atlas (freed_after shelf number (free_previous items number) atlas.lists) before after shelf number [] back free unused shelves
+    first : IsSpelled atlas (lists_of (before ++ entry_of shelf (number ∷ back) free ∷ after) unused shelves) → FreesItem atlas (freed_after shelf number (free_previous items number) atlas.records) before after shelf number [] back free unused shelves
     first spelled =
-        subst (λ (o : Option ℕ). FreesItem atlas (freed_after shelf number o atlas.lists) before after shelf number [] back free unused shelves) (sym (link [] spelled))
+        subst (λ (o : Option ℕ). FreesItem atlas (freed_after shelf number o atlas.records) before after shelf number [] back free unused shelves) (sym (link [] spelled))
         (item-freed atlas before after shelf number [] back free unused shelves allocated refl (λ others. refl) (link [] spelled) spelled)
 
-    some : (xs : List ℕ) (previous : ℕ) → IsSpelled atlas (lists_of (before ++ entry_of shelf ((xs ++ previous ∷ []) ++ number ∷ back) free ∷ after) unused shelves) → FreesItem atlas (freed_after shelf number (free_previous items number) atlas.lists) before after shelf number (xs ++ previous ∷ []) back free unused shelves
+    some : (xs : List ℕ) (previous : ℕ) → IsSpelled atlas (lists_of (before ++ entry_of shelf ((xs ++ previous ∷ []) ++ number ∷ back) free ∷ after) unused shelves) → FreesItem atlas (freed_after shelf number (free_previous items number) atlas.records) before after shelf number (xs ++ previous ∷ []) back free unused shelves
     some xs previous spelled = by_mark (is_allocated_at items previous) refl
       where
         named : free_previous items number ≡ free_named items (Some previous)
@@ -187,16 +187,16 @@ frees-item atlas before after shelf number front back free unused shelves alloca
         parts [] = refl
         parts (x ∷ ys) = ap (λ (is : List Item). item_at items x ∷ is) (parts ys)
 
-        by_mark : (b : Bool) → is_allocated_at items previous ≡ b → FreesItem atlas (freed_after shelf number (free_previous items number) atlas.lists) before after shelf number (xs ++ previous ∷ []) back free unused shelves
+        by_mark : (b : Bool) → is_allocated_at items previous ≡ b → FreesItem atlas (freed_after shelf number (free_previous items number) atlas.records) before after shelf number (xs ++ previous ∷ []) back free unused shelves
         by_mark true e =
             let none : free_named items (Some previous) ≡ None = simp e refl in
             let marked = free-item items previous true e in
-            subst (λ (o : Option ℕ). FreesItem atlas (freed_after shelf number o atlas.lists) before after shelf number (xs ++ previous ∷ []) back free unused shelves) (sym (named ∙ none))
+            subst (λ (o : Option ℕ). FreesItem atlas (freed_after shelf number o atlas.records) before after shelf number (xs ++ previous ∷ []) back free unused shelves) (sym (named ∙ none))
             (item-freed atlas before after shelf number (xs ++ previous ∷ []) back free unused shelves allocated
             (previous-stays (item_at items) xs previous (width_of items number) (map (item_at items) back) marked ∙ sym (parts xs))
             (λ others. free-before (item_at items) xs previous others ∙ marked) (named ∙ none) spelled)
         by_mark false e =
             let one : free_named items (Some previous) ≡ Some previous = simp e refl in
-            subst (λ (o : Option ℕ). FreesItem atlas (freed_after shelf number o atlas.lists) before after shelf number (xs ++ previous ∷ []) back free unused shelves) (sym (named ∙ one))
+            subst (λ (o : Option ℕ). FreesItem atlas (freed_after shelf number o atlas.records) before after shelf number (xs ++ previous ∷ []) back free unused shelves) (sym (named ∙ one))
             (item-taken atlas before after shelf number previous xs back free unused shelves allocated e (named ∙ one)
             (subst (λ (ns : List ℕ). IsSpelled atlas (lists_of (before ++ entry_of shelf ns free ∷ after) unused shelves)) (append_assoc xs (previous ∷ []) (number ∷ back)) spelled))

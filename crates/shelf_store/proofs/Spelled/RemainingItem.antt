@@ -74,11 +74,11 @@ named-same items new xs same = by_link (last_or None xs) (λ n e. same n (last-s
 
 -- the item that remains is there, stands alone just where its shelf has one free item, and is as wide as the freed one
 -- was with its free neighbours
-pub item-remaining : (atlas : AtlasRecords) (before after : List Entry) (shelf number : ℕ) (front back free unused shelves : List ℕ) → IsShelf atlas.frame (spelled_shelf atlas (entry_of shelf (front ++ number ∷ back) free)) → is_allocated_at atlas.lists.items number ≡ true → IsFlagged atlas (lists_of (before ++ entry_of shelf (front ++ number ∷ back) free ∷ after) unused shelves) → IsRemaining shelf number atlas.lists × (width_of (item_merged shelf number atlas.lists).records.items (remaining_in shelf number atlas.lists) ≡ freed_width atlas.lists.items number)
+pub item-remaining : (atlas : AtlasRecords) (before after : List Entry) (shelf number : ℕ) (front back free unused shelves : List ℕ) → IsShelf atlas.frame (spelled_shelf atlas (entry_of shelf (front ++ number ∷ back) free)) → is_allocated_at atlas.records.items number ≡ true → IsFlagged atlas (lists_of (before ++ entry_of shelf (front ++ number ∷ back) free ∷ after) unused shelves) → IsRemaining shelf number atlas.records × (width_of (item_merged shelf number atlas.records).records.items (remaining_in shelf number atlas.records) ≡ freed_width atlas.records.items number)
 item-remaining atlas before after shelf number front back free unused shelves valid allocated flagged =
     let spelled : IsSpelled atlas (lists_of (before ++ entry_of shelf (front ++ number ∷ back) free ∷ after) unused shelves) = flagged.spelled in
-    let items : List LinkedItem = atlas.lists.items in
-    let one : Step = next_absorbed shelf number (free_next items number) atlas.lists in
+    let items : List LinkedItem = atlas.records.items in
+    let one : Step = next_absorbed shelf number (free_next items number) atlas.records in
     let next : MergesNext atlas one before after shelf number front back free unused shelves =
     merges-next atlas before after shelf number front back free unused shelves (wide-items atlas shelf (front ++ number ∷ back) free valid) allocated spelled in
     let middle : AtlasRecords = with_lists atlas one.records in
@@ -86,11 +86,11 @@ item-remaining atlas before after shelf number front back free unused shelves va
     let own : FreesItem middle two before after shelf number front next.rest next.free_list next.aside shelves =
     frees-item middle before after shelf number front next.rest next.free_list next.aside shelves next.allocated next.spelled in
     let new : Records = two.records in
-    let remaining : ℕ = remaining_in shelf number atlas.lists in
+    let remaining : ℕ = remaining_in shelf number atlas.records in
     let old_entry : Entry = entry_of shelf (front ++ number ∷ back) free in
     let entry : Entry = entry_of shelf (front ++ number ∷ next.rest) next.free_list in
     let new_entry : Entry = entry_of shelf own.numbers own.free_list in
-    let was : IsEntry atlas.lists old_entry = Each-middle (IsEntry atlas.lists) before old_entry after spelled.linked.entries in
+    let was : IsEntry atlas.records old_entry = Each-middle (IsEntry atlas.records) before old_entry after spelled.linked.entries in
     let still : IsEntry one.records entry = Each-middle (IsEntry one.records) before entry after next.spelled.linked.entries in
     let is : IsEntry new new_entry = Each-middle (IsEntry new) before new_entry after own.spelled.linked.entries in
     let apart : IsApart new before after own.aside [] new_entry = linked-apart new before after new_entry own.aside shelves [] [] own.spelled.linked in
@@ -98,7 +98,7 @@ item-remaining atlas before after shelf number front back free unused shelves va
     omega (arith, ap (times remaining) own.stands, times-append remaining own.remaining_front (remaining ∷ next.rest), times-here remaining next.rest) in
     let chain : IsChainIn item_chain new.items (first_item_of new.shelves shelf) (own.remaining_front ++ remaining ∷ next.rest) =
     subst (λ (ns : List ℕ). IsChainIn item_chain new.items (first_item_of new.shelves shelf) ns) own.stands is.items in
-    let flag : is_empty_at atlas.lists.shelves shelf ≡ is_one_free (map (item_at items) (front ++ number ∷ back)) = Each-middle (HasFlag atlas) before old_entry after flagged.flags in
+    let flag : is_empty_at atlas.records.shelves shelf ≡ is_one_free (map (item_at items) (front ++ number ∷ back)) = Each-middle (HasFlag atlas) before old_entry after flagged.flags in
     let busy : is_one_free (map (item_at items) (front ++ number ∷ back)) ≡ false =
     ap is_one_free (map-append (item_at items) front (number ∷ back))
     ∙ allocated-not_empty (map (item_at items) front) (map (item_at items) back) (item_at items number) (free-item items number true allocated) in

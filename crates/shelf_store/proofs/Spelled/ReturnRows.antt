@@ -1,4 +1,4 @@
--- Returns on the records of small atlases, by computing: which records are put aside, in which order.
+-- Returns on the records of small atlases, by computing: which records are unused, in which order.
 use Rattle.std.proofs.Common.{◌≡◌, ℕ, Bool, true, false, Option, None, Some, [], ◌∷◌, refl}
 use Rattle.etagere_links.specs.declared.records.LinkedItem.{LinkedItem}
 use Rattle.etagere_links.specs.declared.records.LinkedShelf.{LinkedShelf}
@@ -62,14 +62,14 @@ between_free =
           ∷ free_at 20 10 1 (Some 2) None None (Some 1)
           ∷ free_at 0 30 2 None None None None ∷ [];
       first_shelf = Some 0;
-      free_items = None;
-      free_shelves = None;
+      unused_items = None;
+      unused_shelves = None;
     }
 
 row_before : walked_lists between_free ≡ record { entries = record { number = 0; items = 0 ∷ []; free_list = 0 ∷ [] } ∷ record { number = 1; items = 1 ∷ 2 ∷ 3 ∷ []; free_list = 3 ∷ 1 ∷ [] } ∷ record { number = 2; items = 4 ∷ []; free_list = 4 ∷ [] } ∷ []; unused_items = []; unused_shelves = [] }
 row_before = refl
 
--- after its return the first shelf is the whole column, and its item is the first: put aside are, last first, the own
+-- after its return the first shelf is the whole column, and its item is the first: unused are, the last first, the own
 -- shelf's item, the next shelf's, the item's own and the next item's
 row_between_free : walked_lists (item_returned 2 between_free) ≡ record { entries = record { number = 0; items = 0 ∷ []; free_list = 0 ∷ [] } ∷ []; unused_items = 1 ∷ 4 ∷ 2 ∷ 3 ∷ []; unused_shelves = 1 ∷ 2 ∷ [] }
 row_between_free = refl
@@ -91,11 +91,11 @@ between_allocated =
           ∷ allocated_at 20 0 (Some 1) (Some 3)
           ∷ free_at 30 10 0 (Some 2) None None None ∷ [];
       first_shelf = Some 0;
-      free_items = None;
-      free_shelves = None;
+      unused_items = None;
+      unused_shelves = None;
     }
 
--- after its return it stands in front of the free list, and nothing is put aside
+-- after its return it stands in front of the free list, and nothing is unused
 row_between_allocated : walked_lists (item_returned 1 between_allocated) ≡ record { entries = record { number = 0; items = 0 ∷ 1 ∷ 2 ∷ 3 ∷ []; free_list = 1 ∷ 3 ∷ [] } ∷ []; unused_items = []; unused_shelves = [] }
 row_between_allocated = refl
 

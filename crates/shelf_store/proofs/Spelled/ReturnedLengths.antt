@@ -53,17 +53,17 @@ free-inserted shelf number records =
       shelves = length-changed_by (to_first_free (Some number)) records.shelves (Some shelf);
     }
 
--- an item record is put aside
+-- an item record becomes unused
 put-aside : (number : ℕ) (records : Records) → SameLengths records (item_put_aside number records)
-put-aside number records = record { items = length-put_aside item_chain records.items records.free_items number; shelves = refl }
+put-aside number records = record { items = length-put_aside item_chain records.items records.unused_items number; shelves = refl }
 
 -- a shelf is taken out of the chain of shelves
 shelf-unlinked : (shelf : ℕ) (records : Records) → SameLengths records (shelf_unlinked shelf records)
 shelf-unlinked shelf records = record { items = refl; shelves = length-unlinked shelf_chain records.shelves shelf }
 
--- a shelf record is put aside
+-- a shelf record becomes unused
 shelf-put-aside : (shelf : ℕ) (records : Records) → SameLengths records (shelf_put_aside shelf records)
-shelf-put-aside shelf records = record { items = refl; shelves = length-put_aside shelf_chain records.shelves records.free_shelves shelf }
+shelf-put-aside shelf records = record { items = refl; shelves = length-put_aside shelf_chain records.shelves records.unused_shelves shelf }
 
 -- an item absorbs the next one
 next-lengths : (shelf number : ℕ) (next : Option ℕ) (records : Records) → SameLengths records (next_absorbed shelf number next records).records

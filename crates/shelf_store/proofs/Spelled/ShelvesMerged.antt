@@ -63,7 +63,7 @@ pub record MergesShelf (atlas : AtlasRecords) (step : Step) (change : List Ranke
   pub ranks : (ranked : List RankedShelf) → Ranks atlas (before ++ entry ∷ after) ranked → Ranks (with_lists atlas step.records) (before ++ entry ∷ rest) (change ranked)
 
 -- nothing is merged
-shelf-kept : (atlas : AtlasRecords) (before after : List Entry) (entry : Entry) (unused shelves : List ℕ) → merged_at both_empty combined_shelves (length before) (map (spelled_shelf atlas) before ++ map (spelled_shelf atlas) (entry ∷ after)) ≡ map (spelled_shelf atlas) before ++ map (spelled_shelf atlas) (entry ∷ after) → IsFlagged atlas (lists_of (before ++ entry ∷ after) unused shelves) → MergesShelf atlas (record { records = atlas.lists; put_aside = 0 }) (λ ranked. ranked) before after entry unused shelves
+shelf-kept : (atlas : AtlasRecords) (before after : List Entry) (entry : Entry) (unused shelves : List ℕ) → merged_at both_empty combined_shelves (length before) (map (spelled_shelf atlas) before ++ map (spelled_shelf atlas) (entry ∷ after)) ≡ map (spelled_shelf atlas) before ++ map (spelled_shelf atlas) (entry ∷ after) → IsFlagged atlas (lists_of (before ++ entry ∷ after) unused shelves) → MergesShelf atlas (record { records = atlas.records; put_aside = 0 }) (λ ranked. ranked) before after entry unused shelves
 shelf-kept atlas before after entry unused shelves stays flagged =
     let whole : map (spelled_shelf atlas) (before ++ entry ∷ after) ≡ map (spelled_shelf atlas) before ++ map (spelled_shelf atlas) (entry ∷ after) = map-append (spelled_shelf atlas) before (entry ∷ after) in
     record {
@@ -90,9 +90,9 @@ columns-same one other width h k = by_test (one == other) refl
         test ∙ sym e
 
 -- two shelves merge where they say that they are empty and begin at one place
-touch-same : (atlas : AtlasRecords) (entry next : Entry) → along_of atlas.lists.shelves entry.number % atlas.frame.column_width ≡ 0 → along_of atlas.lists.shelves next.number % atlas.frame.column_width ≡ 0 → HasFlag atlas entry → HasFlag atlas next → both_empty (spelled_shelf atlas entry) (spelled_shelf atlas next) ≡ are_both_empty atlas.lists.shelves entry.number next.number
+touch-same : (atlas : AtlasRecords) (entry next : Entry) → along_of atlas.records.shelves entry.number % atlas.frame.column_width ≡ 0 → along_of atlas.records.shelves next.number % atlas.frame.column_width ≡ 0 → HasFlag atlas entry → HasFlag atlas next → both_empty (spelled_shelf atlas entry) (spelled_shelf atlas next) ≡ are_both_empty atlas.records.shelves entry.number next.number
 touch-same atlas entry next along next_along flag next_flag =
-    rw (columns-same (along_of atlas.lists.shelves entry.number) (along_of atlas.lists.shelves next.number) atlas.frame.column_width along next_along, flag, next_flag) refl
+    rw (columns-same (along_of atlas.records.shelves entry.number) (along_of atlas.records.shelves next.number) atlas.frame.column_width along next_along, flag, next_flag) refl
 
 -- an empty shelf has one item, which is free
 pub record HasOneFree (items : List LinkedItem) (numbers : List ℕ) : Type 0 where
@@ -108,17 +108,17 @@ one-free-of items (x ∷ []) e =
 one-free-of items (x ∷ y ∷ ys) e = absurd (cc)
 
 -- the next shelf is absorbed with its item
-shelf-taken : (atlas : AtlasRecords) (before after : List Entry) (entry : Entry) (next item : ℕ) (free unused shelves : List ℕ) → both_empty (spelled_shelf atlas entry) (spelled_shelf atlas (entry_of next (item ∷ []) free)) ≡ true → along_of atlas.lists.shelves next ≡ along_of atlas.lists.shelves entry.number → is_allocated_at atlas.lists.items item ≡ false → IsFlagged atlas (lists_of (before ++ entry ∷ entry_of next (item ∷ []) free ∷ after) unused shelves) → MergesShelf atlas (shelf_of_item_absorbed entry.number next (Some item) atlas.lists) (rank_of_item_absorbed entry.number next (Some item) atlas.lists) before (entry_of next (item ∷ []) free ∷ after) entry unused shelves
+shelf-taken : (atlas : AtlasRecords) (before after : List Entry) (entry : Entry) (next item : ℕ) (free unused shelves : List ℕ) → both_empty (spelled_shelf atlas entry) (spelled_shelf atlas (entry_of next (item ∷ []) free)) ≡ true → along_of atlas.records.shelves next ≡ along_of atlas.records.shelves entry.number → is_allocated_at atlas.records.items item ≡ false → IsFlagged atlas (lists_of (before ++ entry ∷ entry_of next (item ∷ []) free ∷ after) unused shelves) → MergesShelf atlas (shelf_of_item_absorbed entry.number next (Some item) atlas.records) (rank_of_item_absorbed entry.number next (Some item) atlas.records) before (entry_of next (item ∷ []) free ∷ after) entry unused shelves
 shelf-taken atlas before after entry next item free unused shelves touch column is_free flagged =
-    let old : List LinkedShelf = atlas.lists.shelves in
-    let items : List LinkedItem = atlas.lists.items in
+    let old : List LinkedShelf = atlas.records.shelves in
+    let items : List LinkedItem = atlas.records.items in
     let spelled = flagged.spelled in
     let gone : Entry = entry_of next (item ∷ []) free in
     let height : ℕ = height_of old entry.number + height_of old next in
-    let lists : Records = (shelf_of_item_absorbed entry.number next (Some item) atlas.lists).records in
+    let lists : Records = (shelf_of_item_absorbed entry.number next (Some item) atlas.records).records in
     let new : AtlasRecords = with_lists atlas lists in
-    let apart : IsApart atlas.lists before (gone ∷ after) unused [] entry = linked-apart atlas.lists before (gone ∷ after) entry unused shelves [] [] spelled.linked in
-    let taller : IsTaller atlas.lists lists entry.number height = shelf_absorbed-values atlas.lists entry.number next item height apart.number in
+    let apart : IsApart atlas.records before (gone ∷ after) unused [] entry = linked-apart atlas.records before (gone ∷ after) entry unused shelves [] [] spelled.linked in
+    let taller : IsTaller atlas.records lists entry.number height = shelf_absorbed-values atlas.records entry.number next item height apart.number in
     let among : (k : ℕ) → times k (shelf_numbers before ++ shelf_numbers (gone ∷ after)) ≡ times k (shelf_numbers before) + times k (shelf_numbers (gone ∷ after)) =
     λ k. times-append k (shelf_numbers before) (shelf_numbers (gone ∷ after)) in
     let before_same : map (spelled_shelf new) before ≡ map (spelled_shelf atlas) before =
@@ -148,76 +148,76 @@ shelf-taken atlas before after entry next item free unused shelves touch column 
       ranks = λ ranked ranks. absorbed-ranks atlas lists before after entry gone height ranked taller ranks apart.number;
     }
   where
-    others-spelled : (atlas : AtlasRecords) (lists : Records) (es : List Entry) → ((k : ℕ) → along_of lists.shelves k ≡ along_of atlas.lists.shelves k) → ((k : ℕ) → 1 ≤ times k (shelf_numbers es) → height_of lists.shelves k ≡ height_of atlas.lists.shelves k) → ((k : ℕ) → SameItem atlas.lists.items lists.items k) → map (spelled_shelf (with_lists atlas lists)) es ≡ map (spelled_shelf atlas) es
+    others-spelled : (atlas : AtlasRecords) (lists : Records) (es : List Entry) → ((k : ℕ) → along_of lists.shelves k ≡ along_of atlas.records.shelves k) → ((k : ℕ) → 1 ≤ times k (shelf_numbers es) → height_of lists.shelves k ≡ height_of atlas.records.shelves k) → ((k : ℕ) → SameItem atlas.records.items lists.items k) → map (spelled_shelf (with_lists atlas lists)) es ≡ map (spelled_shelf atlas) es
     others-spelled atlas lists [] along height same = refl
     others-spelled atlas lists (e ∷ es) along height same =
-        ap (λ (s : Shelf). s ∷ map (spelled_shelf (with_lists atlas lists)) es) (shelf-is atlas lists e (height_of atlas.lists.shelves e.number) (along e.number) (height e.number (omega (arith, times-here e.number (shelf_numbers es)))) same)
+        ap (λ (s : Shelf). s ∷ map (spelled_shelf (with_lists atlas lists)) es) (shelf-is atlas lists e (height_of atlas.records.shelves e.number) (along e.number) (height e.number (omega (arith, times-here e.number (shelf_numbers es)))) same)
         ∙ ap (λ (ss : List Shelf). spelled_shelf atlas e ∷ ss) (others-spelled atlas lists es along (λ k stands. height k (omega (arith, stands))) same)
 
 -- the link from a shelf to the next one
-pub next-link : (atlas : AtlasRecords) (before after : List Entry) (entry : Entry) (unused shelves : List ℕ) → IsSpelled atlas (lists_of (before ++ entry ∷ after) unused shelves) → link_at shelf_chain.next atlas.lists.shelves entry.number ≡ first_or None (shelf_numbers after)
+pub next-link : (atlas : AtlasRecords) (before after : List Entry) (entry : Entry) (unused shelves : List ℕ) → IsSpelled atlas (lists_of (before ++ entry ∷ after) unused shelves) → link_at shelf_chain.next atlas.records.shelves entry.number ≡ first_or None (shelf_numbers after)
 next-link atlas before after entry unused shelves spelled =
-    next-is (link_at shelf_chain.next atlas.lists.shelves) (shelf_numbers before) (shelf_numbers after) entry.number atlas.lists.first_shelf None
+    next-is (link_at shelf_chain.next atlas.records.shelves) (shelf_numbers before) (shelf_numbers after) entry.number atlas.records.first_shelf None
     (rw (← shelf_numbers-append before (entry ∷ after)) spelled.linked.shelves.forward)
 
 -- the link from a shelf to the previous one
-pub previous-link : (atlas : AtlasRecords) (before after : List Entry) (entry : Entry) (unused shelves : List ℕ) → IsSpelled atlas (lists_of (before ++ entry ∷ after) unused shelves) → link_at shelf_chain.previous atlas.lists.shelves entry.number ≡ last_or None (shelf_numbers before)
+pub previous-link : (atlas : AtlasRecords) (before after : List Entry) (entry : Entry) (unused shelves : List ℕ) → IsSpelled atlas (lists_of (before ++ entry ∷ after) unused shelves) → link_at shelf_chain.previous atlas.records.shelves entry.number ≡ last_or None (shelf_numbers before)
 previous-link atlas before after entry unused shelves spelled =
-    previous-is (link_at shelf_chain.previous atlas.lists.shelves) (shelf_numbers before) (shelf_numbers after) entry.number None
+    previous-is (link_at shelf_chain.previous atlas.records.shelves) (shelf_numbers before) (shelf_numbers after) entry.number None
     (rw (← shelf_numbers-append before (entry ∷ after)) spelled.linked.shelves.backward)
 
 -- what is known of a shelf and the next one
 pub record AreNeighbours (atlas : AtlasRecords) (entry next : Entry) : Type 0 where
-  pub touch : both_empty (spelled_shelf atlas entry) (spelled_shelf atlas next) ≡ are_both_empty atlas.lists.shelves entry.number next.number
-  pub named : empty_next atlas.lists.shelves entry.number ≡ empty_named atlas.lists.shelves entry.number (Some next.number)
-  pub is : IsEntry atlas.lists next
+  pub touch : both_empty (spelled_shelf atlas entry) (spelled_shelf atlas next) ≡ are_both_empty atlas.records.shelves entry.number next.number
+  pub named : empty_next atlas.records.shelves entry.number ≡ empty_named atlas.records.shelves entry.number (Some next.number)
+  pub is : IsEntry atlas.records next
 
 pub neighbours : (atlas : AtlasRecords) (before after : List Entry) (entry next : Entry) (unused shelves : List ℕ) → IsFlagged atlas (lists_of (before ++ entry ∷ next ∷ after) unused shelves) → AreNeighbours atlas entry next
 neighbours atlas before after entry next unused shelves flagged =
     let placed = Each-back (IsPlaced atlas) before (entry ∷ next ∷ after) flagged.spelled.placed in
     let flags = Each-back (HasFlag atlas) before (entry ∷ next ∷ after) flagged.flags in
-    let are = Each-back (IsEntry atlas.lists) before (entry ∷ next ∷ after) flagged.spelled.linked.entries in
+    let are = Each-back (IsEntry atlas.records) before (entry ∷ next ∷ after) flagged.spelled.linked.entries in
     record {
       touch = touch-same atlas entry next placed.0.along placed.1.0.along flags.0 flags.1.0;
-      named = ap (empty_named atlas.lists.shelves entry.number) (next-link atlas before (next ∷ after) entry unused shelves flagged.spelled);
+      named = ap (empty_named atlas.records.shelves entry.number) (next-link atlas before (next ∷ after) entry unused shelves flagged.spelled);
       is = are.1.0;
     }
 
 -- a shelf was merged with the next one, where both are empty and stand in one column
-pub merges-shelf : (atlas : AtlasRecords) (before after : List Entry) (entry : Entry) (unused shelves : List ℕ) → IsFlagged atlas (lists_of (before ++ entry ∷ after) unused shelves) → MergesShelf atlas (shelf_merged entry.number atlas.lists) (rank_merged entry.number atlas.lists) before after entry unused shelves
+pub merges-shelf : (atlas : AtlasRecords) (before after : List Entry) (entry : Entry) (unused shelves : List ℕ) → IsFlagged atlas (lists_of (before ++ entry ∷ after) unused shelves) → MergesShelf atlas (shelf_merged entry.number atlas.records) (rank_merged entry.number atlas.records) before after entry unused shelves
 merges-shelf atlas before [] entry unused shelves flagged =
-    let none : empty_next atlas.lists.shelves entry.number ≡ None = ap (empty_named atlas.lists.shelves entry.number) (next-link atlas before [] entry unused shelves flagged.spelled) in
-    subst (λ (o : Option ℕ). MergesShelf atlas (shelf_next_absorbed entry.number o atlas.lists) (rank_next_absorbed entry.number o atlas.lists) before [] entry unused shelves) (sym none)
+    let none : empty_next atlas.records.shelves entry.number ≡ None = ap (empty_named atlas.records.shelves entry.number) (next-link atlas before [] entry unused shelves flagged.spelled) in
+    subst (λ (o : Option ℕ). MergesShelf atlas (shelf_next_absorbed entry.number o atlas.records) (rank_next_absorbed entry.number o atlas.records) before [] entry unused shelves) (sym none)
     (shelf-kept atlas before [] entry unused shelves (merged-end (spelled_shelf atlas) both_empty combined_shelves before (spelled_shelf atlas entry)) flagged)
-merges-shelf atlas before (next ∷ after) entry unused shelves flagged = by_test (are_both_empty atlas.lists.shelves entry.number next.number) refl
+merges-shelf atlas before (next ∷ after) entry unused shelves flagged = by_test (are_both_empty atlas.records.shelves entry.number next.number) refl
   where
     near : AreNeighbours atlas entry next
     near = neighbours atlas before after entry next unused shelves flagged
 
-    absorbed : are_both_empty atlas.lists.shelves entry.number next.number ≡ true → HasOneFree atlas.lists.items next.items → MergesShelf atlas (shelf_next_absorbed entry.number (Some next.number) atlas.lists) (rank_next_absorbed entry.number (Some next.number) atlas.lists) before (next ∷ after) entry unused shelves
+    absorbed : are_both_empty atlas.records.shelves entry.number next.number ≡ true → HasOneFree atlas.records.items next.items → MergesShelf atlas (shelf_next_absorbed entry.number (Some next.number) atlas.records) (rank_next_absorbed entry.number (Some next.number) atlas.records) before (next ∷ after) entry unused shelves
     absorbed e one =
         let same : entry_of next.number (one.item ∷ []) next.free_list ≡ next = ap (λ ns. entry_of next.number ns next.free_list) (sym one.alone) in
-        let first : first_item_of atlas.lists.shelves next.number ≡ Some one.item =
-        Leads-start (link_at item_chain.next atlas.lists.items) next.items (first_item_of atlas.lists.shelves next.number) None near.is.items.forward ∙ ap (first_or None) one.alone in
-        let column : along_of atlas.lists.shelves entry.number ≡ along_of atlas.lists.shelves next.number =
-        eqb-true (along_of atlas.lists.shelves entry.number) (along_of atlas.lists.shelves next.number)
-        (and_parts (along_of atlas.lists.shelves entry.number == along_of atlas.lists.shelves next.number) (is_empty_at atlas.lists.shelves entry.number && is_empty_at atlas.lists.shelves next.number) e).0 in
-        subst (λ (o : Option ℕ). MergesShelf atlas (shelf_of_item_absorbed entry.number next.number o atlas.lists) (rank_of_item_absorbed entry.number next.number o atlas.lists) before (next ∷ after) entry unused shelves) (sym first)
-        (subst (λ (n : Entry). MergesShelf atlas (shelf_of_item_absorbed entry.number next.number (Some one.item) atlas.lists) (rank_of_item_absorbed entry.number next.number (Some one.item) atlas.lists) before (n ∷ after) entry unused shelves) same
+        let first : first_item_of atlas.records.shelves next.number ≡ Some one.item =
+        Leads-start (link_at item_chain.next atlas.records.items) next.items (first_item_of atlas.records.shelves next.number) None near.is.items.forward ∙ ap (first_or None) one.alone in
+        let column : along_of atlas.records.shelves entry.number ≡ along_of atlas.records.shelves next.number =
+        eqb-true (along_of atlas.records.shelves entry.number) (along_of atlas.records.shelves next.number)
+        (and_parts (along_of atlas.records.shelves entry.number == along_of atlas.records.shelves next.number) (is_empty_at atlas.records.shelves entry.number && is_empty_at atlas.records.shelves next.number) e).0 in
+        subst (λ (o : Option ℕ). MergesShelf atlas (shelf_of_item_absorbed entry.number next.number o atlas.records) (rank_of_item_absorbed entry.number next.number o atlas.records) before (next ∷ after) entry unused shelves) (sym first)
+        (subst (λ (n : Entry). MergesShelf atlas (shelf_of_item_absorbed entry.number next.number (Some one.item) atlas.records) (rank_of_item_absorbed entry.number next.number (Some one.item) atlas.records) before (n ∷ after) entry unused shelves) same
         (shelf-taken atlas before after entry next.number one.item next.free_list unused shelves
         (subst (λ (n : Entry). both_empty (spelled_shelf atlas entry) (spelled_shelf atlas n) ≡ true) (sym same) (near.touch ∙ e))
         (sym column) one.free
         (subst (λ (n : Entry). IsFlagged atlas (lists_of (before ++ entry ∷ n ∷ after) unused shelves)) (sym same) flagged)))
 
-    by_test : (b : Bool) → are_both_empty atlas.lists.shelves entry.number next.number ≡ b → MergesShelf atlas (shelf_merged entry.number atlas.lists) (rank_merged entry.number atlas.lists) before (next ∷ after) entry unused shelves
+    by_test : (b : Bool) → are_both_empty atlas.records.shelves entry.number next.number ≡ b → MergesShelf atlas (shelf_merged entry.number atlas.records) (rank_merged entry.number atlas.records) before (next ∷ after) entry unused shelves
     by_test false e =
-        let none : empty_named atlas.lists.shelves entry.number (Some next.number) ≡ None = simp e refl in
-        subst (λ (o : Option ℕ). MergesShelf atlas (shelf_next_absorbed entry.number o atlas.lists) (rank_next_absorbed entry.number o atlas.lists) before (next ∷ after) entry unused shelves) (sym (near.named ∙ none))
+        let none : empty_named atlas.records.shelves entry.number (Some next.number) ≡ None = simp e refl in
+        subst (λ (o : Option ℕ). MergesShelf atlas (shelf_next_absorbed entry.number o atlas.records) (rank_next_absorbed entry.number o atlas.records) before (next ∷ after) entry unused shelves) (sym (near.named ∙ none))
         (shelf-kept atlas before (next ∷ after) entry unused shelves
         (merged-apart (spelled_shelf atlas) both_empty combined_shelves before (spelled_shelf atlas entry) (spelled_shelf atlas next) (map (spelled_shelf atlas) after) (near.touch ∙ e)) flagged)
     by_test true e =
-        let some : empty_named atlas.lists.shelves entry.number (Some next.number) ≡ Some next.number = simp e refl in
+        let some : empty_named atlas.records.shelves entry.number (Some next.number) ≡ Some next.number = simp e refl in
         let empty = and_parts (is_empty (spelled_shelf atlas entry)) (is_empty (spelled_shelf atlas next))
         (and_parts ((spelled_shelf atlas entry).column == (spelled_shelf atlas next).column) (is_empty (spelled_shelf atlas entry) && is_empty (spelled_shelf atlas next)) (near.touch ∙ e)).1 in
-        subst (λ (o : Option ℕ). MergesShelf atlas (shelf_next_absorbed entry.number o atlas.lists) (rank_next_absorbed entry.number o atlas.lists) before (next ∷ after) entry unused shelves) (sym (near.named ∙ some))
-        (absorbed e (one-free-of atlas.lists.items next.items empty.1))
+        subst (λ (o : Option ℕ). MergesShelf atlas (shelf_next_absorbed entry.number o atlas.records) (rank_next_absorbed entry.number o atlas.records) before (next ∷ after) entry unused shelves) (sym (near.named ∙ some))
+        (absorbed e (one-free-of atlas.records.items next.items empty.1))

@@ -93,22 +93,22 @@ front-places items new here front back shelf number rest width apart same_front 
     LieFrom-append new here front (number ∷ rest ∷ back) (LieFrom-same items new here front same_front (LieFrom-front items here front (number ∷ back) lies)) tail
 
 -- the records after the front of a free item was given
-pub front_given-spelled : (atlas : AtlasRecords) (before after : List Entry) (shelf number rest width : ℕ) (front back free_front free_back unused shelves : List ℕ) → is_allocated_at atlas.lists.items number ≡ false → IsRestItem atlas.lists.items shelf number rest width → IsSpelledBut atlas (lists_of (before ++ entry_of shelf (front ++ number ∷ back) (free_front ++ number ∷ free_back) ∷ after) unused shelves) (rest ∷ []) [] → EditsItems atlas (front_given shelf number rest width atlas.lists) before after unused unused shelves (entry_of shelf (front ++ number ∷ back) (free_front ++ number ∷ free_back)) (entry_of shelf (front ++ number ∷ rest ∷ back) (free_front ++ rest ∷ free_back))
+pub front_given-spelled : (atlas : AtlasRecords) (before after : List Entry) (shelf number rest width : ℕ) (front back free_front free_back unused shelves : List ℕ) → is_allocated_at atlas.records.items number ≡ false → IsRestItem atlas.records.items shelf number rest width → IsSpelledBut atlas (lists_of (before ++ entry_of shelf (front ++ number ∷ back) (free_front ++ number ∷ free_back) ∷ after) unused shelves) (rest ∷ []) [] → EditsItems atlas (front_given shelf number rest width atlas.records) before after unused unused shelves (entry_of shelf (front ++ number ∷ back) (free_front ++ number ∷ free_back)) (entry_of shelf (front ++ number ∷ rest ∷ back) (free_front ++ rest ∷ free_back))
 front_given-spelled atlas before after shelf number rest width front back free_front free_back unused shelves is_free is_rest spelled =
-    let items : List LinkedItem = atlas.lists.items in
-    let lists : Records = front_given shelf number rest width atlas.lists in
+    let items : List LinkedItem = atlas.records.items in
+    let lists : Records = front_given shelf number rest width atlas.records in
     let numbers : List ℕ = front ++ number ∷ back in
     let free : List ℕ = free_front ++ number ∷ free_back in
     let entry : Entry = entry_of shelf numbers free in
-    let apart : IsApart atlas.lists before after unused (rest ∷ []) entry = linked-apart atlas.lists before after entry unused shelves (rest ∷ []) [] spelled.linked in
+    let apart : IsApart atlas.records before after unused (rest ∷ []) entry = linked-apart atlas.records before after entry unused shelves (rest ∷ []) [] spelled.linked in
     let placed : IsPlaced atlas entry = Each-middle (IsPlaced atlas) before entry after spelled.placed in
     let own_stands : 1 ≤ times number numbers = omega (arith, times-append number front (number ∷ back), times-here number back) in
     let within : number < length items = apart.within number own_stands in
     let rest_absent : times rest numbers ≡ 0 = apart.loose_items rest (omega (arith, times-here rest [])) in
     let differ : number ≢ rest = λ e. let again : 1 ≤ times rest numbers = rw (← e) own_stands in omega (arith, again, rest_absent) in
-    let given : IsFront items lists.items number width = front-values atlas.lists shelf number rest width within in
-    let same : (k : ℕ) → SameShelf atlas.lists.shelves lists.shelves k = λ k.
-    shelves-same atlas.lists.shelves lists.shelves k (first-kept) in
+    let given : IsFront items lists.items number width = front-values atlas.records shelf number rest width within in
+    let same : (k : ℕ) → SameShelf atlas.records.shelves lists.shelves k = λ k.
+    shelves-same atlas.records.shelves lists.shelves k (first-kept) in
     let same_front : (k : ℕ) → 1 ≤ times k front → SameItem items lists.items k = λ k stands. given.others k (before-other front back number k (apart.once k) stands) in
     let same_back : (k : ℕ) → 1 ≤ times k back → SameItem items lists.items k = λ k stands. given.others k (after-other front back number k (apart.once k) stands) in
     let rest_same : SameItem items lists.items rest = given.others rest differ in
@@ -117,14 +117,14 @@ front_given-spelled atlas before after shelf number rest width front back free_f
     let kept_back : (k : ℕ) → free_count lists.items k back ≡ free_count items k back = λ k. free_count-same items lists.items k back (λ n stands. (same_back n stands).allocated) in
     record {
       number = refl;
-      linked = front_given-linked atlas.lists before after shelf number rest width front back free_front free_back unused shelves [] [] spelled.linked;
+      linked = front_given-linked atlas.records before after shelf number rest width front back free_front free_back unused shelves [] [] spelled.linked;
       placed =
           record {
             owners = Each-append (λ item. shelf_of lists.items item ≡ shelf) front (number ∷ rest ∷ back)
                 (owners-same items lists.items shelf front same_front (Each-front (λ item. shelf_of items item ≡ shelf) front (number ∷ back) placed.owners))
                 (given.shelf ∙ owned.0, (rest_same.shelf ∙ is_rest.shelf, owners-same items lists.items shelf back same_back owned.1));
             along = ap (λ a. a % atlas.frame.column_width) (same shelf).along ∙ placed.along;
-            places = rw (same shelf).along (front-places items lists.items (along_of atlas.lists.shelves shelf) front back shelf number rest width differ same_front same_back is_rest given placed.places);
+            places = rw (same shelf).along (front-places items lists.items (along_of atlas.records.shelves shelf) front back shelf number rest width differ same_front same_back is_rest given placed.places);
             free_list = λ k. omega (
               arith,
               placed.free_list k,
@@ -145,8 +145,8 @@ front_given-spelled atlas before after shelf number rest width front back free_f
           (λ k stands. given.others k (not-member front back number k (omega (arith, apart.others k (omega (arith, stands, times-append k (item_numbers before ++ item_numbers after) unused)))))) spelled.unused;
     }
   where
-    first-kept : map shelf_values (front_given shelf number rest width atlas.lists).shelves ≡ map shelf_values atlas.lists.shelves
+    first-kept : map shelf_values (front_given shelf number rest width atlas.records).shelves ≡ map shelf_values atlas.records.shelves
     first-kept =
-        let one : List LinkedItem = linked_between item_chain (Some number) (link_at item_chain.next atlas.lists.items number) rest atlas.lists.items in
+        let one : List LinkedItem = linked_between item_chain (Some number) (link_at item_chain.next atlas.records.items number) rest atlas.records.items in
         let two : List LinkedItem = linked_between free_list (Some number) (link_at free_list.next one number) rest one in
-        free-first shelf (first_without (link_at free_list.previous two number) (link_at free_list.next two number) (first_free_of atlas.lists.shelves shelf)) atlas.lists.shelves
+        free-first shelf (first_without (link_at free_list.previous two number) (link_at free_list.next two number) (first_free_of atlas.records.shelves shelf)) atlas.records.shelves

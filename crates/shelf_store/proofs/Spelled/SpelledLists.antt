@@ -6,7 +6,7 @@ use Rattle.etagere_base.proofs.EachLemmas.{Each-append, Each-front, Each-back}
 use Rattle.etagere_base.proofs.TimesLemmas.{times-append}
 use Rattle.etagere_base.specs.Lists.{Each, times}
 use Rattle.etagere_links.specs.declared.records.LinkedShelf.{LinkedShelf}
-use Rattle.etagere_links.specs.RecordLists.{Records, Entry, Lists, shelf_numbers, item_numbers, IsEntry, IsLinkedBut}
+use Rattle.etagere_links.specs.RecordLists.{Records, Entry, Lists, shelf_numbers, item_numbers, IsEntry, IsLinkedExcept}
 use Rattle.etagere_links.proofs.AllLists.LinkedEdits.{same-numbers}
 use Rattle.etagere_links.proofs.AllLists.LinkedItems.{IsApart, linked-apart}
 use Rattle.etagere_links.proofs.AllLists.LinkedUnused.{lists_of}
@@ -36,33 +36,33 @@ stacked-same shelves new column_width same before (n ∷ ns) stacked =
 
 -- the atlas with other records
 abbrev pub with_lists : AtlasRecords → Records → AtlasRecords
-with_lists atlas lists = record { frame = atlas.frame; lists = lists; allocated_space = atlas.allocated_space }
+with_lists atlas lists = record { frame = atlas.frame; records = lists; allocated_space = atlas.allocated_space }
 
 -- a shelf whose record and items say the same is spelled as before
-pub shelf-same : (atlas : AtlasRecords) (lists : Records) (entry : Entry) → SameShelf atlas.lists.shelves lists.shelves entry.number → ((k : ℕ) → 1 ≤ times k entry.items → SameItem atlas.lists.items lists.items k) → ((k : ℕ) → times k entry.free_list ≤ times k entry.items) → spelled_shelf (with_lists atlas lists) entry ≡ spelled_shelf atlas entry
+pub shelf-same : (atlas : AtlasRecords) (lists : Records) (entry : Entry) → SameShelf atlas.records.shelves lists.shelves entry.number → ((k : ℕ) → 1 ≤ times k entry.items → SameItem atlas.records.items lists.items k) → ((k : ℕ) → times k entry.free_list ≤ times k entry.items) → spelled_shelf (with_lists atlas lists) entry ≡ spelled_shelf atlas entry
 shelf-same atlas lists entry shelf items members =
     ap (λ a. record { column = a / atlas.frame.column_width; height = height_of lists.shelves entry.number; items = map (item_at lists.items) entry.items; free_list = map (place_of lists.items) entry.free_list }) shelf.along
-    ∙ ap (λ h. record { column = along_of atlas.lists.shelves entry.number / atlas.frame.column_width; height = h; items = map (item_at lists.items) entry.items; free_list = map (place_of lists.items) entry.free_list }) shelf.height
-    ∙ ap (λ is. record { column = along_of atlas.lists.shelves entry.number / atlas.frame.column_width; height = height_of atlas.lists.shelves entry.number; items = is; free_list = map (place_of lists.items) entry.free_list }) (map-agrees (item_at lists.items) (item_at atlas.lists.items) entry.items (λ k stands. (items k stands).item))
-    ∙ ap (λ ps. record { column = along_of atlas.lists.shelves entry.number / atlas.frame.column_width; height = height_of atlas.lists.shelves entry.number; items = map (item_at atlas.lists.items) entry.items; free_list = ps }) (map-agrees (place_of lists.items) (place_of atlas.lists.items) entry.free_list (λ k stands. (items k (omega (arith, stands, members k))).place))
+    ∙ ap (λ h. record { column = along_of atlas.records.shelves entry.number / atlas.frame.column_width; height = h; items = map (item_at lists.items) entry.items; free_list = map (place_of lists.items) entry.free_list }) shelf.height
+    ∙ ap (λ is. record { column = along_of atlas.records.shelves entry.number / atlas.frame.column_width; height = height_of atlas.records.shelves entry.number; items = is; free_list = map (place_of lists.items) entry.free_list }) (map-agrees (item_at lists.items) (item_at atlas.records.items) entry.items (λ k stands. (items k stands).item))
+    ∙ ap (λ ps. record { column = along_of atlas.records.shelves entry.number / atlas.frame.column_width; height = height_of atlas.records.shelves entry.number; items = map (item_at atlas.records.items) entry.items; free_list = ps }) (map-agrees (place_of lists.items) (place_of atlas.records.items) entry.free_list (λ k stands. (items k (omega (arith, stands, members k))).place))
 
 -- a shelf whose record and items say the same is placed as before
-pub placed-same : (atlas : AtlasRecords) (lists : Records) (entry : Entry) → along_of lists.shelves entry.number ≡ along_of atlas.lists.shelves entry.number → ((k : ℕ) → 1 ≤ times k entry.items → SameItem atlas.lists.items lists.items k) → IsPlaced atlas entry → IsPlaced (with_lists atlas lists) entry
+pub placed-same : (atlas : AtlasRecords) (lists : Records) (entry : Entry) → along_of lists.shelves entry.number ≡ along_of atlas.records.shelves entry.number → ((k : ℕ) → 1 ≤ times k entry.items → SameItem atlas.records.items lists.items k) → IsPlaced atlas entry → IsPlaced (with_lists atlas lists) entry
 placed-same atlas lists entry along items placed =
     record {
-      owners = owners-same atlas.lists.items lists.items entry.number entry.items items placed.owners;
+      owners = owners-same atlas.records.items lists.items entry.number entry.items items placed.owners;
       along = ap (λ a. a % atlas.frame.column_width) along ∙ placed.along;
-      places = rw along (LieFrom-same atlas.lists.items lists.items (along_of atlas.lists.shelves entry.number) entry.items items placed.places);
-      free_list = λ k. placed.free_list k ∙ sym (free_count-same atlas.lists.items lists.items k entry.items (λ n stands. (items n stands).allocated));
+      places = rw along (LieFrom-same atlas.records.items lists.items (along_of atlas.records.shelves entry.number) entry.items items placed.places);
+      free_list = λ k. placed.free_list k ∙ sym (free_count-same atlas.records.items lists.items k entry.items (λ n stands. (items n stands).allocated));
     }
 
 -- records that spell lists, while an edit goes on, but for those that stand in no list: no more is known of the state
 -- that they spell
 pub record IsSpelledBut (atlas : AtlasRecords) (lists : Lists) (loose_items loose_shelves : List ℕ) : Type 0 where
-  pub linked : IsLinkedBut atlas.lists lists loose_items loose_shelves
+  pub linked : IsLinkedExcept atlas.records lists loose_items loose_shelves
   pub placed : Each (IsPlaced atlas) lists.entries
-  pub stacked : AreStacked atlas.lists.shelves atlas.frame.column_width [] (shelf_numbers lists.entries)
-  pub unused : Each (λ item. is_allocated_at atlas.lists.items item ≡ false) lists.unused_items
+  pub stacked : AreStacked atlas.records.shelves atlas.frame.column_width [] (shelf_numbers lists.entries)
+  pub unused : Each (λ item. is_allocated_at atlas.records.items item ≡ false) lists.unused_items
 
 -- records that spell lists, while an edit goes on, each in one of them
 abbrev pub IsSpelled : AtlasRecords → Lists → Type 0
@@ -71,17 +71,17 @@ IsSpelled atlas lists = IsSpelledBut atlas lists [] []
 -- an edit of the items of one shelf: what the records of other items and of all shelves say stays
 pub record EditsItems (atlas : AtlasRecords) (lists : Records) (before after : List Entry) (unused unused' shelves : List ℕ) (entry edited : Entry) : Type 0 where
   pub number : edited.number ≡ entry.number
-  pub linked : IsLinkedBut lists (lists_of (before ++ edited ∷ after) unused' shelves) [] []
+  pub linked : IsLinkedExcept lists (lists_of (before ++ edited ∷ after) unused' shelves) [] []
   pub placed : IsPlaced (with_lists atlas lists) edited
-  pub items : (k : ℕ) → times k entry.items ≡ 0 → SameItem atlas.lists.items lists.items k
-  pub shelf : (k : ℕ) → SameShelf atlas.lists.shelves lists.shelves k
+  pub items : (k : ℕ) → times k entry.items ≡ 0 → SameItem atlas.records.items lists.items k
+  pub shelf : (k : ℕ) → SameShelf atlas.records.shelves lists.shelves k
   pub aside : Each (λ item. is_allocated_at lists.items item ≡ false) unused'
 
 -- shelves whose items are untouched are placed and spelled as before
-untouched : (atlas : AtlasRecords) (lists : Records) (entries : List Entry) → ((k : ℕ) → SameShelf atlas.lists.shelves lists.shelves k) → ((k : ℕ) → 1 ≤ times k (item_numbers entries) → SameItem atlas.lists.items lists.items k) → Each (IsEntry atlas.lists) entries → Each (IsPlaced atlas) entries → Each (IsPlaced (with_lists atlas lists)) entries × (map (spelled_shelf (with_lists atlas lists)) entries ≡ map (spelled_shelf atlas) entries)
+untouched : (atlas : AtlasRecords) (lists : Records) (entries : List Entry) → ((k : ℕ) → SameShelf atlas.records.shelves lists.shelves k) → ((k : ℕ) → 1 ≤ times k (item_numbers entries) → SameItem atlas.records.items lists.items k) → Each (IsEntry atlas.records) entries → Each (IsPlaced atlas) entries → Each (IsPlaced (with_lists atlas lists)) entries × (map (spelled_shelf (with_lists atlas lists)) entries ≡ map (spelled_shelf atlas) entries)
 untouched atlas lists [] shelf items are placed = (tt, refl)
 untouched atlas lists (entry ∷ entries) shelf items are placed =
-    let own : (k : ℕ) → 1 ≤ times k entry.items → SameItem atlas.lists.items lists.items k = λ k stands. items k (omega (arith, stands, times-append k entry.items (item_numbers entries))) in
+    let own : (k : ℕ) → 1 ≤ times k entry.items → SameItem atlas.records.items lists.items k = λ k stands. items k (omega (arith, stands, times-append k entry.items (item_numbers entries))) in
     let rest = untouched atlas lists entries shelf (λ k stands. items k (omega (arith, stands, times-append k entry.items (item_numbers entries)))) are.1 placed.1 in (
       (placed-same atlas lists entry (shelf entry.number).along own placed.0, rest.0),
       ap (λ (s : Shelf). s ∷ map (spelled_shelf (with_lists atlas lists)) entries) (shelf-same atlas lists entry (shelf entry.number) own are.0.members)
@@ -93,22 +93,22 @@ untouched atlas lists (entry ∷ entries) shelf items are placed =
 pub items-edited-but : (atlas : AtlasRecords) (lists : Records) (before after : List Entry) (unused unused' shelves loose : List ℕ) (entry edited : Entry) → IsSpelledBut atlas (lists_of (before ++ entry ∷ after) unused shelves) loose [] → EditsItems atlas lists before after unused unused' shelves entry edited → IsSpelled (with_lists atlas lists) (lists_of (before ++ edited ∷ after) unused' shelves) × (map (spelled_shelf (with_lists atlas lists)) (before ++ edited ∷ after) ≡ map (spelled_shelf atlas) before ++ spelled_shelf (with_lists atlas lists) edited ∷ map (spelled_shelf atlas) after)
 items-edited-but atlas lists before after unused unused' shelves loose entry edited spelled edits =
     let new : AtlasRecords = with_lists atlas lists in
-    let apart : IsApart atlas.lists before after unused loose entry = linked-apart atlas.lists before after entry unused shelves loose [] spelled.linked in
+    let apart : IsApart atlas.records before after unused loose entry = linked-apart atlas.records before after entry unused shelves loose [] spelled.linked in
     let count : (k : ℕ) → times k (item_numbers before ++ item_numbers after ++ unused) ≡ times k (item_numbers before) + times k (item_numbers after) + times k unused =
     λ k. omega (arith, times-append k (item_numbers before ++ item_numbers after) unused, times-append k (item_numbers before) (item_numbers after)) in
     let front = untouched atlas lists before edits.shelf
     (λ k stands. edits.items k (omega (arith, apart.others k (omega (arith, count k, stands)))))
-    (Each-front (IsEntry atlas.lists) before (entry ∷ after) spelled.linked.entries)
+    (Each-front (IsEntry atlas.records) before (entry ∷ after) spelled.linked.entries)
     (Each-front (IsPlaced atlas) before (entry ∷ after) spelled.placed) in
     let back = untouched atlas lists after edits.shelf
     (λ k stands. edits.items k (omega (arith, apart.others k (omega (arith, count k, stands)))))
-    (Each-back (IsEntry atlas.lists) before (entry ∷ after) spelled.linked.entries).1
+    (Each-back (IsEntry atlas.records) before (entry ∷ after) spelled.linked.entries).1
     (Each-back (IsPlaced atlas) before (entry ∷ after) spelled.placed).1 in
     let numbers : shelf_numbers (before ++ edited ∷ after) ≡ shelf_numbers (before ++ entry ∷ after) = same-numbers before after entry edited edits.number in (
       record {
         linked = edits.linked;
         placed = Each-append (IsPlaced new) before (edited ∷ after) front.0 (edits.placed, back.0);
-        stacked = rw numbers (stacked-same atlas.lists.shelves lists.shelves atlas.frame.column_width edits.shelf [] (shelf_numbers (before ++ entry ∷ after)) spelled.stacked);
+        stacked = rw numbers (stacked-same atlas.records.shelves lists.shelves atlas.frame.column_width edits.shelf [] (shelf_numbers (before ++ entry ∷ after)) spelled.stacked);
         unused = edits.aside;
       },
       map-append (spelled_shelf new) before (edited ∷ after)

@@ -40,13 +40,13 @@ unmarked-same items new (x ∷ xs) same each =
     ((same x (omega (arith, times-here x xs))).allocated ∙ each.0, unmarked-same items new xs (λ k stands. same k (omega (arith, stands))) each.1)
 
 -- a shelf after one of its items absorbed the next is placed
-absorbed-placed : (atlas : AtlasRecords) (lists : Records) (shelf number next : ℕ) (front back free free' : List ℕ) → IsRest front back number next → Absorbs atlas.lists.items lists.items number next → ((k : ℕ) → SameShelf atlas.lists.shelves lists.shelves k) → ((k : ℕ) → times k free' + free_count atlas.lists.items k (next ∷ []) ≡ times k free) → IsPlaced atlas (entry_of shelf (front ++ number ∷ next ∷ back) free) → IsPlaced (with_lists atlas lists) (entry_of shelf (front ++ number ∷ back) free')
+absorbed-placed : (atlas : AtlasRecords) (lists : Records) (shelf number next : ℕ) (front back free free' : List ℕ) → IsRest front back number next → Absorbs atlas.records.items lists.items number next → ((k : ℕ) → SameShelf atlas.records.shelves lists.shelves k) → ((k : ℕ) → times k free' + free_count atlas.records.items k (next ∷ []) ≡ times k free) → IsPlaced atlas (entry_of shelf (front ++ number ∷ next ∷ back) free) → IsPlaced (with_lists atlas lists) (entry_of shelf (front ++ number ∷ back) free')
 absorbed-placed atlas lists shelf number next front back free free' rest absorbs same listed placed =
     record {
-      owners = absorbed-owners atlas.lists.items lists.items shelf front back number next rest absorbs placed.owners;
+      owners = absorbed-owners atlas.records.items lists.items shelf front back number next rest absorbs placed.owners;
       along = ap (λ a. a % atlas.frame.column_width) (same shelf).along ∙ placed.along;
-      places = rw (same shelf).along (absorbed-places atlas.lists.items lists.items (along_of atlas.lists.shelves shelf) front back number next rest absorbs placed.places);
-      free_list = λ k. omega (arith, placed.free_list k, listed k, absorbed-free atlas.lists.items lists.items k front back number next rest absorbs);
+      places = rw (same shelf).along (absorbed-places atlas.records.items lists.items (along_of atlas.records.shelves shelf) front back number next rest absorbs placed.places);
+      free_list = λ k. omega (arith, placed.free_list k, listed k, absorbed-free atlas.records.items lists.items k front back number next rest absorbs);
     }
 
 -- a number that does not stand in the items of a shelf is neither of two of them
@@ -58,30 +58,30 @@ neither front back number next k absent =
     )
 
 -- the records after an item took the place of the free one after it
-pub free_absorbed-spelled : (atlas : AtlasRecords) (before after : List Entry) (shelf number next : ℕ) (front back free_front free_back unused shelves : List ℕ) → is_allocated_at atlas.lists.items next ≡ false → IsSpelled atlas (lists_of (before ++ entry_of shelf (front ++ number ∷ next ∷ back) (free_front ++ next ∷ free_back) ∷ after) unused shelves) → EditsItems atlas (free_absorbed shelf number next ((item_at atlas.lists.items number).width + (item_at atlas.lists.items next).width) atlas.lists) before after unused (next ∷ unused) shelves (entry_of shelf (front ++ number ∷ next ∷ back) (free_front ++ next ∷ free_back)) (entry_of shelf (front ++ number ∷ back) (free_front ++ free_back))
+pub free_absorbed-spelled : (atlas : AtlasRecords) (before after : List Entry) (shelf number next : ℕ) (front back free_front free_back unused shelves : List ℕ) → is_allocated_at atlas.records.items next ≡ false → IsSpelled atlas (lists_of (before ++ entry_of shelf (front ++ number ∷ next ∷ back) (free_front ++ next ∷ free_back) ∷ after) unused shelves) → EditsItems atlas (free_absorbed shelf number next ((item_at atlas.records.items number).width + (item_at atlas.records.items next).width) atlas.records) before after unused (next ∷ unused) shelves (entry_of shelf (front ++ number ∷ next ∷ back) (free_front ++ next ∷ free_back)) (entry_of shelf (front ++ number ∷ back) (free_front ++ free_back))
 free_absorbed-spelled atlas before after shelf number next front back free_front free_back unused shelves is_free spelled =
-    let items : List LinkedItem = atlas.lists.items in
+    let items : List LinkedItem = atlas.records.items in
     let width : ℕ = (item_at items number).width + (item_at items next).width in
-    let lists : Records = free_absorbed shelf number next width atlas.lists in
+    let lists : Records = free_absorbed shelf number next width atlas.records in
     let numbers : List ℕ = front ++ number ∷ next ∷ back in
     let entry : Entry = entry_of shelf numbers (free_front ++ next ∷ free_back) in
-    let apart : IsApart atlas.lists before after unused [] entry = linked-apart atlas.lists before after entry unused shelves [] [] spelled.linked in
+    let apart : IsApart atlas.records before after unused [] entry = linked-apart atlas.records before after entry unused shelves [] [] spelled.linked in
     let placed : IsPlaced atlas entry = Each-middle (IsPlaced atlas) before entry after spelled.placed in
     let count : (k : ℕ) → times k numbers ≡ times k front + times k (number ∷ next ∷ back) = λ k. times-append k front (number ∷ next ∷ back) in
     let rest : IsRest front back number next = rest-of front back number next apart.once in
-    let wide : IsWidened items lists.items number width = free-widens atlas.lists shelf number next (apart.within number (omega (arith, count number, times-here number (next ∷ back)))) in
+    let wide : IsWidened items lists.items number width = free-widens atlas.records shelf number next (apart.within number (omega (arith, count number, times-here number (next ∷ back)))) in
     let absorbs : Absorbs items lists.items number next = widened-absorbs items lists.items number next wide in
     let differ : number ≢ next = λ e.
     let here : times next (number ∷ next ∷ back) ≡ 1 + times next (next ∷ back) = rw e (times-here next (next ∷ back)) in
     omega (arith, apart.once next, count next, here, times-here next back) in
-    let one : Records = free_unlinked shelf next atlas.lists in
-    let same : (k : ℕ) → SameShelf atlas.lists.shelves lists.shelves k = λ k.
-    shelves-same atlas.lists.shelves lists.shelves k
+    let one : Records = free_unlinked shelf next atlas.records in
+    let same : (k : ℕ) → SameShelf atlas.records.shelves lists.shelves k = λ k.
+    shelves-same atlas.records.shelves lists.shelves k
     (item-first shelf (first_without (link_at item_chain.previous one.items next) (link_at item_chain.next one.items next) (first_item_of one.shelves shelf)) one.shelves
-    ∙ free-first shelf (first_without (link_at free_list.previous items next) (link_at free_list.next items next) (first_free_of atlas.lists.shelves shelf)) atlas.lists.shelves) in
+    ∙ free-first shelf (first_without (link_at free_list.previous items next) (link_at free_list.next items next) (first_free_of atlas.records.shelves shelf)) atlas.records.shelves) in
     record {
       number = refl;
-      linked = free_absorbed-linked atlas.lists before after shelf number next width front back free_front free_back unused shelves [] [] spelled.linked;
+      linked = free_absorbed-linked atlas.records before after shelf number next width front back free_front free_back unused shelves [] [] spelled.linked;
       placed = absorbed-placed atlas lists shelf number next front back (free_front ++ next ∷ free_back) (free_front ++ free_back) rest absorbs same
           (λ k. omega (arith, times-append k free_front (next ∷ free_back), times-append k free_front free_back, free_count-free items k next [] is_free)) placed;
       items = λ k absent. absorbs.others k (neither front back number next k absent).0 (neither front back number next k absent).1;
@@ -94,14 +94,14 @@ free_absorbed-spelled atlas before after shelf number next front back free_front
     }
 
 -- the records after a free item took the place of the allocated one after it
-pub allocated_absorbed-spelled : (atlas : AtlasRecords) (before after : List Entry) (shelf number next : ℕ) (front back free unused shelves : List ℕ) → is_allocated_at atlas.lists.items next ≡ true → IsSpelled atlas (lists_of (before ++ entry_of shelf (front ++ number ∷ next ∷ back) free ∷ after) unused shelves) → EditsItems atlas (allocated_absorbed shelf number next ((item_at atlas.lists.items number).width + (item_at atlas.lists.items next).width) atlas.lists) before after unused (next ∷ unused) shelves (entry_of shelf (front ++ number ∷ next ∷ back) free) (entry_of shelf (front ++ number ∷ back) free)
+pub allocated_absorbed-spelled : (atlas : AtlasRecords) (before after : List Entry) (shelf number next : ℕ) (front back free unused shelves : List ℕ) → is_allocated_at atlas.records.items next ≡ true → IsSpelled atlas (lists_of (before ++ entry_of shelf (front ++ number ∷ next ∷ back) free ∷ after) unused shelves) → EditsItems atlas (allocated_absorbed shelf number next ((item_at atlas.records.items number).width + (item_at atlas.records.items next).width) atlas.records) before after unused (next ∷ unused) shelves (entry_of shelf (front ++ number ∷ next ∷ back) free) (entry_of shelf (front ++ number ∷ back) free)
 allocated_absorbed-spelled atlas before after shelf number next front back free unused shelves is_allocated spelled =
-    let items : List LinkedItem = atlas.lists.items in
+    let items : List LinkedItem = atlas.records.items in
     let width : ℕ = (item_at items number).width + (item_at items next).width in
-    let lists : Records = allocated_absorbed shelf number next width atlas.lists in
+    let lists : Records = allocated_absorbed shelf number next width atlas.records in
     let numbers : List ℕ = front ++ number ∷ next ∷ back in
     let entry : Entry = entry_of shelf numbers free in
-    let apart : IsApart atlas.lists before after unused [] entry = linked-apart atlas.lists before after entry unused shelves [] [] spelled.linked in
+    let apart : IsApart atlas.records before after unused [] entry = linked-apart atlas.records before after entry unused shelves [] [] spelled.linked in
     let placed : IsPlaced atlas entry = Each-middle (IsPlaced atlas) before entry after spelled.placed in
     let count : (k : ℕ) → times k numbers ≡ times k front + times k (number ∷ next ∷ back) = λ k. times-append k front (number ∷ next ∷ back) in
     let rest : IsRest front back number next = rest-of front back number next apart.once in
@@ -109,21 +109,21 @@ allocated_absorbed-spelled atlas before after shelf number next front back free 
     let here : times next (number ∷ next ∷ back) ≡ 1 + times next (next ∷ back) = rw e (times-here next (next ∷ back)) in
     omega (arith, apart.once next, count next, here, times-here next back) in
     let absorbs : Absorbs items lists.items number next =
-    allocated-absorbs atlas.lists shelf number next differ (apart.within number (omega (arith, count number, times-here number (next ∷ back)))) in
+    allocated-absorbs atlas.records shelf number next differ (apart.within number (omega (arith, count number, times-here number (next ∷ back)))) in
     let next_within : next < length items = apart.within next (omega (arith, count next, times-here next back)) in
     let absent : times next free ≡ 0 = placed.free_list next ∙ free_count-none items next numbers is_allocated in
-    let same : (k : ℕ) → SameShelf atlas.lists.shelves lists.shelves k = λ k.
-    shelves-same atlas.lists.shelves lists.shelves k
-    (item-first shelf (first_without (link_at item_chain.previous items next) (link_at item_chain.next items next) (first_item_of atlas.lists.shelves shelf)) atlas.lists.shelves) in
+    let same : (k : ℕ) → SameShelf atlas.records.shelves lists.shelves k = λ k.
+    shelves-same atlas.records.shelves lists.shelves k
+    (item-first shelf (first_without (link_at item_chain.previous items next) (link_at item_chain.next items next) (first_item_of atlas.records.shelves shelf)) atlas.records.shelves) in
     record {
       number = refl;
-      linked = allocated_absorbed-linked atlas.lists before after shelf number next width front back free unused shelves [] [] absent spelled.linked;
+      linked = allocated_absorbed-linked atlas.records before after shelf number next width front back free unused shelves [] [] absent spelled.linked;
       placed = absorbed-placed atlas lists shelf number next front back free free rest absorbs same
           (λ k. omega (arith, free_count-allocated items k next [] is_allocated)) placed;
       items = λ k absent_. absorbs.others k (neither front back number next k absent_).0 (neither front back number next k absent_).1;
       shelf = same;
       aside = (
-        allocated-unmarked atlas.lists shelf number next width differ next_within,
+        allocated-unmarked atlas.records shelf number next width differ next_within,
         unmarked-same items lists.items unused
             (λ k stands.
             let gone = neither front back number next k (omega (arith, apart.others k (omega (arith, stands, times-append k (item_numbers before ++ item_numbers after) unused)))) in
@@ -166,29 +166,29 @@ after-other front back number k once stands e =
     omega (arith, once, stands, times-append k front (number ∷ back), here)
 
 -- the records after an allocated item became free
-pub item_freed-spelled : (atlas : AtlasRecords) (before after : List Entry) (shelf number : ℕ) (front back free unused shelves : List ℕ) → is_allocated_at atlas.lists.items number ≡ true → IsSpelled atlas (lists_of (before ++ entry_of shelf (front ++ number ∷ back) free ∷ after) unused shelves) → EditsItems atlas (item_freed shelf number atlas.lists) before after unused unused shelves (entry_of shelf (front ++ number ∷ back) free) (entry_of shelf (front ++ number ∷ back) (number ∷ free))
+pub item_freed-spelled : (atlas : AtlasRecords) (before after : List Entry) (shelf number : ℕ) (front back free unused shelves : List ℕ) → is_allocated_at atlas.records.items number ≡ true → IsSpelled atlas (lists_of (before ++ entry_of shelf (front ++ number ∷ back) free ∷ after) unused shelves) → EditsItems atlas (item_freed shelf number atlas.records) before after unused unused shelves (entry_of shelf (front ++ number ∷ back) free) (entry_of shelf (front ++ number ∷ back) (number ∷ free))
 item_freed-spelled atlas before after shelf number front back free unused shelves is_allocated spelled =
-    let items : List LinkedItem = atlas.lists.items in
-    let lists : Records = item_freed shelf number atlas.lists in
+    let items : List LinkedItem = atlas.records.items in
+    let lists : Records = item_freed shelf number atlas.records in
     let numbers : List ℕ = front ++ number ∷ back in
     let entry : Entry = entry_of shelf numbers free in
-    let apart : IsApart atlas.lists before after unused [] entry = linked-apart atlas.lists before after entry unused shelves [] [] spelled.linked in
+    let apart : IsApart atlas.records before after unused [] entry = linked-apart atlas.records before after entry unused shelves [] [] spelled.linked in
     let placed : IsPlaced atlas entry = Each-middle (IsPlaced atlas) before entry after spelled.placed in
     let within : number < length items = apart.within number (omega (arith, times-append number front (number ∷ back), times-here number back)) in
     let absent : times number free ≡ 0 = placed.free_list number ∙ free_count-none items number numbers is_allocated in
-    let freed : IsFreed items lists.items number = freed-values atlas.lists shelf number within in
-    let same : (k : ℕ) → SameShelf atlas.lists.shelves lists.shelves k = λ k.
-    shelves-same atlas.lists.shelves lists.shelves k (free-first shelf (Some number) atlas.lists.shelves) in
+    let freed : IsFreed items lists.items number = freed-values atlas.records shelf number within in
+    let same : (k : ℕ) → SameShelf atlas.records.shelves lists.shelves k = λ k.
+    shelves-same atlas.records.shelves lists.shelves k (free-first shelf (Some number) atlas.records.shelves) in
     let same_front : (k : ℕ) → 1 ≤ times k front → SameItem items lists.items k = λ k stands. freed.others k (before-other front back number k (apart.once k) stands) in
     let same_back : (k : ℕ) → 1 ≤ times k back → SameItem items lists.items k = λ k stands. freed.others k (after-other front back number k (apart.once k) stands) in
-    let here : ℕ = along_of atlas.lists.shelves shelf in
+    let here : ℕ = along_of atlas.records.shelves shelf in
     let own_width : (item_at lists.items number).width ≡ (item_at items number).width = ap (λ (i : Item). i.width) freed.item in
     let owned = Each-back (λ item. shelf_of items item ≡ shelf) front (number ∷ back) placed.owners in
     let kept_front : (k : ℕ) → free_count lists.items k front ≡ free_count items k front = λ k. free_count-same items lists.items k front (λ n stands. (same_front n stands).allocated) in
     let kept_back : (k : ℕ) → free_count lists.items k back ≡ free_count items k back = λ k. free_count-same items lists.items k back (λ n stands. (same_back n stands).allocated) in
     record {
       number = refl;
-      linked = item_freed-linked atlas.lists before after shelf number front back free unused shelves [] [] absent spelled.linked;
+      linked = item_freed-linked atlas.records before after shelf number front back free unused shelves [] [] absent spelled.linked;
       placed =
           record {
             owners = Each-append (λ item. shelf_of lists.items item ≡ shelf) front (number ∷ back)
@@ -235,20 +235,20 @@ given-values records shelf number within =
     }
 
 -- the records after a free item was given whole
-pub item_given-spelled : (atlas : AtlasRecords) (before after : List Entry) (shelf number : ℕ) (front back free_front free_back unused shelves : List ℕ) → is_allocated_at atlas.lists.items number ≡ false → IsSpelled atlas (lists_of (before ++ entry_of shelf (front ++ number ∷ back) (free_front ++ number ∷ free_back) ∷ after) unused shelves) → EditsItems atlas (item_given shelf number atlas.lists) before after unused unused shelves (entry_of shelf (front ++ number ∷ back) (free_front ++ number ∷ free_back)) (entry_of shelf (front ++ number ∷ back) (free_front ++ free_back))
+pub item_given-spelled : (atlas : AtlasRecords) (before after : List Entry) (shelf number : ℕ) (front back free_front free_back unused shelves : List ℕ) → is_allocated_at atlas.records.items number ≡ false → IsSpelled atlas (lists_of (before ++ entry_of shelf (front ++ number ∷ back) (free_front ++ number ∷ free_back) ∷ after) unused shelves) → EditsItems atlas (item_given shelf number atlas.records) before after unused unused shelves (entry_of shelf (front ++ number ∷ back) (free_front ++ number ∷ free_back)) (entry_of shelf (front ++ number ∷ back) (free_front ++ free_back))
 item_given-spelled atlas before after shelf number front back free_front free_back unused shelves is_free spelled =
-    let items : List LinkedItem = atlas.lists.items in
-    let lists : Records = item_given shelf number atlas.lists in
+    let items : List LinkedItem = atlas.records.items in
+    let lists : Records = item_given shelf number atlas.records in
     let numbers : List ℕ = front ++ number ∷ back in
     let free : List ℕ = free_front ++ number ∷ free_back in
     let entry : Entry = entry_of shelf numbers free in
-    let apart : IsApart atlas.lists before after unused [] entry = linked-apart atlas.lists before after entry unused shelves [] [] spelled.linked in
+    let apart : IsApart atlas.records before after unused [] entry = linked-apart atlas.records before after entry unused shelves [] [] spelled.linked in
     let placed : IsPlaced atlas entry = Each-middle (IsPlaced atlas) before entry after spelled.placed in
     let within : number < length items = apart.within number (omega (arith, times-append number front (number ∷ back), times-here number back)) in
-    let given : IsGiven items lists.items number = given-values atlas.lists shelf number within in
-    let same : (k : ℕ) → SameShelf atlas.lists.shelves lists.shelves k = λ k.
-    shelves-same atlas.lists.shelves lists.shelves k
-    (free-first shelf (first_without (link_at free_list.previous items number) (link_at free_list.next items number) (first_free_of atlas.lists.shelves shelf)) atlas.lists.shelves) in
+    let given : IsGiven items lists.items number = given-values atlas.records shelf number within in
+    let same : (k : ℕ) → SameShelf atlas.records.shelves lists.shelves k = λ k.
+    shelves-same atlas.records.shelves lists.shelves k
+    (free-first shelf (first_without (link_at free_list.previous items number) (link_at free_list.next items number) (first_free_of atlas.records.shelves shelf)) atlas.records.shelves) in
     let same_front : (k : ℕ) → 1 ≤ times k front → SameItem items lists.items k = λ k stands. given.others k (before-other front back number k (apart.once k) stands) in
     let same_back : (k : ℕ) → 1 ≤ times k back → SameItem items lists.items k = λ k stands. given.others k (after-other front back number k (apart.once k) stands) in
     let own_width : (item_at lists.items number).width ≡ (item_at items number).width = ap (λ (i : Item). i.width) given.item in
@@ -257,14 +257,14 @@ item_given-spelled atlas before after shelf number front back free_front free_ba
     let kept_back : (k : ℕ) → free_count lists.items k back ≡ free_count items k back = λ k. free_count-same items lists.items k back (λ n stands. (same_back n stands).allocated) in
     record {
       number = refl;
-      linked = item_given-linked atlas.lists before after shelf number numbers free_front free_back unused shelves [] [] spelled.linked;
+      linked = item_given-linked atlas.records before after shelf number numbers free_front free_back unused shelves [] [] spelled.linked;
       placed =
           record {
             owners = Each-append (λ item. shelf_of lists.items item ≡ shelf) front (number ∷ back)
                 (owners-same items lists.items shelf front same_front (Each-front (λ item. shelf_of items item ≡ shelf) front (number ∷ back) placed.owners))
                 (given.shelf ∙ owned.0, owners-same items lists.items shelf back same_back owned.1);
             along = ap (λ a. a % atlas.frame.column_width) (same shelf).along ∙ placed.along;
-            places = rw (same shelf).along (remarked-places items lists.items (along_of atlas.lists.shelves shelf) front back number same_front same_back given.place own_width placed.places);
+            places = rw (same shelf).along (remarked-places items lists.items (along_of atlas.records.shelves shelf) front back number same_front same_back given.place own_width placed.places);
             free_list = λ k. omega (
               arith,
               placed.free_list k,

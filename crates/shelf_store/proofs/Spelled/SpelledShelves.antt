@@ -30,7 +30,7 @@ pub shelves-keep_values : IsUnchanged shelf_chain shelf_values
 shelves-keep_values = record { next = λ link x. refl; previous = λ link x. refl }
 
 -- shelves whose items say the same, and that begin along where they began, are placed as before
-pub still-placed : (atlas : AtlasRecords) (lists : Records) (entries : List Entry) → ((k : ℕ) → along_of lists.shelves k ≡ along_of atlas.lists.shelves k) → ((k : ℕ) → SameItem atlas.lists.items lists.items k) → Each (IsPlaced atlas) entries → Each (IsPlaced (with_lists atlas lists)) entries
+pub still-placed : (atlas : AtlasRecords) (lists : Records) (entries : List Entry) → ((k : ℕ) → along_of lists.shelves k ≡ along_of atlas.records.shelves k) → ((k : ℕ) → SameItem atlas.records.items lists.items k) → Each (IsPlaced atlas) entries → Each (IsPlaced (with_lists atlas lists)) entries
 still-placed atlas lists [] along items placed = tt
 still-placed atlas lists (entry ∷ entries) along items placed =
     (placed-same atlas lists entry (along entry.number) (λ k stands. items k) placed.0, still-placed atlas lists entries along items placed.1)
@@ -50,10 +50,10 @@ shelf_absorbed-values records number next item height within =
     let old : List LinkedShelf = records.shelves in
     let change : LinkedShelf → LinkedShelf = λ x. record x { height = height } in
     let one : List LinkedShelf = unlinked shelf_chain next old in
-    let two : List LinkedShelf = put_aside shelf_chain records.free_shelves next one in
+    let two : List LinkedShelf = put_aside shelf_chain records.unused_shelves next one in
     let values : map shelf_values two ≡ map shelf_values old =
-    map-put_aside shelf_chain shelf_values shelves-keep_values one records.free_shelves next ∙ map-unlinked shelf_chain shelf_values shelves-keep_values old next in
-    let long : length two ≡ length old = length-put_aside shelf_chain one records.free_shelves next ∙ length-unlinked shelf_chain old next in
+    map-put_aside shelf_chain shelf_values shelves-keep_values one records.unused_shelves next ∙ map-unlinked shelf_chain shelf_values shelves-keep_values old next in
+    let long : length two ≡ length old = length-put_aside shelf_chain one records.unused_shelves next ∙ length-unlinked shelf_chain old next in
     let middle : (k : ℕ) → SameShelf old two k = λ k. shelves-same old two k values in
     record {
       along = λ k. field_at-kept (λ (x : LinkedShelf). x.x) 0 change two number k (λ x. refl) ∙ (middle k).along;
@@ -61,20 +61,20 @@ shelf_absorbed-values records number next item height within =
       is_empty = λ k. field_at-kept (λ (x : LinkedShelf). x.is_empty) false change two number k (λ x. refl) ∙ (middle k).is_empty;
       own = field_at-changed (λ (x : LinkedShelf). x.height) 0 change two number height (rw long within) (λ x. refl);
       others = λ k other. shelf-other old two change number k other (middle k);
-      items = λ k. items-same records.items (shelf_absorbed number next item height records).items k (map-put_aside item_chain item_values items-keep_values records.items records.free_items item);
+      items = λ k. items-same records.items (shelf_absorbed number next item height records).items k (map-put_aside item_chain item_values items-keep_values records.items records.unused_items item);
       as_many = length-changed_by change two (Some number) ∙ long;
     }
 
 -- the records after an empty shelf took the place of the empty one after it in its column
-pub shelf_absorbed-spelled : (atlas : AtlasRecords) (before after : List Entry) (entry : Entry) (next item : ℕ) (free unused shelves : List ℕ) → along_of atlas.lists.shelves next ≡ along_of atlas.lists.shelves entry.number → is_allocated_at atlas.lists.items item ≡ false → IsSpelled atlas (lists_of (before ++ entry ∷ entry_of next (item ∷ []) free ∷ after) unused shelves) → IsSpelled (with_lists atlas (shelf_absorbed entry.number next item (height_of atlas.lists.shelves entry.number + height_of atlas.lists.shelves next) atlas.lists)) (lists_of (before ++ entry ∷ after) (item ∷ unused) (next ∷ shelves))
+pub shelf_absorbed-spelled : (atlas : AtlasRecords) (before after : List Entry) (entry : Entry) (next item : ℕ) (free unused shelves : List ℕ) → along_of atlas.records.shelves next ≡ along_of atlas.records.shelves entry.number → is_allocated_at atlas.records.items item ≡ false → IsSpelled atlas (lists_of (before ++ entry ∷ entry_of next (item ∷ []) free ∷ after) unused shelves) → IsSpelled (with_lists atlas (shelf_absorbed entry.number next item (height_of atlas.records.shelves entry.number + height_of atlas.records.shelves next) atlas.records)) (lists_of (before ++ entry ∷ after) (item ∷ unused) (next ∷ shelves))
 shelf_absorbed-spelled atlas before after entry next item free unused shelves column is_free spelled =
-    let old : List LinkedShelf = atlas.lists.shelves in
-    let items : List LinkedItem = atlas.lists.items in
+    let old : List LinkedShelf = atlas.records.shelves in
+    let items : List LinkedItem = atlas.records.items in
     let height : ℕ = height_of old entry.number + height_of old next in
-    let lists : Records = shelf_absorbed entry.number next item height atlas.lists in
+    let lists : Records = shelf_absorbed entry.number next item height atlas.records in
     let gone : Entry = entry_of next (item ∷ []) free in
-    let apart : IsApart atlas.lists before (gone ∷ after) unused [] entry = linked-apart atlas.lists before (gone ∷ after) entry unused shelves [] [] spelled.linked in
-    let taller : IsTaller atlas.lists lists entry.number height = shelf_absorbed-values atlas.lists entry.number next item height apart.number in
+    let apart : IsApart atlas.records before (gone ∷ after) unused [] entry = linked-apart atlas.records before (gone ∷ after) entry unused shelves [] [] spelled.linked in
+    let taller : IsTaller atlas.records lists entry.number height = shelf_absorbed-values atlas.records entry.number next item height apart.number in
     let absorbs : AbsorbsShelf old lists.shelves entry.number next =
     record { along = taller.along entry.number; across = taller.across entry.number; height = taller.own; column = column } in
     let numbers : shelf_numbers (before ++ entry ∷ gone ∷ after) ≡ shelf_numbers before ++ entry.number ∷ next ∷ shelf_numbers after = shelf_numbers-append before (entry ∷ gone ∷ after) in
@@ -83,7 +83,7 @@ shelf_absorbed-spelled atlas before after entry next item free unused shelves co
     λ k. times-append k (shelf_numbers before) (shelf_numbers (gone ∷ after)) in
     let tail = Each-back (IsPlaced atlas) before (entry ∷ gone ∷ after) spelled.placed in
     record {
-      linked = shelf_absorbed-linked atlas.lists before after entry next item height free unused shelves [] [] spelled.linked;
+      linked = shelf_absorbed-linked atlas.records before after entry next item height free unused shelves [] [] spelled.linked;
       placed = Each-append (IsPlaced (with_lists atlas lists)) before (entry ∷ after)
           (still-placed atlas lists before taller.along taller.items (Each-front (IsPlaced atlas) before (entry ∷ gone ∷ after) spelled.placed))
           (still-placed atlas lists (entry ∷ after) taller.along taller.items (tail.0, tail.1.1));

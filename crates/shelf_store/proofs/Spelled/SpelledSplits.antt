@@ -41,7 +41,7 @@ read-record field other (x ∷ xs) zero = refl
 read-record field other (x ∷ xs) (suc k) = read-record field other xs k
 
 -- shelves that begin along where they began, of items that say the same, are placed as before
-placed-entries : (atlas : AtlasRecords) (lists : Records) (entries : List Entry) → ((k : ℕ) → 1 ≤ times k (shelf_numbers entries) → along_of lists.shelves k ≡ along_of atlas.lists.shelves k) → ((k : ℕ) → 1 ≤ times k (item_numbers entries) → SameItem atlas.lists.items lists.items k) → Each (IsPlaced atlas) entries → Each (IsPlaced (with_lists atlas lists)) entries
+placed-entries : (atlas : AtlasRecords) (lists : Records) (entries : List Entry) → ((k : ℕ) → 1 ≤ times k (shelf_numbers entries) → along_of lists.shelves k ≡ along_of atlas.records.shelves k) → ((k : ℕ) → 1 ≤ times k (item_numbers entries) → SameItem atlas.records.items lists.items k) → Each (IsPlaced atlas) entries → Each (IsPlaced (with_lists atlas lists)) entries
 placed-entries atlas lists [] along items placed = tt
 placed-entries atlas lists (entry ∷ entries) along items placed = (
   placed-same atlas lists entry (along entry.number (grind arith)) (λ k stands. items k (omega (arith, stands, times-append k entry.items (item_numbers entries)))) placed.0,
@@ -59,18 +59,18 @@ shelf-parts column column' height height' items items' free free' a b c d = rw (
 -- records of which a shelf was split where that was due: it is this tall, and these shelves stand after it
 pub record HasShelfSplit (atlas : AtlasRecords) (new : Records) (before added after : List Entry) (entry : Entry) (unused_items unused_shelves loose : List ℕ) (tall : ℕ) (pieces : List Shelf) : Type 0 where
   pub spelled : IsSpelledBut (with_lists atlas new) (lists_of (before ++ entry ∷ (added ++ after)) unused_items unused_shelves) loose []
-  pub items : (k : ℕ) → 1 ≤ times k (item_numbers (before ++ entry ∷ after)) → slice_get new.items k ≡ slice_get atlas.lists.items k
-  pub others : (k : ℕ) → 1 ≤ times k (shelf_numbers before ++ shelf_numbers after) → SameShelf atlas.lists.shelves new.shelves k
-  pub along : along_of new.shelves entry.number ≡ along_of atlas.lists.shelves entry.number
+  pub items : (k : ℕ) → 1 ≤ times k (item_numbers (before ++ entry ∷ after)) → slice_get new.items k ≡ slice_get atlas.records.items k
+  pub others : (k : ℕ) → 1 ≤ times k (shelf_numbers before ++ shelf_numbers after) → SameShelf atlas.records.shelves new.shelves k
+  pub along : along_of new.shelves entry.number ≡ along_of atlas.records.shelves entry.number
   pub height : height_of new.shelves entry.number ≡ tall
   pub rests : map (spelled_shelf (with_lists atlas new)) added ≡ pieces
   pub flags : Each (HasFlag (with_lists atlas new)) added
-  pub more : length atlas.lists.items ≤ length new.items
-  pub made : 1 ≤ length unused_items → length new.items ≡ length atlas.lists.items
+  pub more : length atlas.records.items ≤ length new.items
+  pub made : 1 ≤ length unused_items → length new.items ≡ length atlas.records.items
   pub few : length new.shelves ≤ no_link
 
 -- no shelf is split
-pub split-none : (atlas : AtlasRecords) (new : Records) (before after : List Entry) (entry : Entry) (unused_items unused_shelves loose : List ℕ) → IsUsed atlas new (before ++ entry ∷ after) unused_items unused_shelves loose [] → HasShelfSplit atlas new before [] after entry unused_items unused_shelves loose (height_of atlas.lists.shelves entry.number) []
+pub split-none : (atlas : AtlasRecords) (new : Records) (before after : List Entry) (entry : Entry) (unused_items unused_shelves loose : List ℕ) → IsUsed atlas new (before ++ entry ∷ after) unused_items unused_shelves loose [] → HasShelfSplit atlas new before [] after entry unused_items unused_shelves loose (height_of atlas.records.shelves entry.number) []
 split-none atlas new before after entry unused_items unused_shelves loose used =
     record {
       spelled = used.spelled;
@@ -143,7 +143,7 @@ rest-of records number rest rest_item height frame_width apart within rest_withi
     }
 
 -- a shelf is split
-pub split-shelf : (atlas : AtlasRecords) (used : Records) (before after : List Entry) (entry : Entry) (rest rest_item height : ℕ) (unused_items unused_shelves loose : List ℕ) → height ≤ height_of atlas.lists.shelves entry.number → IsUsed atlas used (before ++ entry ∷ after) unused_items unused_shelves (rest_item ∷ loose) (rest ∷ []) → HasShelfSplit atlas (shelf_split entry.number rest rest_item height (rest_shelf (shelf_record used.shelves entry.number) height rest_item) (free_item (shelf_record used.shelves entry.number).x atlas.frame.column_width rest (item_record used.items rest_item).generation) used) before (entry_of rest (rest_item ∷ []) (rest_item ∷ []) ∷ []) after entry unused_items unused_shelves loose height (empty_shelf atlas.frame (along_of atlas.lists.shelves entry.number / atlas.frame.column_width) (height_of atlas.lists.shelves entry.number - height) ∷ [])
+pub split-shelf : (atlas : AtlasRecords) (used : Records) (before after : List Entry) (entry : Entry) (rest rest_item height : ℕ) (unused_items unused_shelves loose : List ℕ) → height ≤ height_of atlas.records.shelves entry.number → IsUsed atlas used (before ++ entry ∷ after) unused_items unused_shelves (rest_item ∷ loose) (rest ∷ []) → HasShelfSplit atlas (shelf_split entry.number rest rest_item height (rest_shelf (shelf_record used.shelves entry.number) height rest_item) (free_item (shelf_record used.shelves entry.number).x atlas.frame.column_width rest (item_record used.items rest_item).generation) used) before (entry_of rest (rest_item ∷ []) (rest_item ∷ []) ∷ []) after entry unused_items unused_shelves loose height (empty_shelf atlas.frame (along_of atlas.records.shelves entry.number / atlas.frame.column_width) (height_of atlas.records.shelves entry.number - height) ∷ [])
 split-shelf atlas used before after entry rest rest_item height unused_items unused_shelves loose tall is_used =
     let middle : AtlasRecords = with_lists atlas used in
     let entries : List Entry = before ++ entry ∷ after in
@@ -188,15 +188,15 @@ split-shelf atlas used before after entry rest rest_item height unused_items unu
       places = (is.place, tt);
       free_list = λ k. sym (free_count-free new.items k rest_item [] is.free ∙ omega arith);
     } in
-    let base : along_of used.shelves number ≡ along_of atlas.lists.shelves number = (is_used.shelves number).along in
-    let column : along_of new.shelves rest / cw ≡ along_of atlas.lists.shelves number / cw = ap (λ a. a / cw) (rest_along ∙ base) in
-    let place : place_of new.items rest_item ≡ along_of atlas.lists.shelves number / cw * cw =
-    is.place ∙ rest_along ∙ base ∙ multiple (along_of atlas.lists.shelves number) cw (ap (λ a. a % cw) (sym base) ∙ own_column) in
-    let rest_height : height_of new.shelves rest ≡ height_of atlas.lists.shelves number - height =
+    let base : along_of used.shelves number ≡ along_of atlas.records.shelves number = (is_used.shelves number).along in
+    let column : along_of new.shelves rest / cw ≡ along_of atlas.records.shelves number / cw = ap (λ a. a / cw) (rest_along ∙ base) in
+    let place : place_of new.items rest_item ≡ along_of atlas.records.shelves number / cw * cw =
+    is.place ∙ rest_along ∙ base ∙ multiple (along_of atlas.records.shelves number) cw (ap (λ a. a % cw) (sym base) ∙ own_column) in
+    let rest_height : height_of new.shelves rest ≡ height_of atlas.records.shelves number - height =
     omega (arith, is.splits.height, is.height, (is_used.shelves number).height) in
-    let added_spelled : spelled_shelf (with_lists atlas new) added ≡ empty_shelf atlas.frame (along_of atlas.lists.shelves number / cw) (height_of atlas.lists.shelves number - height) =
-    shelf-parts (along_of new.shelves rest / cw) (along_of atlas.lists.shelves number / cw) (height_of new.shelves rest) (height_of atlas.lists.shelves number - height)
-    (item_at new.items rest_item ∷ []) (record { width = cw; id = None } ∷ []) (place_of new.items rest_item ∷ []) (along_of atlas.lists.shelves number / cw * cw ∷ [])
+    let added_spelled : spelled_shelf (with_lists atlas new) added ≡ empty_shelf atlas.frame (along_of atlas.records.shelves number / cw) (height_of atlas.records.shelves number - height) =
+    shelf-parts (along_of new.shelves rest / cw) (along_of atlas.records.shelves number / cw) (height_of new.shelves rest) (height_of atlas.records.shelves number - height)
+    (item_at new.items rest_item ∷ []) (record { width = cw; id = None } ∷ []) (place_of new.items rest_item ∷ []) (along_of atlas.records.shelves number / cw * cw ∷ [])
     column rest_height (ap (λ (i : Item). i ∷ []) is.item) (ap (λ p. p ∷ []) place) in
     let tail = Each-back (IsPlaced (with_lists atlas new)) before (entry ∷ after) all in
     let more_numbers : shelf_numbers (before ++ entry ∷ added ∷ after) ≡ shelf_numbers before ++ number ∷ rest ∷ shelf_numbers after = shelf_numbers-append before (entry ∷ added ∷ after) in
@@ -214,7 +214,7 @@ split-shelf atlas used before after entry rest rest_item height unused_items unu
                 (λ k stands. item-same used.items new.items k (item_same k (stranger rest_item k unused_items free.no_unused stands))) spelled.unused;
           };
       items = λ k stands. kept k stands ∙ is_used.items k stands;
-      others = λ k stands. SameShelf-then atlas.lists.shelves used.shelves new.shelves k (is_used.shelves k) (others k stands);
+      others = λ k stands. SameShelf-then atlas.records.shelves used.shelves new.shelves k (is_used.shelves k) (others k stands);
       along = is.splits.along ∙ base;
       height = is.height;
       rests = ap (λ (s : Shelf). s ∷ []) added_spelled;

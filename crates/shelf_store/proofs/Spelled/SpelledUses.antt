@@ -24,11 +24,11 @@ pub record SameEntries (atlas : AtlasRecords) (lists : Records) (entries : List 
   pub flags : Each (HasFlag atlas) entries → Each (HasFlag (with_lists atlas lists)) entries
 
 -- shelves whose records and items say the same
-pub same-entries : (atlas : AtlasRecords) (lists : Records) (entries : List Entry) → ((k : ℕ) → 1 ≤ times k (shelf_numbers entries) → SameShelf atlas.lists.shelves lists.shelves k) → ((k : ℕ) → 1 ≤ times k (item_numbers entries) → SameItem atlas.lists.items lists.items k) → Each (IsEntry atlas.lists) entries → SameEntries atlas lists entries
+pub same-entries : (atlas : AtlasRecords) (lists : Records) (entries : List Entry) → ((k : ℕ) → 1 ≤ times k (shelf_numbers entries) → SameShelf atlas.records.shelves lists.shelves k) → ((k : ℕ) → 1 ≤ times k (item_numbers entries) → SameItem atlas.records.items lists.items k) → Each (IsEntry atlas.records) entries → SameEntries atlas lists entries
 same-entries atlas lists [] shelf items are = record { placed = λ p. tt; spelled = refl; flags = λ p. tt }
 same-entries atlas lists (entry ∷ entries) shelf items are =
-    let own_shelf : SameShelf atlas.lists.shelves lists.shelves entry.number = shelf entry.number (grind arith) in
-    let own : (k : ℕ) → 1 ≤ times k entry.items → SameItem atlas.lists.items lists.items k = λ k stands. items k (omega (arith, stands, times-append k entry.items (item_numbers entries))) in
+    let own_shelf : SameShelf atlas.records.shelves lists.shelves entry.number = shelf entry.number (grind arith) in
+    let own : (k : ℕ) → 1 ≤ times k entry.items → SameItem atlas.records.items lists.items k = λ k stands. items k (omega (arith, stands, times-append k entry.items (item_numbers entries))) in
     let rest : SameEntries atlas lists entries =
     same-entries atlas lists entries (λ k stands. shelf k (omega (arith, stands))) (λ k stands. items k (omega (arith, stands, times-append k entry.items (item_numbers entries)))) are.1 in
     let here : spelled_shelf (with_lists atlas lists) entry ≡ spelled_shelf atlas entry = shelf-same atlas lists entry own_shelf own are.0.members in
@@ -81,19 +81,19 @@ pub stranger : (n k : ℕ) (xs : List ℕ) → times n xs ≡ 0 → 1 ≤ times 
 stranger n k xs absent stands e = let again : 1 ≤ times n xs = rw e stands in omega (arith, absent)
 
 -- records of which some were put to use: the shelves and their items say the same; there are no fewer items, and as
--- many where some are still put aside
+-- many where some are still unused
 pub record IsUsed (atlas : AtlasRecords) (new : Records) (entries : List Entry) (unused_items unused_shelves loose_items loose_shelves : List ℕ) : Type 0 where
   pub spelled : IsSpelledBut (with_lists atlas new) (lists_of entries unused_items unused_shelves) loose_items loose_shelves
-  pub items : (k : ℕ) → 1 ≤ times k (item_numbers entries) → slice_get new.items k ≡ slice_get atlas.lists.items k
-  pub shelves : (k : ℕ) → SameShelf atlas.lists.shelves new.shelves k
-  pub more : length atlas.lists.items ≤ length new.items
-  pub made : 1 ≤ length unused_items → length new.items ≡ length atlas.lists.items
+  pub items : (k : ℕ) → 1 ≤ times k (item_numbers entries) → slice_get new.items k ≡ slice_get atlas.records.items k
+  pub shelves : (k : ℕ) → SameShelf atlas.records.shelves new.shelves k
+  pub more : length atlas.records.items ≤ length new.items
+  pub made : 1 ≤ length unused_items → length new.items ≡ length atlas.records.items
   pub few : length new.shelves ≤ no_link
 
 -- one more item record was put to use
 pub record IsItemUsed (atlas : AtlasRecords) (new : Records) (entries : List Entry) (unused_items unused_shelves loose_items loose_shelves : List ℕ) : Type 0 where
   pub number : ℕ
-  pub is : number_used true new.free_items new.items ≡ Some number
+  pub is : number_used true new.unused_items new.items ≡ Some number
   pub used : IsUsed atlas (item_used true new) entries (but_first unused_items) unused_shelves (number ∷ loose_items) loose_shelves
 
 pub used-item : (atlas : AtlasRecords) (new : Records) (entries : List Entry) (unused_items unused_shelves loose loose_shelves : List ℕ) → IsUsed atlas new entries unused_items unused_shelves loose loose_shelves → IsItemUsed atlas new entries unused_items unused_shelves loose loose_shelves
@@ -134,27 +134,27 @@ used-item atlas new entries unused_items unused_shelves loose loose_shelves used
           };
     }
   where
-    by_count : (xs : List ℕ) → length (item_used true new).items + length xs ≡ length new.items + length (but_first xs) + 1 → length atlas.lists.items ≤ length (item_used true new).items
+    by_count : (xs : List ℕ) → length (item_used true new).items + length xs ≡ length new.items + length (but_first xs) + 1 → length atlas.records.items ≤ length (item_used true new).items
     by_count [] count = omega (arith, count, used.more)
     by_count (x ∷ xs) count = omega (arith, count, used.more)
 
-    by_made : (xs : List ℕ) → length (item_used true new).items + length xs ≡ length new.items + length (but_first xs) + 1 → (1 ≤ length xs → length new.items ≡ length atlas.lists.items) → 1 ≤ length (but_first xs) → length (item_used true new).items ≡ length atlas.lists.items
+    by_made : (xs : List ℕ) → length (item_used true new).items + length xs ≡ length new.items + length (but_first xs) + 1 → (1 ≤ length xs → length new.items ≡ length atlas.records.items) → 1 ≤ length (but_first xs) → length (item_used true new).items ≡ length atlas.records.items
     by_made [] count made some = absurd (omega (arith, some))
     by_made (x ∷ xs) count made some = omega (arith, count, made (omega arith))
 
 -- one more shelf record was put to use
 pub record IsShelfUsed (atlas : AtlasRecords) (new : Records) (entries : List Entry) (unused_items unused_shelves loose_items loose_shelves : List ℕ) : Type 0 where
   pub number : ℕ
-  pub is : number_used true new.free_shelves new.shelves ≡ Some number
+  pub is : number_used true new.unused_shelves new.shelves ≡ Some number
   pub used : IsUsed atlas (shelf_used true new) entries unused_items (but_first unused_shelves) loose_items (number ∷ loose_shelves)
 
--- the record is new only where none was put aside
+-- the record is new only where none was unused
 pub used-shelf : (atlas : AtlasRecords) (new : Records) (entries : List Entry) (unused_items unused_shelves loose loose_shelves : List ℕ) → (unused_shelves ≡ [] → length new.shelves + 1 ≤ no_link) → IsUsed atlas new entries unused_items unused_shelves loose loose_shelves → IsShelfUsed atlas new entries unused_items unused_shelves loose loose_shelves
 used-shelf atlas new entries unused_items unused_shelves loose loose_shelves room used =
     let middle : AtlasRecords = with_lists atlas new in
     let last : Records = shelf_used true new in
     let uses : UsesShelf new entries unused_items unused_shelves loose loose_shelves = uses-shelf new entries unused_items unused_shelves loose loose_shelves used.spelled.linked in
-    let same_shelf : (k : ℕ) → SameShelf new.shelves last.shelves k = shelves-used new.free_shelves new.shelves in
+    let same_shelf : (k : ℕ) → SameShelf new.shelves last.shelves k = shelves-used new.unused_shelves new.shelves in
     let same : SameEntries middle last entries =
     same-entries middle last entries (λ k stands. same_shelf k) (λ k stands. item-same new.items new.items k refl) used.spelled.linked.entries in
     record {
@@ -170,7 +170,7 @@ used-shelf atlas new entries unused_items unused_shelves loose loose_shelves roo
                   unused = used.spelled.unused;
                 };
             items = used.items;
-            shelves = λ k. SameShelf-then atlas.lists.shelves new.shelves last.shelves k (used.shelves k) (same_shelf k);
+            shelves = λ k. SameShelf-then atlas.records.shelves new.shelves last.shelves k (used.shelves k) (same_shelf k);
             more = used.more;
             made = used.made;
             few = by_count unused_shelves uses.count room;

@@ -25,7 +25,7 @@ abbrev small_records : AtlasRecords
 small_records =
     record {
       frame = small_frame;
-      lists =
+      records =
           record {
             shelves =
                 record {
@@ -62,8 +62,8 @@ small_records =
                   generation = 1;
                 } ∷ [];
             first_shelf = Some 0;
-            free_items = None;
-            free_shelves = None;
+            unused_items = None;
+            unused_shelves = None;
           };
       allocated_space = pos 64;
     }

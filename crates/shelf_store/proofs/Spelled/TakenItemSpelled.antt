@@ -64,9 +64,9 @@ places-around items new front middle back same_front same_back =
     ∙ ap (λ (is : List ℕ). map (place_of items) front ++ (map (place_of new) middle ++ is)) (map-agrees (place_of new) (place_of items) back same_back)
 
 -- the shelf after an item was given whole
-pub whole-spelled : (atlas : AtlasRecords) (lists : Records) (placement : Placement) (id shelf number : ℕ) (front back free_front free_back : List ℕ) → IsPlacedAt atlas.lists.items placement front back free_front free_back number → KeepsOthers atlas.lists.items lists.items front back free_front free_back → along_of lists.shelves shelf ≡ along_of atlas.lists.shelves shelf → height_of lists.shelves shelf ≡ placement.height → item_at lists.items number ≡ record { width = placement.width; id = Some id } → spelled_shelf (with_lists atlas lists) (entry_of shelf (front ++ number ∷ back) (free_front ++ free_back)) ≡ taken_from false placement id (spelled_shelf atlas (entry_of shelf (front ++ number ∷ back) (free_front ++ number ∷ free_back)))
+pub whole-spelled : (atlas : AtlasRecords) (lists : Records) (placement : Placement) (id shelf number : ℕ) (front back free_front free_back : List ℕ) → IsPlacedAt atlas.records.items placement front back free_front free_back number → KeepsOthers atlas.records.items lists.items front back free_front free_back → along_of lists.shelves shelf ≡ along_of atlas.records.shelves shelf → height_of lists.shelves shelf ≡ placement.height → item_at lists.items number ≡ record { width = placement.width; id = Some id } → spelled_shelf (with_lists atlas lists) (entry_of shelf (front ++ number ∷ back) (free_front ++ free_back)) ≡ taken_from false placement id (spelled_shelf atlas (entry_of shelf (front ++ number ∷ back) (free_front ++ number ∷ free_back)))
 whole-spelled atlas lists placement id shelf number front back free_front free_back is keeps along height item =
-    let old : List LinkedItem = atlas.lists.items in
+    let old : List LinkedItem = atlas.records.items in
     let new : List LinkedItem = lists.items in
     let cw : ℕ = atlas.frame.column_width in
     let pieces : Item → List Item = λ i. record { width = placement.width; id = Some id } ∷ [] in
@@ -80,15 +80,15 @@ whole-spelled atlas lists placement id shelf number front back free_front free_b
     ∙ sym (map-append (place_of old) free_front free_back)
     ∙ sym (remove-mapped (place_of old) free_front free_back number is.apart)
     ∙ ap (λ a. remove_place a (map (place_of old) (free_front ++ number ∷ free_back))) (sym is.along) in
-    shelf-parts (along_of lists.shelves shelf / cw) (along_of atlas.lists.shelves shelf / cw) (height_of lists.shelves shelf) placement.height
+    shelf-parts (along_of lists.shelves shelf / cw) (along_of atlas.records.shelves shelf / cw) (height_of lists.shelves shelf) placement.height
     (map (item_at new) (front ++ number ∷ back)) (replaced_at placement.item pieces (map (item_at old) (front ++ number ∷ back)))
     (map (place_of new) (free_front ++ free_back)) (remove_place placement.along (map (place_of old) (free_front ++ number ∷ free_back)))
     (ap (λ a. a / cw) along) height items places
 
 -- the shelf after the front of an item was given
-pub front-spelled : (atlas : AtlasRecords) (lists : Records) (placement : Placement) (id shelf number rest : ℕ) (front back free_front free_back : List ℕ) → IsPlacedAt atlas.lists.items placement front back free_front free_back number → KeepsOthers atlas.lists.items lists.items front back free_front free_back → along_of lists.shelves shelf ≡ along_of atlas.lists.shelves shelf → height_of lists.shelves shelf ≡ placement.height → item_at lists.items number ≡ record { width = placement.width; id = Some id } → item_at lists.items rest ≡ record { width = (item_at atlas.lists.items number).width - placement.width; id = None } → place_of lists.items rest ≡ placement.along + placement.width → spelled_shelf (with_lists atlas lists) (entry_of shelf (front ++ number ∷ rest ∷ back) (free_front ++ rest ∷ free_back)) ≡ taken_from true placement id (spelled_shelf atlas (entry_of shelf (front ++ number ∷ back) (free_front ++ number ∷ free_back)))
+pub front-spelled : (atlas : AtlasRecords) (lists : Records) (placement : Placement) (id shelf number rest : ℕ) (front back free_front free_back : List ℕ) → IsPlacedAt atlas.records.items placement front back free_front free_back number → KeepsOthers atlas.records.items lists.items front back free_front free_back → along_of lists.shelves shelf ≡ along_of atlas.records.shelves shelf → height_of lists.shelves shelf ≡ placement.height → item_at lists.items number ≡ record { width = placement.width; id = Some id } → item_at lists.items rest ≡ record { width = (item_at atlas.records.items number).width - placement.width; id = None } → place_of lists.items rest ≡ placement.along + placement.width → spelled_shelf (with_lists atlas lists) (entry_of shelf (front ++ number ∷ rest ∷ back) (free_front ++ rest ∷ free_back)) ≡ taken_from true placement id (spelled_shelf atlas (entry_of shelf (front ++ number ∷ back) (free_front ++ number ∷ free_back)))
 front-spelled atlas lists placement id shelf number rest front back free_front free_back is keeps along height item rest_item rest_place =
-    let old : List LinkedItem = atlas.lists.items in
+    let old : List LinkedItem = atlas.records.items in
     let new : List LinkedItem = lists.items in
     let cw : ℕ = atlas.frame.column_width in
     let pieces : Item → List Item = λ i. record { width = placement.width; id = Some id } ∷ record { width = i.width - placement.width; id = None } ∷ [] in
@@ -103,7 +103,7 @@ front-spelled atlas lists placement id shelf number rest front back free_front f
     ∙ ap (λ p. map (place_of old) free_front ++ p ∷ map (place_of old) free_back) rest_place
     ∙ sym (replace-mapped (place_of old) free_front free_back number (placement.along + placement.width) is.apart)
     ∙ ap (λ a. replace_place a (placement.along + placement.width) (map (place_of old) (free_front ++ number ∷ free_back))) (sym is.along) in
-    shelf-parts (along_of lists.shelves shelf / cw) (along_of atlas.lists.shelves shelf / cw) (height_of lists.shelves shelf) placement.height
+    shelf-parts (along_of lists.shelves shelf / cw) (along_of atlas.records.shelves shelf / cw) (height_of lists.shelves shelf) placement.height
     (map (item_at new) (front ++ number ∷ rest ∷ back)) (replaced_at placement.item pieces (map (item_at old) (front ++ number ∷ back)))
     (map (place_of new) (free_front ++ rest ∷ free_back)) (replace_place placement.along (placement.along + placement.width) (map (place_of old) (free_front ++ number ∷ free_back)))
     (ap (λ a. a / cw) along) height items places

@@ -115,11 +115,11 @@ can-take frame records size placement found kept h locates =
     HasShelfSplit atlas (with_shelf_rest frame.column_width place a b used) is.before (added_where of_shelf rests.shelf rests.shelf_item) is.after entry rests.unused_items rests.unused_shelves (list_where of_item rests.item) placement.height rest in
     let one : Split (link_where of_shelf rests.shelf) (link_where of_shelf rests.shelf_item) =
     split-where of_shelf atlas used is.before is.after entry placement number rests.shelf rests.shelf_item rests.unused_items rests.unused_shelves (list_where of_item rests.item) (λ e. height) is.takes.full rests.used in
-    let two : Split (number_used of_shelf records.free_shelves records.shelves) (link_where of_shelf rests.shelf_item) =
+    let two : Split (number_used of_shelf records.unused_shelves records.shelves) (link_where of_shelf rests.shelf_item) =
     subst (λ (o : Option ℕ). Split o (link_where of_shelf rests.shelf_item)) (sym rests.shelf_is) one in
-    let is_split : Split (number_used of_shelf records.free_shelves records.shelves) (number_used of_shelf records.free_items records.items) =
-    subst (λ (o : Option ℕ). Split (number_used of_shelf records.free_shelves records.shelves) o) (sym rests.shelf_item_is) two in
-    let split_records : Records = with_shelf_rest frame.column_width place (number_used of_shelf records.free_shelves records.shelves) (number_used of_shelf records.free_items records.items) used in
+    let is_split : Split (number_used of_shelf records.unused_shelves records.shelves) (number_used of_shelf records.unused_items records.items) =
+    subst (λ (o : Option ℕ). Split (number_used of_shelf records.unused_shelves records.shelves) o) (sym rests.shelf_item_is) two in
+    let split_records : Records = with_shelf_rest frame.column_width place (number_used of_shelf records.unused_shelves records.shelves) (number_used of_shelf records.unused_items records.items) used in
     let added : List Entry = added_where of_shelf rests.shelf rests.shelf_item in
     let apart_split : IsApart split_records is.before (added ++ is.after) rests.unused_items (list_where of_item rests.item) entry =
     linked-apart split_records is.before (added ++ is.after) entry rests.unused_items rests.unused_shelves (list_where of_item rests.item) [] is_split.spelled.linked in
@@ -156,7 +156,7 @@ can-take frame records size placement found kept h locates =
       splits_item =
           record {
             item = apart_split.within number stands;
-            few = omega (arith, split-length frame.column_width place (number_used of_shelf records.free_shelves records.shelves) (number_used of_shelf records.free_items records.items) used, few_items);
+            few = omega (arith, split-length frame.column_width place (number_used of_shelf records.unused_shelves records.shelves) (number_used of_shelf records.unused_items records.items) used, few_items);
             right = omega (arith, read-record (λ (x : LinkedItem). x.x) (item_record [] number) split_records.items number, same.place, is.item.along, ends.right);
             narrower = omega (arith, width-read split_records.items number number, ap (λ (i : Item). i.width) same.item, fits placement.width (item_at records.items number).width of_item is.item.split is.item.whole);
           };

@@ -9,7 +9,7 @@ use Rattle.etagere_base.specs.Lists.{Each, times}
 use Rattle.etagere_base.specs.declared.frames.Frame.{Frame}
 use Rattle.etagere_base.specs.declared.geometry.Size.{Size}
 use Rattle.etagere_links.specs.Links.{no_link}
-use Rattle.etagere_links.specs.RecordLists.{Records, Entry, Lists, HasEachOnce, IsLinkedBut, shelf_numbers, walked_lists}
+use Rattle.etagere_links.specs.RecordLists.{Records, Entry, Lists, HasEachOnce, IsLinkedExcept, shelf_numbers, walked_lists}
 use Rattle.etagere_links.proofs.AllLists.LinkedItems.{IsApart, linked-apart}
 use Rattle.etagere_links.proofs.AllLists.LinkedMerges.{entry_of}
 use Rattle.etagere_links.proofs.AllLists.LinkedUnused.{lists_of}
@@ -46,7 +46,7 @@ shelves-few atlas (entry ∷ entries) wide each =
     some (item ∷ items) width = omega arith
 
 -- an atlas that says that another space is allocated has its shelves placed alike
-pub other-space : (one two : AtlasRecords) (entries : List Entry) → one.frame ≡ two.frame → one.lists ≡ two.lists → Each (IsPlaced one) entries → Each (IsPlaced two) entries
+pub other-space : (one two : AtlasRecords) (entries : List Entry) → one.frame ≡ two.frame → one.records ≡ two.records → Each (IsPlaced one) entries → Each (IsPlaced two) entries
 other-space one two entries frame lists each =
     Each-weaken (IsPlaced one) (IsPlaced two) entries
     (λ entry placed. record {
@@ -60,7 +60,7 @@ other-space one two entries frame lists each =
 pub record IsReady (frame : Frame) (records : Records) (placement : Placement) (shelf number : ℕ) : Type 0 where
   pub is : IsLocated frame records placement shelf number
   pub spelled :
-      (space : ℤ) → IsSpelled (record { frame = frame; lists = records; allocated_space = space })
+      (space : ℤ) → IsSpelled (record { frame = frame; records = records; allocated_space = space })
       (lists_of (is.before ++ entry_of shelf (is.front ++ number ∷ is.back) (is.free_front ++ number ∷ is.free_back) ∷ is.after) (walked_lists records).unused_items (walked_lists records).unused_shelves)
   pub within : number < length records.items
   pub shelf_within : shelf < length records.shelves
@@ -80,8 +80,8 @@ ready frame records size placement found kept h locates =
     let lists : Lists = walked_lists records in
     let is : IsLocated frame records placement shelf number = located frame records size placement found kept h locates in
     let entry : Entry = entry_of shelf (is.front ++ number ∷ is.back) (is.free_front ++ number ∷ is.free_back) in
-    let linked : IsLinkedBut records (lists_of (is.before ++ entry ∷ is.after) lists.unused_items lists.unused_shelves) [] [] =
-    subst (λ (es : List Entry). IsLinkedBut records (lists_of es lists.unused_items lists.unused_shelves) [] []) is.entries kept.linked in
+    let linked : IsLinkedExcept records (lists_of (is.before ++ entry ∷ is.after) lists.unused_items lists.unused_shelves) [] [] =
+    subst (λ (es : List Entry). IsLinkedExcept records (lists_of es lists.unused_items lists.unused_shelves) [] []) is.entries kept.linked in
     let apart : IsApart records is.before is.after lists.unused_items [] entry = linked-apart records is.before is.after entry lists.unused_items lists.unused_shelves [] [] linked in
     let shelves : length (shelf_numbers lists.entries) + length lists.unused_shelves ≡ length records.shelves =
     omega (
@@ -95,8 +95,8 @@ ready frame records size placement found kept h locates =
       spelled = λ space.
           record {
             linked = linked;
-            placed = subst (Each (IsPlaced (record { frame = frame; lists = records; allocated_space = space }))) is.entries
-                (other-space (atlas_of frame records) (record { frame = frame; lists = records; allocated_space = space }) lists.entries refl refl kept.placed);
+            placed = subst (Each (IsPlaced (record { frame = frame; records = records; allocated_space = space }))) is.entries
+                (other-space (atlas_of frame records) (record { frame = frame; records = records; allocated_space = space }) lists.entries refl refl kept.placed);
             stacked = subst (λ (es : List Entry). AreStacked records.shelves frame.column_width [] (shelf_numbers es)) is.entries kept.stacked;
             unused = kept.unused;
           };

@@ -26,12 +26,12 @@ list_where false number = []
 list_where true number = number ∷ []
 
 -- records of which none was put to use
-used-none : (atlas : AtlasRecords) (entries : List Entry) (unused_items unused_shelves : List ℕ) → length atlas.lists.shelves ≤ no_link → IsSpelled atlas (lists_of entries unused_items unused_shelves) → IsUsed atlas atlas.lists entries unused_items unused_shelves [] []
+used-none : (atlas : AtlasRecords) (entries : List Entry) (unused_items unused_shelves : List ℕ) → length atlas.records.shelves ≤ no_link → IsSpelled atlas (lists_of entries unused_items unused_shelves) → IsUsed atlas atlas.records entries unused_items unused_shelves [] []
 used-none atlas entries unused_items unused_shelves few spelled =
     record {
       spelled = spelled;
       items = λ k stands. refl;
-      shelves = λ k. same-shelf atlas.lists.shelves k;
+      shelves = λ k. same-shelf atlas.records.shelves k;
       more = omega arith;
       made = λ some. refl;
       few = few;
@@ -70,13 +70,13 @@ pub record AreRests (of_shelf of_item : Bool) (atlas : AtlasRecords) (entries : 
   pub item : ℕ
   pub unused_items : List ℕ
   pub unused_shelves : List ℕ
-  pub shelf_is : number_used of_shelf atlas.lists.free_shelves atlas.lists.shelves ≡ link_where of_shelf shelf
-  pub shelf_item_is : number_used of_shelf atlas.lists.free_items atlas.lists.items ≡ link_where of_shelf shelf_item
-  pub item_is : number_used of_item (item_used of_shelf atlas.lists).free_items (item_used of_shelf atlas.lists).items ≡ link_where of_item item
-  pub used : IsUsed atlas (rests_used of_shelf of_item atlas.lists) entries unused_items unused_shelves (list_where of_shelf shelf_item ++ list_where of_item item) (list_where of_shelf shelf)
+  pub shelf_is : number_used of_shelf atlas.records.unused_shelves atlas.records.shelves ≡ link_where of_shelf shelf
+  pub shelf_item_is : number_used of_shelf atlas.records.unused_items atlas.records.items ≡ link_where of_shelf shelf_item
+  pub item_is : number_used of_item (item_used of_shelf atlas.records).unused_items (item_used of_shelf atlas.records).items ≡ link_where of_item item
+  pub used : IsUsed atlas (rests_used of_shelf of_item atlas.records) entries unused_items unused_shelves (list_where of_shelf shelf_item ++ list_where of_item item) (list_where of_shelf shelf)
 
 -- those that a placement needs are there
-pub are-rests : (of_shelf of_item : Bool) (atlas : AtlasRecords) (entries : List Entry) (unused_items unused_shelves : List ℕ) → length atlas.lists.shelves ≤ no_link → (of_shelf ≡ true → unused_shelves ≡ [] → length atlas.lists.shelves + 1 ≤ no_link) → IsSpelled atlas (lists_of entries unused_items unused_shelves) → AreRests of_shelf of_item atlas entries
+pub are-rests : (of_shelf of_item : Bool) (atlas : AtlasRecords) (entries : List Entry) (unused_items unused_shelves : List ℕ) → length atlas.records.shelves ≤ no_link → (of_shelf ≡ true → unused_shelves ≡ [] → length atlas.records.shelves + 1 ≤ no_link) → IsSpelled atlas (lists_of entries unused_items unused_shelves) → AreRests of_shelf of_item atlas entries
 are-rests false false atlas entries unused_items unused_shelves few room spelled =
     record {
       shelf = 0;
@@ -90,8 +90,8 @@ are-rests false false atlas entries unused_items unused_shelves few room spelled
       used = used-none atlas entries unused_items unused_shelves few spelled;
     }
 are-rests false true atlas entries unused_items unused_shelves few room spelled =
-    let one : IsItemUsed atlas atlas.lists entries unused_items unused_shelves [] [] =
-    used-item atlas atlas.lists entries unused_items unused_shelves [] [] (used-none atlas entries unused_items unused_shelves few spelled) in
+    let one : IsItemUsed atlas atlas.records entries unused_items unused_shelves [] [] =
+    used-item atlas atlas.records entries unused_items unused_shelves [] [] (used-none atlas entries unused_items unused_shelves few spelled) in
     record {
       shelf = 0;
       shelf_item = 0;
@@ -104,10 +104,10 @@ are-rests false true atlas entries unused_items unused_shelves few room spelled 
       used = one.used;
     }
 are-rests true false atlas entries unused_items unused_shelves few room spelled =
-    let one : IsItemUsed atlas atlas.lists entries unused_items unused_shelves [] [] =
-    used-item atlas atlas.lists entries unused_items unused_shelves [] [] (used-none atlas entries unused_items unused_shelves few spelled) in
-    let two : IsShelfUsed atlas (item_used true atlas.lists) entries (but_first unused_items) unused_shelves (one.number ∷ []) [] =
-    used-shelf atlas (item_used true atlas.lists) entries (but_first unused_items) unused_shelves (one.number ∷ []) [] (room refl) one.used in
+    let one : IsItemUsed atlas atlas.records entries unused_items unused_shelves [] [] =
+    used-item atlas atlas.records entries unused_items unused_shelves [] [] (used-none atlas entries unused_items unused_shelves few spelled) in
+    let two : IsShelfUsed atlas (item_used true atlas.records) entries (but_first unused_items) unused_shelves (one.number ∷ []) [] =
+    used-shelf atlas (item_used true atlas.records) entries (but_first unused_items) unused_shelves (one.number ∷ []) [] (room refl) one.used in
     record {
       shelf = two.number;
       shelf_item = one.number;
@@ -120,12 +120,12 @@ are-rests true false atlas entries unused_items unused_shelves few room spelled 
       used = two.used;
     }
 are-rests true true atlas entries unused_items unused_shelves few room spelled =
-    let one : IsItemUsed atlas atlas.lists entries unused_items unused_shelves [] [] =
-    used-item atlas atlas.lists entries unused_items unused_shelves [] [] (used-none atlas entries unused_items unused_shelves few spelled) in
-    let two : IsShelfUsed atlas (item_used true atlas.lists) entries (but_first unused_items) unused_shelves (one.number ∷ []) [] =
-    used-shelf atlas (item_used true atlas.lists) entries (but_first unused_items) unused_shelves (one.number ∷ []) [] (room refl) one.used in
-    let three : IsItemUsed atlas (shelf_used true (item_used true atlas.lists)) entries (but_first unused_items) (but_first unused_shelves) (one.number ∷ []) (two.number ∷ []) =
-    used-item atlas (shelf_used true (item_used true atlas.lists)) entries (but_first unused_items) (but_first unused_shelves) (one.number ∷ []) (two.number ∷ []) two.used in
+    let one : IsItemUsed atlas atlas.records entries unused_items unused_shelves [] [] =
+    used-item atlas atlas.records entries unused_items unused_shelves [] [] (used-none atlas entries unused_items unused_shelves few spelled) in
+    let two : IsShelfUsed atlas (item_used true atlas.records) entries (but_first unused_items) unused_shelves (one.number ∷ []) [] =
+    used-shelf atlas (item_used true atlas.records) entries (but_first unused_items) unused_shelves (one.number ∷ []) [] (room refl) one.used in
+    let three : IsItemUsed atlas (shelf_used true (item_used true atlas.records)) entries (but_first unused_items) (but_first unused_shelves) (one.number ∷ []) (two.number ∷ []) =
+    used-item atlas (shelf_used true (item_used true atlas.records)) entries (but_first unused_items) (but_first unused_shelves) (one.number ∷ []) (two.number ∷ []) two.used in
     record {
       shelf = two.number;
       shelf_item = one.number;
@@ -135,7 +135,7 @@ are-rests true true atlas entries unused_items unused_shelves few room spelled =
       shelf_is = two.is;
       shelf_item_is = one.is;
       item_is = three.is;
-      used = loose-swapped atlas (rests_used true true atlas.lists) entries (but_first (but_first unused_items)) (but_first unused_shelves) (two.number ∷ []) three.number one.number three.used;
+      used = loose-swapped atlas (rests_used true true atlas.records) entries (but_first (but_first unused_items)) (but_first unused_shelves) (two.number ∷ []) three.number one.number three.used;
     }
 
 -- the shelf that stands after one that is split
@@ -144,7 +144,7 @@ added_where false shelf item = []
 added_where true shelf item = entry_of shelf (item ∷ []) (item ∷ []) ∷ []
 
 -- the shelf of a placement was split where that is due
-pub split-where : (of_shelf : Bool) (atlas : AtlasRecords) (used : Records) (before after : List Entry) (entry : Entry) (placement : Placement) (item rest rest_item : ℕ) (unused_items unused_shelves loose : List ℕ) → (of_shelf ≡ true → placement.height ≤ height_of atlas.lists.shelves entry.number) → (of_shelf ≡ false → placement.height ≡ height_of atlas.lists.shelves entry.number) → IsUsed atlas used (before ++ entry ∷ after) unused_items unused_shelves (list_where of_shelf rest_item ++ loose) (list_where of_shelf rest) → HasShelfSplit atlas (with_shelf_rest atlas.frame.column_width (record placement { shelf = entry.number; item = item }) (link_where of_shelf rest) (link_where of_shelf rest_item) used) before (added_where of_shelf rest rest_item) after entry unused_items unused_shelves loose placement.height (if of_shelf then empty_shelf atlas.frame (along_of atlas.lists.shelves entry.number / atlas.frame.column_width) (height_of atlas.lists.shelves entry.number - placement.height) ∷ [] else [])
+pub split-where : (of_shelf : Bool) (atlas : AtlasRecords) (used : Records) (before after : List Entry) (entry : Entry) (placement : Placement) (item rest rest_item : ℕ) (unused_items unused_shelves loose : List ℕ) → (of_shelf ≡ true → placement.height ≤ height_of atlas.records.shelves entry.number) → (of_shelf ≡ false → placement.height ≡ height_of atlas.records.shelves entry.number) → IsUsed atlas used (before ++ entry ∷ after) unused_items unused_shelves (list_where of_shelf rest_item ++ loose) (list_where of_shelf rest) → HasShelfSplit atlas (with_shelf_rest atlas.frame.column_width (record placement { shelf = entry.number; item = item }) (link_where of_shelf rest) (link_where of_shelf rest_item) used) before (added_where of_shelf rest rest_item) after entry unused_items unused_shelves loose placement.height (if of_shelf then empty_shelf atlas.frame (along_of atlas.records.shelves entry.number / atlas.frame.column_width) (height_of atlas.records.shelves entry.number - placement.height) ∷ [] else [])
 split-where false atlas used before after entry placement item rest rest_item unused_items unused_shelves loose tall full is_used =
     subst (λ (tall : ℕ). HasShelfSplit atlas used before [] after entry unused_items unused_shelves loose tall []) (sym (full refl))
     (split-none atlas used before after entry unused_items unused_shelves loose is_used)

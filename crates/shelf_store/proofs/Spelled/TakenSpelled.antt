@@ -27,7 +27,7 @@ use Rattle.shelf_store.proofs.Spelled.TakenItemSpelled.{IsPlacedAt, taken_from}
 use Rattle.shelf_store.proofs.Spelled.TakenRests.{AreRests, added_where, are-rests, split-where, link_where, list_where}
 
 -- the item of a placement was given: its front or all of it
-given-where : (of_item : Bool) (atlas : AtlasRecords) (split_records : Records) (before added after : List Entry) (shelf number rest : ℕ) (front back free_front free_back unused_items unused_shelves : List ℕ) (placement : Placement) (rests : List Shelf) → placement.splits_item ≡ of_item → number < length atlas.lists.items → IsPlacedAt atlas.lists.items placement front back free_front free_back number → Each (IsEntry atlas.lists) (before ++ entry_of shelf (front ++ number ∷ back) (free_front ++ number ∷ free_back) ∷ after) → HasShelfSplit atlas split_records before added after (entry_of shelf (front ++ number ∷ back) (free_front ++ number ∷ free_back)) unused_items unused_shelves (list_where of_item rest) placement.height rests → IsItemGiven atlas (with_item_given (record placement { shelf = shelf; item = number }) (link_where of_item rest) split_records) before added after (entry_of shelf (front ++ number ∷ back) (free_front ++ number ∷ free_back)) unused_items unused_shelves (taken_from of_item placement (id_of atlas.lists.items number) (spelled_shelf atlas (entry_of shelf (front ++ number ∷ back) (free_front ++ number ∷ free_back)))) rests
+given-where : (of_item : Bool) (atlas : AtlasRecords) (split_records : Records) (before added after : List Entry) (shelf number rest : ℕ) (front back free_front free_back unused_items unused_shelves : List ℕ) (placement : Placement) (rests : List Shelf) → placement.splits_item ≡ of_item → number < length atlas.records.items → IsPlacedAt atlas.records.items placement front back free_front free_back number → Each (IsEntry atlas.records) (before ++ entry_of shelf (front ++ number ∷ back) (free_front ++ number ∷ free_back) ∷ after) → HasShelfSplit atlas split_records before added after (entry_of shelf (front ++ number ∷ back) (free_front ++ number ∷ free_back)) unused_items unused_shelves (list_where of_item rest) placement.height rests → IsItemGiven atlas (with_item_given (record placement { shelf = shelf; item = number }) (link_where of_item rest) split_records) before added after (entry_of shelf (front ++ number ∷ back) (free_front ++ number ∷ free_back)) unused_items unused_shelves (taken_from of_item placement (id_of atlas.records.items number) (spelled_shelf atlas (entry_of shelf (front ++ number ∷ back) (free_front ++ number ∷ free_back)))) rests
 given-where false atlas split_records before added after shelf number rest front back free_front free_back unused_items unused_shelves placement rests whole within is are split_is =
     item-whole atlas split_records before added after shelf number front back free_front free_back unused_items unused_shelves placement rests within is whole are split_is
 given-where true atlas split_records before added after shelf number rest front back free_front free_back unused_items unused_shelves placement rests split within is are split_is =
@@ -59,21 +59,21 @@ pub record IsTakenBy (atlas : AtlasRecords) (new : Records) (before after : List
   pub lists : Lists
   pub rest : ℕ
   pub item : ℕ
-  pub rest_is : number_used placement.splits_shelf atlas.lists.free_shelves atlas.lists.shelves ≡ link_where placement.splits_shelf rest
-  pub item_is : number_used placement.splits_shelf atlas.lists.free_items atlas.lists.items ≡ link_where placement.splits_shelf item
+  pub rest_is : number_used placement.splits_shelf atlas.records.unused_shelves atlas.records.shelves ≡ link_where placement.splits_shelf rest
+  pub item_is : number_used placement.splits_shelf atlas.records.unused_items atlas.records.items ≡ link_where placement.splits_shelf item
   pub numbers : shelf_numbers lists.entries ≡ shelf_numbers before ++ number ∷ (list_where placement.splits_shelf rest ++ shelf_numbers after)
   pub flagged : IsFlagged (with_lists atlas new) lists
   pub shelves : map (spelled_shelf (with_lists atlas new)) lists.entries ≡ map (spelled_shelf atlas) before ++ (shelf_pieces atlas.frame placement id shelf ++ map (spelled_shelf atlas) after)
-  pub more : length atlas.lists.items ≤ length new.items
-  pub made : 1 ≤ length lists.unused_items → length new.items ≡ length atlas.lists.items
+  pub more : length atlas.records.items ≤ length new.items
+  pub made : 1 ≤ length lists.unused_items → length new.items ≡ length atlas.records.items
   pub few : length new.shelves ≤ no_link
 
 -- a placement was taken in records that spell lists, of which one names its shelf, and that its item
-pub taken-spelled : (atlas : AtlasRecords) (before after : List Entry) (shelf number : ℕ) (front back free_front free_back unused_items unused_shelves : List ℕ) (placement : Placement) → number < length atlas.lists.items → IsPlacedAt atlas.lists.items placement front back free_front free_back number → (placement.splits_shelf ≡ true → placement.height ≤ height_of atlas.lists.shelves shelf) → (placement.splits_shelf ≡ false → placement.height ≡ height_of atlas.lists.shelves shelf) → length atlas.lists.shelves ≤ no_link → (placement.splits_shelf ≡ true → unused_shelves ≡ [] → length atlas.lists.shelves + 1 ≤ no_link) → is_empty (taken_from placement.splits_item placement (id_of atlas.lists.items number) (spelled_shelf atlas (entry_of shelf (front ++ number ∷ back) (free_front ++ number ∷ free_back)))) ≡ false → Each (HasFlag atlas) before → Each (HasFlag atlas) after → IsSpelled atlas (lists_of (before ++ entry_of shelf (front ++ number ∷ back) (free_front ++ number ∷ free_back) ∷ after) unused_items unused_shelves) → IsTakenBy atlas (placement_taken atlas.frame.column_width (record placement { shelf = shelf; item = number }) atlas.lists) before after shelf (spelled_shelf atlas (entry_of shelf (front ++ number ∷ back) (free_front ++ number ∷ free_back))) placement (id_of atlas.lists.items number)
+pub taken-spelled : (atlas : AtlasRecords) (before after : List Entry) (shelf number : ℕ) (front back free_front free_back unused_items unused_shelves : List ℕ) (placement : Placement) → number < length atlas.records.items → IsPlacedAt atlas.records.items placement front back free_front free_back number → (placement.splits_shelf ≡ true → placement.height ≤ height_of atlas.records.shelves shelf) → (placement.splits_shelf ≡ false → placement.height ≡ height_of atlas.records.shelves shelf) → length atlas.records.shelves ≤ no_link → (placement.splits_shelf ≡ true → unused_shelves ≡ [] → length atlas.records.shelves + 1 ≤ no_link) → is_empty (taken_from placement.splits_item placement (id_of atlas.records.items number) (spelled_shelf atlas (entry_of shelf (front ++ number ∷ back) (free_front ++ number ∷ free_back)))) ≡ false → Each (HasFlag atlas) before → Each (HasFlag atlas) after → IsSpelled atlas (lists_of (before ++ entry_of shelf (front ++ number ∷ back) (free_front ++ number ∷ free_back) ∷ after) unused_items unused_shelves) → IsTakenBy atlas (placement_taken atlas.frame.column_width (record placement { shelf = shelf; item = number }) atlas.records) before after shelf (spelled_shelf atlas (entry_of shelf (front ++ number ∷ back) (free_front ++ number ∷ free_back))) placement (id_of atlas.records.items number)
 taken-spelled atlas before after shelf number front back free_front free_back unused_items unused_shelves placement within is tall full few room not_empty flags_before flags_after spelled =
     let of_shelf : Bool = placement.splits_shelf in
     let of_item : Bool = placement.splits_item in
-    let records : Records = atlas.lists in
+    let records : Records = atlas.records in
     let found : Placement = record placement { shelf = shelf; item = number } in
     let entry : Entry = entry_of shelf (front ++ number ∷ back) (free_front ++ number ∷ free_back) in
     let cw : ℕ = atlas.frame.column_width in
@@ -89,16 +89,16 @@ taken-spelled atlas before after shelf number front back free_front free_back un
     IsItemGiven atlas (with_item_given found c (with_shelf_rest cw found a b used)) before added after entry rests.unused_items rests.unused_shelves taken pieces in
     let one : Given (link_where of_shelf rests.shelf) (link_where of_shelf rests.shelf_item) (link_where of_item rests.item) =
     given-where of_item atlas (with_shelf_rest cw found (link_where of_shelf rests.shelf) (link_where of_shelf rests.shelf_item) used) before added after shelf number rests.item front back free_front free_back rests.unused_items rests.unused_shelves placement pieces refl within is spelled.linked.entries is_split in
-    let two : Given (number_used of_shelf records.free_shelves records.shelves) (link_where of_shelf rests.shelf_item) (link_where of_item rests.item) =
+    let two : Given (number_used of_shelf records.unused_shelves records.shelves) (link_where of_shelf rests.shelf_item) (link_where of_item rests.item) =
     subst (λ (o : Option ℕ). Given o (link_where of_shelf rests.shelf_item) (link_where of_item rests.item)) (sym rests.shelf_is) one in
-    let three : Given (number_used of_shelf records.free_shelves records.shelves) (number_used of_shelf records.free_items records.items) (link_where of_item rests.item) =
-    subst (λ (o : Option ℕ). Given (number_used of_shelf records.free_shelves records.shelves) o (link_where of_item rests.item)) (sym rests.shelf_item_is) two in
-    let given : Given (number_used of_shelf records.free_shelves records.shelves) (number_used of_shelf records.free_items records.items) (number_used of_item (item_used of_shelf records).free_items (item_used of_shelf records).items) =
-    subst (λ (o : Option ℕ). Given (number_used of_shelf records.free_shelves records.shelves) (number_used of_shelf records.free_items records.items) o) (sym rests.item_is) three in
-    let last : Records = with_item_given found (number_used of_item (item_used of_shelf records).free_items (item_used of_shelf records).items) (with_shelf_rest cw found (number_used of_shelf records.free_shelves records.shelves) (number_used of_shelf records.free_items records.items) used) in
+    let three : Given (number_used of_shelf records.unused_shelves records.shelves) (number_used of_shelf records.unused_items records.items) (link_where of_item rests.item) =
+    subst (λ (o : Option ℕ). Given (number_used of_shelf records.unused_shelves records.shelves) o (link_where of_item rests.item)) (sym rests.shelf_item_is) two in
+    let given : Given (number_used of_shelf records.unused_shelves records.shelves) (number_used of_shelf records.unused_items records.items) (number_used of_item (item_used of_shelf records).unused_items (item_used of_shelf records).items) =
+    subst (λ (o : Option ℕ). Given (number_used of_shelf records.unused_shelves records.shelves) (number_used of_shelf records.unused_items records.items) o) (sym rests.item_is) three in
+    let last : Records = with_item_given found (number_used of_item (item_used of_shelf records).unused_items (item_used of_shelf records).items) (with_shelf_rest cw found (number_used of_shelf records.unused_shelves records.shelves) (number_used of_shelf records.unused_items records.items) used) in
     let done = flag-cleared atlas last before (added ++ after) given.edited shelf rests.unused_items rests.unused_shelves given.number (given.flags_before flags_before) (given.flags_after flags_after) given.spelled (ap is_empty given.own ∙ not_empty) in
     record {
-      lists = lists_of (before ++ given.edited ∷ (added ++ after)) rests.unused_items rests.unused_shelves;
+      records = lists_of (before ++ given.edited ∷ (added ++ after)) rests.unused_items rests.unused_shelves;
       rest = rests.shelf;
       item = rests.shelf_item;
       rest_is = rests.shelf_is;

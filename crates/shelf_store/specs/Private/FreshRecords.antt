@@ -56,6 +56,6 @@ fresh_records frame =
       shelves = numbered (fresh_shelf frame) 0 frame.columns;
       items = numbered (fresh_item frame) 0 frame.columns;
       first_shelf = Some 0;
-      free_items = None;
-      free_shelves = None;
+      unused_items = None;
+      unused_shelves = None;
     }

@@ -11,7 +11,7 @@ use Rattle.etagere_links.specs.RecordMerges.{free_absorbed, allocated_absorbed, 
 use Rattle.etagere_links.specs.Records.{free_list, item_chain, shelf_chain}
 use Rattle.shelf_records.specs.AtlasRecords.{along_of, height_of, is_allocated_at, is_empty_at, item_at, shelf_of, width_of}
 
--- records after a step, and how many item records it put aside
+-- records after a step, and how many item records became unused
 pub record Step : Type 0 where
   pub records : Records
   pub put_aside : ℕ

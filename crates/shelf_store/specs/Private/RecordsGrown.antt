@@ -92,18 +92,18 @@ abbrev pub with_missing : Needed → Records → Growing
 with_missing needed records =
     record {
       records =
-          records_made (missing item_chain needed.items records.free_items records.items)
-          (missing shelf_chain needed.shelves records.free_shelves records.shelves) records;
+          records_made (missing item_chain needed.items records.unused_items records.items)
+          (missing shelf_chain needed.shelves records.unused_shelves records.shelves) records;
       made = record { item = length records.items; shelf = length records.shelves };
     }
 
 -- the number of the item record that is put to use next
 abbrev pub next_item : Growing → ℕ
-next_item growing = option_map_or (λ number. number) growing.records.free_items growing.made.item
+next_item growing = option_map_or (λ number. number) growing.records.unused_items growing.made.item
 
 -- the number of the shelf record that is put to use next
 abbrev pub next_shelf : Growing → ℕ
-next_shelf growing = option_map_or (λ number. number) growing.records.free_shelves growing.made.shelf
+next_shelf growing = option_map_or (λ number. number) growing.records.unused_shelves growing.made.shelf
 
 -- what was made once an item record was put to use
 abbrev pub made_after_item : Option ℕ → Made → Made
@@ -120,7 +120,7 @@ abbrev pub after_item : Growing → Growing
 after_item growing =
     record {
       records = item_used_again growing.records;
-      made = made_after_item growing.records.free_items growing.made;
+      made = made_after_item growing.records.unused_items growing.made;
     }
 
 -- a shelf record was put to use
@@ -128,7 +128,7 @@ abbrev pub after_shelf : Growing → Growing
 after_shelf growing =
     record {
       records = shelf_used_again growing.records;
-      made = made_after_shelf growing.records.free_shelves growing.made;
+      made = made_after_shelf growing.records.unused_shelves growing.made;
     }
 
 -- an item of this number, free, at the end of a shelf after its last one

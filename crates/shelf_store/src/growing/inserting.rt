@@ -1,6 +1,6 @@
 //! Puts records to use for what a growth adds, and empty shelves in after others.
 //!
-//! Definitions: `RecordsGrown`. What is put to use is what was put aside last, and then what was made.
+//! Definitions: `RecordsGrown`. What is put to use is what became unused last, and then what was made.
 
 ghost use Rattle.std.specs.Prelude.{◌≡◌, ◌<◌};
 ghost use Rattle.etagere_links.specs.Links.{no_link};

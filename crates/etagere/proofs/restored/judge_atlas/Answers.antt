@@ -21,11 +21,11 @@ use Rattle.etagere.proofs.restored.judge_atlas.Goals.{In_ok-judge_rules}
 
 -- what is said of the fields of an atlas is said of the atlas
 said : (P : Frame → List LinkedShelf → List LinkedItem → ℤ → Type 0) (fields atlas : AtlasRecords) (shelves : List LinkedShelf) (items : List LinkedItem)
-    → fields ≡ atlas → shelves ≡ fields.lists.shelves → items ≡ fields.lists.items
-    → P fields.frame shelves items fields.allocated_space → P atlas.frame atlas.lists.shelves atlas.lists.items atlas.allocated_space
+    → fields ≡ atlas → shelves ≡ fields.records.shelves → items ≡ fields.records.items
+    → P fields.frame shelves items fields.allocated_space → P atlas.frame atlas.records.shelves atlas.records.items atlas.allocated_space
 said P fields atlas shelves items same shelves_are items_are p =
-    subst (λ (a : AtlasRecords). P a.frame a.lists.shelves a.lists.items a.allocated_space) same
-    (subst (λ (is : List LinkedItem). P fields.frame fields.lists.shelves is fields.allocated_space) items_are
+    subst (λ (a : AtlasRecords). P a.frame a.records.shelves a.records.items a.allocated_space) same
+    (subst (λ (is : List LinkedItem). P fields.frame fields.records.shelves is fields.allocated_space) items_are
     (subst (λ (ss : List LinkedShelf). P fields.frame ss items fields.allocated_space) shelves_are p))
 
 -- as many shelves as walks have met
@@ -46,7 +46,7 @@ judge_rules-requires-clause-shelves c =
 
 pub judge_rules-requires-clause-items : goal.judge_rules-requires-clause-items
 judge_rules-requires-clause-items c =
-    let same = c.items-items.ensures ∙ ap (λ (a : AtlasRecords). a.lists.items) c.atlas.view_is in
+    let same = c.items-items.ensures ∙ ap (λ (a : AtlasRecords). a.records.items) c.atlas.view_is in
     subst (λ (is : List LinkedItem). HasEachOnce (length is) (item_numbers c.in_ok-walked.walked.shelves.items ++ c.in_ok-walked.walked.unused.items)) (sym same)
     (walked-items c.args.atlas.now c.in_ok-walked.walked.shelves.items c.in_ok-walked.walked.unused.items c.in_ok-walked.ensures.ok)
 
@@ -58,7 +58,7 @@ judge_rules-requires-clause-once c =
 stands : (c : In_ok-judge_rules) → StandsFor c.args.atlas.now (state_spelled c.args.atlas.now)
 stands c =
     let atlas = c.args.atlas.now in
-    let fields : AtlasRecords = record { frame = c.atlas.inside.frame; lists = c.atlas.inside.records; allocated_space = c.atlas.inside.allocated_space } in
+    let fields : AtlasRecords = record { frame = c.atlas.inside.frame; records = c.atlas.inside.records; allocated_space = c.atlas.inside.allocated_space } in
     let entries : List Entry = c.in_ok-walked.walked.shelves.items in
     let unused : List ℕ = c.in_ok-walked.walked.unused.items in
     let fits : SFits w32 c.atlas.inside.allocated_space = search rules in
@@ -82,7 +82,7 @@ returns-clause-items c =
 
 pub returns-clause-met : goal.returns-clause-met
 returns-clause-met c =
-    ap shelf_numbers c.in_ok-walked.ensures.ok.entries_met ∙ walked-numbers c.args.atlas.now.lists (shelf_walk c.args.atlas.now.lists).met
+    ap shelf_numbers c.in_ok-walked.ensures.ok.entries_met ∙ walked-numbers c.args.atlas.now.records (shelf_walk c.args.atlas.now.records).met
 
 pub returns-clause-each : goal.returns-clause-each
 returns-clause-each c =
@@ -96,15 +96,15 @@ returns-clause-each c =
 pub returns-in_err-judge_rules-clause-fault : goal.returns-in_err-judge_rules-clause-fault
 returns-in_err-judge_rules-clause-fault c =
     let atlas = c.args.atlas.now in
-    let fields : AtlasRecords = record { frame = c.atlas.inside.frame; lists = c.atlas.inside.records; allocated_space = c.atlas.inside.allocated_space } in
+    let fields : AtlasRecords = record { frame = c.atlas.inside.frame; records = c.atlas.inside.records; allocated_space = c.atlas.inside.allocated_space } in
     let entries : List Entry = c.in_ok-walked.walked.shelves.items in
     let unused : List ℕ = c.in_ok-walked.walked.unused.items in
     let fault = c.in_err-judge_rules.field-0.0 in
     let fits : SFits w32 c.atlas.inside.allocated_space = search rules in
     let passed = err_from_is_err_and c.from_residual-in_err-judge_rules.result c.from_residual-in_err-judge_rules.ensures.1 in
     rw (passed.1, passed.2) (rule-broken atlas fault
-    (subst (λ (us : List ℕ). BreaksRule atlas.frame atlas.lists.shelves atlas.lists.items (walked_entries atlas) us atlas.allocated_space fault) c.in_ok-walked.ensures.ok.unused_met
-    (subst (λ (es : List Entry). BreaksRule atlas.frame atlas.lists.shelves atlas.lists.items es unused atlas.allocated_space fault) c.in_ok-walked.ensures.ok.entries_met
+    (subst (λ (us : List ℕ). BreaksRule atlas.frame atlas.records.shelves atlas.records.items (walked_entries atlas) us atlas.allocated_space fault) c.in_ok-walked.ensures.ok.unused_met
+    (subst (λ (es : List Entry). BreaksRule atlas.frame atlas.records.shelves atlas.records.items es unused atlas.allocated_space fault) c.in_ok-walked.ensures.ok.entries_met
     (said (λ frame shelves items space. BreaksRule frame shelves items entries unused space fault) fields atlas c.shelves-shelves.result.now c.items-items.result.now
     c.atlas.view_is c.shelves-shelves.ensures c.items-items.ensures
     (subst (λ (space : ℤ). BreaksRule c.atlas.inside.frame c.shelves-shelves.result.now c.items-items.result.now entries unused space fault) (to_z-of_z w32 c.atlas.inside.allocated_space fits) c.in_err-judge_rules.ensures.fault)))))

@@ -23,133 +23,133 @@ use Rattle.shelf_restoring.proofs.chains.follow_items.Goals as goal
 pub returns-in-Err-clause-fault : goal.returns-in-Err-clause-fault
 returns-in-Err-clause-fault c =
     let atlas = c.args.atlas.now in
-    let start : c.bits-first.result ≡ bits_of atlas.lists.free_items =
-    c.bits-first.ensures.value ∙ ap bits_of (c.unused_items.ensures ∙ ap (λ (a : AtlasRecords). a.lists.free_items) c.atlas.view_is) in
+    let start : c.bits-first.result ≡ bits_of atlas.records.unused_items =
+    c.bits-first.ensures.value ∙ ap bits_of (c.unused_items.ensures ∙ ap (λ (a : AtlasRecords). a.records.unused_items) c.atlas.view_is) in
     subst (IsBroken atlas) (sym c.chain_fault.ensures)
     (unused_items-broken atlas c.args.marks.now c.in-Err.fault
-    (breaks-by item_chain.next atlas.lists.items atlas.lists.free_items c.args.links.now c.bits-first.result c.args.marks.now c.in-Err.fault c.requires.links start c.in-Err.ensures.fault)
+    (breaks-by item_chain.next atlas.records.items atlas.records.unused_items c.args.links.now c.bits-first.result c.args.marks.now c.in-Err.fault c.requires.links start c.in-Err.ensures.fault)
     c.requires.marked)
 
 pub walk_chains-requires-clause-marked : goal.walk_chains-requires-clause-marked
 walk_chains-requires-clause-marked c =
     let atlas = c.args.atlas.now in
-    let unused : List ℕ = (unused_item_walk atlas.lists).met in
-    let start : c.bits-first.result ≡ bits_of atlas.lists.free_items =
-    c.bits-first.ensures.value ∙ ap bits_of (c.unused_items.ensures ∙ ap (λ (a : AtlasRecords). a.lists.free_items) c.atlas.view_is) in
-    let walks = walks-by item_chain.next atlas.lists.items atlas.lists.free_items c.args.links.now c.bits-first.result c.requires.links start in
+    let unused : List ℕ = (unused_item_walk atlas.records).met in
+    let start : c.bits-first.result ≡ bits_of atlas.records.unused_items =
+    c.bits-first.ensures.value ∙ ap bits_of (c.unused_items.ensures ∙ ap (λ (a : AtlasRecords). a.records.unused_items) c.atlas.view_is) in
+    let walks = walks-by item_chain.next atlas.records.items atlas.records.unused_items c.args.links.now c.bits-first.result c.requires.links start in
     subst (λ (w : Walked). IsMarkedBy c.walk_marking.new.marks w.met) walks (c.in-Ok.ensures.marked [] c.requires.marked)
 
 pub returns-then-not-all_marked-clause-fault : goal.returns-then-not-all_marked-clause-fault
 returns-then-not-all_marked-clause-fault c =
     let atlas = c.args.atlas.now in
-    let unused : List ℕ = (unused_item_walk atlas.lists).met in
-    let start : c.bits-first.result ≡ bits_of atlas.lists.free_items =
-    c.bits-first.ensures.value ∙ ap bits_of (c.unused_items.ensures ∙ ap (λ (a : AtlasRecords). a.lists.free_items) c.atlas.view_is) in
-    let walks = walks-by item_chain.next atlas.lists.items atlas.lists.free_items c.args.links.now c.bits-first.result c.requires.links start in
-    let numbers : List ℕ = (shelf_walk atlas.lists).met in
-    let entries : c.in_ok-shelves.shelves.items ≡ map (chain_entry atlas.lists) numbers =
-    c.in_ok-shelves.ensures.ok ∙ ap (map (chain_entry atlas.lists)) c.requires.numbers in
-    let marked : IsMarkedBy c.walk_chains.new.marks (unused ++ item_numbers (map (chain_entry atlas.lists) numbers)) =
+    let unused : List ℕ = (unused_item_walk atlas.records).met in
+    let start : c.bits-first.result ≡ bits_of atlas.records.unused_items =
+    c.bits-first.ensures.value ∙ ap bits_of (c.unused_items.ensures ∙ ap (λ (a : AtlasRecords). a.records.unused_items) c.atlas.view_is) in
+    let walks = walks-by item_chain.next atlas.records.items atlas.records.unused_items c.args.links.now c.bits-first.result c.requires.links start in
+    let numbers : List ℕ = (shelf_walk atlas.records).met in
+    let entries : c.in_ok-shelves.shelves.items ≡ map (chain_entry atlas.records) numbers =
+    c.in_ok-shelves.ensures.ok ∙ ap (map (chain_entry atlas.records)) c.requires.numbers in
+    let marked : IsMarkedBy c.walk_chains.new.marks (unused ++ item_numbers (map (chain_entry atlas.records) numbers)) =
     subst (λ (es : List Entry). IsMarkedBy c.walk_chains.new.marks (unused ++ item_numbers es)) entries c.in_ok-shelves.ensures.marked in
-    let count : length c.walk_chains.new.marks ≡ length atlas.lists.items =
-    c.walk_chains.auto.marks ∙ c.walk_marking.auto.marks ∙ c.requires.marks ∙ links-length item_chain.next atlas.lists.items c.args.links.now c.requires.links in
+    let count : length c.walk_chains.new.marks ≡ length atlas.records.items =
+    c.walk_chains.auto.marks ∙ c.walk_marking.auto.marks ∙ c.requires.marks ∙ links-length item_chain.next atlas.records.items c.args.links.now c.requires.links in
     λ (shared : IsShared atlas).
-    c.if-not-all_marked.ensures.missing refl (unused ++ item_numbers (map (chain_entry atlas.lists) numbers)) marked
-    (subst (λ (n : ℕ). HasEachOnce n (unused ++ item_numbers (map (chain_entry atlas.lists) numbers))) (sym count)
-    (once-swapped atlas.lists numbers unused (length atlas.lists.items) shared.items))
+    c.if-not-all_marked.ensures.missing refl (unused ++ item_numbers (map (chain_entry atlas.records) numbers)) marked
+    (subst (λ (n : ℕ). HasEachOnce n (unused ++ item_numbers (map (chain_entry atlas.records) numbers))) (sym count)
+    (once-swapped atlas.records numbers unused (length atlas.records.items) shared.items))
 
 pub returns-clause-ok : goal.returns-clause-ok
 returns-clause-ok c =
     let atlas = c.args.atlas.now in
-    let unused : List ℕ = (unused_item_walk atlas.lists).met in
-    let start : c.bits-first.result ≡ bits_of atlas.lists.free_items =
-    c.bits-first.ensures.value ∙ ap bits_of (c.unused_items.ensures ∙ ap (λ (a : AtlasRecords). a.lists.free_items) c.atlas.view_is) in
-    let walks = walks-by item_chain.next atlas.lists.items atlas.lists.free_items c.args.links.now c.bits-first.result c.requires.links start in
-    let numbers : List ℕ = (shelf_walk atlas.lists).met in
-    let entries : c.in_ok-shelves.shelves.items ≡ map (chain_entry atlas.lists) numbers =
-    c.in_ok-shelves.ensures.ok ∙ ap (map (chain_entry atlas.lists)) c.requires.numbers in
-    let marked : IsMarkedBy c.walk_chains.new.marks (unused ++ item_numbers (map (chain_entry atlas.lists) numbers)) =
+    let unused : List ℕ = (unused_item_walk atlas.records).met in
+    let start : c.bits-first.result ≡ bits_of atlas.records.unused_items =
+    c.bits-first.ensures.value ∙ ap bits_of (c.unused_items.ensures ∙ ap (λ (a : AtlasRecords). a.records.unused_items) c.atlas.view_is) in
+    let walks = walks-by item_chain.next atlas.records.items atlas.records.unused_items c.args.links.now c.bits-first.result c.requires.links start in
+    let numbers : List ℕ = (shelf_walk atlas.records).met in
+    let entries : c.in_ok-shelves.shelves.items ≡ map (chain_entry atlas.records) numbers =
+    c.in_ok-shelves.ensures.ok ∙ ap (map (chain_entry atlas.records)) c.requires.numbers in
+    let marked : IsMarkedBy c.walk_chains.new.marks (unused ++ item_numbers (map (chain_entry atlas.records) numbers)) =
     subst (λ (es : List Entry). IsMarkedBy c.walk_chains.new.marks (unused ++ item_numbers es)) entries c.in_ok-shelves.ensures.marked in
-    let count : length c.walk_chains.new.marks ≡ length atlas.lists.items =
-    c.walk_chains.auto.marks ∙ c.walk_marking.auto.marks ∙ c.requires.marks ∙ links-length item_chain.next atlas.lists.items c.args.links.now c.requires.links in
+    let count : length c.walk_chains.new.marks ≡ length atlas.records.items =
+    c.walk_chains.auto.marks ∙ c.walk_marking.auto.marks ∙ c.requires.marks ∙ links-length item_chain.next atlas.records.items c.args.links.now c.requires.links in
     let unused_met : c.in-Ok.unused.items ≡ unused = c.in-Ok.ensures.met ∙ ap (λ (w : Walked). w.met) walks in
-    let once : HasEachOnce (length atlas.lists.items) (unused ++ item_numbers (map (chain_entry atlas.lists) numbers)) =
-    subst (λ (n : ℕ). HasEachOnce n (unused ++ item_numbers (map (chain_entry atlas.lists) numbers))) count
-    (c.if-not-all_marked.ensures.all refl (unused ++ item_numbers (map (chain_entry atlas.lists) numbers)) marked) in
+    let once : HasEachOnce (length atlas.records.items) (unused ++ item_numbers (map (chain_entry atlas.records) numbers)) =
+    subst (λ (n : ℕ). HasEachOnce n (unused ++ item_numbers (map (chain_entry atlas.records) numbers))) count
+    (c.if-not-all_marked.ensures.all refl (unused ++ item_numbers (map (chain_entry atlas.records) numbers)) marked) in
     record {
       met = entries;
       unused_met = unused_met;
-      chains = subst (Each (HasChain atlas.lists)) c.requires.numbers c.in_ok-shelves.ensures.chains;
+      chains = subst (Each (HasChain atlas.records)) c.requires.numbers c.in_ok-shelves.ensures.chains;
       unused_end = sym (ap (λ (w : Walked). w.end) walks) ∙ c.in-Ok.ensures.end;
-      once = subst (λ (ns : List ℕ). HasEachOnce (length atlas.lists.items) (item_numbers c.in_ok-shelves.shelves.items ++ ns)) (sym unused_met)
-          (subst (λ (es : List Entry). HasEachOnce (length atlas.lists.items) (item_numbers es ++ unused)) (sym entries)
-          (once-back unused (item_numbers (map (chain_entry atlas.lists) numbers)) (length atlas.lists.items) once));
+      once = subst (λ (ns : List ℕ). HasEachOnce (length atlas.records.items) (item_numbers c.in_ok-shelves.shelves.items ++ ns)) (sym unused_met)
+          (subst (λ (es : List Entry). HasEachOnce (length atlas.records.items) (item_numbers es ++ unused)) (sym entries)
+          (once-back unused (item_numbers (map (chain_entry atlas.records) numbers)) (length atlas.records.items) once));
       next_fits = c.requires.fit;
-      unused_fits = ap link_of (sym start) ∙ c.bits-first.ensures.link ∙ c.unused_items.ensures ∙ ap (λ (a : AtlasRecords). a.lists.free_items) c.atlas.view_is;
+      unused_fits = ap link_of (sym start) ∙ c.bits-first.ensures.link ∙ c.unused_items.ensures ∙ ap (λ (a : AtlasRecords). a.records.unused_items) c.atlas.view_is;
     }
 
 pub returns-in-Err-clause-until : goal.returns-in-Err-clause-until
 returns-in-Err-clause-until c =
     let atlas = c.args.atlas.now in
-    let start : c.bits-first.result ≡ bits_of atlas.lists.free_items =
-    c.bits-first.ensures.value ∙ ap bits_of (c.unused_items.ensures ∙ ap (λ (a : AtlasRecords). a.lists.free_items) c.atlas.view_is) in
-    let walks = walks-by item_chain.next atlas.lists.items atlas.lists.free_items c.args.links.now c.bits-first.result c.requires.links start in
+    let start : c.bits-first.result ≡ bits_of atlas.records.unused_items =
+    c.bits-first.ensures.value ∙ ap bits_of (c.unused_items.ensures ∙ ap (λ (a : AtlasRecords). a.records.unused_items) c.atlas.view_is) in
+    let walks = walks-by item_chain.next atlas.records.items atlas.records.unused_items c.args.links.now c.bits-first.result c.requires.links start in
     let steps = c.walk_marking.new.steps in
-    λ more. subst (StopsAfter (c.args.steps.now + links_until (length atlas.lists.items) more [] (item_walks atlas.lists)) steps) (sym c.chain_fault.ensures)
-    (first-refused atlas.lists (length atlas.lists.items) more c.args.steps.now steps (unused_item_walk atlas.lists) (map (item_walk atlas.lists) (shelf_walk atlas.lists).met) c.args.marks.now c.in-Err.fault c.requires.marked
-    (breaks-by item_chain.next atlas.lists.items atlas.lists.free_items c.args.links.now c.bits-first.result c.args.marks.now c.in-Err.fault c.requires.links start c.in-Err.ensures.fault)
-    (walk-once item_chain.next atlas.lists.items atlas.lists.free_items c.requires.few)
+    λ more. subst (StopsAfter (c.args.steps.now + links_until (length atlas.records.items) more [] (item_walks atlas.records)) steps) (sym c.chain_fault.ensures)
+    (first-refused atlas.records (length atlas.records.items) more c.args.steps.now steps (unused_item_walk atlas.records) (map (item_walk atlas.records) (shelf_walk atlas.records).met) c.args.marks.now c.in-Err.fault c.requires.marked
+    (breaks-by item_chain.next atlas.records.items atlas.records.unused_items c.args.links.now c.bits-first.result c.args.marks.now c.in-Err.fault c.requires.links start c.in-Err.ensures.fault)
+    (walk-once item_chain.next atlas.records.items atlas.records.unused_items c.requires.few)
     (subst (λ (w : Walked). steps ≡ c.args.steps.now + links_by w c.in-Err.fault) walks c.in-Err.ensures.read))
 
 pub returns-in_err-shelves-clause-until : goal.returns-in_err-shelves-clause-until
 returns-in_err-shelves-clause-until c =
     let atlas = c.args.atlas.now in
-    let start : c.bits-first.result ≡ bits_of atlas.lists.free_items =
-    c.bits-first.ensures.value ∙ ap bits_of (c.unused_items.ensures ∙ ap (λ (a : AtlasRecords). a.lists.free_items) c.atlas.view_is) in
-    let walks = walks-by item_chain.next atlas.lists.items atlas.lists.free_items c.args.links.now c.bits-first.result c.requires.links start in
-    let marked : IsMarkedBy c.walk_marking.new.marks (unused_item_walk atlas.lists).met =
+    let start : c.bits-first.result ≡ bits_of atlas.records.unused_items =
+    c.bits-first.ensures.value ∙ ap bits_of (c.unused_items.ensures ∙ ap (λ (a : AtlasRecords). a.records.unused_items) c.atlas.view_is) in
+    let walks = walks-by item_chain.next atlas.records.items atlas.records.unused_items c.args.links.now c.bits-first.result c.requires.links start in
+    let marked : IsMarkedBy c.walk_marking.new.marks (unused_item_walk atlas.records).met =
     subst (λ (w : Walked). IsMarkedBy c.walk_marking.new.marks w.met) walks (c.in-Ok.ensures.marked [] c.requires.marked) in
     let fault = c.in_err-shelves.field-0.0 in
     let steps = c.walk_chains.new.steps in
     let passed = err_from_is_err_and c.from_residual.result c.from_residual.ensures.1 in
     rw (passed.1, passed.2) (λ more. subst (λ (n : ℕ). StopsAfter n steps fault)
-    (ap (λ (ns : List ℕ). c.walk_marking.new.steps + links_until (length atlas.lists.items) more (unused_item_walk atlas.lists).met (map (item_walk atlas.lists) ns)) c.requires.numbers
-    ∙ items-on atlas.lists more c.args.steps.now c.walk_marking.new.steps c.walk_marking.new.marks (sym (ap (λ (w : Walked). w.end) walks) ∙ c.in-Ok.ensures.end) marked
+    (ap (λ (ns : List ℕ). c.walk_marking.new.steps + links_until (length atlas.records.items) more (unused_item_walk atlas.records).met (map (item_walk atlas.records) ns)) c.requires.numbers
+    ∙ items-on atlas.records more c.args.steps.now c.walk_marking.new.steps c.walk_marking.new.marks (sym (ap (λ (w : Walked). w.end) walks) ∙ c.in-Ok.ensures.end) marked
     (subst (λ (w : Walked). c.walk_marking.new.steps ≡ c.args.steps.now + length w.met) walks c.in-Ok.ensures.steps))
     (c.in_err-shelves.ensures.until more))
 
 pub returns-then-not-all_marked-clause-until : goal.returns-then-not-all_marked-clause-until
 returns-then-not-all_marked-clause-until c =
     let atlas = c.args.atlas.now in
-    let unused : List ℕ = (unused_item_walk atlas.lists).met in
-    let start : c.bits-first.result ≡ bits_of atlas.lists.free_items =
-    c.bits-first.ensures.value ∙ ap bits_of (c.unused_items.ensures ∙ ap (λ (a : AtlasRecords). a.lists.free_items) c.atlas.view_is) in
-    let walks = walks-by item_chain.next atlas.lists.items atlas.lists.free_items c.args.links.now c.bits-first.result c.requires.links start in
-    let numbers : List ℕ = (shelf_walk atlas.lists).met in
-    let entries : c.in_ok-shelves.shelves.items ≡ map (chain_entry atlas.lists) numbers =
-    c.in_ok-shelves.ensures.ok ∙ ap (map (chain_entry atlas.lists)) c.requires.numbers in
-    let marked : IsMarkedBy c.walk_chains.new.marks (met_by (item_walks atlas.lists)) =
-    subst (λ (ns : List ℕ). IsMarkedBy c.walk_chains.new.marks (unused ++ ns)) (ap item_numbers entries ∙ sym (items-met atlas.lists numbers)) c.in_ok-shelves.ensures.marked in
-    let count : length c.walk_chains.new.marks ≡ length atlas.lists.items =
-    c.walk_chains.auto.marks ∙ c.walk_marking.auto.marks ∙ c.requires.marks ∙ links-length item_chain.next atlas.lists.items c.args.links.now c.requires.links in
-    let all : c.walk_chains.new.steps ≡ c.args.steps.now + links_in (item_walks atlas.lists) =
-    items-counted atlas.lists c.args.steps.now c.walk_marking.new.steps c.walk_chains.new.steps
+    let unused : List ℕ = (unused_item_walk atlas.records).met in
+    let start : c.bits-first.result ≡ bits_of atlas.records.unused_items =
+    c.bits-first.ensures.value ∙ ap bits_of (c.unused_items.ensures ∙ ap (λ (a : AtlasRecords). a.records.unused_items) c.atlas.view_is) in
+    let walks = walks-by item_chain.next atlas.records.items atlas.records.unused_items c.args.links.now c.bits-first.result c.requires.links start in
+    let numbers : List ℕ = (shelf_walk atlas.records).met in
+    let entries : c.in_ok-shelves.shelves.items ≡ map (chain_entry atlas.records) numbers =
+    c.in_ok-shelves.ensures.ok ∙ ap (map (chain_entry atlas.records)) c.requires.numbers in
+    let marked : IsMarkedBy c.walk_chains.new.marks (met_by (item_walks atlas.records)) =
+    subst (λ (ns : List ℕ). IsMarkedBy c.walk_chains.new.marks (unused ++ ns)) (ap item_numbers entries ∙ sym (items-met atlas.records numbers)) c.in_ok-shelves.ensures.marked in
+    let count : length c.walk_chains.new.marks ≡ length atlas.records.items =
+    c.walk_chains.auto.marks ∙ c.walk_marking.auto.marks ∙ c.requires.marks ∙ links-length item_chain.next atlas.records.items c.args.links.now c.requires.links in
+    let all : c.walk_chains.new.steps ≡ c.args.steps.now + links_in (item_walks atlas.records) =
+    items-counted atlas.records c.args.steps.now c.walk_marking.new.steps c.walk_chains.new.steps
     (subst (λ (w : Walked). c.walk_marking.new.steps ≡ c.args.steps.now + length w.met) walks c.in-Ok.ensures.steps)
     (c.in_ok-shelves.ensures.steps ∙ ap (λ (es : List Entry). c.walk_marking.new.steps + length (item_numbers es)) entries) in
     λ more. all
     ∙ ap (λ (n : ℕ). c.args.steps.now + n)
-    (none-further atlas.lists more (item_walks atlas.lists) c.walk_chains.new.marks (length atlas.lists.items)
-    (sym (ap (λ (w : Walked). w.end) walks) ∙ c.in-Ok.ensures.end, chains-end atlas.lists numbers (subst (Each (HasChain atlas.lists)) c.requires.numbers c.in_ok-shelves.ensures.chains))
-    count marked (c.if-not-all_marked.ensures.missing refl (met_by (item_walks atlas.lists)) marked))
+    (none-further atlas.records more (item_walks atlas.records) c.walk_chains.new.marks (length atlas.records.items)
+    (sym (ap (λ (w : Walked). w.end) walks) ∙ c.in-Ok.ensures.end, chains-end atlas.records numbers (subst (Each (HasChain atlas.records)) c.requires.numbers c.in_ok-shelves.ensures.chains))
+    count marked (c.if-not-all_marked.ensures.missing refl (met_by (item_walks atlas.records)) marked))
 
 pub returns-clause-all : goal.returns-clause-all
 returns-clause-all c =
     let atlas = c.args.atlas.now in
-    let start : c.bits-first.result ≡ bits_of atlas.lists.free_items =
-    c.bits-first.ensures.value ∙ ap bits_of (c.unused_items.ensures ∙ ap (λ (a : AtlasRecords). a.lists.free_items) c.atlas.view_is) in
-    let walks = walks-by item_chain.next atlas.lists.items atlas.lists.free_items c.args.links.now c.bits-first.result c.requires.links start in
-    let entries : c.in_ok-shelves.shelves.items ≡ map (chain_entry atlas.lists) (shelf_walk atlas.lists).met =
-    c.in_ok-shelves.ensures.ok ∙ ap (map (chain_entry atlas.lists)) c.requires.numbers in
-    items-counted atlas.lists c.args.steps.now c.walk_marking.new.steps c.walk_chains.new.steps
+    let start : c.bits-first.result ≡ bits_of atlas.records.unused_items =
+    c.bits-first.ensures.value ∙ ap bits_of (c.unused_items.ensures ∙ ap (λ (a : AtlasRecords). a.records.unused_items) c.atlas.view_is) in
+    let walks = walks-by item_chain.next atlas.records.items atlas.records.unused_items c.args.links.now c.bits-first.result c.requires.links start in
+    let entries : c.in_ok-shelves.shelves.items ≡ map (chain_entry atlas.records) (shelf_walk atlas.records).met =
+    c.in_ok-shelves.ensures.ok ∙ ap (map (chain_entry atlas.records)) c.requires.numbers in
+    items-counted atlas.records c.args.steps.now c.walk_marking.new.steps c.walk_chains.new.steps
     (subst (λ (w : Walked). c.walk_marking.new.steps ≡ c.args.steps.now + length w.met) walks c.in-Ok.ensures.steps)
     (c.in_ok-shelves.ensures.steps ∙ ap (λ (es : List Entry). c.walk_marking.new.steps + length (item_numbers es)) entries)

@@ -19,7 +19,7 @@ use Rattle.shelf_restoring.proofs.chains.walk_chains.Goals as goal
 
 pub walk_marking-requires-clause-steps : goal.walk_marking-requires-clause-steps
 walk_marking-requires-clause-steps c =
-    let lists = c.args.atlas.now.lists in
+    let lists = c.args.atlas.now.records in
     let kept = c.loop-number.invariant in
     let items : List ℕ = item_numbers (map (chain_entry lists) (take c.loop-number.number-index c.args.numbers.now)) in
     omega (arith, kept.steps, both-length c.loop-number.marks (unused_item_walk lists).met items kept.marked, c.loop-number.auto.marks, c.requires.marks, c.requires.steps, c.requires.few, links-length item_chain.next lists.items c.args.links.now c.requires.links)
@@ -28,23 +28,23 @@ pub returns-in-Err-clause-fault : goal.returns-in-Err-clause-fault
 returns-in-Err-clause-fault c =
     let atlas = c.args.atlas.now in
     let number : ℕ = get_or c.args.numbers.now c.loop-number.number-index 0 in
-    let start : c.bits-first.result ≡ bits_of (first_item_of atlas.lists.shelves number) =
-    c.bits-first.ensures.value ∙ ap bits_of (c.first_item_link.ensures ∙ ap (λ ss. first_item_of ss c.from.result) (c.shelves.ensures ∙ ap (λ (a : AtlasRecords). a.lists.shelves) c.atlas.view_is) ∙ ap (first_item_of atlas.lists.shelves) c.from.ensures) in
+    let start : c.bits-first.result ≡ bits_of (first_item_of atlas.records.shelves number) =
+    c.bits-first.ensures.value ∙ ap bits_of (c.first_item_link.ensures ∙ ap (λ ss. first_item_of ss c.from.result) (c.shelves.ensures ∙ ap (λ (a : AtlasRecords). a.records.shelves) c.atlas.view_is) ∙ ap (first_item_of atlas.records.shelves) c.from.ensures) in
     subst (IsBroken atlas) (sym c.chain_fault.ensures)
     (chain-broken atlas c.loop-number.marks c.args.numbers.now c.loop-number.number-index number c.in-Err.fault c.requires.numbers c.loop-number-test.true refl
-    (breaks-by item_chain.next atlas.lists.items (first_item_of atlas.lists.shelves number) c.args.links.now c.bits-first.result c.loop-number.marks c.in-Err.fault c.requires.links start c.in-Err.ensures.fault)
+    (breaks-by item_chain.next atlas.records.items (first_item_of atlas.records.shelves number) c.args.links.now c.bits-first.result c.loop-number.marks c.in-Err.fault c.requires.links start c.in-Err.ensures.fault)
     c.loop-number.invariant.marked)
 
 pub returns-in-Err-clause-bound : goal.returns-in-Err-clause-bound
 returns-in-Err-clause-bound c =
-    let lists = c.args.atlas.now.lists in
+    let lists = c.args.atlas.now.records in
     let kept = c.loop-number.invariant in
     let items : List ℕ = item_numbers (map (chain_entry lists) (take c.loop-number.number-index c.args.numbers.now)) in
     omega (arith, kept.steps, both-length c.loop-number.marks (unused_item_walk lists).met items kept.marked, c.loop-number.auto.marks, c.requires.marks, c.in-Err.ensures.bound, links-length item_chain.next lists.items c.args.links.now c.requires.links)
 
 pub returns-in_default-clause-bound : goal.returns-in_default-clause-bound
 returns-in_default-clause-bound c =
-    let lists = c.args.atlas.now.lists in
+    let lists = c.args.atlas.now.records in
     let kept = c.loop-number.invariant in
     let items : List ℕ = item_numbers (map (chain_entry lists) (take c.loop-number.number-index c.args.numbers.now)) in
     omega (arith, kept.steps, both-length c.loop-number.marks (unused_item_walk lists).met items kept.marked, c.loop-number.auto.marks, c.requires.marks, c.in-Ok.ensures.bound, links-length item_chain.next lists.items c.args.links.now c.requires.links)
@@ -57,34 +57,34 @@ loop-number-preserved c =
     let i = c.loop-number.number-index in
     let within = c.loop-number-test.true in
     let number : ℕ = get_or numbers i 0 in
-    let unused : List ℕ = (unused_item_walk atlas.lists).met in
-    let items : List ℕ = item_numbers (map (chain_entry atlas.lists) (take i numbers)) in
-    let link : c.first_item_link.result ≡ first_item_of atlas.lists.shelves number =
-    c.first_item_link.ensures ∙ ap (λ ss. first_item_of ss c.from.result) (c.shelves.ensures ∙ ap (λ (a : AtlasRecords). a.lists.shelves) c.atlas.view_is) ∙ ap (first_item_of atlas.lists.shelves) c.from.ensures in
-    let start : c.bits-first.result ≡ bits_of (first_item_of atlas.lists.shelves number) = c.bits-first.ensures.value ∙ ap bits_of link in
-    let walks : walk c.args.links.now c.bits-first.result ≡ item_walk atlas.lists number =
-    walks-by item_chain.next atlas.lists.items (first_item_of atlas.lists.shelves number) c.args.links.now c.bits-first.result c.requires.links start in
-    let met : c.in-Ok.items.items ≡ (item_walk atlas.lists number).met = c.in-Ok.ensures.met ∙ ap (λ (w : Walked). w.met) walks in
+    let unused : List ℕ = (unused_item_walk atlas.records).met in
+    let items : List ℕ = item_numbers (map (chain_entry atlas.records) (take i numbers)) in
+    let link : c.first_item_link.result ≡ first_item_of atlas.records.shelves number =
+    c.first_item_link.ensures ∙ ap (λ ss. first_item_of ss c.from.result) (c.shelves.ensures ∙ ap (λ (a : AtlasRecords). a.records.shelves) c.atlas.view_is) ∙ ap (first_item_of atlas.records.shelves) c.from.ensures in
+    let start : c.bits-first.result ≡ bits_of (first_item_of atlas.records.shelves number) = c.bits-first.ensures.value ∙ ap bits_of link in
+    let walks : walk c.args.links.now c.bits-first.result ≡ item_walk atlas.records number =
+    walks-by item_chain.next atlas.records.items (first_item_of atlas.records.shelves number) c.args.links.now c.bits-first.result c.requires.links start in
+    let met : c.in-Ok.items.items ≡ (item_walk atlas.records number).met = c.in-Ok.ensures.met ∙ ap (λ (w : Walked). w.met) walks in
     record {
       walked = c.in-Ok-push.ensures.items
           ∙ ap (λ (es : List Entry). es ++ record { number = number; items = c.in-Ok.items.items; free_list = c.new.result.items } ∷ []) kept.walked
-          ∙ ap (λ (ns : List ℕ). map (chain_entry atlas.lists) (take i numbers) ++ record { number = number; items = ns; free_list = c.new.result.items } ∷ []) met
-          ∙ ap (λ (ns : List ℕ). map (chain_entry atlas.lists) (take i numbers) ++ record { number = number; items = (item_walk atlas.lists number).met; free_list = ns } ∷ []) c.new.ensures.items
-          ∙ images-next (chain_entry atlas.lists) numbers i number within refl;
-      marked = marks-next atlas.lists unused numbers i number c.walk_marking.new.marks within refl
+          ∙ ap (λ (ns : List ℕ). map (chain_entry atlas.records) (take i numbers) ++ record { number = number; items = ns; free_list = c.new.result.items } ∷ []) met
+          ∙ ap (λ (ns : List ℕ). map (chain_entry atlas.records) (take i numbers) ++ record { number = number; items = (item_walk atlas.records number).met; free_list = ns } ∷ []) c.new.ensures.items
+          ∙ images-next (chain_entry atlas.records) numbers i number within refl;
+      marked = marks-next atlas.records unused numbers i number c.walk_marking.new.marks within refl
           (subst (λ (w : Walked). IsMarkedBy c.walk_marking.new.marks ((unused ++ items) ++ w.met)) walks (c.in-Ok.ensures.marked (unused ++ items) kept.marked));
-      chains = each-next (HasChain atlas.lists) numbers i number within refl kept.chains
+      chains = each-next (HasChain atlas.records) numbers i number within refl kept.chains
           (record {
             end = sym (ap (λ (w : Walked). w.end) walks) ∙ c.in-Ok.ensures.end;
             first_fits = ap link_of (sym start) ∙ c.bits-first.ensures.link ∙ link;
           });
       room = c.in-Ok.ensures.room ∙ kept.room;
-      steps = omega (arith, kept.steps, c.in-Ok.ensures.steps, ap (λ (w : Walked). length w.met) walks, ap length (items-next atlas.lists numbers i number within refl), length-append items (item_walk atlas.lists number).met);
+      steps = omega (arith, kept.steps, c.in-Ok.ensures.steps, ap (λ (w : Walked). length w.met) walks, ap length (items-next atlas.records numbers i number within refl), length-append items (item_walk atlas.records number).met);
     }
 
 pub returns-clause-bound : goal.returns-clause-bound
 returns-clause-bound c =
-    let lists = c.args.atlas.now.lists in
+    let lists = c.args.atlas.now.records in
     let kept = c.loop-number.invariant in
     let items : List ℕ = item_numbers (map (chain_entry lists) (take c.loop-number.number-index c.args.numbers.now)) in
     omega (arith, kept.steps, both-length c.loop-number.marks (unused_item_walk lists).met items kept.marked, c.loop-number.auto.marks, c.requires.marks, links-length item_chain.next lists.items c.args.links.now c.requires.links)
@@ -94,15 +94,15 @@ returns-in-Err-clause-until c =
     let atlas = c.args.atlas.now in
     let kept = c.loop-number.invariant in
     let number : ℕ = get_or c.args.numbers.now c.loop-number.number-index 0 in
-    let start : c.bits-first.result ≡ bits_of (first_item_of atlas.lists.shelves number) =
-    c.bits-first.ensures.value ∙ ap bits_of (c.first_item_link.ensures ∙ ap (λ ss. first_item_of ss c.from.result) (c.shelves.ensures ∙ ap (λ (a : AtlasRecords). a.lists.shelves) c.atlas.view_is) ∙ ap (first_item_of atlas.lists.shelves) c.from.ensures) in
-    let walks = walks-by item_chain.next atlas.lists.items (first_item_of atlas.lists.shelves number) c.args.links.now c.bits-first.result c.requires.links start in
+    let start : c.bits-first.result ≡ bits_of (first_item_of atlas.records.shelves number) =
+    c.bits-first.ensures.value ∙ ap bits_of (c.first_item_link.ensures ∙ ap (λ ss. first_item_of ss c.from.result) (c.shelves.ensures ∙ ap (λ (a : AtlasRecords). a.records.shelves) c.atlas.view_is) ∙ ap (first_item_of atlas.records.shelves) c.from.ensures) in
+    let walks = walks-by item_chain.next atlas.records.items (first_item_of atlas.records.shelves number) c.args.links.now c.bits-first.result c.requires.links start in
     let steps = c.walk_marking.new.steps in
-    let counted : steps ≡ c.loop-number.steps + links_by (item_walk atlas.lists number) c.in-Err.fault =
+    let counted : steps ≡ c.loop-number.steps + links_by (item_walk atlas.records number) c.in-Err.fault =
     subst (λ (w : Walked). steps ≡ c.loop-number.steps + links_by w c.in-Err.fault) walks c.in-Err.ensures.read in
-    λ more. subst (StopsAfter (c.args.steps.now + links_until (length atlas.lists.items) more (unused_item_walk atlas.lists).met (map (item_walk atlas.lists) c.args.numbers.now)) steps) (sym c.chain_fault.ensures)
-    (chain-refused atlas.lists c.args.numbers.now (unused_item_walk atlas.lists).met c.loop-number.number-index more c.args.steps.now c.loop-number.steps steps c.loop-number.marks c.in-Err.fault c.loop-number-test.true c.requires.few kept.chains kept.marked
-    (breaks-by item_chain.next atlas.lists.items (first_item_of atlas.lists.shelves number) c.args.links.now c.bits-first.result c.loop-number.marks c.in-Err.fault c.requires.links start c.in-Err.ensures.fault)
+    λ more. subst (StopsAfter (c.args.steps.now + links_until (length atlas.records.items) more (unused_item_walk atlas.records).met (map (item_walk atlas.records) c.args.numbers.now)) steps) (sym c.chain_fault.ensures)
+    (chain-refused atlas.records c.args.numbers.now (unused_item_walk atlas.records).met c.loop-number.number-index more c.args.steps.now c.loop-number.steps steps c.loop-number.marks c.in-Err.fault c.loop-number-test.true c.requires.few kept.chains kept.marked
+    (breaks-by item_chain.next atlas.records.items (first_item_of atlas.records.shelves number) c.args.links.now c.bits-first.result c.loop-number.marks c.in-Err.fault c.requires.links start c.in-Err.ensures.fault)
     kept.steps counted)
 
 pub returns-in_default-clause-until : goal.returns-in_default-clause-until
@@ -110,9 +110,9 @@ returns-in_default-clause-until c =
     let atlas = c.args.atlas.now in
     let kept = c.loop-number.invariant in
     let number : ℕ = get_or c.args.numbers.now c.loop-number.number-index 0 in
-    let start : c.bits-first.result ≡ bits_of (first_item_of atlas.lists.shelves number) =
-    c.bits-first.ensures.value ∙ ap bits_of (c.first_item_link.ensures ∙ ap (λ ss. first_item_of ss c.from.result) (c.shelves.ensures ∙ ap (λ (a : AtlasRecords). a.lists.shelves) c.atlas.view_is) ∙ ap (first_item_of atlas.lists.shelves) c.from.ensures) in
-    let walks = walks-by item_chain.next atlas.lists.items (first_item_of atlas.lists.shelves number) c.args.links.now c.bits-first.result c.requires.links start in
+    let start : c.bits-first.result ≡ bits_of (first_item_of atlas.records.shelves number) =
+    c.bits-first.ensures.value ∙ ap bits_of (c.first_item_link.ensures ∙ ap (λ ss. first_item_of ss c.from.result) (c.shelves.ensures ∙ ap (λ (a : AtlasRecords). a.records.shelves) c.atlas.view_is) ∙ ap (first_item_of atlas.records.shelves) c.from.ensures) in
+    let walks = walks-by item_chain.next atlas.records.items (first_item_of atlas.records.shelves number) c.args.links.now c.bits-first.result c.requires.links start in
     let steps = c.walk_marking.new.steps in
-    λ more. chain-wanting atlas.lists c.args.numbers.now (unused_item_walk atlas.lists).met c.loop-number.number-index more c.args.steps.now c.loop-number.steps steps c.loop-number.marks c.loop-number-test.true kept.chains kept.marked kept.steps
+    λ more. chain-wanting atlas.records c.args.numbers.now (unused_item_walk atlas.records).met c.loop-number.number-index more c.args.steps.now c.loop-number.steps steps c.loop-number.marks c.loop-number-test.true kept.chains kept.marked kept.steps
     (subst (λ (w : Walked). steps ≡ c.loop-number.steps + length w.met) walks c.in-Ok.ensures.steps)

@@ -7,9 +7,9 @@ use Rattle.shelf_restoring.proofs.chains.walk_chains.Given as goal
 
 abbrev pub invariant-loop-number : goal.invariant-loop-number
 invariant-loop-number l = record {
-  walked : l.shelves.items ≡ map (chain_entry l.atlas.lists) (take l.number-index l.numbers);
-  marked : IsMarkedBy l.marks ((unused_item_walk l.atlas.lists).met ++ item_numbers (map (chain_entry l.atlas.lists) (take l.number-index l.numbers)));
-  chains : Each (HasChain l.atlas.lists) (take l.number-index l.numbers);
+  walked : l.shelves.items ≡ map (chain_entry l.atlas.records) (take l.number-index l.numbers);
+  marked : IsMarkedBy l.marks ((unused_item_walk l.atlas.records).met ++ item_numbers (map (chain_entry l.atlas.records) (take l.number-index l.numbers)));
+  chains : Each (HasChain l.atlas.records) (take l.number-index l.numbers);
   room : l.room ≡ l.fn.room;
-  steps : l.steps ≡ l.fn.steps + length (item_numbers (map (chain_entry l.atlas.lists) (take l.number-index l.numbers)));
+  steps : l.steps ≡ l.fn.steps + length (item_numbers (map (chain_entry l.atlas.records) (take l.number-index l.numbers)));
 }

@@ -7,9 +7,9 @@ use Rattle.shelf_restoring.proofs.free_lists.with_free_lists.Given as goal
 
 abbrev pub invariant-loop-shelf : goal.invariant-loop-shelf
 invariant-loop-shelf l = record {
-  walked : l.entries.items ≡ map (walked_entry l.atlas.lists) (take (length l.yielded) (shelf_walk l.atlas.lists).met);
-  marked : IsMarkedBy l.marks (free_numbers (map (walked_entry l.atlas.lists) (take (length l.yielded) (shelf_walk l.atlas.lists).met)));
-  free : Each (HasFree l.atlas.lists) (take (length l.yielded) (shelf_walk l.atlas.lists).met);
+  walked : l.entries.items ≡ map (walked_entry l.atlas.records) (take (length l.yielded) (shelf_walk l.atlas.records).met);
+  marked : IsMarkedBy l.marks (free_numbers (map (walked_entry l.atlas.records) (take (length l.yielded) (shelf_walk l.atlas.records).met)));
+  free : Each (HasFree l.atlas.records) (take (length l.yielded) (shelf_walk l.atlas.records).met);
   room : l.room ≡ l.fn.room;
-  steps : l.steps ≡ l.fn.steps + length (free_numbers (map (walked_entry l.atlas.lists) (take (length l.yielded) (shelf_walk l.atlas.lists).met)));
+  steps : l.steps ≡ l.fn.steps + length (free_numbers (map (walked_entry l.atlas.records) (take (length l.yielded) (shelf_walk l.atlas.records).met)));
 }

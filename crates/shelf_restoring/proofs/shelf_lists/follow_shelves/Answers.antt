@@ -19,122 +19,122 @@ use Rattle.shelf_restoring.proofs.shelf_lists.follow_shelves.Goals as goal
 pub returns-in-Err-clause-fault : goal.returns-in-Err-clause-fault
 returns-in-Err-clause-fault c =
     let atlas = c.args.atlas.now in
-    let start : c.bits-first.result ≡ bits_of atlas.lists.first_shelf =
-    c.bits-first.ensures.value ∙ ap bits_of (c.first_shelf.ensures ∙ ap (λ (a : AtlasRecords). a.lists.first_shelf) c.atlas.view_is) in
+    let start : c.bits-first.result ≡ bits_of atlas.records.first_shelf =
+    c.bits-first.ensures.value ∙ ap bits_of (c.first_shelf.ensures ∙ ap (λ (a : AtlasRecords). a.records.first_shelf) c.atlas.view_is) in
     subst (IsBroken atlas) (sym c.chain_fault.ensures)
     (shelves-broken atlas c.args.marks.now c.in-Err.fault
-    (breaks-by shelf_chain.next atlas.lists.shelves atlas.lists.first_shelf c.args.links.now c.bits-first.result c.args.marks.now c.in-Err.fault c.requires.links start c.in-Err.ensures.fault)
+    (breaks-by shelf_chain.next atlas.records.shelves atlas.records.first_shelf c.args.links.now c.bits-first.result c.args.marks.now c.in-Err.fault c.requires.links start c.in-Err.ensures.fault)
     c.requires.marked)
 
 pub returns-in-Err-walk_marking-clause-fault : goal.returns-in-Err-walk_marking-clause-fault
 returns-in-Err-walk_marking-clause-fault c =
     let atlas = c.args.atlas.now in
-    let first : c.bits-first.result ≡ bits_of atlas.lists.first_shelf =
-    c.bits-first.ensures.value ∙ ap bits_of (c.first_shelf.ensures ∙ ap (λ (a : AtlasRecords). a.lists.first_shelf) c.atlas.view_is) in
-    let start : c.bits-unused.result ≡ bits_of atlas.lists.free_shelves =
-    c.bits-unused.ensures.value ∙ ap bits_of (c.unused_shelves.ensures ∙ ap (λ (a : AtlasRecords). a.lists.free_shelves) c.atlas.view_is) in
-    let marked : IsMarkedBy c.walk_marking.new.marks (shelf_walk atlas.lists).met =
-    subst (λ (w : Walked). IsMarkedBy c.walk_marking.new.marks w.met) (walks-by shelf_chain.next atlas.lists.shelves atlas.lists.first_shelf c.args.links.now c.bits-first.result c.requires.links first)
+    let first : c.bits-first.result ≡ bits_of atlas.records.first_shelf =
+    c.bits-first.ensures.value ∙ ap bits_of (c.first_shelf.ensures ∙ ap (λ (a : AtlasRecords). a.records.first_shelf) c.atlas.view_is) in
+    let start : c.bits-unused.result ≡ bits_of atlas.records.unused_shelves =
+    c.bits-unused.ensures.value ∙ ap bits_of (c.unused_shelves.ensures ∙ ap (λ (a : AtlasRecords). a.records.unused_shelves) c.atlas.view_is) in
+    let marked : IsMarkedBy c.walk_marking.new.marks (shelf_walk atlas.records).met =
+    subst (λ (w : Walked). IsMarkedBy c.walk_marking.new.marks w.met) (walks-by shelf_chain.next atlas.records.shelves atlas.records.first_shelf c.args.links.now c.bits-first.result c.requires.links first)
     (c.in-Ok.ensures.marked [] c.requires.marked) in
     subst (IsBroken atlas) (sym c.chain_fault-in-Err-walk_marking.ensures)
     (unused_shelves-broken atlas c.walk_marking.new.marks c.in-Err-walk_marking.fault
-    (breaks-by shelf_chain.next atlas.lists.shelves atlas.lists.free_shelves c.args.links.now c.bits-unused.result c.walk_marking.new.marks c.in-Err-walk_marking.fault c.requires.links start c.in-Err-walk_marking.ensures.fault)
+    (breaks-by shelf_chain.next atlas.records.shelves atlas.records.unused_shelves c.args.links.now c.bits-unused.result c.walk_marking.new.marks c.in-Err-walk_marking.fault c.requires.links start c.in-Err-walk_marking.ensures.fault)
     marked)
 
 pub returns-then-not-all_marked-clause-fault : goal.returns-then-not-all_marked-clause-fault
 returns-then-not-all_marked-clause-fault c =
     let atlas = c.args.atlas.now in
-    let first : c.bits-first.result ≡ bits_of atlas.lists.first_shelf =
-    c.bits-first.ensures.value ∙ ap bits_of (c.first_shelf.ensures ∙ ap (λ (a : AtlasRecords). a.lists.first_shelf) c.atlas.view_is) in
-    let unused : c.bits-unused.result ≡ bits_of atlas.lists.free_shelves =
-    c.bits-unused.ensures.value ∙ ap bits_of (c.unused_shelves.ensures ∙ ap (λ (a : AtlasRecords). a.lists.free_shelves) c.atlas.view_is) in
-    let both : IsMarkedBy c.walk_marking-2.new.marks ((shelf_walk atlas.lists).met ++ (unused_shelf_walk atlas.lists).met) =
-    both-marked shelf_chain.next atlas.lists.shelves atlas.lists.first_shelf atlas.lists.free_shelves c.args.links.now c.bits-first.result c.bits-unused.result
+    let first : c.bits-first.result ≡ bits_of atlas.records.first_shelf =
+    c.bits-first.ensures.value ∙ ap bits_of (c.first_shelf.ensures ∙ ap (λ (a : AtlasRecords). a.records.first_shelf) c.atlas.view_is) in
+    let unused : c.bits-unused.result ≡ bits_of atlas.records.unused_shelves =
+    c.bits-unused.ensures.value ∙ ap bits_of (c.unused_shelves.ensures ∙ ap (λ (a : AtlasRecords). a.records.unused_shelves) c.atlas.view_is) in
+    let both : IsMarkedBy c.walk_marking-2.new.marks ((shelf_walk atlas.records).met ++ (unused_shelf_walk atlas.records).met) =
+    both-marked shelf_chain.next atlas.records.shelves atlas.records.first_shelf atlas.records.unused_shelves c.args.links.now c.bits-first.result c.bits-unused.result
     c.args.marks.now c.walk_marking.new.marks c.walk_marking-2.new.marks c.requires.links first unused c.requires.marked c.in-Ok.ensures.marked c.in_default.ensures.marked in
-    let count : length c.walk_marking-2.new.marks ≡ length atlas.lists.shelves =
-    c.walk_marking-2.auto.marks ∙ c.walk_marking.auto.marks ∙ c.requires.marks ∙ links-length shelf_chain.next atlas.lists.shelves c.args.links.now c.requires.links in
+    let count : length c.walk_marking-2.new.marks ≡ length atlas.records.shelves =
+    c.walk_marking-2.auto.marks ∙ c.walk_marking.auto.marks ∙ c.requires.marks ∙ links-length shelf_chain.next atlas.records.shelves c.args.links.now c.requires.links in
     λ (shared : IsShared atlas).
-    c.if-not-all_marked.ensures.missing refl ((shelf_walk atlas.lists).met ++ (unused_shelf_walk atlas.lists).met) both
-    (subst (λ (n : ℕ). HasEachOnce n ((shelf_walk atlas.lists).met ++ (unused_shelf_walk atlas.lists).met)) (sym count) shared.shelves)
+    c.if-not-all_marked.ensures.missing refl ((shelf_walk atlas.records).met ++ (unused_shelf_walk atlas.records).met) both
+    (subst (λ (n : ℕ). HasEachOnce n ((shelf_walk atlas.records).met ++ (unused_shelf_walk atlas.records).met)) (sym count) shared.shelves)
 
 pub returns-clause-ok : goal.returns-clause-ok
 returns-clause-ok c =
     let atlas = c.args.atlas.now in
-    let first : c.bits-first.result ≡ bits_of atlas.lists.first_shelf =
-    c.bits-first.ensures.value ∙ ap bits_of (c.first_shelf.ensures ∙ ap (λ (a : AtlasRecords). a.lists.first_shelf) c.atlas.view_is) in
-    let unused : c.bits-unused.result ≡ bits_of atlas.lists.free_shelves =
-    c.bits-unused.ensures.value ∙ ap bits_of (c.unused_shelves.ensures ∙ ap (λ (a : AtlasRecords). a.lists.free_shelves) c.atlas.view_is) in
-    let both : IsMarkedBy c.walk_marking-2.new.marks ((shelf_walk atlas.lists).met ++ (unused_shelf_walk atlas.lists).met) =
-    both-marked shelf_chain.next atlas.lists.shelves atlas.lists.first_shelf atlas.lists.free_shelves c.args.links.now c.bits-first.result c.bits-unused.result
+    let first : c.bits-first.result ≡ bits_of atlas.records.first_shelf =
+    c.bits-first.ensures.value ∙ ap bits_of (c.first_shelf.ensures ∙ ap (λ (a : AtlasRecords). a.records.first_shelf) c.atlas.view_is) in
+    let unused : c.bits-unused.result ≡ bits_of atlas.records.unused_shelves =
+    c.bits-unused.ensures.value ∙ ap bits_of (c.unused_shelves.ensures ∙ ap (λ (a : AtlasRecords). a.records.unused_shelves) c.atlas.view_is) in
+    let both : IsMarkedBy c.walk_marking-2.new.marks ((shelf_walk atlas.records).met ++ (unused_shelf_walk atlas.records).met) =
+    both-marked shelf_chain.next atlas.records.shelves atlas.records.first_shelf atlas.records.unused_shelves c.args.links.now c.bits-first.result c.bits-unused.result
     c.args.marks.now c.walk_marking.new.marks c.walk_marking-2.new.marks c.requires.links first unused c.requires.marked c.in-Ok.ensures.marked c.in_default.ensures.marked in
-    let count : length c.walk_marking-2.new.marks ≡ length atlas.lists.shelves =
-    c.walk_marking-2.auto.marks ∙ c.walk_marking.auto.marks ∙ c.requires.marks ∙ links-length shelf_chain.next atlas.lists.shelves c.args.links.now c.requires.links in
-    let walks = walks-by shelf_chain.next atlas.lists.shelves atlas.lists.first_shelf c.args.links.now c.bits-first.result c.requires.links first in
-    let unused_walks = walks-by shelf_chain.next atlas.lists.shelves atlas.lists.free_shelves c.args.links.now c.bits-unused.result c.requires.links unused in
+    let count : length c.walk_marking-2.new.marks ≡ length atlas.records.shelves =
+    c.walk_marking-2.auto.marks ∙ c.walk_marking.auto.marks ∙ c.requires.marks ∙ links-length shelf_chain.next atlas.records.shelves c.args.links.now c.requires.links in
+    let walks = walks-by shelf_chain.next atlas.records.shelves atlas.records.first_shelf c.args.links.now c.bits-first.result c.requires.links first in
+    let unused_walks = walks-by shelf_chain.next atlas.records.shelves atlas.records.unused_shelves c.args.links.now c.bits-unused.result c.requires.links unused in
     record {
       met = c.in-Ok.ensures.met ∙ ap (λ (w : Walked). w.met) walks;
       end = sym (ap (λ (w : Walked). w.end) walks) ∙ c.in-Ok.ensures.end;
       unused_end = sym (ap (λ (w : Walked). w.end) unused_walks) ∙ c.in_default.ensures.end;
-      once = subst (λ (n : ℕ). HasEachOnce n ((shelf_walk atlas.lists).met ++ (unused_shelf_walk atlas.lists).met)) count
-          (c.if-not-all_marked.ensures.all refl ((shelf_walk atlas.lists).met ++ (unused_shelf_walk atlas.lists).met) both);
+      once = subst (λ (n : ℕ). HasEachOnce n ((shelf_walk atlas.records).met ++ (unused_shelf_walk atlas.records).met)) count
+          (c.if-not-all_marked.ensures.all refl ((shelf_walk atlas.records).met ++ (unused_shelf_walk atlas.records).met) both);
       next_fits = c.requires.fit;
-      first_fits = ap link_of (sym first) ∙ c.bits-first.ensures.link ∙ c.first_shelf.ensures ∙ ap (λ (a : AtlasRecords). a.lists.first_shelf) c.atlas.view_is;
-      unused_fits = ap link_of (sym unused) ∙ c.bits-unused.ensures.link ∙ c.unused_shelves.ensures ∙ ap (λ (a : AtlasRecords). a.lists.free_shelves) c.atlas.view_is;
+      first_fits = ap link_of (sym first) ∙ c.bits-first.ensures.link ∙ c.first_shelf.ensures ∙ ap (λ (a : AtlasRecords). a.records.first_shelf) c.atlas.view_is;
+      unused_fits = ap link_of (sym unused) ∙ c.bits-unused.ensures.link ∙ c.unused_shelves.ensures ∙ ap (λ (a : AtlasRecords). a.records.unused_shelves) c.atlas.view_is;
     }
 
 pub returns-in-Err-clause-until : goal.returns-in-Err-clause-until
 returns-in-Err-clause-until c =
     let atlas = c.args.atlas.now in
-    let start : c.bits-first.result ≡ bits_of atlas.lists.first_shelf =
-    c.bits-first.ensures.value ∙ ap bits_of (c.first_shelf.ensures ∙ ap (λ (a : AtlasRecords). a.lists.first_shelf) c.atlas.view_is) in
-    let walks = walks-by shelf_chain.next atlas.lists.shelves atlas.lists.first_shelf c.args.links.now c.bits-first.result c.requires.links start in
+    let start : c.bits-first.result ≡ bits_of atlas.records.first_shelf =
+    c.bits-first.ensures.value ∙ ap bits_of (c.first_shelf.ensures ∙ ap (λ (a : AtlasRecords). a.records.first_shelf) c.atlas.view_is) in
+    let walks = walks-by shelf_chain.next atlas.records.shelves atlas.records.first_shelf c.args.links.now c.bits-first.result c.requires.links start in
     let steps = c.walk_marking.new.steps in
-    let counted : steps ≡ c.args.steps.now + links_by (shelf_walk atlas.lists) c.in-Err.fault =
+    let counted : steps ≡ c.args.steps.now + links_by (shelf_walk atlas.records) c.in-Err.fault =
     subst (λ (w : Walked). steps ≡ c.args.steps.now + links_by w c.in-Err.fault) walks c.in-Err.ensures.read in
-    λ more. subst (StopsAfter (links_until (length atlas.lists.shelves) more [] (shelf_walks atlas.lists)) steps) (sym c.chain_fault.ensures)
-    (shelves-refused atlas.lists more steps c.args.marks.now c.in-Err.fault c.requires.few c.requires.marked
-    (breaks-by shelf_chain.next atlas.lists.shelves atlas.lists.first_shelf c.args.links.now c.bits-first.result c.args.marks.now c.in-Err.fault c.requires.links start c.in-Err.ensures.fault)
+    λ more. subst (StopsAfter (links_until (length atlas.records.shelves) more [] (shelf_walks atlas.records)) steps) (sym c.chain_fault.ensures)
+    (shelves-refused atlas.records more steps c.args.marks.now c.in-Err.fault c.requires.few c.requires.marked
+    (breaks-by shelf_chain.next atlas.records.shelves atlas.records.first_shelf c.args.links.now c.bits-first.result c.args.marks.now c.in-Err.fault c.requires.links start c.in-Err.ensures.fault)
     (omega (arith, counted, c.requires.steps)))
 
 pub returns-in-Err-walk_marking-clause-until : goal.returns-in-Err-walk_marking-clause-until
 returns-in-Err-walk_marking-clause-until c =
     let atlas = c.args.atlas.now in
-    let first : c.bits-first.result ≡ bits_of atlas.lists.first_shelf =
-    c.bits-first.ensures.value ∙ ap bits_of (c.first_shelf.ensures ∙ ap (λ (a : AtlasRecords). a.lists.first_shelf) c.atlas.view_is) in
-    let start : c.bits-unused.result ≡ bits_of atlas.lists.free_shelves =
-    c.bits-unused.ensures.value ∙ ap bits_of (c.unused_shelves.ensures ∙ ap (λ (a : AtlasRecords). a.lists.free_shelves) c.atlas.view_is) in
-    let walks = walks-by shelf_chain.next atlas.lists.shelves atlas.lists.first_shelf c.args.links.now c.bits-first.result c.requires.links first in
-    let unused_walks = walks-by shelf_chain.next atlas.lists.shelves atlas.lists.free_shelves c.args.links.now c.bits-unused.result c.requires.links start in
+    let first : c.bits-first.result ≡ bits_of atlas.records.first_shelf =
+    c.bits-first.ensures.value ∙ ap bits_of (c.first_shelf.ensures ∙ ap (λ (a : AtlasRecords). a.records.first_shelf) c.atlas.view_is) in
+    let start : c.bits-unused.result ≡ bits_of atlas.records.unused_shelves =
+    c.bits-unused.ensures.value ∙ ap bits_of (c.unused_shelves.ensures ∙ ap (λ (a : AtlasRecords). a.records.unused_shelves) c.atlas.view_is) in
+    let walks = walks-by shelf_chain.next atlas.records.shelves atlas.records.first_shelf c.args.links.now c.bits-first.result c.requires.links first in
+    let unused_walks = walks-by shelf_chain.next atlas.records.shelves atlas.records.unused_shelves c.args.links.now c.bits-unused.result c.requires.links start in
     let fault = c.in-Err-walk_marking.fault in
     let steps = c.walk_marking-2.new.steps in
-    let marked : IsMarkedBy c.walk_marking.new.marks (shelf_walk atlas.lists).met =
+    let marked : IsMarkedBy c.walk_marking.new.marks (shelf_walk atlas.records).met =
     subst (λ (w : Walked). IsMarkedBy c.walk_marking.new.marks w.met) walks (c.in-Ok.ensures.marked [] c.requires.marked) in
-    let counted : steps ≡ c.walk_marking.new.steps + links_by (unused_shelf_walk atlas.lists) fault =
+    let counted : steps ≡ c.walk_marking.new.steps + links_by (unused_shelf_walk atlas.records) fault =
     subst (λ (w : Walked). steps ≡ c.walk_marking.new.steps + links_by w fault) unused_walks c.in-Err-walk_marking.ensures.read in
-    λ more. subst (StopsAfter (links_until (length atlas.lists.shelves) more [] (shelf_walks atlas.lists)) steps) (sym c.chain_fault-in-Err-walk_marking.ensures)
-    (unused-refused atlas.lists more steps c.walk_marking.new.marks fault c.requires.few (sym (ap (λ (w : Walked). w.end) walks) ∙ c.in-Ok.ensures.end) marked
-    (breaks-by shelf_chain.next atlas.lists.shelves atlas.lists.free_shelves c.args.links.now c.bits-unused.result c.walk_marking.new.marks fault c.requires.links start c.in-Err-walk_marking.ensures.fault)
+    λ more. subst (StopsAfter (links_until (length atlas.records.shelves) more [] (shelf_walks atlas.records)) steps) (sym c.chain_fault-in-Err-walk_marking.ensures)
+    (unused-refused atlas.records more steps c.walk_marking.new.marks fault c.requires.few (sym (ap (λ (w : Walked). w.end) walks) ∙ c.in-Ok.ensures.end) marked
+    (breaks-by shelf_chain.next atlas.records.shelves atlas.records.unused_shelves c.args.links.now c.bits-unused.result c.walk_marking.new.marks fault c.requires.links start c.in-Err-walk_marking.ensures.fault)
     (omega (arith, counted, c.in-Ok.ensures.steps, ap (λ (w : Walked). length w.met) walks, c.requires.steps)))
 
 pub returns-then-not-all_marked-clause-until : goal.returns-then-not-all_marked-clause-until
 returns-then-not-all_marked-clause-until c =
     let atlas = c.args.atlas.now in
-    let first : c.bits-first.result ≡ bits_of atlas.lists.first_shelf =
-    c.bits-first.ensures.value ∙ ap bits_of (c.first_shelf.ensures ∙ ap (λ (a : AtlasRecords). a.lists.first_shelf) c.atlas.view_is) in
-    let unused : c.bits-unused.result ≡ bits_of atlas.lists.free_shelves =
-    c.bits-unused.ensures.value ∙ ap bits_of (c.unused_shelves.ensures ∙ ap (λ (a : AtlasRecords). a.lists.free_shelves) c.atlas.view_is) in
-    let both : IsMarkedBy c.walk_marking-2.new.marks ((shelf_walk atlas.lists).met ++ (unused_shelf_walk atlas.lists).met) =
-    both-marked shelf_chain.next atlas.lists.shelves atlas.lists.first_shelf atlas.lists.free_shelves c.args.links.now c.bits-first.result c.bits-unused.result
+    let first : c.bits-first.result ≡ bits_of atlas.records.first_shelf =
+    c.bits-first.ensures.value ∙ ap bits_of (c.first_shelf.ensures ∙ ap (λ (a : AtlasRecords). a.records.first_shelf) c.atlas.view_is) in
+    let unused : c.bits-unused.result ≡ bits_of atlas.records.unused_shelves =
+    c.bits-unused.ensures.value ∙ ap bits_of (c.unused_shelves.ensures ∙ ap (λ (a : AtlasRecords). a.records.unused_shelves) c.atlas.view_is) in
+    let both : IsMarkedBy c.walk_marking-2.new.marks ((shelf_walk atlas.records).met ++ (unused_shelf_walk atlas.records).met) =
+    both-marked shelf_chain.next atlas.records.shelves atlas.records.first_shelf atlas.records.unused_shelves c.args.links.now c.bits-first.result c.bits-unused.result
     c.args.marks.now c.walk_marking.new.marks c.walk_marking-2.new.marks c.requires.links first unused c.requires.marked c.in-Ok.ensures.marked c.in_default.ensures.marked in
-    let marked : IsMarkedBy c.walk_marking-2.new.marks (met_by (shelf_walks atlas.lists)) =
-    subst (λ (ns : List ℕ). IsMarkedBy c.walk_marking-2.new.marks ((shelf_walk atlas.lists).met ++ ns)) (sym (append-nil (unused_shelf_walk atlas.lists).met)) both in
-    let count : length c.walk_marking-2.new.marks ≡ length atlas.lists.shelves =
-    c.walk_marking-2.auto.marks ∙ c.walk_marking.auto.marks ∙ c.requires.marks ∙ links-length shelf_chain.next atlas.lists.shelves c.args.links.now c.requires.links in
-    let walks = walks-by shelf_chain.next atlas.lists.shelves atlas.lists.first_shelf c.args.links.now c.bits-first.result c.requires.links first in
-    let unused_walks = walks-by shelf_chain.next atlas.lists.shelves atlas.lists.free_shelves c.args.links.now c.bits-unused.result c.requires.links unused in
-    let all : c.walk_marking-2.new.steps ≡ links_in (shelf_walks atlas.lists) =
+    let marked : IsMarkedBy c.walk_marking-2.new.marks (met_by (shelf_walks atlas.records)) =
+    subst (λ (ns : List ℕ). IsMarkedBy c.walk_marking-2.new.marks ((shelf_walk atlas.records).met ++ ns)) (sym (append-nil (unused_shelf_walk atlas.records).met)) both in
+    let count : length c.walk_marking-2.new.marks ≡ length atlas.records.shelves =
+    c.walk_marking-2.auto.marks ∙ c.walk_marking.auto.marks ∙ c.requires.marks ∙ links-length shelf_chain.next atlas.records.shelves c.args.links.now c.requires.links in
+    let walks = walks-by shelf_chain.next atlas.records.shelves atlas.records.first_shelf c.args.links.now c.bits-first.result c.requires.links first in
+    let unused_walks = walks-by shelf_chain.next atlas.records.shelves atlas.records.unused_shelves c.args.links.now c.bits-unused.result c.requires.links unused in
+    let all : c.walk_marking-2.new.steps ≡ links_in (shelf_walks atlas.records) =
     omega (arith, c.in-Ok.ensures.steps, c.in_default.ensures.steps, ap (λ (w : Walked). length w.met) walks, ap (λ (w : Walked). length w.met) unused_walks, c.requires.steps) in
     λ more. all
-    ∙ none-further atlas.lists more (shelf_walks atlas.lists) c.walk_marking-2.new.marks (length atlas.lists.shelves)
+    ∙ none-further atlas.records more (shelf_walks atlas.records) c.walk_marking-2.new.marks (length atlas.records.shelves)
     (sym (ap (λ (w : Walked). w.end) walks) ∙ c.in-Ok.ensures.end, (sym (ap (λ (w : Walked). w.end) unused_walks) ∙ c.in_default.ensures.end, tt))
-    count marked (c.if-not-all_marked.ensures.missing refl (met_by (shelf_walks atlas.lists)) marked)
+    count marked (c.if-not-all_marked.ensures.missing refl (met_by (shelf_walks atlas.records)) marked)

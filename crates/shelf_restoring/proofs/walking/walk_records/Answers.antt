@@ -17,15 +17,15 @@ returns-clause-each c =
 
 pub returns-in_err-numbers-clause-until : goal.returns-in_err-numbers-clause-until
 returns-in_err-numbers-clause-until c =
-    let lists = c.args.atlas.now.lists in
+    let lists = c.args.atlas.now.records in
     let passed = err_from_is_err_and c.from_residual.result c.from_residual.ensures.1 in
     rw (passed.1, passed.2) (c.in_err-numbers.ensures.until (links_until (length lists.items) (links_until 0 0 [] (free_walks lists)) [] (item_walks lists)))
 
 pub returns-in_err-shelves-clause-until : goal.returns-in_err-shelves-clause-until
 returns-in_err-shelves-clause-until c =
     let atlas = c.args.atlas.now in
-    let more : ℕ = links_until 0 0 [] (free_walks atlas.lists) in
-    let items : ℕ = links_until (length atlas.lists.items) more [] (item_walks atlas.lists) in
+    let more : ℕ = links_until 0 0 [] (free_walks atlas.records) in
+    let items : ℕ = links_until (length atlas.records.items) more [] (item_walks atlas.records) in
     let fault = c.in_err-shelves.field-0.0 in
     let passed = err_from_is_err_and c.from_residual-in_err-shelves.result c.from_residual-in_err-shelves.ensures.1 in
     rw (passed.1, passed.2) (subst (λ (n : ℕ). StopsAfter n c.walk_items.new.steps fault)
@@ -35,12 +35,12 @@ returns-in_err-shelves-clause-until c =
 pub returns-in_err-shelves-2-clause-until : goal.returns-in_err-shelves-2-clause-until
 returns-in_err-shelves-2-clause-until c =
     let atlas = c.args.atlas.now in
-    let more : ℕ = links_until 0 0 [] (free_walks atlas.lists) in
+    let more : ℕ = links_until 0 0 [] (free_walks atlas.records) in
     let fault = c.in_err-shelves-2.field-0.0 in
     let all = all-followed atlas c.in_ok-numbers.numbers.items c.in_ok-shelves.field-0.shelves.items c.in_ok-shelves.field-0.unused.items c.in_ok-numbers.ensures.ok c.in_ok-shelves.ensures.ok in
-    let counted : c.walk_items.new.steps + more ≡ links_followed atlas.lists =
-    ap (λ (n : ℕ). n + more) (c.in_ok-shelves.ensures.all ∙ ap (λ (n : ℕ). n + links_in (item_walks atlas.lists)) c.in_ok-numbers.ensures.all)
-    ∙ add_assoc (links_in (shelf_walks atlas.lists)) (links_in (item_walks atlas.lists)) more ∙ sym all in
+    let counted : c.walk_items.new.steps + more ≡ links_followed atlas.records =
+    ap (λ (n : ℕ). n + more) (c.in_ok-shelves.ensures.all ∙ ap (λ (n : ℕ). n + links_in (item_walks atlas.records)) c.in_ok-numbers.ensures.all)
+    ∙ add_assoc (links_in (shelf_walks atlas.records)) (links_in (item_walks atlas.records)) more ∙ sym all in
     let passed = err_from_is_err_and c.from_residual-in_err-shelves-2.result c.from_residual-in_err-shelves-2.ensures.1 in
     rw (passed.1, passed.2) (subst (λ (n : ℕ). StopsAfter n c.walk_free_lists.new.steps fault) counted c.in_err-shelves-2.ensures.until)
 

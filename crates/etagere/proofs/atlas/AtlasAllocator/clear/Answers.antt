@@ -24,8 +24,8 @@ reset_records-requires c =
       items = kept-item_records inside.frame inside.records kept;
     }
 
-pub reset_heights-requires-clause-many : goal.reset_heights-requires-clause-many
-reset_heights-requires-clause-many c =
+pub reset_by_height-requires-clause-many : goal.reset_by_height-requires-clause-many
+reset_by_height-requires-clause-many c =
     let inside = c.self.inside in
     columns-ranked inside.frame inside.records inside.ranked.items c.self.invariant.kept c.self.invariant.ranked
 
@@ -42,7 +42,7 @@ invariant_of-self c =
     let valid = c.self.invariant.kept.valid in
     record {
       kept = subst (AreKept frame) (sym c.reset_records.ensures) (fresh-kept frame valid.frame valid.columns).1;
-      ranked = subst (λ (records : Records). AreRanked frame records c.reset_heights.new.ranked.items) (sym c.reset_records.ensures) c.reset_heights.ensures;
+      ranked = subst (λ (records : Records). AreRanked frame records c.reset_by_height.new.ranked.items) (sym c.reset_records.ensures) c.reset_by_height.ensures;
       counted = sym (ap (λ (s : AtlasState). items_in_use s.shelves) (made c) ∙ items_in_use-empty_columns frame 0 frame.columns);
       space = sym (ap allocated_space (made c) ∙ space-fresh frame);
     }

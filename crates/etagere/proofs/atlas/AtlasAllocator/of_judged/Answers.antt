@@ -18,8 +18,8 @@ invariant_of-result c =
     let fits : SFits w32 c.atlas.inside.allocated_space = search rules in
     let sum : ℕ = c.args.items_in_use in
     record {
-      kept = subst (λ (atlas : AtlasRecords). AreKept atlas.frame atlas.lists) same c.requires.kept;
-      ranked = subst (λ (atlas : AtlasRecords). AreRanked atlas.frame atlas.lists c.args.ranked.items) same c.requires.ranked;
+      kept = subst (λ (atlas : AtlasRecords). AreKept atlas.frame atlas.records) same c.requires.kept;
+      ranked = subst (λ (atlas : AtlasRecords). AreRanked atlas.frame atlas.records c.args.ranked.items) same c.requires.ranked;
       counted = subst (λ (atlas : AtlasRecords). sum ≡ items_in_use (state_spelled atlas).shelves) same c.requires.items;
       space = c.side-allocated_space.ensures.value ∙ ap side (to_z-of_z w32 c.atlas.inside.allocated_space fits)
           ∙ ap side (subst (λ (atlas : AtlasRecords). atlas.allocated_space ≡ pos (space_in (state_spelled atlas).shelves)) same c.requires.space);

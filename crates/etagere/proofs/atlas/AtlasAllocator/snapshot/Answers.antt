@@ -21,9 +21,9 @@ weaken P Q (Err e) to p = p
 pub returns : goal.returns
 returns c =
     let inside = c.self.inside in
-    let said : AtlasRecords = record { frame = inside.frame; lists = inside.records; allocated_space = pos inside.allocated_space } in
+    let said : AtlasRecords = record { frame = inside.frame; records = inside.records; allocated_space = pos inside.allocated_space } in
     let same : atlas_of inside.frame inside.records ≡ said =
-    ap (λ n. record { frame = inside.frame; lists = inside.records; allocated_space = pos n }) (sym c.self.invariant.space) in
+    ap (λ n. record { frame = inside.frame; records = inside.records; allocated_space = pos n }) (sym c.self.invariant.space) in
     let stands : StandsFor said c.args.self.now =
     subst (StandsFor said) c.self.view_is
     (subst (λ (a : AtlasRecords). StandsFor a (state_in inside)) same (kept-stands inside.frame inside.records c.self.invariant.kept)) in

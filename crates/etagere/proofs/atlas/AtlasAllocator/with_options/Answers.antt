@@ -14,11 +14,11 @@ use Rattle.shelf_store.proofs.Spelled.FreshKept.{fresh-kept}
 use Rattle.etagere.proofs.atlas.AtlasAllocator.with_options.Goals as goal
 
 -- the frame that is made has as many columns as fit
-columns : (c : goal.In-Ok-fresh_heights) → HasAllColumns c.atlas_frame-frame.result
+columns : (c : goal.In-Ok-fresh_by_height) → HasAllColumns c.atlas_frame-frame.result
 columns c = subst HasAllColumns (sym c.atlas_frame-frame.ensures.value) refl
 
 -- the state that the fields stand for
-made : (c : goal.In-Ok-fresh_heights) → state_of c.atlas_frame-frame.result c.in-Ok.records ≡ fresh c.atlas_frame-frame.result
+made : (c : goal.In-Ok-fresh_by_height) → state_of c.atlas_frame-frame.result c.in-Ok.records ≡ fresh c.atlas_frame-frame.result
 made c =
     let frame = c.atlas_frame-frame.result in
     ap (state_of frame) c.in-Ok.ensures ∙ (fresh-kept frame c.atlas_frame-frame.ensures.frame (columns c)).0
@@ -28,7 +28,7 @@ invariant_of-result c =
     let frame = c.atlas_frame-frame.result in
     record {
       kept = subst (AreKept frame) (sym c.in-Ok.ensures) (fresh-kept frame c.atlas_frame-frame.ensures.frame (columns c)).1;
-      ranked = subst (λ (records : Records). AreRanked frame records c.in-Ok-fresh_heights.ranked.items) (sym c.in-Ok.ensures) c.in-Ok-fresh_heights.ensures;
+      ranked = subst (λ (records : Records). AreRanked frame records c.in-Ok-fresh_by_height.ranked.items) (sym c.in-Ok.ensures) c.in-Ok-fresh_by_height.ensures;
       counted = sym (ap (λ (s : AtlasState). items_in_use s.shelves) (made c) ∙ items_in_use-empty_columns frame 0 frame.columns);
       space = sym (ap allocated_space (made c) ∙ space-fresh frame);
     }

@@ -12,7 +12,7 @@ use Rattle.etagere_base.specs.Frames.{asked}
 use Rattle.etagere_base.specs.Rectangles.{AreApart, IsAligned, IsInside, IsLarge, SharesNone}
 use Rattle.etagere_bucketed.specs.declared.atlas.BucketedAtlasAllocator.TheInside.{Inside}
 use Rattle.etagere_bucketed.specs.declared.placing.Place as code
-use Rattle.etagere_bucketed.specs.Adding.{Left, left_to}
+use Rattle.etagere_bucketed.specs.Adding.{Remaining, left_to}
 use Rattle.etagere_bucketed.specs.Atlas.{Allocates, KeepsPromises, NeedsShelf}
 use Rattle.etagere_bucketed.specs.Placing.{IsBucketRefused}
 use Rattle.etagere_bucketed.specs.Private.Consistent.{IsConsistent, state_in}
@@ -41,15 +41,15 @@ on_err (Ok x) p = tt
 on_err (Err e) p = p
 
 -- what the shelves leave, by the totals
-abbrev left_in : Inside → Left
+abbrev left_in : Inside → Remaining
 left_in inside =
     record { column = inside.current_column; height = inside.available_height; buckets = most_buckets - inside.buckets_in_use }
 
 left-is : (inside : Inside) → IsConsistent inside → left_in inside ≡ left_to inside.frame (state_in inside).shelves
 left-is inside is =
-    ap (λ (n : ℕ). let left : Left = record { column = n; height = inside.available_height; buckets = most_buckets - inside.buckets_in_use } in left) is.totals.column
-    ∙ ap (λ (n : ℕ). let left : Left = record { column = current_column (state_in inside).shelves; height = n; buckets = most_buckets - inside.buckets_in_use } in left) is.totals.height
-    ∙ ap (λ (n : ℕ). let left : Left = record { column = current_column (state_in inside).shelves; height = (left_to inside.frame (state_in inside).shelves).height; buckets = most_buckets - n } in left) is.totals.in_use
+    ap (λ (n : ℕ). let left : Remaining = record { column = n; height = inside.available_height; buckets = most_buckets - inside.buckets_in_use } in left) is.totals.column
+    ∙ ap (λ (n : ℕ). let left : Remaining = record { column = current_column (state_in inside).shelves; height = n; buckets = most_buckets - inside.buckets_in_use } in left) is.totals.height
+    ∙ ap (λ (n : ℕ). let left : Remaining = record { column = current_column (state_in inside).shelves; height = (left_to inside.frame (state_in inside).shelves).height; buckets = most_buckets - n } in left) is.totals.in_use
 
 -- the place that is found
 made : (inside : Inside) → IsConsistent inside → (size : Size) (sides : Sides) (result : Option code.Place) (place : code.Place) → asked inside.frame size ≡ Some sides
@@ -57,7 +57,7 @@ made : (inside : Inside) → IsConsistent inside → (size : Size) (sides : Side
     → Makes (state_in inside) size sides inside.store (place_seen place)
 made inside is size sides result place asks found some =
     makes (state_in inside) size sides inside.store is.unused (place_seen place) is.witnessed.valid is.witnessed.spells asks
-    (ap (λ (left : Left). kept_place inside.frame left sides inside.store.shelves inside.store.buckets) (sym (left-is inside is)) ∙ sym found ∙ ap (option_map place_seen) some)
+    (ap (λ (left : Remaining). kept_place inside.frame left sides inside.store.shelves inside.store.buckets) (sym (left-is inside is)) ∙ sym found ∙ ap (option_map place_seen) some)
 
 -- the bucket that is made ready
 allocation : (inside : Inside) → IsConsistent inside → (size : Size) (sides : Sides) (place : Place) (after : Stored) (found : Found) → Makes (state_in inside) size sides inside.store place
@@ -87,7 +87,7 @@ returns-in_default-place_of-clause-refused c =
     let is = c.self.invariant in
     subst (λ (state : BucketedState). IsBucketRefused state c.args.size) c.self.view_is
     (refused (state_in inside) c.args.size c.in-Some.sides inside.store is.unused is.witnessed.valid is.witnessed.spells (sym c.asked.ensures ∙ c.in-Some.is)
-    (ap (λ (left : Left). kept_place inside.frame left c.in-Some.sides inside.store.shelves inside.store.buckets) (sym (left-is inside is)) ∙ sym c.place_of.ensures ∙ ap (option_map place_seen) c.in_default-place_of.is))
+    (ap (λ (left : Remaining). kept_place inside.frame left c.in-Some.sides inside.store.shelves inside.store.buckets) (sym (left-is inside is)) ∙ sym c.place_of.ensures ∙ ap (option_map place_seen) c.in_default-place_of.is))
 
 pub returns-in_default-place_of-clause-promises : goal.returns-in_default-place_of-clause-promises
 returns-in_default-place_of-clause-promises c = subst KeepsPromises c.self.view_is (valid-promises (state_in c.self.inside) c.self.invariant.witnessed.valid)
