@@ -4,7 +4,7 @@
 //! fields keep. The clauses stay as they are: callers prove by them. Fields may change, with `state_in`
 //! and `IsConsistent`.
 
-ghost use Rattle.std.specs.Prelude.{◌≡◌, ◌↔◌, ◌*◌, ◌-◌, ◌+ℤ◌, [], Err, None, Some, false, ◌≤◌, pos, IfOk, IfErr, IfSome, IfNone, OnOk, OnErr, IsErr, IsTrue, is_some, map, option_map};
+ghost use Rattle.std.specs.Prelude.{◌≡◌, ◌↔◌, ◌*◌, ◌-◌, ◌+ℤ◌, [], Err, None, Some, false, ◌≤◌, pos, IfOk, IfErr, IfSome, IfNone, OnOk, OnErr, IsErr, IsTrue, is_some, length, map, option_map};
 ghost use Rattle.std.specs.Io.KnownBytes.{Appends};
 ghost use Rattle.etagere_base.specs.Frames as frames;
 ghost use Rattle.etagere_base.specs.Frames.{IsAccepted, longest_side, options_fault};
@@ -169,6 +169,7 @@ impl AtlasAllocator {
     ) -> AtlasAllocator
         requires kept { AreKept atlas.frame atlas.records }
         requires ranked { AreRanked atlas.frame atlas.records ranked.items }
+        requires room { length atlas.records.shelves ≤ ranked.capacity }
         requires space { atlas.allocated_space ≡ pos (space.space_in (state_spelled atlas).shelves) }
         requires items { items_in_use ≡ state.items_in_use (state_spelled atlas).shelves }
         ensures state { result ≡ state_spelled atlas }
@@ -198,11 +199,12 @@ impl AtlasAllocator {
 
     /// Gives a rectangle that is at least as large as the size in pixels, or none where there is no place.
     ///
-    /// `Err` comes only where the place is to be split and there was no memory. Nothing changes after an `Err`
-    /// or none. A split takes memory only where no unused record is left for it, or no room in the list
-    /// of shelves by height; a size that needs no split takes none. Finds by binary search where the shelves begin that
-    /// are tall enough, and goes through them by height, in each that may have an item wide enough through its free
-    /// list up to the first one that is. Where a shelf is split, those that are taller move in their list.
+    /// `Err` comes only where the place is to be split, too few records are unused for that, and there was no memory.
+    /// Nothing changes after an `Err` or none. Memory is taken only for records that are made: of items, and of a shelf
+    /// with its place by height. A split for which there are unused records takes none, nor does a size that needs no
+    /// split. Finds by binary search where the shelves begin that are tall enough, and goes through them by height, in
+    /// each that may have an item wide enough through its free list up to the first one that is. Where a shelf is
+    /// split, those that are taller move in their list.
     pub fn allocate(&mut self, size: Size) -> Result<Option<Allocation>, AllocError>
         ensures placed { IfOk result
             (λ answer. IfSome answer (λ allocation. Allocates self.old size allocation self.new)) }
@@ -331,9 +333,9 @@ impl AtlasAllocator {
     /// before it.
     ///
     /// Returns the first fault; `Memory` only where there is no other, the growth needs records and there was no
-    /// memory. Nothing changes after a fault. Takes memory for the records that it needs as far as too few were put
-    /// aside, and for the places by height of new shelves. Where no column becomes wider or taller and none is added,
-    /// it takes constant time. Else it goes through all shelves, for wider columns through all items too, and
+    /// memory. Nothing changes after a fault. Takes memory for the records that it needs as far as too few are unused,
+    /// and for the places by height of shelf records that are made. Where no column becomes wider or taller and none is
+    /// added, it takes constant time. Else it goes through all shelves, for wider columns through all items too, and
     /// then sorts the shelves.
     pub fn grow(&mut self, size: Size) -> Result<(), AtlasGrowFault>
         ensures ok { OnOk result (self.new ≡ atlas_grown self.old size) }

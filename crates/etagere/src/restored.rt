@@ -47,7 +47,8 @@ fn ranked_shelves(
 ) -> Result<ShelvesByHeight, AllocError>
     requires kept { AreKept frame.now records.now }
     requires met { shelf_numbers shelves.now ≡ (shelf_walk records.now).met }
-    ensures { IfOk result (λ ranked. AreRanked frame.now records.now ranked.items) }
+    ensures ranked { IfOk result (λ ranked. AreRanked frame.now records.now ranked.items) }
+    ensures room { IfOk result (λ ranked. length records.now.shelves ≤ ranked.capacity) }
 {
     let mut ranked = ShelvesByHeight::with_room(alloc, records.shelves().len())?;
     for shelf in shelves {

@@ -14,6 +14,7 @@ mod MetPlaces
 pub mod MadeRecords
 pub mod MarkLemmas
 mod NeighbourFrames
+pub mod MissingRecords
 pub mod RecordChanges
 pub mod RecordFrames
 pub mod RecordLists

@@ -3,14 +3,17 @@
 //! Definitions: `ByHeight`. Each shelf has beside it a width that none of its free items passes, so a search
 //! passes over a shelf by one comparison.
 
-ghost use Rattle.std.specs.Prelude.{◌≡◌, ◌+◌, ◌*◌, ◌<◌, ◌≤◌, ◌^◌, length, nat_lt};
+ghost use Rattle.std.specs.Prelude.{◌≡◌, ◌+◌, ◌*◌, ◌<◌, ◌≤◌, ◌^◌, OnErr, OnOk, length, nat_lt};
 ghost use Rattle.etagere_base.specs.Lists.{times};
 ghost use Rattle.etagere_links.specs.Links.{no_link};
+ghost use Rattle.etagere_links.specs.Records.{shelf_chain};
+ghost use Rattle.etagere_links.specs.RecordUses.{missing};
 ghost use Rattle.shelf_heights.specs.Private.ByHeight as spec;
 ghost use Rattle.shelf_heights.specs.Private.ByHeight.{AreInOrder, IsStart};
 
 use crate::ranked::{RankedShelf, ShelvesByHeight};
-use etagere_links::LinkedShelf;
+use etagere_links::{LinkedShelf, Records};
+use std::alloc::AllocError;
 
 /// Where the shelves begin that don't come before an order, and how many shelves were looked at for it.
 #[derive(Clone, Copy)]
@@ -178,11 +181,36 @@ pub fn put_in(shelves: &[LinkedShelf], ranked: &mut ShelvesByHeight, one: Ranked
     ranked.keep_position(shelf, index);
 }
 
+/// Makes room for the shelves of so many records, of which those that are missing are to be made: an
+/// unused one has its room. The error comes only where some are missing and there was no memory.
+pub fn reserve_ranks(
+    records: &Records,
+    ranked: &mut ShelvesByHeight,
+    wanted: u32,
+) -> Result<(), AllocError>
+    requires { length records.now.shelves ≤ ranked.old.capacity }
+    ensures items { ranked.new.items ≡ ranked.old.items }
+    ensures room { OnOk result
+        (length records.now.shelves
+        + missing shelf_chain wanted records.now.unused_shelves records.now.shelves
+        ≤ ranked.new.capacity) }
+    ensures capacity { ranked.old.capacity ≤ ranked.new.capacity }
+    ensures short { OnErr result
+        (0 < missing shelf_chain wanted records.now.unused_shelves records.now.shelves) }
+{
+    let missing = records.missing_shelves(wanted as usize);
+    if missing > 0 {
+        ranked.reserve(records.shelves().len() + missing)?;
+    }
+    Ok(())
+}
+
 /// Raises the bound of a shelf to this width, where it is less.
 pub fn raise(shelves: &[LinkedShelf], ranked: &mut ShelvesByHeight, shelf: usize, width: u16)
     requires order { AreInOrder shelves.now ranked.old.items }
     requires stands { 1 ≤ times shelf (spec.ranked_numbers ranked.old.items) }
-    ensures { ranked.new.items ≡ spec.raised shelf width ranked.old.items }
+    ensures ranked { ranked.new.items ≡ spec.raised shelf width ranked.old.items }
+    ensures capacity { ranked.old.capacity ≤ ranked.new.capacity }
 {
     let index = position_of(shelves, ranked, shelf);
     let mut one = ranked.get(index);

@@ -23,11 +23,12 @@ pub record Allocates (old : AtlasState) (size : Size) (allocation : Allocation) 
   pub fresh_id : is_allocated old allocation.id ≡ false
   pub after : new ≡ taken old placement allocation.id
 
--- the place of a size needs a split
+-- the place of a size needs a split, and where no shelf is split for it, all item records are in use
 pub record NeedsSplit (state : AtlasState) (size : Size) : Type 0 where
   pub placement : Placement
   pub placed : placement_of state size ≡ Some placement
   pub split : 0 < splits placement
+  pub short : placement.splits_shelf ≡ false → state.records ≤ items_in_use state.shelves
 
 -- what is allocated after is what was allocated before and one more
 pub record Adds (old : List Allocation) (allocation : Allocation) (new : List Allocation)

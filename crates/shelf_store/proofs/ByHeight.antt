@@ -14,6 +14,7 @@ pub mod NewlyRanked
 pub mod NumberedBounds
 pub mod PassedShelves
 pub mod PlacesRise
+pub mod RankedRoom
 pub mod RisingNumbers
 pub mod SearchableShelves
 pub mod SearchedOnes

@@ -5,6 +5,7 @@ pub mod EditedShelf
 pub mod EndedGrowth
 pub mod GrownAtlas
 pub mod GrownKept
+pub mod GrownLengths
 pub mod GrownNothing
 pub mod GrowthSteps
 pub mod HalfGrown
@@ -12,7 +13,6 @@ pub mod HeightenedRecords
 pub mod HeightenedSteps
 pub mod InsertedShelves
 pub mod MadeLinked
-pub mod MissingRecords
 pub mod NextRecords
 pub mod StartedGrowth
 pub mod TallerRecords

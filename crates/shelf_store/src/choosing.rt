@@ -79,6 +79,7 @@ pub fn placement_of(
         → choice.placement_of (state_of frame.now records.now) size ≡ None }
     ensures some { IfSome result (Finds frame.now records.now size) }
     ensures ranked { AreRanked frame.now records.now ranked.new.items }
+    ensures capacity { ranked.old.capacity ≤ ranked.new.capacity }
 {
     let sides = asked(frame, size)?;
     let placement = chosen(frame, records, ranked, sides)?;
@@ -116,6 +117,7 @@ fn chosen(
     requires wide { 1 ≤ sides.along }
     ensures value { result ≡ searching.chosen_at frame.now records.now sides }
     ensures ranked { AreRanked frame.now records.now ranked.new.items }
+    ensures capacity { ranked.old.capacity ≤ ranked.new.capacity }
 {
     let height = shelf_height(frame, sides.across);
     let candidate = best_candidate(records, ranked, frame.column_width, sides.along, height)?;
@@ -156,6 +158,7 @@ fn best_candidate(
         ≡ searching.first_by_height records.now width height (ranked_numbers ranked.old.items) }
     ensures numbers { ranked_numbers ranked.new.items ≡ ranked_numbers ranked.old.items }
     ensures ranked { AreSearchable records.now ranked.new.items }
+    ensures capacity { ranked.old.capacity ≤ ranked.new.capacity }
 {
     let start = first_from(records.shelves(), ranked, height, 0).index;
     match first_good(records, ranked, start, width, height) {
@@ -189,6 +192,7 @@ fn first_of_rest(
         (drop rest (ranked_numbers ranked.old.items)) }
     ensures numbers { ranked_numbers ranked.new.items ≡ ranked_numbers ranked.old.items }
     ensures ranked { AreSearchable records.now ranked.new.items }
+    ensures capacity { ranked.old.capacity ≤ ranked.new.capacity }
 {
     let empty = first_empty(records, ranked, rest, column_width, width, height);
     if empty.is_some() {
@@ -217,6 +221,7 @@ fn first_good(
     ensures value { IsFirstGood records.now width height start (ranked_numbers ranked.old.items) result }
     ensures numbers { ranked_numbers ranked.new.items ≡ ranked_numbers ranked.old.items }
     ensures ranked { AreSearchable records.now ranked.new.items }
+    ensures capacity { ranked.old.capacity ≤ ranked.new.capacity }
 {
     let mut from = start;
     while let Some(index) = ranked.first_as_wide(from, width) {
@@ -254,6 +259,7 @@ fn first_empty(
         (drop start (ranked_numbers ranked.old.items)) }
     ensures numbers { ranked_numbers ranked.new.items ≡ ranked_numbers ranked.old.items }
     ensures ranked { AreSearchable records.now ranked.new.items }
+    ensures capacity { ranked.old.capacity ≤ ranked.new.capacity }
 {
     let mut from = start;
     while let Some(index) = ranked.first_as_wide(from, column_width) {
@@ -287,6 +293,7 @@ fn empty_at(
         ≡ searching.good_offer records.now width height (ranked_at ranked.old.items index).shelf }
     ensures numbers { ranked_numbers ranked.new.items ≡ ranked_numbers ranked.old.items }
     ensures ranked { AreSearchable records.now ranked.new.items }
+    ensures capacity { ranked.old.capacity ≤ ranked.new.capacity }
 {
     if is_empty(records, ranked.shelf(index)) {
         return fit_at(records, ranked, index, width, height);
@@ -319,6 +326,7 @@ fn first_placed(
         (map (searching.offered records.now width height) (drop start (ranked_numbers ranked.old.items))) }
     ensures numbers { ranked_numbers ranked.new.items ≡ ranked_numbers ranked.old.items }
     ensures ranked { AreSearchable records.now ranked.new.items }
+    ensures capacity { ranked.old.capacity ≤ ranked.new.capacity }
 {
     while let Some(index) = earliest_wide(records.shelves(), ranked, start, width) {
         let found = fit_at(records, ranked, index, width, height);
@@ -343,6 +351,7 @@ fn earliest_wide(
     requires start { start ≤ length ranked.old.items }
     ensures value { IsEarliest shelves.now ranked.old.items start (length ranked.old.items) width result }
     ensures items { ranked.new.items ≡ ranked.old.items }
+    ensures capacity { ranked.old.capacity ≤ ranked.new.capacity }
 {
     let mut first = None;
     let mut from = start;
@@ -452,6 +461,7 @@ fn fit_at(
         (looked_into records.now width (ranked_at ranked.old.items index)) }
     ensures numbers { ranked_numbers ranked.new.items ≡ ranked_numbers ranked.old.items }
     ensures ranked { AreSearchable records.now ranked.new.items }
+    ensures capacity { ranked.old.capacity ≤ ranked.new.capacity }
 {
     let mut one = ranked.get(index);
     let found = fit(records, &mut one, width, height);

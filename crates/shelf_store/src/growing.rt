@@ -5,7 +5,6 @@
 ghost use Rattle.std.specs.Prelude.{◌≡◌, ◌+◌, ◌<◌, ◌≤◌, ◌||◌, nat_lt, IfOk, OnOk, OnErr, length};
 ghost use Rattle.etagere_base.specs.Frames as frames;
 ghost use Rattle.etagere_base.specs.Frames.{IsFrame, longest_side};
-ghost use Rattle.etagere_links.specs.RecordLists.{shelf_walk};
 ghost use Rattle.shelf_heights.specs.Private.ByHeight.{AreRanked};
 ghost use Rattle.shelf_records.specs.Private.Kept.{AreKept};
 ghost use Rattle.shelf_store.specs.Private.RecordsGrown as spec;
@@ -24,6 +23,7 @@ use crate::growing::widening::widen_shelves;
 use crate::starting::rank_shelves;
 use etagere_base::Frame;
 use etagere_links::Records;
+use shelf_heights::heights::reserve_ranks;
 use shelf_heights::ranked::ShelvesByHeight;
 use std::alloc::AllocError;
 
@@ -56,19 +56,16 @@ pub fn grow_shelves(
     requires grows { CanGrow frame.now grown.now needed records.old }
     requires kept { AreKept grown.now (spec.records_grown frame.now grown.now needed records.old).records }
     requires ranked { AreRanked frame.now records.old ranked.old.items }
-    requires room { length
-        (shelf_walk (spec.records_grown frame.now grown.now needed records.old).records).met
-        ≤ length ranked.old.items + needed.shelves }
+    requires room { length records.old.shelves ≤ ranked.old.capacity }
     ensures ok { OnOk result
         (records.new ≡ (spec.records_grown frame.now grown.now needed records.old).records) }
     ensures ranked { OnOk result (AreRanked grown.now records.new ranked.new.items) }
     ensures err { OnErr result (records.new ≡ records.old) }
     ensures same { OnErr result (ranked.new.items ≡ ranked.old.items) }
+    ensures room { length records.new.shelves ≤ ranked.new.capacity }
     ensures some { OnErr result (0 < needed.items) }
 {
-    if needed.shelves > 0 {
-        ranked.reserve(needed.shelves as usize)?;
-    }
+    reserve_ranks(records, ranked, needed.shelves)?;
     grow_records(records, frame, grown, needed)?;
     if is_extended(frame, grown) {
         rank_shelves(grown, records, ranked);

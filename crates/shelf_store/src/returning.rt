@@ -4,7 +4,7 @@
 //! earlier place. It looks only at the neighbours of the item and of its shelf, and takes no memory: both have to
 //! stay so.
 
-ghost use Rattle.std.specs.Prelude.{◌≡◌, ℕ, ◌<◌, Some, IfSome, length};
+ghost use Rattle.std.specs.Prelude.{◌≡◌, ℕ, ◌<◌, ◌≤◌, Some, IfSome, length};
 ghost use Rattle.shelf_records.specs.AtlasRecords as spec;
 ghost use Rattle.shelf_records.specs.AtlasRecords.{shelf_of};
 ghost use Rattle.shelf_store.specs.Private.ItemReturned as returned;
@@ -44,6 +44,7 @@ pub fn return_item(
         ≡ ranks.ranked_returned number records.old ranked.old.items }
     ensures put_aside { result ≡ returned.put_aside_by number records.old }
     ensures few { result < 5 }
+    ensures capacity { ranked.old.capacity ≤ ranked.new.capacity }
 {
     let merged = merge_item(records, shelf, number);
     let width = width_of(records.items(), merged.item);
@@ -167,6 +168,7 @@ fn merge_shelves(records: &mut Records, ranked: &mut ShelvesByHeight, shelf: usi
         ≡ ranks.ranks_merged shelf records.old ranked.old.items }
     ensures put_aside { result ≡ (returned.shelves_merged shelf records.old).put_aside }
     ensures few { result < 3 }
+    ensures capacity { ranked.old.capacity ≤ ranked.new.capacity }
 {
     let one = merge_shelf(records, ranked, shelf);
     let previous = previous_of::<Chain, LinkedShelf>(records.shelves(), shelf);
@@ -182,6 +184,7 @@ fn merge_named_shelf(records: &mut Records, ranked: &mut ShelvesByHeight, link: 
         ≡ ranks.named_rank_merged link records.old ranked.old.items }
     ensures put_aside { result ≡ (returned.named_shelf_merged link records.old).put_aside }
     ensures few { result < 2 }
+    ensures capacity { ranked.old.capacity ≤ ranked.new.capacity }
 {
     match link.number() {
         None => 0,
@@ -198,6 +201,7 @@ fn merge_shelf(records: &mut Records, ranked: &mut ShelvesByHeight, shelf: usize
         ≡ ranks.rank_merged shelf records.old ranked.old.items }
     ensures put_aside { result ≡ (returned.shelf_merged shelf records.old).put_aside }
     ensures few { result < 2 }
+    ensures capacity { ranked.old.capacity ≤ ranked.new.capacity }
 {
     match empty_next(records.shelves(), shelf) {
         None => 0,
@@ -223,6 +227,7 @@ fn absorb_shelf(
         ≡ ranks.rank_merged shelf records.old ranked.old.items }
     ensures put_aside { result ≡ (returned.shelf_merged shelf records.old).put_aside }
     ensures few { result < 2 }
+    ensures capacity { ranked.old.capacity ≤ ranked.new.capacity }
 {
     let Some(item) = fields::first_item(records.shelves(), next) else {
         return 0;

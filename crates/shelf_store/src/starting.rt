@@ -40,7 +40,9 @@ pub fn fresh_records(alloc: Global, frame: &Frame) -> Result<Records, AllocError
 pub fn fresh_by_height(alloc: Global, frame: &Frame) -> Result<ShelvesByHeight, AllocError>
     requires frame { IsFrame longest_side frame.now }
     requires columns { HasAllColumns frame.now }
-    ensures { IfOk result (λ ranked. AreRanked frame.now (spec.fresh_records frame.now) ranked.items) }
+    ensures ranked { IfOk result
+        (λ ranked. AreRanked frame.now (spec.fresh_records frame.now) ranked.items) }
+    ensures room { IfOk result (λ ranked. frame.now.columns ≤ ranked.capacity) }
 {
     let mut ranked = ShelvesByHeight::with_room(alloc, frame.columns as usize)?;
     rank_columns(frame, &mut ranked);
@@ -52,7 +54,8 @@ pub fn reset_by_height(frame: &Frame, ranked: &mut ShelvesByHeight)
     requires frame { IsFrame longest_side frame.now }
     requires columns { HasAllColumns frame.now }
     requires many { frame.now.columns ≤ length ranked.old.items }
-    ensures { AreRanked frame.now (spec.fresh_records frame.now) ranked.new.items }
+    ensures ranked { AreRanked frame.now (spec.fresh_records frame.now) ranked.new.items }
+    ensures capacity { ranked.old.capacity ≤ ranked.new.capacity }
 {
     ranked.clear();
     rank_columns(frame, ranked);
@@ -64,7 +67,8 @@ fn rank_columns(frame: &Frame, ranked: &mut ShelvesByHeight)
     requires columns { HasAllColumns frame.now }
     requires empty { ranked.old.items ≡ [] }
     requires room { frame.now.columns ≤ ranked.old.capacity }
-    ensures { AreRanked frame.now (spec.fresh_records frame.now) ranked.new.items }
+    ensures ranked { AreRanked frame.now (spec.fresh_records frame.now) ranked.new.items }
+    ensures capacity { ranked.old.capacity ≤ ranked.new.capacity }
 {
     for column in 0..frame.columns {
         ranked.push(newly_ranked(frame, column as usize));
@@ -76,7 +80,8 @@ pub fn rank_shelves(frame: &Frame, records: &Records, ranked: &mut ShelvesByHeig
     requires kept { AreKept frame.now records.now }
     requires room { length (shelf_walk records.now).met
         ≤ max (length ranked.old.items) ranked.old.capacity }
-    ensures { AreRanked frame.now records.now ranked.new.items }
+    ensures ranked { AreRanked frame.now records.now ranked.new.items }
+    ensures capacity { ranked.old.capacity ≤ ranked.new.capacity }
 {
     collect_shelves(frame, records, ranked);
     ranked.sort(records.shelves());
@@ -87,8 +92,9 @@ fn collect_shelves(frame: &Frame, records: &Records, ranked: &mut ShelvesByHeigh
     requires kept { AreKept frame.now records.now }
     requires room { length (shelf_walk records.now).met
         ≤ max (length ranked.old.items) ranked.old.capacity }
-    ensures { ranked.new.items
+    ensures ranked { ranked.new.items
         ≡ map (heights.newly_ranked frame.now) (shelf_walk records.now).met }
+    ensures capacity { ranked.old.capacity ≤ ranked.new.capacity }
 {
     ranked.clear();
     let mut at = records.first_shelf().number();

@@ -6,19 +6,20 @@
 ghost use Rattle.std.specs.Prelude.{◌≡◌, ◌+◌, ◌<◌, ◌≤◌, Some, IfOk, OnOk, OnErr, IfSome, length};
 ghost use Rattle.etagere_base.specs.Frames.{longest_side};
 ghost use Rattle.etagere_links.specs.Links.{no_link};
+ghost use Rattle.etagere_links.specs.RecordUses.{rests_missing};
 ghost use Rattle.shelf_model.specs.Choice.{splits};
 ghost use Rattle.shelf_store.specs.Private.PlacementTaken as spec;
-ghost use Rattle.shelf_store.specs.Private.PlacementTaken.{CanRank, CanTakeFrom, IsItemSplittable, IsRestRankable, IsShelfRankable, IsShelfSplittable, placement_taken, ranked_taken};
+ghost use Rattle.shelf_store.specs.Private.PlacementTaken.{CanRank, CanTakeFrom, HasSpare, IsItemSplittable, IsRestRankable, IsShelfRankable, IsShelfSplittable, placement_taken, ranked_taken};
 
 use etagere_base::{AllocId, INDEX_MODULUS};
 use etagere_links::{Link, LinkedItem, LinkedShelf, Records};
-use shelf_heights::heights::{put_in, ranked_shelf, take_out};
+use shelf_heights::heights::{put_in, ranked_shelf, reserve_ranks, take_out};
 use shelf_heights::ranked::ShelvesByHeight;
 use shelf_model::placements::Placement;
 use std::alloc::AllocError;
 
 /// Takes a placement, which names its shelf and its item by their records' numbers, and gives the id. An
-/// `Err`, which comes only where something is split, changes nothing.
+/// `Err`, which comes only where something is split and records are missing for that, changes nothing.
 pub fn take_placement(
     records: &mut Records,
     ranked: &mut ShelvesByHeight,
@@ -27,6 +28,8 @@ pub fn take_placement(
 ) -> Result<AllocId, AllocError>
     requires takes { CanTakeFrom column_width found.now records.old }
     requires ranks { CanRank column_width found.now records.old ranked.old.items }
+    requires room { length records.old.shelves ≤ ranked.old.capacity }
+    requires spare { HasSpare records.old ranked.old.items }
     ensures ok { OnOk result (records.new ≡ placement_taken column_width found.now records.old) }
     ensures id { IfOk result (λ id. id ≡ spec.id_of records.old.items found.now.item) }
     ensures err { OnErr result (records.new ≡ records.old) }
@@ -34,11 +37,14 @@ pub fn take_placement(
         (ranked.new.items
         ≡ ranked_taken column_width found.now records.old ranked.old.items) }
     ensures ranked_err { OnErr result (ranked.new.items ≡ ranked.old.items) }
+    ensures room { length records.new.shelves ≤ ranked.new.capacity }
     ensures split { OnErr result (0 < splits found.now) }
+    ensures short { OnErr result
+        (0 < rests_missing found.now.splits_shelf found.now.splits_item records.old) }
 {
     let id = id_of(records.items(), found.item);
     if found.splits_shelf {
-        ranked.reserve(1)?;
+        reserve_ranks(records, ranked, 1)?;
     }
     let rests = records.use_rests(found.splits_shelf, found.splits_item)?;
     make_shelf_rest(
@@ -68,6 +74,7 @@ fn make_shelf_rest(
     requires item { IfSome item (λ number. number < no_link) }
     requires ranks { IsRestRankable column_width found.now shelf item records.old ranked.old.items }
     requires room { IfSome shelf (λ number. length ranked.old.items < ranked.old.capacity) }
+    ensures capacity { ranked.old.capacity ≤ ranked.new.capacity }
     ensures records { records.new
         ≡ spec.with_shelf_rest column_width found.now shelf item records.old }
     ensures ranked { ranked.new.items
@@ -100,6 +107,7 @@ fn split_shelf(
         (spec.with_shelf_rest column_width found.now (Some shelf) (Some item) records.old).shelves
         ranked.old.items }
     requires room { length ranked.old.items < ranked.old.capacity }
+    ensures capacity { ranked.old.capacity ≤ ranked.new.capacity }
     ensures records { records.new
         ≡ spec.with_shelf_rest column_width found.now (Some shelf) (Some item) records.old }
     ensures ranked { ranked.new.items

@@ -1,6 +1,6 @@
 -- Kept records with those that a growth makes ahead: in the grown frame they spell what they spelled, and what it needs
 -- waits to be put to use.
-use Rattle.std.proofs.Common.{◌≡◌, ℕ, zero, suc, ◌+◌, ◌-◌, ◌*◌, ◌<◌, ◌≤◌, false, Option, None, List, [], ◌∷◌, ◌++◌, length, length-append, map, refl, ap, ◌∙◌, sym, subst, arith, ⊎_elim}
+use Rattle.std.proofs.Common.{◌≡◌, ℕ, zero, suc, ◌+◌, ◌-◌, ◌*◌, ◌<◌, ◌≤◌, false, None, List, [], ◌∷◌, ◌++◌, length, length-append, map, refl, ap, ◌∙◌, sym, subst, arith, ⊎_elim}
 use Rattle.std.proofs.Math.Nat.{zero-div, zero-mod, zero-mul}
 use Rattle.std.proofs.lemmas.Bool.{cases_lt}
 use Rattle.std.specs.Prelude.{◌/◌, ◌%◌}
@@ -11,9 +11,6 @@ use Rattle.etagere_base.proofs.AlignedPlaces.{multiple}
 use Rattle.etagere_base.proofs.EachLemmas.{Each-append, Each-weaken}
 use Rattle.etagere_links.specs.declared.records.LinkedItem.{LinkedItem}
 use Rattle.etagere_links.specs.declared.records.LinkedShelf.{LinkedShelf}
-use Rattle.etagere_links.specs.Chains.{IsPileIn}
-use Rattle.etagere_links.specs.Edits.{link_at}
-use Rattle.etagere_links.specs.Families.{Family}
 use Rattle.etagere_links.specs.RecordLists.{Entry, Records, shelf_numbers, walked_lists}
 use Rattle.etagere_links.specs.RecordMaking.{with_new_items, with_new_shelves}
 use Rattle.etagere_links.specs.RecordUses.{missing, new_item, new_shelf}
@@ -31,6 +28,7 @@ use Rattle.shelf_store.proofs.Grown.CountedRecords.{needed-counted}
 use Rattle.shelf_model.proofs.Grown.GrownFrames.{Fits, GrowsFrame, frame-grows, growth-fits}
 use Rattle.shelf_store.proofs.Grown.HalfGrown.{HasGrown}
 use Rattle.shelf_store.proofs.Grown.MadeLinked.{numbers_from, records-made}
+use Rattle.etagere_links.proofs.MissingRecords.{missing-counted}
 use Rattle.shelf_store.proofs.Spelled.ItemLocated.{in-use-counted}
 use Rattle.shelf_records.proofs.Spelled.RecordValues.{SameItem, SameItem-then, SameShelf, SameShelf-then, item-same}
 use Rattle.shelf_store.proofs.Spelled.SpelledLists.{IsSpelledBut, stacked-same}
@@ -95,16 +93,6 @@ along-alike frame size along grows aligned within =
     at_edge : (n : ℕ) → n ≡ 0 → (n / grown_column_width frame size ≡ n / frame.column_width) × (n % grown_column_width frame size ≡ 0)
     at_edge n h = rw h (zero-div (grown_column_width frame size) ∙ sym (zero-div frame.column_width), zero-mod (grown_column_width frame size))
 
--- where links spell the records that were unused, so many more are missing
-missing-counted : {T : Type 0} (family : Family T) (wanted : ℕ) (unused : Option ℕ) (records : List T) (xs : List ℕ) → IsPileIn family records unused xs
-    → missing family wanted unused records ≡ wanted - length xs
-missing-counted family zero unused records xs leads = omega arith
-missing-counted family (suc wanted) unused records [] leads = let none : unused ≡ None = leads in rw none (omega arith)
-missing-counted family (suc wanted) unused records (x ∷ xs) leads =
-    let rest : missing family wanted (link_at family.next records x) records ≡ wanted - length xs =
-    missing-counted family wanted (link_at family.next records x) records xs leads.1 in
-    rw leads.0 (omega (arith, rest))
-
 -- items say the same after so many were made
 items-made : (count : ℕ) (items : List LinkedItem) (k : ℕ) → SameItem items (with_new_items count items) k
 items-made zero items k = item-same items items k refl
@@ -131,7 +119,7 @@ length-items zero items = omega arith
 length-items (suc count) items = omega (arith, length-items count (items ++ new_item ∷ []), length-append items (new_item ∷ []))
 
 -- and so many shelves
-length-shelves : (count : ℕ) (shelves : List LinkedShelf) → length (with_new_shelves count shelves) ≡ length shelves + count
+pub length-shelves : (count : ℕ) (shelves : List LinkedShelf) → length (with_new_shelves count shelves) ≡ length shelves + count
 length-shelves zero shelves = omega arith
 length-shelves (suc count) shelves = omega (arith, length-shelves count (shelves ++ new_shelf ∷ []), length-append shelves (new_shelf ∷ []))
 

@@ -8,8 +8,9 @@ use Rattle.etagere_links.specs.declared.records.LinkedShelf.{LinkedShelf}
 use Rattle.etagere_links.specs.Links.{no_link}
 use Rattle.etagere_links.specs.RecordEdits.{item_changed, shelf_changed}
 use Rattle.etagere_links.specs.RecordLists.{Records, field_at}
+use Rattle.etagere_links.specs.Records.{shelf_chain}
 use Rattle.etagere_links.specs.RecordMerges.{item_given, front_given, shelf_split}
-use Rattle.etagere_links.specs.RecordUses.{new_item, new_shelf, rests_of, rests_used}
+use Rattle.etagere_links.specs.RecordUses.{missing, new_item, new_shelf, rests_of, rests_used}
 use Rattle.shelf_model.specs.Choice.{Placement}
 use Rattle.shelf_heights.specs.Private.ByHeight.{AreInOrder, bound_of, put_in, ranked_numbers, taken_out}
 use Rattle.shelf_heights.specs.declared.ranked.RankedShelf.{RankedShelf}
@@ -168,6 +169,12 @@ IsRestRankable column_width found rest item records ranked =
     (λ rest. IfSome item
     (λ item. IsShelfRankable found.shelf rest records.shelves
     (with_shelf_rest column_width found (Some rest) (Some item) records).shelves ranked))
+
+-- so many shelves are ranked that the records, with what is missing for one more, are enough for all of them and one more
+abbrev pub HasSpare : Records → List RankedShelf → Type 0
+HasSpare records ranked =
+    length ranked
+    < length records.shelves + missing shelf_chain 1 records.unused_shelves records.shelves
 
 -- what taking a placement needs of the ranked shelves
 abbrev pub CanRank : ℕ → Placement → Records → List RankedShelf → Type 0

@@ -13,7 +13,7 @@ use Rattle.etagere.proofs.restored.ranked_shelves.Goals as goal
 pub loop-shelf-init : goal.loop-shelf-init
 loop-shelf-init c = record {
   whole = ap (λ (l : List RankedShelf). l ++ met_ranked c.args.frame.now c.args.shelves.now) c.in_ok-ranked.ensures.empty;
-  room = omega (arith, met-few c.args.frame.now c.args.records.now c.args.shelves.now c.requires.kept c.requires.met, c.in_ok-ranked.ensures.room, ap length c.shelves.ensures);
+  room = omega (arith, c.in_ok-ranked.ensures.room, ap length c.shelves.ensures);
 }
 
 pub newly_ranked-requires-clause-shelf : goal.newly_ranked-requires-clause-shelf
@@ -28,7 +28,7 @@ newly_ranked-requires-clause-shelf c =
 
 pub push-requires : goal.push-requires
 push-requires c = record {
-  room = omega (arith, met-fewer c.args.frame.now c.args.shelves.now c.loop-shelf.shelf-index c.loop-shelf.ranked.items c.loop-shelf-test.true c.loop-shelf.invariant.whole, c.loop-shelf.invariant.room);
+  room = omega (arith, met-few c.args.frame.now c.args.records.now c.args.shelves.now c.requires.kept c.requires.met, met-fewer c.args.frame.now c.args.shelves.now c.loop-shelf.shelf-index c.loop-shelf.ranked.items c.loop-shelf-test.true c.loop-shelf.invariant.whole, c.loop-shelf.invariant.room);
 }
 
 pub loop-shelf-preserved : goal.loop-shelf-preserved
@@ -43,8 +43,8 @@ loop-shelf-preserved c =
       room = omega (arith, c.loop-shelf.invariant.room, c.push.ensures.capacity);
     }
 
-pub returns : goal.returns
-returns c =
+pub returns-clause-ranked : goal.returns-clause-ranked
+returns-clause-ranked c =
     let frame = c.args.frame.now in
     let entries = c.args.shelves.now in
     let sorted = c.sort.new.self.items in

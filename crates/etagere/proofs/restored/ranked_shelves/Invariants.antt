@@ -6,5 +6,5 @@ use Rattle.etagere.proofs.restored.ranked_shelves.Given as goal
 abbrev pub invariant-loop-shelf : goal.invariant-loop-shelf
 invariant-loop-shelf l = record {
   whole : l.ranked.items ++ met_ranked l.frame (drop l.shelf-index l.shelves) ≡ met_ranked l.frame l.shelves;
-  room : length l.shelves ≤ l.ranked.capacity;
+  room : length l.records.shelves ≤ l.ranked.capacity;
 }

@@ -19,8 +19,8 @@ no_lower read bound width is enough = grind arith
 read : (shelf index : ℕ) (ranked new : List RankedShelf) (one : RankedShelf) → StandsAt shelf index ranked → new ≡ ranked → one ≡ get_or new index one → one ≡ ranked_as shelf (bound_of shelf ranked)
 read shelf index ranked new one at same is = is ∙ ap (λ (l : List RankedShelf). get_or l index one) same ∙ at.read one
 
-pub returns-then-one-width : goal.returns-then-one-width
-returns-then-one-width c =
+pub returns-then-one-width-clause-ranked : goal.returns-then-one-width-clause-ranked
+returns-then-one-width-clause-ranked c =
     let ranked = c.args.ranked.now.items in
     let index = c.position_of-index.result in
     let same = ap (λ (list : RankedList). list.items) c.position_of-index.ensures.same in
@@ -34,8 +34,8 @@ returns-then-one-width c =
     ∙ ap (λ (one : RankedShelf). set ranked index (record one { widest = c.args.width })) is
     ∙ at.higher c.args.width less
 
-pub returns-else-one-width : goal.returns-else-one-width
-returns-else-one-width c =
+pub returns-else-one-width-clause-ranked : goal.returns-else-one-width-clause-ranked
+returns-else-one-width-clause-ranked c =
     let ranked = c.args.ranked.now.items in
     let index = c.position_of-index.result in
     let same = ap (λ (list : RankedList). list.items) c.position_of-index.ensures.same in

@@ -15,6 +15,7 @@ loop-index-preserved c =
       within = rw c.first_as_wide.ensures.items next.within;
       earliest = rw (c.first_as_wide.ensures.items, earlier)
           (next-earliest c.args.shelves.now old c.args.start c.loop-index.from c.in-Some.index c.behind_height-from.result c.args.width c.loop-index.first c.loop-index.invariant.after c.loop-index.invariant.earliest first next);
+      capacity = omega (arith, c.loop-index.invariant.capacity, c.first_as_wide.ensures.capacity);
     }
 
 pub returns-clause-value : goal.returns-clause-value

@@ -9,6 +9,7 @@ invariant-loop-index l = record {
   after : l.start ≤ l.from;
   within : l.from ≤ length l.ranked.items;
   earliest : IsEarliest l.shelves l.ranked.items l.start l.from l.width l.first;
+  capacity : l.fn.ranked.capacity ≤ l.ranked.capacity;
 }
 
 abbrev pub decreases-loop-index : goal.decreases-loop-index

@@ -1,4 +1,4 @@
-use Rattle.std.proofs.Common.{Some, ap, drop, sym, ◌+◌, ◌∙◌}
+use Rattle.std.proofs.Common.{Some, ap, arith, drop, sym, ◌+◌, ◌∙◌}
 use Rattle.std.specs.Option.{option_map_or}
 use Rattle.std.specs.Prelude.{◌/◌}
 use Rattle.shelf_heights.specs.Private.ByHeight.{ranked_numbers}
@@ -33,6 +33,7 @@ loop-index-preserved c =
           ∙ ap (λ o. option_map_or Some o rest) value
           ∙ sym (empty-reached c.args.records.now c.args.column_width c.args.width c.args.height c.loop-index.from (ranked_numbers c.args.ranked.now.items) c.loop-index.ranked.items c.requires.whole c.loop-index.invariant.search c.in-Some.index c.in-Some.ensures.first)
           ∙ c.loop-index.invariant.answer;
+      capacity = omega (arith, c.loop-index.invariant.capacity, c.first_as_wide.ensures.capacity, c.empty_at-found.ensures.capacity);
     }
 
 pub returns-clause-value : goal.returns-clause-value

@@ -1,4 +1,4 @@
-use Rattle.std.proofs.Common.{◌≡◌, ◌+◌, ◌-◌, drop, length}
+use Rattle.std.proofs.Common.{◌≡◌, ◌+◌, ◌-◌, ◌≤◌, drop, length}
 use Rattle.std.specs.Prelude.{◌/◌}
 use Rattle.shelf_heights.specs.Private.ByHeight.{ranked_numbers}
 use Rattle.shelf_store.specs.Private.Searching.{first_offer, good_offer}
@@ -12,6 +12,7 @@ invariant-loop-index l = record {
   answer :
       first_offer (good_offer l.records l.width l.height) (drop l.from (ranked_numbers l.fn.ranked.items))
       ≡ first_offer (good_offer l.records l.width l.height) (drop l.start (ranked_numbers l.fn.ranked.items));
+  capacity : l.fn.ranked.capacity ≤ l.ranked.capacity;
 }
 
 abbrev pub decreases-loop-index : goal.decreases-loop-index

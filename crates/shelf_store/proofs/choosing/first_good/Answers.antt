@@ -14,6 +14,7 @@ loop-index-init c =
       search = record { same = refl; searchable = c.requires.ranked; within = c.requires.start; tall = c.requires.tall };
       passed = started c.args.records.now c.args.width c.args.height c.args.start (ranked_numbers c.args.ranked.now.items);
       answer = refl;
+      capacity = omega arith;
     }
 
 pub is_good-requires-clause-within : goal.is_good-requires-clause-within
@@ -67,6 +68,7 @@ loop-index-preserved c =
           good-passed c.args.records.now c.args.width c.args.height c.loop-index.from c.in-Some.index (ranked_numbers c.args.ranked.now.items) c.loop-index.ranked.items c.loop-index.invariant.search c.in-Some.ensures.first
           (good-where c.args.records.now c.args.width c.args.height (ranked_at c.loop-index.ranked.items c.in-Some.index).shelf c.shelf.result c.is_good.result true (rw c.first_as_wide.ensures.items at c.shelf.ensures) c.is_good.ensures c.if-not-is_good.false ∙ none)
           ∙ c.loop-index.invariant.answer;
+      capacity = omega (arith, c.loop-index.invariant.capacity, c.first_as_wide.ensures.capacity, c.fit_at.ensures.capacity);
     }
 
 pub returns-clause-value : goal.returns-clause-value

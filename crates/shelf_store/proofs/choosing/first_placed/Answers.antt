@@ -12,43 +12,46 @@ use Rattle.shelf_store.proofs.ByHeight.Searches.{in-order, placed-ended, same-si
 use Rattle.shelf_store.proofs.choosing.first_placed.Goals as goal
 
 pub earliest_wide-requires-clause-order : goal.earliest_wide-requires-clause-order
-earliest_wide-requires-clause-order c = rw c.shelves.ensures (in-order c.args.records.now.shelves c.args.ranked.now.items c.loop-index.ranked.items c.loop-index.invariant.same c.requires.order)
+earliest_wide-requires-clause-order c = rw c.shelves.ensures (in-order c.args.records.now.shelves c.args.ranked.now.items c.loop-index.ranked.items c.loop-index.invariant.search.same c.requires.order)
 
 pub earliest_wide-requires-clause-places : goal.earliest_wide-requires-clause-places
 earliest_wide-requires-clause-places c =
     rw c.shelves.ensures
-    (Each-weaken (IsSearchable c.args.records.now) (λ (one : RankedShelf). place_number c.args.records.now.shelves one.shelf < 65536 * 65536) c.loop-index.ranked.items (λ one is. is.place) c.loop-index.invariant.searchable)
+    (Each-weaken (IsSearchable c.args.records.now) (λ (one : RankedShelf). place_number c.args.records.now.shelves one.shelf < 65536 * 65536) c.loop-index.ranked.items (λ one is. is.place) c.loop-index.invariant.search.searchable)
 
 pub earliest_wide-requires-clause-few : goal.earliest_wide-requires-clause-few
-earliest_wide-requires-clause-few c = omega (arith, c.requires.few, same-size c.args.ranked.now.items c.loop-index.ranked.items c.loop-index.invariant.same)
+earliest_wide-requires-clause-few c = omega (arith, c.requires.few, same-size c.args.ranked.now.items c.loop-index.ranked.items c.loop-index.invariant.search.same)
 
 pub fit_at-found-requires-clause-index : goal.fit_at-found-requires-clause-index
 fit_at-found-requires-clause-index c = rw c.earliest_wide.ensures.items c.in-Some.ensures.value.within
 
 pub fit_at-found-requires-clause-ranked : goal.fit_at-found-requires-clause-ranked
-fit_at-found-requires-clause-ranked c = rw c.earliest_wide.ensures.items c.loop-index.invariant.searchable
+fit_at-found-requires-clause-ranked c = rw c.earliest_wide.ensures.items c.loop-index.invariant.search.searchable
 
 pub fit_at-found-requires-clause-tall : goal.fit_at-found-requires-clause-tall
 fit_at-found-requires-clause-tall c =
     rw c.earliest_wide.ensures.items
-    (number-from (λ shelf. c.args.height ≤ height_of c.args.records.now.shelves shelf) c.loop-index.ranked.items c.args.start c.in-Some.index c.in-Some.ensures.value.after c.in-Some.ensures.value.within (rw c.loop-index.invariant.same c.loop-index.invariant.tall))
+    (number-from (λ shelf. c.args.height ≤ height_of c.args.records.now.shelves shelf) c.loop-index.ranked.items c.args.start c.in-Some.index c.in-Some.ensures.value.after c.in-Some.ensures.value.within (rw c.loop-index.invariant.search.same c.loop-index.invariant.search.tall))
 
 pub returns-then-is_some-clause-value : goal.returns-then-is_some-clause-value
 returns-then-is_some-clause-value c =
-    offer-earliest c.args.records.now c.args.width c.args.height c.args.start c.in-Some.index (ranked_numbers c.args.ranked.now.items) c.loop-index.ranked.items c.fit_at-found.result c.loop-index.invariant
+    offer-earliest c.args.records.now c.args.width c.args.height c.args.start c.in-Some.index (ranked_numbers c.args.ranked.now.items) c.loop-index.ranked.items c.fit_at-found.result c.loop-index.invariant.search
     (rw c.shelves.ensures at c.in-Some.ensures.value) (rw c.earliest_wide.ensures.items at c.fit_at-found.ensures.value) (sym c.is_some.ensures ∙ c.if-is_some.true)
 
 pub returns-then-is_some-clause-numbers : goal.returns-then-is_some-clause-numbers
-returns-then-is_some-clause-numbers c = c.fit_at-found.ensures.numbers ∙ ap ranked_numbers c.earliest_wide.ensures.items ∙ c.loop-index.invariant.same
+returns-then-is_some-clause-numbers c = c.fit_at-found.ensures.numbers ∙ ap ranked_numbers c.earliest_wide.ensures.items ∙ c.loop-index.invariant.search.same
 
 pub loop-index-preserved : goal.loop-index-preserved
 loop-index-preserved c =
     let same : ranked_numbers c.fit_at-found.new.ranked.items ≡ ranked_numbers c.loop-index.ranked.items = c.fit_at-found.ensures.numbers ∙ ap ranked_numbers c.earliest_wide.ensures.items in
     record {
-      same = same ∙ c.loop-index.invariant.same;
-      searchable = c.fit_at-found.ensures.ranked;
-      within = omega (arith, c.loop-index.invariant.within, same-size c.loop-index.ranked.items c.fit_at-found.new.ranked.items same);
-      tall = c.loop-index.invariant.tall;
+      search = record {
+        same = same ∙ c.loop-index.invariant.search.same;
+        searchable = c.fit_at-found.ensures.ranked;
+        within = omega (arith, c.loop-index.invariant.search.within, same-size c.loop-index.ranked.items c.fit_at-found.new.ranked.items same);
+        tall = c.loop-index.invariant.search.tall;
+      };
+      capacity = omega (arith, c.loop-index.invariant.capacity, c.earliest_wide.ensures.capacity, c.fit_at-found.ensures.capacity);
     }
 
 pub loop-index-smaller : goal.loop-index-smaller
@@ -57,7 +60,7 @@ loop-index-smaller c =
     let one = ranked_at old c.in-Some.index in
     let is : IsEarliestWide c.args.records.now.shelves old c.args.start (length old) c.args.width c.in-Some.index = rw c.shelves.ensures at c.in-Some.ensures.value in
     let tall : c.args.height ≤ height_of c.args.records.now.shelves one.shelf =
-    number-from (λ shelf. c.args.height ≤ height_of c.args.records.now.shelves shelf) old c.args.start c.in-Some.index is.after is.within (rw c.loop-index.invariant.same c.loop-index.invariant.tall) in
+    number-from (λ shelf. c.args.height ≤ height_of c.args.records.now.shelves shelf) old c.args.start c.in-Some.index is.after is.within (rw c.loop-index.invariant.search.same c.loop-index.invariant.search.tall) in
     let none : offered c.args.records.now c.args.width c.args.height one.shelf ≡ None =
     sym (rw c.earliest_wide.ensures.items at c.fit_at-found.ensures.value) ∙ by_none c.fit_at-found.result (sym c.is_some.ensures ∙ c.if-is_some.false) in
     let new : c.fit_at-found.new.ranked.items ≡ set old c.in-Some.index (looked_into c.args.records.now c.args.width one) = rw c.earliest_wide.ensures.items at c.fit_at-found.ensures.items in
@@ -70,5 +73,5 @@ loop-index-smaller c =
 pub returns-clause-value : goal.returns-clause-value
 returns-clause-value c =
     let low : IsEarliest c.args.records.now.shelves c.loop-index.ranked.items c.args.start (length c.loop-index.ranked.items) c.args.width None = rw c.in_default.is at c.earliest_wide.ensures.value in
-    sym (placed-ended c.args.records.now c.args.width c.args.height c.args.start (ranked_numbers c.args.ranked.now.items) c.loop-index.ranked.items c.loop-index.invariant
+    sym (placed-ended c.args.records.now c.args.width c.args.height c.args.start (ranked_numbers c.args.ranked.now.items) c.loop-index.ranked.items c.loop-index.invariant.search
     (from-each (λ (one : RankedShelf). one.widest < c.args.width) c.loop-index.ranked.items c.args.start low))

@@ -1,29 +1,48 @@
-use Rattle.std.proofs.Common.{◌≡◌, ◌≤◌, ◌+◌, ◌∙◌, ap, arith, length, rules, sym}
-use Rattle.std.specs.Prelude.{max}
+use Rattle.std.proofs.Common.{ap, arith, length, sym, ◌∙◌}
 use Rattle.etagere_links.specs.RecordLists.{Records, shelf_walk}
+use Rattle.etagere_links.proofs.AllLists.LinkedWalks.{walked-numbers}
+use Rattle.shelf_store.specs.Private.RecordsGrown.{records_grown}
+use Rattle.shelf_store.proofs.ByHeight.RankedRoom.{shelves-count}
+use Rattle.shelf_store.proofs.Grown.GrownLengths.{grown-count}
 use Rattle.shelf_store.proofs.Grown.GrownNothing.{nothing-grown, ranked-elsewhere}
 use Rattle.shelf_store.proofs.growing.grow_shelves.Goals as goal
-use Rattle.shelf_store.proofs.growing.grow_shelves.Goals.{else-needed-gt0, then-needed-gt0+in_ok-reserve}
 
 pub rank_shelves-requires-clause-room : goal.rank_shelves-requires-clause-room
 rank_shelves-requires-clause-room c =
-    let room : length c.args.ranked.now.items + c.args.needed.shelves ≤ max (length c.if-needed-gt0.ranked.items) c.if-needed-gt0.ranked.capacity =
-    elim c.if-needed-gt0.branch [
-      | then-needed-gt0+in_ok-reserve w ↦ rw w.ranked-is (omega (arith, w.in_ok-reserve.ensures.room))
-      | else-needed-gt0 w ↦ rw w.ranked-is (omega (arith, w.if-needed-gt0.false))
-    ] in
-    omega (arith, c.requires.room, ap (λ (r : Records). length (shelf_walk r).met) c.in_ok-grow_records.ensures.ok, room)
+    let new : Records = (records_grown c.args.frame.now c.args.grown.now c.args.needed c.args.records.now).records in
+    omega (
+      arith,
+      ap (λ (r : Records). length (shelf_walk r).met) c.in_ok-grow_records.ensures.ok,
+      ap length (walked-numbers new (shelf_walk new).met),
+      shelves-count c.args.grown.now new c.requires.kept,
+      grown-count c.args.frame.now c.args.grown.now c.args.needed c.args.records.now,
+      c.in_ok-reserve_ranks.ensures.room,
+    )
+
+pub returns-then-is_extended-clause-room : goal.returns-then-is_extended-clause-room
+returns-then-is_extended-clause-room c =
+    omega (
+      arith,
+      ap (λ (r : Records). length r.shelves) c.in_ok-grow_records.ensures.ok,
+      grown-count c.args.frame.now c.args.grown.now c.args.needed c.args.records.now,
+      c.in_ok-reserve_ranks.ensures.room,
+      c.rank_shelves.ensures.capacity,
+    )
+
+pub returns-else-is_extended-clause-room : goal.returns-else-is_extended-clause-room
+returns-else-is_extended-clause-room c =
+    omega (
+      arith,
+      ap (λ (r : Records). length r.shelves) c.in_ok-grow_records.ensures.ok,
+      grown-count c.args.frame.now c.args.grown.now c.args.needed c.args.records.now,
+      c.in_ok-reserve_ranks.ensures.room,
+    )
 
 pub returns-else-is_extended-clause-ranked : goal.returns-else-is_extended-clause-ranked
 returns-else-is_extended-clause-ranked c =
     let frame = c.args.frame.now in
     let grown = c.args.grown.now in
     let records = c.args.records.now in
-    let same : c.if-needed-gt0.ranked.items ≡ c.args.ranked.now.items =
-    elim c.if-needed-gt0.branch [
-      | then-needed-gt0+in_ok-reserve w ↦ search rules
-      | else-needed-gt0 w ↦ search rules
-    ] in
-    ranked-elsewhere frame grown records c.grow_records.new.records c.args.ranked.now.items c.if-needed-gt0.ranked.items
+    ranked-elsewhere frame grown records c.grow_records.new.records c.args.ranked.now.items c.reserve_ranks.new.ranked.items
     (c.in_ok-grow_records.ensures.ok ∙ nothing-grown frame grown c.args.needed records c.requires.needed (sym c.is_extended.ensures ∙ c.if-is_extended.false))
-    same c.requires.ranked
+    c.reserve_ranks.ensures.items c.requires.ranked

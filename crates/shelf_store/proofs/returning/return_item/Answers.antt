@@ -36,7 +36,7 @@ rises c =
     c.width_of-width.ensures
     ∙ ap (λ (is : List LinkedItem). width_of is c.merge_item-merged.result.item) (c.items.ensures ∙ ap (λ (r : Records). r.items) c.merge_item-merged.ensures.records)
     ∙ ap (width_of (item_merged c.args.shelf c.args.number c.args.records.now).records.items) c.merge_item-merged.ensures.item in
-    c.raise.ensures
+    c.raise.ensures.ranked
     ∙ ap (λ s. raised s c.width_of-width.result c.args.ranked.now.items) c.requires.shelf
     ∙ ap (λ w. raised (shelf_of items c.args.number) w c.args.ranked.now.items)
     (wide ∙ ap (λ s. merged_width s c.args.number c.args.records.now) c.requires.shelf ∙ c.requires.ranked.width)

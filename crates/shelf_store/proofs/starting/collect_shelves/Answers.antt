@@ -9,6 +9,7 @@ loop-step-init c = record {
   collects = collects-begin c.args.frame.now c.args.records.now c.clear.new.self.items c.number-at.result c.requires.kept c.clear.ensures.items
       (c.number-at.ensures.value ∙ c.first_shelf.ensures);
   room = omega (arith, c.requires.room, c.clear.ensures.room, c.clear.ensures.capacity);
+  capacity = omega (arith, c.clear.ensures.capacity);
 }
 
 pub newly_ranked-requires-clause-shelf : goal.newly_ranked-requires-clause-shelf
@@ -35,8 +36,9 @@ loop-step-preserved c = record {
       (c.push.ensures.items ∙ ap (λ one. c.loop-step.ranked.items ++ one ∷ []) c.newly_ranked.ensures)
       (c.number-at-in-loop-step.ensures.value ∙ c.next_of.ensures ∙ ap (λ shelves. link_at shelf_chain.next shelves c.in-Some.shelf) c.shelves.ensures);
   room = omega (arith, c.loop-step.invariant.room, c.push.ensures.capacity);
+  capacity = omega (arith, c.loop-step.invariant.capacity, c.push.ensures.capacity);
 }
 
-pub returns-in_default : goal.returns-in_default
-returns-in_default c =
+pub returns-in_default-clause-ranked : goal.returns-in_default-clause-ranked
+returns-in_default-clause-ranked c =
     collects-end c.args.frame.now c.args.records.now c.loop-step.ranked.items c.loop-step.at c.loop-step._step c.loop-step.invariant.collects c.in_default.is

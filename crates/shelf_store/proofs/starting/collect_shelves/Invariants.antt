@@ -8,4 +8,5 @@ abbrev pub invariant-loop-step : goal.invariant-loop-step
 invariant-loop-step l = record {
   collects : Collects l.frame l.records l.ranked.items l.at l._step;
   room : length (shelf_walk l.records).met ≤ l.ranked.capacity;
+  capacity : l.fn.ranked.capacity ≤ l.ranked.capacity;
 }

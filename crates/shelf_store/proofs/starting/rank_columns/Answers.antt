@@ -20,10 +20,11 @@ loop-column-preserved c =
           (numbered-more (newly_ranked frame) column frame.columns old c.newly_ranked.result c.loop-column-test.true c.newly_ranked.ensures ∙ c.loop-column.invariant.shelves);
       count = omega (arith, ap length c.push.ensures.items, length-append old (c.newly_ranked.result ∷ []), c.loop-column.invariant.count);
       room = omega (arith, c.loop-column.invariant.room, c.push.ensures.capacity);
+      capacity = omega (arith, c.loop-column.invariant.capacity, c.push.ensures.capacity);
     }
 
-pub returns : goal.returns
-returns c =
+pub returns-clause-ranked : goal.returns-clause-ranked
+returns-clause-ranked c =
     let frame = c.args.frame.now in
     let made : c.loop-column.ranked.items ≡ numbered (newly_ranked frame) 0 frame.columns =
     numbered-done (newly_ranked frame) c.loop-column.column frame.columns c.loop-column.ranked.items c.loop-column-test.false c.loop-column.invariant.shelves in

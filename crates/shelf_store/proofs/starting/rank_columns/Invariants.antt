@@ -10,4 +10,5 @@ invariant-loop-column l = record {
       ≡ numbered (newly_ranked l.frame) 0 l.frame.columns;
   count : length l.ranked.items ≡ l.column;
   room : l.frame.columns ≤ l.ranked.capacity;
+  capacity : l.fn.ranked.capacity ≤ l.ranked.capacity;
 }

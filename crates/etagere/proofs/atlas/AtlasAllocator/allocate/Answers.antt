@@ -1,8 +1,9 @@
 use Rattle.std.specs.Prelude.{OnErr, Result, Ok, Err}
-use Rattle.std.proofs.Common.{List, sym, subst, arith}
+use Rattle.std.proofs.Common.{List, ap, sym, subst, arith, ◌∙◌}
 use Rattle.etagere_base.specs.Rectangles.{IsLarge}
 use Rattle.etagere_links.specs.RecordLists.{Records}
 use Rattle.shelf_model.specs.Atlas.{Adds, Allocates, KeepsPromises, NeedsSplit}
+use Rattle.shelf_model.specs.Choice.{Placement}
 use Rattle.shelf_model.specs.ById.{IsClear, KeepsRectangles}
 use Rattle.shelf_model.specs.Places.{allocations}
 use Rattle.etagere.specs.Private.Consistent.{state_in}
@@ -12,6 +13,7 @@ use Rattle.shelf_store.specs.Private.PlacementTaken.{ranked_taken}
 use Rattle.shelf_model.specs.State.{AtlasState}
 use Rattle.shelf_heights.specs.declared.ranked.RankedShelf.{RankedShelf}
 use Rattle.shelf_model.proofs.Allocations.SeenById.{added-clear, keeps-rectangles}
+use Rattle.shelf_store.proofs.ByHeight.RankedRoom.{items-short, ranked-spare}
 use Rattle.shelf_store.proofs.ByHeight.TakenRanked.{Ranks}
 use Rattle.shelf_model.proofs.Promises.{promises}
 use Rattle.shelf_store.proofs.Recorded.RecordedTaking.{AfterTaking, after-taking, found-as_placed, found-ranked}
@@ -42,13 +44,28 @@ take_placement-requires-clause-ranks c =
     let inside = c.self.inside in
     (found-ranked inside.frame inside.records c.args.size c.in-Some.placement c.placement_of-found.new.ranked.items c.self.invariant.kept c.in-Some.ensures.some c.placement_of-found.ensures.ranked).can
 
+pub take_placement-requires-clause-room : goal.take_placement-requires-clause-room
+take_placement-requires-clause-room c = omega (arith, c.self.invariant.room, c.placement_of-found.ensures.capacity)
+
+pub take_placement-requires-clause-spare : goal.take_placement-requires-clause-spare
+take_placement-requires-clause-spare c =
+    let inside = c.self.inside in
+    ranked-spare inside.frame inside.records c.placement_of-found.new.ranked.items c.self.invariant.kept c.placement_of-found.ensures.ranked
+
 pub returns-in_err-id-clause-split : goal.returns-in_err-id-clause-split
 returns-in_err-id-clause-split c =
     let inside = c.self.inside in
     let finds = c.in-Some.ensures.some in
     let as_placed = found-as_placed inside.frame inside.records c.args.size c.in-Some.placement c.self.invariant.kept finds in
     let needs : NeedsSplit (state_in inside) c.args.size =
-    record { placement = finds.placement; placed = finds.placed; split = omega (arith, as_placed.splits, c.in_err-id.ensures.split) } in
+    record {
+      placement = finds.placement;
+      placed = finds.placed;
+      split = omega (arith, as_placed.splits, c.in_err-id.ensures.split);
+      short = λ none.
+          items-short inside.frame inside.records c.in-Some.placement.splits_shelf c.in-Some.placement.splits_item c.self.invariant.kept c.in_err-id.ensures.short
+          (ap (λ (p : Placement). p.splits_shelf) finds.located.same ∙ none);
+    } in
     on_err c.from_residual.result (subst (λ (state : AtlasState). NeedsSplit state c.args.size) c.self.view_is needs)
 
 pub returns-in_err-id-clause-promises : goal.returns-in_err-id-clause-promises
@@ -91,6 +108,7 @@ pub invariant_of-self-2 : goal.invariant_of-self-2
 invariant_of-self-2 c = record {
   kept = (after c).kept;
   ranked = ranked-after c;
+  room = c.in_ok-id.ensures.room;
   counted = omega (arith, (after c).counted, c.splits.ensures.value, c.self.invariant.counted);
   space = omega (arith, (after c).space, c.area.ensures, c.self.invariant.space);
 }

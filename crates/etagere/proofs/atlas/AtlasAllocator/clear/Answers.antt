@@ -1,9 +1,10 @@
-use Rattle.std.proofs.Common.{◌≡◌, ap, sym, subst, ◌∙◌}
+use Rattle.std.proofs.Common.{◌≡◌, ap, arith, length, sym, subst, ◌∙◌}
 use Rattle.etagere_links.specs.RecordLists.{Records}
 use Rattle.shelf_model.specs.Atlas.{KeepsPromises}
 use Rattle.shelf_model.specs.Fresh.{fresh}
 use Rattle.shelf_model.specs.Places.{allocations}
 use Rattle.shelf_heights.specs.Private.ByHeight.{AreRanked}
+use Rattle.shelf_store.specs.Private.FreshRecords.{fresh_shelf}
 use Rattle.shelf_records.specs.Private.Kept.{AreKept, state_of}
 use Rattle.shelf_model.specs.Space.{allocated_space}
 use Rattle.shelf_model.specs.State.{AtlasState, items_in_use}
@@ -12,6 +13,7 @@ use Rattle.shelf_model.proofs.Places.FreshLemmas.{fresh-allocated, fresh-valid, 
 use Rattle.shelf_model.proofs.Promises.{promises}
 use Rattle.shelf_store.proofs.Spelled.FreshKept.{fresh-kept}
 use Rattle.shelf_store.proofs.Spelled.KeptCounts.{kept-item_records, kept-shelf_records}
+use Rattle.shelf_store.proofs.Spelled.NumberedLists.{numbered-length}
 use Rattle.etagere.proofs.atlas.AtlasAllocator.clear.Goals as goal
 
 pub reset_records-requires : goal.reset_records-requires
@@ -42,7 +44,15 @@ invariant_of-self c =
     let valid = c.self.invariant.kept.valid in
     record {
       kept = subst (AreKept frame) (sym c.reset_records.ensures) (fresh-kept frame valid.frame valid.columns).1;
-      ranked = subst (λ (records : Records). AreRanked frame records c.reset_by_height.new.ranked.items) (sym c.reset_records.ensures) c.reset_by_height.ensures;
+      ranked = subst (λ (records : Records). AreRanked frame records c.reset_by_height.new.ranked.items) (sym c.reset_records.ensures) c.reset_by_height.ensures.ranked;
+      room = omega (
+        arith,
+        ap (λ (r : Records). length r.shelves) c.reset_records.ensures,
+        numbered-length (fresh_shelf frame) 0 frame.columns,
+        kept-shelf_records frame c.self.inside.records c.self.invariant.kept,
+        c.self.invariant.room,
+        c.reset_by_height.ensures.capacity,
+      );
       counted = sym (ap (λ (s : AtlasState). items_in_use s.shelves) (made c) ∙ items_in_use-empty_columns frame 0 frame.columns);
       space = sym (ap allocated_space (made c) ∙ space-fresh frame);
     }

@@ -1,5 +1,6 @@
-use Rattle.std.proofs.Common.{◌≡◌, true, false, refl, ap, sym, ◌∙◌, subst, arith}
+use Rattle.std.proofs.Common.{◌≡◌, true, false, length, refl, ap, sym, ◌∙◌, subst, arith}
 use Rattle.std.specs.Prelude.{is_some}
+use Rattle.etagere_links.specs.RecordLists.{Records}
 use Rattle.shelf_model.specs.Atlas.{KeepsPromises, Restores, without_id}
 use Rattle.shelf_records.specs.AtlasRecords.{is_allocated_at}
 use Rattle.shelf_model.specs.ById.{TakesAway, Undoes}
@@ -14,6 +15,7 @@ use Rattle.shelf_store.proofs.Recorded.RecordedArea.{kept-area}
 use Rattle.shelf_store.proofs.Recorded.RecordedReturn.{AfterReturn, after-return, can-return, ranked-after}
 use Rattle.shelf_records.proofs.Recorded.RecordsOfIds.{kept-allocated, kept-shelf, marked-within, record-marked}
 use Rattle.shelf_model.proofs.Returned.Restored.{returned-restores}
+use Rattle.shelf_store.proofs.Spelled.ReturnedLengths.{returned-lengths}
 use Rattle.etagere.proofs.atlas.AtlasAllocator.deallocate.Goals as goal
 use Rattle.etagere.proofs.atlas.AtlasAllocator.deallocate.Goals.{After-return_item}
 
@@ -68,6 +70,13 @@ invariant_of-self c =
       kept = done.kept;
       ranked = rw (c.return_item.ensures.records, c.return_item.ensures.ranked)
           (ranked-after c.self.inside.frame c.self.inside.records c.self.inside.ranked.items c.args.id c.in-Some.number c.self.invariant.kept c.self.invariant.ranked (sym c.number_of.ensures ∙ c.in-Some.is));
+      room = omega (
+        arith,
+        ap (λ (r : Records). length r.shelves) c.return_item.ensures.records,
+        (returned-lengths c.in-Some.number c.self.inside.records).shelves,
+        c.self.invariant.room,
+        c.return_item.ensures.capacity,
+      );
       counted = omega (arith, done.counted, c.self.invariant.counted);
       space = omega (arith, done.space, c.self.invariant.space);
     }

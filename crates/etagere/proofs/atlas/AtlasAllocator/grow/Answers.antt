@@ -42,9 +42,9 @@ on_err (Err e) h p = p
 -- a growth of fields that are kept, to a size without a fault for which there are few enough items
 grows-inside : (inside : Inside) (size : Size) (grown : Frame) (needed : Needed) → IsConsistent inside → size_fault inside.frame size ≡ None
     → grown ≡ grown_frame inside.frame size → needed ≡ needed_of inside.frame grown inside.records → needed.items ≤ 65535 - inside.items_in_use
-    → GrowsAtlas inside.frame size inside.records inside.ranked.items grown needed
+    → GrowsAtlas inside.frame size inside.records grown needed
 grows-inside inside size grown needed keeps none is_grown is_needed few =
-    grows-atlas (grows-kept widens (heightens inserts) appends) inside.frame size inside.records inside.ranked.items grown needed keeps.kept keeps.ranked none is_grown is_needed
+    grows-atlas (grows-kept widens (heightens inserts) appends) inside.frame size inside.records grown needed keeps.kept none is_grown is_needed
     (omega (arith, few, keeps.counted, keeps.kept.valid.records))
 
 pub returns-in-Some-clause-promises : goal.returns-in-Some-clause-promises
@@ -69,7 +69,7 @@ returns-then-needed-self-clause-promises c = subst KeepsPromises c.self.view_is 
 
 -- what the growth comes to, where it is begun
 begun : (c : goal.After-grown-2-1)
-    → GrowsAtlas c.self.inside.frame c.args.size c.self.inside.records c.self.inside.ranked.items c.grown_frame-grown.result c.needed_for-needed.result
+    → GrowsAtlas c.self.inside.frame c.args.size c.self.inside.records c.grown_frame-grown.result c.needed_for-needed.result
 begun c =
     grows-inside c.self.inside c.args.size c.grown_frame-grown.result c.needed_for-needed.result c.self.invariant (sym c.size_fault.ensures ∙ c.in_default.is)
     c.grown_frame-grown.ensures c.needed_for-needed.ensures c.if-needed-self.false
@@ -83,12 +83,9 @@ grow_shelves-done-requires-clause-grows c = (begun c).can
 pub grow_shelves-done-requires-clause-kept : goal.grow_shelves-done-requires-clause-kept
 grow_shelves-done-requires-clause-kept c = (begun c).kept
 
-pub grow_shelves-done-requires-clause-room : goal.grow_shelves-done-requires-clause-room
-grow_shelves-done-requires-clause-room c = (begun c).room
-
 -- what it would have come to, where there was no memory
 failed : (c : goal.Then-is_err)
-    → GrowsAtlas c.self.inside.frame c.args.size c.self.inside.records c.self.inside.ranked.items c.grown_frame-grown.result c.needed_for-needed.result
+    → GrowsAtlas c.self.inside.frame c.args.size c.self.inside.records c.grown_frame-grown.result c.needed_for-needed.result
 failed c =
     grows-inside c.self.inside c.args.size c.grown_frame-grown.result c.needed_for-needed.result c.self.invariant (sym c.size_fault.ensures ∙ c.in_default.is)
     c.grown_frame-grown.ensures c.needed_for-needed.ensures c.if-needed-self.false
@@ -107,6 +104,7 @@ invariant_of-self c =
       kept = subst (AreKept inside.frame) same c.self.invariant.kept;
       ranked = subst (λ (r : Records). AreRanked inside.frame r c.grow_shelves-done.new.ranked.items) same
           (subst (AreRanked inside.frame inside.records) (sym ranked) c.self.invariant.ranked);
+      room = c.grow_shelves-done.ensures.room;
       counted = c.self.invariant.counted ∙ ap (λ (r : Records). items_in_use (state_of inside.frame r).shelves) same;
       space = c.self.invariant.space ∙ ap (λ (r : Records). allocated_space (state_of inside.frame r)) same;
     }
@@ -127,7 +125,7 @@ returns-then-is_err-clause-promises c =
 
 -- what it has come to
 done : (c : goal.After-self-2-1)
-    → GrowsAtlas c.self.inside.frame c.args.size c.self.inside.records c.self.inside.ranked.items c.grown_frame-grown.result c.needed_for-needed.result
+    → GrowsAtlas c.self.inside.frame c.args.size c.self.inside.records c.grown_frame-grown.result c.needed_for-needed.result
 done c =
     grows-inside c.self.inside c.args.size c.grown_frame-grown.result c.needed_for-needed.result c.self.invariant (sym c.size_fault.ensures ∙ c.in_default.is)
     c.grown_frame-grown.ensures c.needed_for-needed.ensures c.if-needed-self.false
@@ -149,6 +147,7 @@ invariant_of-self-2 c =
     record {
       kept = subst (AreKept grown) (grown_records c) (done c).kept;
       ranked = on_ok c.grow_shelves-done.result (sym c.is_err.ensures.value ∙ c.if-is_err.false) c.grow_shelves-done.ensures.ranked;
+      room = c.grow_shelves-done.ensures.room;
       counted = omega (arith, items, (done c).counted, c.self.invariant.counted);
       space = c.self.invariant.space ∙ sym (done c).space ∙ space;
     }

@@ -1,5 +1,5 @@
 use Rattle.std.specs.Prelude.{pos}
-use Rattle.std.proofs.Common.{◌≡◌, ℕ, ap, rules, subst, sym, SFits, w32, ◌∙◌}
+use Rattle.std.proofs.Common.{◌≡◌, ◌≤◌, ℕ, length, ap, rules, subst, sym, SFits, w32, ◌∙◌}
 use Rattle.std.proofs.lemmas.Int.{to_z-of_z}
 use Rattle.etagere_base.specs.Sides.{side}
 use Rattle.shelf_records.specs.AtlasRecords.{AtlasRecords}
@@ -20,6 +20,7 @@ invariant_of-result c =
     record {
       kept = subst (λ (atlas : AtlasRecords). AreKept atlas.frame atlas.records) same c.requires.kept;
       ranked = subst (λ (atlas : AtlasRecords). AreRanked atlas.frame atlas.records c.args.ranked.items) same c.requires.ranked;
+      room = subst (λ (atlas : AtlasRecords). length atlas.records.shelves ≤ c.args.ranked.capacity) same c.requires.room;
       counted = subst (λ (atlas : AtlasRecords). sum ≡ items_in_use (state_spelled atlas).shelves) same c.requires.items;
       space = c.side-allocated_space.ensures.value ∙ ap side (to_z-of_z w32 c.atlas.inside.allocated_space fits)
           ∙ ap side (subst (λ (atlas : AtlasRecords). atlas.allocated_space ≡ pos (space_in (state_spelled atlas).shelves)) same c.requires.space);
