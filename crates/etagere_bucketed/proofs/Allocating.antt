@@ -37,7 +37,7 @@ use Rattle.etagere_bucketed.proofs.Validity.TakenValid.{given-is, taken-valid}
 use Rattle.etagere_bucketed.proofs.Ledger.TiedTaken.{tied-taken}
 
 -- the placement of an allocation is ready
-allocates-placed : (old : BucketedState) (size : Size) (allocation : Allocation) (new : BucketedState) → IsValid old → (h : Allocates old size allocation new) → IsPlaced old size h.placement h.tags
+pub allocates-placed : (old : BucketedState) (size : Size) (allocation : Allocation) (new : BucketedState) → IsValid old → (h : Allocates old size allocation new) → IsPlaced old size h.placement h.tags
 allocates-placed old size allocation new valid h = placement-placed old size h.placement h.tags valid h.placed h.new_tags
 
 -- the next state is valid

@@ -6,6 +6,7 @@ pub mod EntriesApart
 pub mod EntriesReturned
 pub mod EntriesSeen
 pub mod EntriesTaken
+pub mod KnownBusy
 pub mod TiedGrown
 pub mod TiedLaws
 pub mod TiedReturned

@@ -1,9 +1,10 @@
--- What the calls of a bucketed atlas do, as a caller sees it who keeps a ledger of what it has.
-use Rattle.std.specs.Prelude.{◌≡◌, ℕ, List, [], ◌∷◌, ◌++◌}
+-- What the calls of a bucketed atlas do, as a caller sees it who has ids, or keeps a ledger of what it has.
+use Rattle.std.specs.Prelude.{◌≡◌, ◌≢◌, ℕ, true, List, [], ◌∷◌, ◌++◌}
 use Rattle.etagere_base.specs.declared.geometry.Rectangle.{Rectangle}
 use Rattle.etagere_base.specs.declared.ids.Allocation.{Allocation}
 use Rattle.etagere_base.specs.Lists.{Each}
 use Rattle.etagere_base.specs.Rectangles.{SharesNone}
+use Rattle.etagere_bucketed.specs.Returning.{is_known, tag_of}
 use Rattle.etagere_bucketed.specs.State.{BucketedState}
 use Rattle.etagere_bucketed.specs.Tied.{AreTied}
 
@@ -27,3 +28,16 @@ abbrev pub IsClear : BucketedState → Rectangle → Type 0
 IsClear state rectangle =
     (entries : List Allocation) → AreTied entries state
     → Each (λ (entry : Allocation). SharesNone entry.rectangle rectangle) entries
+
+-- each id that was known still is
+abbrev pub KeepsKnown : BucketedState → BucketedState → Type 0
+KeepsKnown old new = (id : ℕ) → is_known old id ≡ true → is_known new id ≡ true
+
+-- each id is known as it was
+abbrev pub SameKnown : BucketedState → BucketedState → Type 0
+SameKnown old new = (id : ℕ) → is_known new id ≡ is_known old id
+
+-- each id of another tag is known as it was
+abbrev pub SameOthers : BucketedState → ℕ → BucketedState → Type 0
+SameOthers old id new =
+    (other : ℕ) → tag_of other ≢ tag_of id → is_known new other ≡ is_known old other

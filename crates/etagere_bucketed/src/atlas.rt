@@ -15,7 +15,7 @@ ghost use Rattle.etagere_bucketed.specs.Atlas.{Allocates, Grows, KeepsPromises, 
 ghost use Rattle.etagere_bucketed.specs.Frames as frames;
 ghost use Rattle.etagere_bucketed.specs.Frames.{longest_bucketed_side};
 ghost use Rattle.etagere_bucketed.specs.Growing as growing;
-ghost use Rattle.etagere_bucketed.specs.Ledgers.{AddsEntry, IsClear, KeepsEntries, TakesEntry};
+ghost use Rattle.etagere_bucketed.specs.Ledgers.{AddsEntry, IsClear, KeepsEntries, KeepsKnown, SameKnown, SameOthers, TakesEntry};
 ghost use Rattle.etagere_bucketed.specs.Placing.{IsBucketRefused};
 ghost use Rattle.etagere_bucketed.specs.Private.Restored.{IsSnapshotJudged};
 ghost use Rattle.etagere_bucketed.specs.Restoring.{Breaks, snapshot_records, state_of};
@@ -215,6 +215,9 @@ impl BucketedAtlasAllocator {
         ensures allocated { IfOk result
             (λ answer. IfSome answer
             (λ allocation. AddsEntry self.old allocation self.new)) }
+        ensures found { IfOk result
+            (λ answer. IfSome answer (λ allocation. is_known self.new allocation.id ≡ true)) }
+        ensures kept { KeepsKnown self.old self.new }
         ensures clear { IfOk result
             (λ answer. IfSome answer (λ allocation. IsClear self.old allocation.rectangle)) }
         ensures frame { self.new.frame ≡ self.old.frame }
@@ -264,6 +267,7 @@ impl BucketedAtlasAllocator {
         ensures unknown { IsErr result ↔ (is_known self.old id ≡ false) }
         ensures err { OnErr result (self.new ≡ self.old) }
         ensures allocated { OnOk result (TakesEntry self.old id self.new) }
+        ensures others { OnOk result (SameOthers self.old id self.new) }
         ensures promises { KeepsPromises self.new }
     {
         if !self.store.is_known(id) {
@@ -294,6 +298,7 @@ impl BucketedAtlasAllocator {
             → (fault ≡ grow_faults.Memory) × NeedsBuckets self.old size) }
         ensures err { OnErr result (self.new ≡ self.old) }
         ensures allocated { OnOk result (KeepsEntries self.old self.new) }
+        ensures kept { OnOk result (SameKnown self.old self.new) }
         ensures promises { KeepsPromises self.new }
     {
         if let Some(fault) = grow_fault(&self.frame, size) {

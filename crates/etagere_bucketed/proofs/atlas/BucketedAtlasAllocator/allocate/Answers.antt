@@ -14,6 +14,7 @@ use Rattle.etagere_bucketed.specs.declared.atlas.BucketedAtlasAllocator.TheInsid
 use Rattle.etagere_bucketed.specs.declared.placing.Place as code
 use Rattle.etagere_bucketed.specs.Adding.{Remaining, left_to}
 use Rattle.etagere_bucketed.specs.Atlas.{Allocates, KeepsPromises, NeedsShelf}
+use Rattle.etagere_bucketed.specs.Ledgers.{KeepsKnown}
 use Rattle.etagere_bucketed.specs.Placing.{IsBucketRefused}
 use Rattle.etagere_bucketed.specs.Private.Consistent.{IsConsistent, state_in}
 use Rattle.etagere_bucketed.specs.Private.Searching.{Found, Place, kept_place, place_seen}
@@ -23,6 +24,7 @@ use Rattle.etagere_bucketed.specs.Private.StoreEdits as store
 use Rattle.etagere_bucketed.specs.Private.Witnessed.{HasTotals, Witnessed}
 use Rattle.etagere_bucketed.specs.State.{BucketedState, available_height, current_column, most_buckets}
 use Rattle.etagere_bucketed.proofs.Allocating.{allocates-aligned, allocates-inside, allocates-large, allocates-tied, allocates-valid}
+use Rattle.etagere_bucketed.proofs.Ledger.KnownBusy.{allocates-known}
 use Rattle.etagere_bucketed.proofs.Promises.{valid-promises}
 use Rattle.etagere_bucketed.proofs.Shelving.Added.{current-below}
 use Rattle.etagere_bucketed.proofs.Spelling.AllocatedRecords.{IsAllocation, Makes, allocation-is, makes, needed-few, needs-shelf, refused}
@@ -239,3 +241,12 @@ pub returns-clause-clear : goal.returns-clause-clear
 returns-clause-clear c = λ entries tied.
     last-apart entries c.allocation-allocation.result
     (tied-apart (entries ++ c.allocation-allocation.result ∷ []) (stored_state c.self.inside.frame c.take-area.new.self) (returns-clause-allocated c entries tied))
+
+pub returns-clause-found : goal.returns-clause-found
+returns-clause-found c =
+    (allocates-known (state_in c.self.inside) c.args.size c.allocation-allocation.result (stored_state c.self.inside.frame c.take-area.new.self) c.self.invariant.witnessed.valid (allocates c)).0
+
+pub returns-clause-kept : goal.returns-clause-kept
+returns-clause-kept c =
+    subst (λ (state : BucketedState). KeepsKnown state (stored_state c.self.inside.frame c.take-area.new.self)) c.self.view_is
+    (allocates-known (state_in c.self.inside) c.args.size c.allocation-allocation.result (stored_state c.self.inside.frame c.take-area.new.self) c.self.invariant.witnessed.valid (allocates c)).1

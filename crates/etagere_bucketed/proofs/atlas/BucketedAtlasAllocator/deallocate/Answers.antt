@@ -1,12 +1,14 @@
 use Rattle.std.proofs.Common.{◌≡◌, ◌-◌, true, false, refl, ap, sym, ◌∙◌, subst, arith}
 use Rattle.etagere_base.specs.declared.sides.Sides.{Sides}
 use Rattle.etagere_bucketed.specs.Atlas.{KeepsPromises}
+use Rattle.etagere_bucketed.specs.Ledgers.{SameOthers}
 use Rattle.etagere_bucketed.specs.Private.Consistent.{state_in}
 use Rattle.etagere_bucketed.specs.Private.Witnessed.{HasTotals, Witnessed}
 use Rattle.etagere_bucketed.specs.Returning.{bucket_returned, is_known}
 use Rattle.etagere_bucketed.specs.State.{BucketedState}
 use Rattle.etagere_bucketed.proofs.Emptying.AtlasReturns.{after-return, atlas-known, atlas-returned}
 use Rattle.etagere_bucketed.proofs.Promises.{valid-promises}
+use Rattle.etagere_bucketed.proofs.Ledger.KnownBusy.{returned-known}
 use Rattle.etagere_bucketed.proofs.Ledger.TiedReturned.{tied-returned}
 use Rattle.etagere_bucketed.proofs.atlas.BucketedAtlasAllocator.deallocate.Goals as goal
 
@@ -102,3 +104,11 @@ returns-clause-promises c =
 pub returns-clause-allocated : goal.returns-clause-allocated
 returns-clause-allocated c = λ one entry other same tied.
     rw (returns-clause-ok c, ← same) (tied-returned one entry other c.args.self.now tied)
+
+pub returns-clause-others : goal.returns-clause-others
+returns-clause-others c =
+    let known = sym (atlas-known c.self.inside c.args.id c.self.invariant) ∙ sym c.is_known.ensures ∙ c.if-not-is_known.false in
+    let same : SameOthers c.args.self.now c.args.id (bucket_returned c.args.self.now c.args.id) =
+    subst (λ (state : BucketedState). SameOthers state c.args.id (bucket_returned state c.args.id)) c.self.view_is
+    (returned-known (state_in c.self.inside) c.args.id c.self.invariant.witnessed.valid known) in
+    λ other differs. ap (λ (state : BucketedState). is_known state other) (returns-clause-ok c) ∙ same other differs

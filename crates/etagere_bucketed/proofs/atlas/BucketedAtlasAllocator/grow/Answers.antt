@@ -9,6 +9,7 @@ use Rattle.etagere_bucketed.proofs.Emptying.EndTotals.{tells-end}
 use Rattle.etagere_bucketed.proofs.Promises.{valid-promises}
 use Rattle.etagere_bucketed.proofs.Widening.AtlasGrowths.{after-growth, atlas-grown, growth-needs, growth-uses}
 use Rattle.etagere_bucketed.proofs.Widening.Grown.{width-grows}
+use Rattle.etagere_bucketed.proofs.Ledger.KnownBusy.{grows-known}
 use Rattle.etagere_bucketed.proofs.Ledger.TiedGrown.{grows-tied}
 use Rattle.etagere_bucketed.proofs.atlas.BucketedAtlasAllocator.grow.Goals as goal
 
@@ -82,3 +83,6 @@ returns-clause-promises c =
 
 pub returns-clause-allocated : goal.returns-clause-allocated
 returns-clause-allocated c = λ entries tied. grows-tied entries c.args.self.now c.args.size _ tied (returns-clause-ok c)
+
+pub returns-clause-kept : goal.returns-clause-kept
+returns-clause-kept c = grows-known c.args.self.now c.args.size _ (returns-clause-ok c)
