@@ -114,8 +114,8 @@ pub fn restore_atlas(
     ensures promises { IfOk result KeepsPromises }
     ensures steps { IfOk result
         (λ atlas. length atlas.shelves + items_in_use atlas.shelves ≤ steps.new) }
-    ensures all { OnOk result (steps.new ≡ links_of_all (snapshot_records snapshot).lists) }
-    ensures until { IfErr result (IsFollowed (snapshot_records snapshot).lists steps.new) }
+    ensures all { OnOk result (steps.new ≡ links_of_all (snapshot_records snapshot).records) }
+    ensures until { IfErr result (IsFollowed (snapshot_records snapshot).records steps.new) }
     ensures bound { steps.new
         ≤ 4 * (length snapshot.shelves.items + length snapshot.items.items) }
 {

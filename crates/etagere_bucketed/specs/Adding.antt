@@ -9,7 +9,7 @@ use Rattle.etagere_bucketed.specs.State.{Tag, Bucket, BucketShelf, available_hei
 
 -- what shelves leave: the current column, the height that is available in it, and how many buckets
 -- can be made
-pub record Left : Type 0 where
+pub record Remaining : Type 0 where
   pub column : ℕ
   pub height : ℕ
   pub buckets : ℕ

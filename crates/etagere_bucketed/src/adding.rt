@@ -44,7 +44,7 @@ pub(crate) struct Remaining {
 impl Model for Remaining {
     ghost use Rattle.etagere_bucketed.specs.Adding as adding;
 
-    ghost Value = { adding.Left };
+    ghost Value = { adding.Remaining };
 
     ghost view = { λ left. record {
       column = left.column;

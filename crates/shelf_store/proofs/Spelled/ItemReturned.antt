@@ -113,7 +113,7 @@ record IsReturned (atlas : AtlasRecords) (step : Step) (old : List Entry) (chang
 -- records that spell lists keep every rule again where what they spell is valid
 kept-again : (frame : Frame) (records new : Records) (id aside : ℕ) (change : List RankedShelf → List RankedShelf) → AreKept frame records → SameLengths records new → IsReturned (atlas_of frame records) (record { records = new; put_aside = aside }) (walked_lists records).entries change (returned (state_of frame records) id) (walked_lists records).unused_items → (AreKept frame new × (state_of frame new ≡ returned (state_of frame records) id)) × (items_in_use (state_of frame new).shelves + aside ≡ items_in_use (state_of frame records).shelves) × ((ranked : List RankedShelf) → AreRanked frame records ranked → AreRanked frame new (change ranked))
 kept-again frame records new id aside change kept lengths is =
-    let lists : Lists = is.records in
+    let lists : Lists = is.lists in
     let linked : IsLinked new lists = is.flagged.spelled.linked in
     let counts : HasCounts (atlas_of frame new) =
     record {
@@ -216,7 +216,7 @@ returned-there frame records number has kept allocated flagged =
     record {
       after =
           record {
-            records = lists_of merges.entries merges.aside merges.gone;
+            lists = lists_of merges.entries merges.aside merges.gone;
             flagged = merges.flagged;
             spelled = shelves-after frame state.records (length has.before) (returned state (id_at records.items number)) (map (spelled_shelf middle) (has.before ++ edited ∷ has.after)) (front ++ new ∷ back)
                 (map (spelled_shelf (with_lists atlas two.records)) merges.entries) at freed.spelled merges.merged;

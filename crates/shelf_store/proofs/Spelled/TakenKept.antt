@@ -103,28 +103,28 @@ placement-kept frame records size placement found kept h locates =
     (taken_shelf-not_empty frame placement id placement.height (spelled_shelf atlas entry) is.takes)
     (Each-front (HasFlag atlas) is.before (entry ∷ is.after) flags) (Each-back (HasFlag atlas) is.before (entry ∷ is.after) flags).1 (is_ready.spelled atlas.allocated_space) in
     let pieces : Shelf → List Shelf = shelf_pieces frame placement id in
-    let shelves : new_state.shelves ≡ map (spelled_shelf last) takes.records.entries =
+    let shelves : new_state.shelves ≡ map (spelled_shelf last) takes.lists.entries =
     ap (λ (es : List Entry). replaced_at placement.shelf pieces (map (spelled_shelf atlas) es)) is.entries
     ∙ ap (λ n. replaced_at n pieces (map (spelled_shelf atlas) entries)) (sym is.at)
     ∙ replaced-between (spelled_shelf atlas) pieces is.before is.after entry
     ∙ sym takes.shelves in
-    let in_use : items_in_use new_state.shelves ≡ length (item_numbers takes.records.entries) = ap items_in_use shelves ∙ items_in_use-spelled last takes.records.entries in
-    let total : items_in_use new_state.shelves + length takes.records.unused_items ≡ length new.items =
+    let in_use : items_in_use new_state.shelves ≡ length (item_numbers takes.lists.entries) = ap items_in_use shelves ∙ items_in_use-spelled last takes.lists.entries in
+    let total : items_in_use new_state.shelves + length takes.lists.unused_items ≡ length new.items =
     omega (
       arith,
       in_use,
-      each-length (length new.items) (item_numbers takes.records.entries ++ takes.records.unused_items ++ []) takes.flagged.spelled.linked.items_once,
-      length-append (item_numbers takes.records.entries ++ takes.records.unused_items) [],
-      length-append (item_numbers takes.records.entries) takes.records.unused_items,
+      each-length (length new.items) (item_numbers takes.lists.entries ++ takes.lists.unused_items ++ []) takes.flagged.spelled.linked.items_once,
+      length-append (item_numbers takes.lists.entries ++ takes.lists.unused_items) [],
+      length-append (item_numbers takes.lists.entries) takes.lists.unused_items,
     ) in
-    let count : new_state.records ≡ length new.items = records-count (length records.items) (length new.items) (items_in_use new_state.shelves) (length takes.records.unused_items) total takes.more takes.made in
+    let count : new_state.records ≡ length new.items = records-count (length records.items) (length new.items) (items_in_use new_state.shelves) (length takes.lists.unused_items) total takes.more takes.made in
     let some_shelf : 1 ≤ length new.shelves =
     omega (
       arith,
-      some-entries last takes.records.entries (map (spelled_shelf atlas) is.before) (pieces (spelled_shelf atlas entry)) (map (spelled_shelf atlas) is.after) (omega arith) takes.shelves,
-      each-length (length new.shelves) (shelf_numbers takes.records.entries ++ takes.records.unused_shelves ++ []) takes.flagged.spelled.linked.shelves_once,
-      length-append (shelf_numbers takes.records.entries ++ takes.records.unused_shelves) [],
-      length-append (shelf_numbers takes.records.entries) takes.records.unused_shelves,
+      some-entries last takes.lists.entries (map (spelled_shelf atlas) is.before) (pieces (spelled_shelf atlas entry)) (map (spelled_shelf atlas) is.after) (omega arith) takes.shelves,
+      each-length (length new.shelves) (shelf_numbers takes.lists.entries ++ takes.lists.unused_shelves ++ []) takes.flagged.spelled.linked.shelves_once,
+      length-append (shelf_numbers takes.lists.entries ++ takes.lists.unused_shelves) [],
+      length-append (shelf_numbers takes.lists.entries) takes.lists.unused_shelves,
     ) in
     let small : number < 65536 = omega (arith, within, kept.counts.items.1) in
     let generation : ℕ = (item_record records.items number).generation in
@@ -132,10 +132,10 @@ placement-kept frame records size placement found kept h locates =
     new-number (atlas_of frame records) lists.entries number generation kept.counts.items.1 small is.item.free in
     let low : record_number id < new_state.records = omega (arith, number-of_record number generation small, count, within, takes.more) in
     let valid : IsValid new_state = taken-valid state size placement id kept.valid h new_number low in
-    let witnessed : Witnessed last takes.records new_state =
+    let witnessed : Witnessed last takes.lists new_state =
     record {
       spelled = ap (λ (ss : List Shelf). record { frame = frame; shelves = ss; records = new_state.records }) shelves
-          ∙ ap (λ n. record { frame = frame; shelves = map (spelled_shelf last) takes.records.entries; records = n }) count;
+          ∙ ap (λ n. record { frame = frame; shelves = map (spelled_shelf last) takes.lists.entries; records = n }) count;
       counts =
           record {
             shelves = (some_shelf, takes.few);
@@ -149,8 +149,8 @@ placement-kept frame records size placement found kept h locates =
       unused = takes.flagged.spelled.unused;
       space = refl;
     } in
-    let done = kept-of frame new takes.records new_state witnessed in
-    let met : walked_lists new ≡ takes.records = linked-lists new takes.records (linked-walks new takes.records witnessed.counts.shelves.1 witnessed.counts.items.1 witnessed.linked) in
+    let done = kept-of frame new takes.lists new_state witnessed in
+    let met : walked_lists new ≡ takes.lists = linked-lists new takes.lists (linked-walks new takes.lists witnessed.counts.shelves.1 witnessed.counts.items.1 witnessed.linked) in
     let spells : SpellsTaken frame records new placement place =
     record {
       front = shelf_numbers is.before;

@@ -98,7 +98,7 @@ taken-spelled atlas before after shelf number front back free_front free_back un
     let last : Records = with_item_given found (number_used of_item (item_used of_shelf records).unused_items (item_used of_shelf records).items) (with_shelf_rest cw found (number_used of_shelf records.unused_shelves records.shelves) (number_used of_shelf records.unused_items records.items) used) in
     let done = flag-cleared atlas last before (added ++ after) given.edited shelf rests.unused_items rests.unused_shelves given.number (given.flags_before flags_before) (given.flags_after flags_after) given.spelled (ap is_empty given.own ∙ not_empty) in
     record {
-      records = lists_of (before ++ given.edited ∷ (added ++ after)) rests.unused_items rests.unused_shelves;
+      lists = lists_of (before ++ given.edited ∷ (added ++ after)) rests.unused_items rests.unused_shelves;
       rest = rests.shelf;
       item = rests.shelf_item;
       rest_is = rests.shelf_is;
