@@ -3,8 +3,11 @@ pub mod Callers
 pub mod Drawn
 pub mod Emptying
 pub mod Judged
+pub mod KnownBlocks
 pub mod Ledger
+pub mod PassedShelves
 pub mod Promises
+pub mod Searched
 pub mod Shelving
 pub mod Spacing
 pub mod Spelling

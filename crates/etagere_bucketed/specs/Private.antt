@@ -1,5 +1,6 @@
 -- What contracts of private functions and the invariants of private fields cite; no public clause
 -- does.
+pub mod Blocks
 pub mod Consistent
 pub mod DrawnRecords
 pub mod Growths

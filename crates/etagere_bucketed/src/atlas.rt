@@ -28,6 +28,7 @@ ghost use Rattle.etagere_bucketed.specs.Tied.{AreTied};
 ghost use Rattle.etagere_bucketed.specs.declared.faults.GrowFault.TheVariants as grow_faults;
 
 use crate::adding::Remaining;
+use crate::blocks::Blocks;
 use crate::drawing::{send_document, send_part, send_picture};
 use crate::faults::GrowFault;
 use crate::frames::{LONGEST_BUCKETED_SIDE, bucketed_frame, grow_fault, grown_frame};
@@ -173,12 +174,14 @@ impl BucketedAtlasAllocator {
         ensures state { result ≡ state_of (snapshot_records snapshot) }
         ensures promises { KeepsPromises result }
     {
+        let blocks = Blocks::of(&judged.shelves);
         BucketedAtlasAllocator {
             frame: judged.frame,
             store: Store {
                 shelves: judged.shelves,
                 buckets: snapshot.buckets,
                 unused: snapshot.first_unallocated_bucket,
+                blocks,
             },
             current_column: u32::from(snapshot.current_column),
             available_height: u32::from(snapshot.available_height),
@@ -203,8 +206,9 @@ impl BucketedAtlasAllocator {
     ///
     /// `Err` comes only where a shelf is to be added and there was no memory. Nothing changes after an
     /// `Err` or none. An added shelf takes memory for its record, and for those of its buckets as far as
-    /// too few were unused; a size that needs none takes none. Goes through all shelves a few times,
-    /// and looks only at buckets of shelves that are tall enough, have wide enough buckets and room.
+    /// too few were unused; a size that needs none takes none. Goes through the blocks of 64 shelves a few
+    /// times, and through the shelves of those in which one has room, and looks only at buckets of shelves that
+    /// are tall enough, have wide enough buckets and room. The first bucket that wastes nothing ends the search.
     pub fn allocate(&mut self, size: Size) -> Result<Option<Allocation>, AllocError>
         ensures placed { IfOk result
             (λ answer. IfSome answer (λ allocation. Allocates self.old size allocation self.new)) }

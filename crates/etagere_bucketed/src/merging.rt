@@ -5,9 +5,12 @@
 ghost use Rattle.std.specs.Prelude.{◌≡◌, ◌+◌, ◌<◌, ◌≤◌, ◌^◌, Some, length, drop};
 ghost use Rattle.std.specs.List.{list_all};
 ghost use Rattle.etagere_links.specs.Edits.{changed_by};
+ghost use Rattle.etagere_bucketed.specs.Picking.{or_else};
+ghost use Rattle.etagere_bucketed.specs.Private.Blocks.{AreKnown};
 ghost use Rattle.etagere_bucketed.specs.Private.Searching as spec;
 ghost use Rattle.etagere_bucketed.specs.Private.StoreEdits as edits;
 
+use crate::blocks::{Blocks, SHELVES_OF_BLOCK, block_of};
 use crate::store::KeptShelf;
 use etagere_base::Sides;
 use std::marker::Model;
@@ -72,11 +75,35 @@ fn serves(sides: &Sides, shelves: &[KeptShelf], number: usize, others: usize) ->
         && sides.across <= u32::from(kept.shelf.height) + total_height(next)
 }
 
-/// The first shelf that serves these sides with the next one, or with the next two.
-pub(crate) fn mergeable_shelves(sides: &Sides, shelves: &[KeptShelf]) -> Option<Group>
+/// The first shelf that serves these sides with the next one, or with the next two. Blocks in which none holds nothing
+/// live are passed over.
+pub(crate) fn mergeable_shelves(
+    sides: &Sides,
+    shelves: &[KeptShelf],
+    blocks: &Blocks,
+) -> Option<Group>
+    requires { AreKnown blocks.now.each shelves.now }
     ensures { result ≡ spec.kept_mergeable sides.now 0 shelves.now }
 {
-    for first in 0..shelves.len() {
+    for block in 0..block_of(shelves.len()) + 1 {
+        if blocks.may_be_idle(block) {
+            let group = mergeable_in(sides, shelves, block * SHELVES_OF_BLOCK);
+            if group.is_some() {
+                return group;
+            }
+        }
+    }
+    None
+}
+
+/// The same where the first shelf is one of a block, whose first one has this number.
+fn mergeable_in(sides: &Sides, shelves: &[KeptShelf], from: usize) -> Option<Group>
+    requires { from ≤ length shelves.now }
+    ensures { or_else result
+        (spec.kept_mergeable sides.now (from + 64) (drop (from + 64) shelves.now))
+        ≡ spec.kept_mergeable sides.now from (drop from shelves.now) }
+{
+    for first in from..shelves.len().min(from + SHELVES_OF_BLOCK) {
         if serves(sides, shelves, first, 1) {
             return Some(Group { first, others: 1 });
         }

@@ -5,13 +5,16 @@
 ghost use Rattle.std.specs.Prelude.{◌≡◌, ◌<◌, ◌^◌};
 ghost use Rattle.std.specs.Option.{option_map};
 ghost use Rattle.etagere_bucketed.specs.Frames.{IsBucketedFrame};
+ghost use Rattle.etagere_bucketed.specs.Private.Blocks.{AreKnown};
 ghost use Rattle.etagere_bucketed.specs.Private.Searching as spec;
 ghost use Rattle.etagere_bucketed.specs.Private.StoreEdits as edits;
 
 use crate::adding::{NewShelves, Remaining, can_add, new_shelves};
+use crate::blocks::Blocks;
 use crate::merging::{Group, mergeable_shelves};
+use crate::records::LinkedBucket;
 use crate::searching::{Found, pick};
-use crate::store::Store;
+use crate::store::{KeptShelf, Store};
 use etagere_base::{Frame, Sides};
 
 /// Where an item goes.
@@ -51,13 +54,39 @@ pub(crate) fn place_of(
     ensures { option_map spec.place_seen result
         ≡ spec.kept_place frame.now left.now sides.now store.now.shelves store.now.buckets }
 {
+    place_among(
+        frame,
+        left,
+        sides,
+        &store.shelves,
+        &store.buckets,
+        &store.blocks,
+    )
+}
+
+/// The place for these sides among records, whose shelves are known to these blocks.
+fn place_among(
+    frame: &Frame,
+    left: &Remaining,
+    sides: &Sides,
+    shelves: &[KeptShelf],
+    buckets: &[LinkedBucket],
+    blocks: &Blocks,
+) -> Option<Place>
+    requires frame { IsBucketedFrame frame.now }
+    requires across { (0 < sides.now.across) × (sides.now.across < 2 ^ 31) }
+    requires column { left.now.column < 2 ^ 31 }
+    requires known { AreKnown blocks.now.each shelves.now }
+    ensures { option_map spec.place_seen result
+        ≡ spec.kept_place frame.now left.now sides.now shelves.now buckets.now }
+{
     let adds = can_add(frame, left, sides.across);
-    if let Some(found) = pick(adds, sides, &store.shelves, &store.buckets) {
+    if let Some(found) = pick(adds, sides, shelves, buckets, blocks) {
         return Some(Place::InBucket(found));
     }
     if adds {
         return Some(Place::InAdded(new_shelves(frame, left, sides)));
     }
-    let group = mergeable_shelves(sides, &store.shelves)?;
+    let group = mergeable_shelves(sides, shelves, blocks)?;
     Some(Place::InMerged(group))
 }

@@ -38,6 +38,14 @@ pub(crate) fn is_known(buckets: &[LinkedBucket], id: AllocId) -> bool
     number < buckets.len() && gives_item(id.serialize(), &buckets[number])
 }
 
+/// The number of the shelf of a bucket.
+pub(crate) fn shelf_number(buckets: &[LinkedBucket], number: usize) -> usize
+    requires { number < length buckets.now }
+    ensures { result ≡ shelf_of buckets.now number }
+{
+    usize::from(buckets[number].shelf)
+}
+
 /// The area that a return to the bucket of this number gives back, in square pixels.
 pub(crate) fn returned_area(shelves: &[KeptShelf], buckets: &[LinkedBucket], number: usize) -> u32
     requires number { number < length buckets.now }

@@ -3,13 +3,16 @@
 //! Definitions: `Searching`, and `Picking` for what it means. No bucket is looked at of a shelf that one
 //! comparison tells has none that is wanted.
 
-ghost use Rattle.std.specs.Prelude.{◌≡◌, ◌<◌, ◌≤◌, IfSome, IsTrue, length, map, max, drop};
+ghost use Rattle.std.specs.Prelude.{◌≡◌, ◌+◌, ◌<◌, ◌≤◌, IfSome, IsTrue, length, map, max, take, drop};
 ghost use Rattle.std.specs.Option.{option_map};
 ghost use Rattle.etagere_base.specs.Least.{first_least};
 ghost use Rattle.etagere_base.specs.Least as least;
+ghost use Rattle.etagere_bucketed.specs.Picking.{or_else};
+ghost use Rattle.etagere_bucketed.specs.Private.Blocks.{AreKnown};
 ghost use Rattle.etagere_bucketed.specs.Private.Searching as spec;
 ghost use Rattle.etagere_bucketed.specs.State.{most_buckets};
 
+use crate::blocks::{Blocks, SHELVES_OF_BLOCK, block_of};
 use crate::records::LinkedBucket;
 use crate::store::KeptShelf;
 use etagere_base::Sides;
@@ -151,26 +154,67 @@ fn waste(adds: bool, sides: &Sides, kept: &KeptShelf) -> Option<u32>
     ensures { result ≡ spec.kept_waste adds sides.now kept.now }
 {
     let height = u32::from(kept.shelf.height);
-    if height < sides.across || u32::from(kept.shelf.bucket_width) < sides.along {
+    if u32::from(kept.widest_room) < sides.along || height < sides.across {
         return None;
     }
     let waste = height - sides.across;
-    if (adds && sides.across < waste) || u32::from(kept.widest_room) < sides.along {
+    if (adds && sides.across < waste) || u32::from(kept.shelf.bucket_width) < sides.along {
         return None;
     }
     Some(waste)
 }
 
-/// The shelf that wastes the least height, the first of such.
-fn least_waste(adds: bool, sides: &Sides, shelves: &[KeptShelf]) -> Option<Least>
+/// The shelf that wastes the least height, the first of such. Blocks in which none has room are passed over, and the
+/// first shelf that wastes nothing ends the search.
+fn least_waste(adds: bool, sides: &Sides, shelves: &[KeptShelf], blocks: &Blocks) -> Option<Least>
+    requires known { AreKnown blocks.now.each shelves.now }
     ensures least { result ≡ first_least (map (spec.kept_waste adds sides.now) shelves.now) }
     ensures within { IfSome result (λ least. least.number < length shelves.now) }
 {
     let mut best = None;
-    for (number, kept) in shelves.iter().enumerate() {
-        best = better(best, number, waste(adds, sides, kept));
+    for block in 0..block_of(shelves.len()) + 1 {
+        if blocks.may_give(block, sides.along) {
+            best = least_in(adds, sides, shelves, block * SHELVES_OF_BLOCK, best);
+            if wastes_nothing(&best) {
+                break;
+            }
+        }
     }
     best
+}
+
+/// The same with the shelves of a block, of which the first has this number, where this was found before it.
+fn least_in(
+    adds: bool,
+    sides: &Sides,
+    shelves: &[KeptShelf],
+    from: usize,
+    best: Option<Least>,
+) -> Option<Least>
+    requires from { from ≤ length shelves.now }
+    requires best { best
+        ≡ first_least (map (spec.kept_waste adds sides.now) (take from shelves.now)) }
+    ensures { result
+        ≡ first_least (map (spec.kept_waste adds sides.now) (take (from + 64) shelves.now)) }
+{
+    let mut best = best;
+    for number in from..shelves.len().min(from + SHELVES_OF_BLOCK) {
+        best = better(best, number, waste(adds, sides, &shelves[number]));
+        if wastes_nothing(&best) {
+            break;
+        }
+    }
+    best
+}
+
+/// Whether a shelf was found that wastes nothing.
+fn wastes_nothing(best: &Option<Least>) -> bool
+    ensures { result ≡ spec.wastes_nothing best.now }
+{
+    match best {
+        Some(least) => least.rank == 0,
+        None => false,
+    }
 }
 
 /// What was found before, unless the next shelf wastes less.
@@ -187,17 +231,46 @@ fn better(best: Option<Least>, number: usize, waste: Option<u32>) -> Option<Leas
     }
 }
 
-/// The first exact bucket of a shelf that wastes no height, from the shelf of this number on.
+/// The first exact bucket of a shelf that wastes no height, from the shelf of this number on. Blocks in which none has
+/// room are passed over.
 fn exact_from(
     sides: &Sides,
     shelves: &[KeptShelf],
     buckets: &[LinkedBucket],
+    blocks: &Blocks,
     from: usize,
 ) -> Option<Found>
-    requires { from ≤ length shelves.now }
+    requires from { from ≤ length shelves.now }
+    requires known { AreKnown blocks.now.each shelves.now }
     ensures { result ≡ spec.exact_from sides.now buckets.now from (drop from shelves.now) }
 {
-    for number in from..shelves.len() {
+    for block in block_of(from)..block_of(shelves.len()) + 1 {
+        if blocks.may_give(block, sides.along) {
+            let first = block * SHELVES_OF_BLOCK;
+            let end = first + SHELVES_OF_BLOCK;
+            let found = exact_between(sides, shelves, buckets, from.max(first), end);
+            if found.is_some() {
+                return found;
+            }
+        }
+    }
+    None
+}
+
+/// The first exact bucket of a shelf that wastes no height, from the shelf of one number up to that of another.
+fn exact_between(
+    sides: &Sides,
+    shelves: &[KeptShelf],
+    buckets: &[LinkedBucket],
+    from: usize,
+    end: usize,
+) -> Option<Found>
+    requires from { from ≤ length shelves.now }
+    requires end { from ≤ end }
+    ensures { or_else result (spec.exact_from sides.now buckets.now end (drop end shelves.now))
+        ≡ spec.exact_from sides.now buckets.now from (drop from shelves.now) }
+{
+    for number in from..shelves.len().min(end) {
         let found = exact_in(sides, &shelves[number], buckets, number);
         if found.is_some() {
             return found;
@@ -230,9 +303,11 @@ fn exact_or_found(
     sides: &Sides,
     shelves: &[KeptShelf],
     buckets: &[LinkedBucket],
+    blocks: &Blocks,
     least: Least,
     bucket: usize,
 ) -> Found
+    requires known { AreKnown blocks.now.each shelves.now }
     requires shelf { least.number < length shelves.now }
     requires bucket { bucket < length buckets.now }
     ensures { result ≡ spec.exact_or_found sides.now shelves.now buckets.now least bucket }
@@ -244,7 +319,7 @@ fn exact_or_found(
     if least.rank != 0 || u32::from(buckets[bucket].free_space) == sides.along {
         return found;
     }
-    exact_from(sides, shelves, buckets, least.number + 1).unwrap_or(found)
+    exact_from(sides, shelves, buckets, blocks, least.number + 1).unwrap_or(found)
 }
 
 /// The bucket that is picked for these sides.
@@ -253,12 +328,14 @@ pub(crate) fn pick(
     sides: &Sides,
     shelves: &[KeptShelf],
     buckets: &[LinkedBucket],
+    blocks: &Blocks,
 ) -> Option<Found>
+    requires { AreKnown blocks.now.each shelves.now }
     ensures { result ≡ spec.picked adds sides.now shelves.now buckets.now }
 {
-    let least = least_waste(adds, sides, shelves)?;
+    let least = least_waste(adds, sides, shelves, blocks)?;
     let wanted = Wanted::Roomy(sides.along);
     let first = shelves[least.number].shelf.first_bucket;
     let bucket = first_wanted(wanted, buckets, first)?;
-    Some(exact_or_found(sides, shelves, buckets, least, bucket))
+    Some(exact_or_found(sides, shelves, buckets, blocks, least, bucket))
 }

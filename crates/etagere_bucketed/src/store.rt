@@ -7,6 +7,7 @@ ghost use Rattle.etagere_links.specs.Edits.{changed_by};
 ghost use Rattle.etagere_links.specs.Links.{no_link};
 ghost use Rattle.etagere_bucketed.specs.Adding as adding;
 ghost use Rattle.etagere_bucketed.specs.Frames.{IsBucketedFrame, longest_bucketed_side};
+ghost use Rattle.etagere_bucketed.specs.Private.Blocks.{AreKnown};
 ghost use Rattle.etagere_bucketed.specs.Private.Growths as growths;
 ghost use Rattle.etagere_bucketed.specs.Private.Returns as returns;
 ghost use Rattle.etagere_bucketed.specs.Private.Searching as searching;
@@ -16,13 +17,14 @@ ghost use Rattle.etagere_bucketed.specs.State.{most_buckets};
 ghost use Rattle.etagere_bucketed.specs.Taking as taking;
 
 use crate::adding::{NewShelf, NewShelves, width_of_share};
+use crate::blocks::Blocks;
 use crate::dropping::{drop_idle_end, next_of};
 use crate::growing::{left_after, widen_shelves};
 use crate::making::{NewBuckets, make_buckets, reserve_records};
 use crate::merging::{Group, merge};
 use crate::placing::Place;
 use crate::records::{LinkedBucket, LinkedBucketShelf};
-use crate::returning::{is_known, return_item, returned_area};
+use crate::returning::{is_known, return_item, returned_area, shelf_number};
 use crate::searching::{Found, MOST_BUCKETS, has_room, record_room, widest_room};
 use etagere_base::{AllocId, Allocation, Frame, Sides, rectangle_at};
 use etagere_links::Link;
@@ -59,9 +61,11 @@ pub(crate) struct Store {
     pub(crate) shelves: Vec<KeptShelf>,
     pub(crate) buckets: Vec<LinkedBucket>,
     pub(crate) unused: Link,
+    pub(crate) blocks: Blocks,
 }
 
 impl Model for Store {
+    ghost use Rattle.etagere_bucketed.specs.Private.Blocks.{AreKnown};
     ghost use Rattle.etagere_bucketed.specs.Private.Store.{Stored};
 
     ghost Value = { Stored };
@@ -71,6 +75,8 @@ impl Model for Store {
       buckets = store.buckets.items;
       unused = store.unused;
     } };
+
+    ghost invariant = { λ store. AreKnown store.blocks.each store.shelves.items };
 }
 
 /// Where the next shelf in the column at a place begins across.
@@ -93,6 +99,7 @@ impl Store {
             shelves: Vec::new(alloc),
             buckets: Vec::new(alloc),
             unused: Link::none(),
+            blocks: Blocks::new(),
         }
     }
 
@@ -103,6 +110,7 @@ impl Store {
         self.shelves.clear();
         self.buckets.clear();
         self.unused = Link::none();
+        self.blocks = Blocks::new();
     }
 
     /// Makes the new shelves, with their buckets, where so many are in use. Takes memory for the records
@@ -128,6 +136,7 @@ impl Store {
                 &mut self.shelves,
                 &mut self.buckets,
                 &mut self.unused,
+                &mut self.blocks,
                 filler,
             );
         }
@@ -136,6 +145,7 @@ impl Store {
             &mut self.shelves,
             &mut self.buckets,
             &mut self.unused,
+            &mut self.blocks,
             &news.asked,
         );
         Ok(())
@@ -258,7 +268,9 @@ impl Store {
               shelves = spec.shelves_given found.now.shelf self.old.shelves self.old.buckets;
             } }
     {
+        let before = self.shelves[found.shelf];
         give_from(&mut self.shelves, &self.buckets, found, room);
+        self.blocks.follow(&self.shelves, found.shelf, &before);
     }
 
     /// Whether the bucket that an id names has given its item, and holds something live.
@@ -278,7 +290,10 @@ impl Store {
         ensures area { result ≡ returns.returned_area number self.old.shelves self.old.buckets }
     {
         let area = returned_area(&self.shelves, &self.buckets, number);
+        let shelf = shelf_number(&self.buckets, number);
+        let before = self.shelves[shelf];
         return_item(&mut self.shelves, &mut self.buckets, number);
+        self.blocks.follow(&self.shelves, shelf, &before);
         area
     }
 
@@ -325,6 +340,7 @@ impl Store {
             added,
             left,
         );
+        self.blocks = Blocks::of(&self.shelves);
         Ok(left - rest)
     }
 
@@ -430,8 +446,10 @@ fn add_shelf(
     shelves: &mut Vec<KeptShelf>,
     buckets: &mut Vec<LinkedBucket>,
     unused: &mut Link,
+    blocks: &mut Blocks,
     new: &NewShelf,
 )
+    requires known { AreKnown blocks.old.each shelves.old.items }
     requires frame { IsBucketedFrame frame.now }
     requires new { spec.IsNewShelf frame.now new.now }
     requires short { spec.IsShort frame.now shelves.old.items }
@@ -471,6 +489,7 @@ fn add_shelf(
     ensures shelf_capacity { vec_capacity shelves.old ≤ vec_capacity shelves.new }
     ensures bucket_length { vec_len buckets.new ≤ vec_len buckets.old + new.now.count }
     ensures bucket_capacity { vec_capacity buckets.old ≤ vec_capacity buckets.new }
+    ensures known { AreKnown blocks.new.each shelves.new.items }
 {
     let width = width_of_share(frame, new.count) as u16;
     let x = (new.column * frame.column_width) as u16;
@@ -495,6 +514,7 @@ fn add_shelf(
             widest_room: width,
         })
         .unwrap();
+    blocks.add_last(shelves);
 }
 
 /// Takes an item of this width from the bucket of a number.
@@ -574,6 +594,7 @@ impl Clone for Store {
             shelves: self.shelves.clone()?,
             buckets: self.buckets.clone()?,
             unused: self.unused,
+            blocks: self.blocks,
         })
     }
 }

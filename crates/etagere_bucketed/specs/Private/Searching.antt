@@ -76,6 +76,11 @@ kept_waste adds sides kept =
     then Some (kept.shelf.height - sides.across)
     else None
 
+-- a shelf was found that wastes nothing
+abbrev pub wastes_nothing : Option Least → Bool
+wastes_nothing None = false
+wastes_nothing (Some least) = least.rank == 0
+
 -- the number of a shelf and that of its first bucket that is wanted
 abbrev pub found_in : Wanted → List LinkedBucket → ℕ → KeptShelf → Option Found
 found_in wanted buckets number kept =

@@ -1,18 +1,33 @@
-use Rattle.std.proofs.Common.{◌≡◌, ℕ, zero, suc, ◌+◌, ◌<◌, false, List, [], ◌∷◌, length, drop, refl, sym, ◌∙◌, arith}
-use Rattle.etagere_base.specs.declared.sides.Sides.{Sides}
-use Rattle.etagere_bucketed.specs.Private.Searching.{kept_mergeable, serves_at}
-use Rattle.etagere_bucketed.specs.Private.Store.{KeptShelf}
+use Rattle.std.proofs.Common.{◌≡◌, ℕ, ◌+◌, ◌*◌, false, Option, None, Some, drop, refl, ap, sym, ◌∙◌, arith}
+use Rattle.std.proofs.lemmas.Option.{slice_get_within}
+use Rattle.std.specs.Prelude.{is_some}
+use Rattle.etagere_bucketed.specs.Merging.{Group}
+use Rattle.etagere_bucketed.specs.Picking.{or_else}
+use Rattle.etagere_bucketed.specs.Private.Searching.{kept_mergeable}
+use Rattle.etagere_bucketed.proofs.KnownBlocks.{busy-shelf}
+use Rattle.etagere_bucketed.proofs.PassedShelves.{mergeable-past, serves-busy}
+use Rattle.etagere_bucketed.proofs.Searched.{search-skip}
 use Rattle.etagere_bucketed.proofs.merging.mergeable_shelves.Goals as goal
+use Rattle.etagere_bucketed.proofs.merging.mergeable_shelves.Goals.{then-may_be_idle+else-is_some, else-may_be_idle}
 
--- past a shelf that doesn't serve the search goes on
-mergeable-past : (sides : Sides) (m n : ℕ) (xs : List KeptShelf) → n < length xs → serves_at sides 1 (drop n xs) ≡ false → serves_at sides 2 (drop n xs) ≡ false
-    → kept_mergeable sides m (drop n xs) ≡ kept_mergeable sides (suc m) (drop (suc n) xs)
-mergeable-past sides m n [] within one two = absurd (omega arith)
-mergeable-past sides m zero (x ∷ xs) within one two = rw (one, two) refl
-mergeable-past sides m (suc n) (x ∷ xs) within one two = mergeable-past sides m n xs (omega arith) one two
+-- where nothing was found what comes after counts
+none-first : (found later : Option Group) → is_some found ≡ false → or_else found later ≡ later
+none-first None later h = refl
+none-first (Some found) later h = absurd (cc)
 
-pub loop-first-preserved : goal.loop-first-preserved
-loop-first-preserved c =
-    let next : c.loop-first.first + 1 ≡ suc c.loop-first.first = omega arith in
-    let past = mergeable-past c.args.sides.now c.loop-first.first c.loop-first.first c.args.shelves.now (omega arith) (sym c.serves.ensures ∙ c.if-serves.false) (sym c.serves-in-loop-first.ensures ∙ c.if-serves-2.false) in
-    rw next (sym past ∙ c.loop-first.invariant)
+pub loop-block-preserved : goal.loop-block-preserved
+loop-block-preserved c =
+    let sides = c.args.sides.now in
+    let shelves = c.args.shelves.now in
+    let first = c.loop-block.block * 64 in
+    let next : (c.loop-block.block + 1) * 64 ≡ first + 64 = omega arith in
+    let after = kept_mergeable sides (first + 64) (drop (first + 64) shelves) in
+    ap (λ (k : ℕ). kept_mergeable sides k (drop k shelves)) next
+    ∙ elim c.if-may_be_idle.branch [
+      | then-may_be_idle+else-is_some w ↦ sym (none-first w.mergeable_in-group.result after (sym w.is_some.ensures ∙ w.if-is_some.false)) ∙ w.mergeable_in-group.ensures
+      | else-may_be_idle w ↦ sym (search-skip (kept_mergeable sides) shelves first 64 (λ m k. refl)
+          (λ k x low high at.
+          let busy = busy-shelf c.loop-block.block c.args.blocks.now.each shelves c.requires (sym c.may_be_idle.ensures ∙ w.if-may_be_idle.false) k x low high at in
+          mergeable-past sides k k shelves (slice_get_within shelves k x at) (serves-busy sides 1 k shelves x at busy) (serves-busy sides 2 k shelves x at busy)))
+    ]
+    ∙ c.loop-block.invariant

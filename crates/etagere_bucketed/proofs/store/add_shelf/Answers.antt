@@ -1,9 +1,12 @@
-use Rattle.std.proofs.Common.{◌≡◌, ℕ, suc, ◌*◌, ◌≤◌, ap, arith, subst, sym}
+use Rattle.std.proofs.Common.{◌≡◌, ℕ, suc, ◌*◌, ◌≤◌, ◌∙◌, ap, arith, subst, sym}
 use Rattle.std.proofs.Math.Nat.{mul-le-mul_right, suc-mul}
+use Rattle.std.specs.Result.{is_ok}
 use Rattle.etagere_base.proofs.FrameSides.{sides_low}
 use Rattle.etagere_bucketed.specs.Adding.{NewShelf, width_of_share}
 use Rattle.etagere_bucketed.specs.Private.StoreEdits.{EndsBy}
 use Rattle.etagere_bucketed.proofs.Shelving.Shares.{shares-fit}
+use Rattle.etagere_bucketed.specs.Private.Blocks.{AreKnown}
+use Rattle.etagere_bucketed.proofs.KnownBlocks.{known-last}
 use Rattle.etagere_bucketed.proofs.store.add_shelf.Goals as goal
 
 pub make_buckets-first_bucket-requires-clause-narrow : goal.make_buckets-first_bucket-requires-clause-narrow
@@ -26,3 +29,10 @@ pub next_across-y-requires : goal.next_across-y-requires
 next_across-y-requires c =
     subst (EndsBy 65534) (sym c.deref.ensures.value)
     (λ last e. omega (arith, c.requires.short last e, (sides_low 65534 c.args.frame.now c.requires.frame).1))
+
+pub add_last-requires-clause-others : goal.add_last-requires-clause-others
+add_last-requires-clause-others c =
+    known-last _ c.args.blocks.now.each c.args.shelves.now.items c.deref-2.result.now (is_ok c.push.result) (ap is_ok c.unwrap.ensures) (c.deref-2.ensures.value ∙ c.push.ensures.items) c.requires.known
+
+pub returns-clause-known : goal.returns-clause-known
+returns-clause-known c = subst (AreKnown c.add_last.new.self.each) c.deref-2.ensures.value c.add_last.ensures

@@ -1,3 +1,4 @@
+use Rattle.etagere_bucketed.specs.Private.Blocks.{AreKnown}
 use Rattle.std.proofs.Common.{◌≡◌, ◌∙◌, ℕ, List, ap, subst, sym}
 use Rattle.etagere_base.specs.declared.frames.Frame.{Frame}
 use Rattle.etagere_bucketed.specs.Atlas.{KeepsPromises}
@@ -21,7 +22,10 @@ judged-state atlas frame all used area judged =
     ∙ state-read atlas.frame stored (bucket_walk atlas.buckets atlas.unused).met (state_of atlas).shelves valid.frame.column_width valid.shelves judged.witnessed.spells
 
 pub invariant_of-result : goal.invariant_of-result
-invariant_of-result c =
+invariant_of-result c = subst (AreKnown c.of-blocks.result.each) c.deref.ensures.value c.of-blocks.ensures
+
+pub invariant_of-result-2 : goal.invariant_of-result-2
+invariant_of-result-2 c =
     let atlas : BucketRecords = snapshot_records c.args.snapshot in
     let stored : Stored = record { shelves = c.args.judged.shelves.items; buckets = atlas.buckets; unused = atlas.unused } in
     let same = sym (judged-state atlas c.args.judged.frame c.args.judged.shelves.items c.args.judged.in_use c.args.judged.space c.requires) in

@@ -4,7 +4,10 @@ use Rattle.etagere_bucketed.specs.Private.Store.{Stored}
 use Rattle.etagere_bucketed.specs.Private.StoreEdits.{IsShort, stored_shelves}
 use Rattle.etagere_bucketed.proofs.Spelling.MadeLengths.{filler-keeps}
 use Rattle.etagere_bucketed.proofs.Spelling.MadeShelves.{first-short}
+use Rattle.etagere_bucketed.specs.Private.Blocks.{AreKnown}
+use Rattle.etagere_bucketed.specs.declared.store.Store.TheInside.{Inside}
 use Rattle.etagere_bucketed.proofs.store.Store.add.Goals as goal
+use Rattle.etagere_bucketed.proofs.store.Store.add.Goals.{in-Some, in_default}
 
 pub add_shelf-requires-clause-bucket_room : goal.add_shelf-requires-clause-bucket_room
 add_shelf-requires-clause-bucket_room c =
@@ -27,3 +30,19 @@ pub add_shelf-requires-clause-short : goal.add_shelf-requires-clause-short
 add_shelf-requires-clause-short c =
     rw c.reserve.ensures.items
     (subst (λ (s : Stored). IsShort c.args.frame.now s.shelves) (sym c.self.view_is) (first-short c.args.frame.now c.args.news.now c.args.self.now c.requires.news.short))
+
+pub invariant_of-self : goal.invariant_of-self
+invariant_of-self c = subst (AreKnown c.self.inside.blocks.each) (sym c.reserve.ensures.items) c.self.invariant
+
+pub invariant_of-self-in_err-reserve_records : goal.invariant_of-self-in_err-reserve_records
+invariant_of-self-in_err-reserve_records c = subst (AreKnown c.self.inside.blocks.each) (sym c.reserve.ensures.items) c.self.invariant
+
+pub add_shelf-requires-clause-known : goal.add_shelf-requires-clause-known
+add_shelf-requires-clause-known c = subst (AreKnown c.self.inside.blocks.each) (sym c.reserve.ensures.items) c.self.invariant
+
+pub add_shelf-requires-2-clause-known : goal.add_shelf-requires-2-clause-known
+add_shelf-requires-2-clause-known c =
+    elim c.match-news.branch [
+      | in-Some w ↦ subst (λ (inside : Inside). AreKnown inside.blocks.each inside.shelves.items) (sym w.self-inside-is) w.add_shelf.ensures.known
+      | in_default w ↦ subst (λ (inside : Inside). AreKnown inside.blocks.each inside.shelves.items) (sym w.self-inside-is) (subst (AreKnown c.self.inside.blocks.each) (sym c.reserve.ensures.items) c.self.invariant)
+    ]

@@ -1,4 +1,5 @@
-use Rattle.std.proofs.Common.{arith}
+use Rattle.std.proofs.Common.{arith, subst}
+use Rattle.etagere_bucketed.specs.Private.Blocks.{AreKnown}
 use Rattle.etagere_bucketed.proofs.Widening.Shares.{left-le}
 use Rattle.etagere_bucketed.proofs.store.Store.widen.Goals as goal
 
@@ -7,3 +8,6 @@ overflow_sub-rest c = omega (arith, c.left_after-rest.ensures, left-le c.args.ad
 
 pub overflow_sub-result : goal.overflow_sub-result
 overflow_sub-result c = omega (arith, c.left_after-rest.ensures, left-le c.args.added c.args.left c.deref.result.now)
+
+pub invariant_of-self-2 : goal.invariant_of-self-2
+invariant_of-self-2 c = subst (AreKnown c.of-self-inside.result.each) c.deref-2.ensures.value c.of-self-inside.ensures
