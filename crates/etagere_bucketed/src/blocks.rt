@@ -127,7 +127,8 @@ impl Blocks {
         }
     }
 
-    /// Knows the shelf of a number, which was this one before. Its block is looked at where less may be known of it now.
+    /// Knows the shelf of a number, which was this one before. Its block is looked at where less may be known of
+    /// it now.
     pub(crate) fn follow(&mut self, shelves: &[KeptShelf], number: usize, before: &KeptShelf)
         requires within { number < length shelves.now }
         requires others { spec.AreOthersKnown number self.old.each shelves.now }

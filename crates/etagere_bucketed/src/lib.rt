@@ -4,10 +4,10 @@
 //! `atlas` has the public calls, `faults` why a growth is refused, `laws` what the laws of restoring are stated of; `records` and
 //! `snapshots` are what is saved. All else is private. `store` has the records and the steps of which calls are made.
 //! For an allocation `placing` decides the place: by `searching` in a bucket, by `adding` on a new shelf, or by
-//! `merging` on idle ones; what `blocks` know of shelves lets these pass over many at once. `returning` and `dropping` are the steps of a return, `growing` those of a growth, and
-//! `making` makes buckets for shelves that are added and for growths. `frames` has what is kept of size and options,
-//! `restoring`, with `walking` and `judging`, makes an atlas from a snapshot, `drawing` has the picture, and
-//! `model_laws` the laws.
+//! `merging` on idle ones; by what `blocks` know of shelves these pass over many at once. `returning` and `dropping`
+//! are the steps of a return, `growing` those of a growth, and `making` makes buckets for shelves that are added and
+//! for growths. `frames` has what is kept of size and options, `restoring`, with `walking` and `judging`, makes an
+//! atlas from a snapshot, `drawing` has the picture, and `model_laws` the laws.
 #![tactic(auto)]
 
 mod adding;

@@ -91,8 +91,10 @@ pub(crate) fn first_wanted(wanted: Wanted, buckets: &[LinkedBucket], first: Link
     None
 }
 
-/// The greatest width that a bucket can give to one item, by the links from this one on.
-pub(crate) fn widest_room(buckets: &[LinkedBucket], first: Link) -> u16
+/// The greatest width that a bucket can give to one item, by the links from this one on, where none can give more
+/// than this one.
+pub(crate) fn widest_room(buckets: &[LinkedBucket], first: Link, most: u16) -> u16
+    requires { spec.widest_from most_buckets buckets.now first ≤ most }
     ensures { result ≡ spec.widest_from most_buckets buckets.now first }
 {
     let mut widest = 0;
@@ -104,6 +106,9 @@ pub(crate) fn widest_room(buckets: &[LinkedBucket], first: Link) -> u16
         if number >= buckets.len() {
             break;
         }
+        if most <= widest {
+            break;
+        }
         let bucket = &buckets[number];
         widest = wider(widest, record_room(bucket));
         at = bucket.next;
@@ -111,12 +116,15 @@ pub(crate) fn widest_room(buckets: &[LinkedBucket], first: Link) -> u16
     widest
 }
 
-/// Whether a bucket can give this width to one item, by the links from this one on.
+/// How many buckets `has_room` looks at.
+const FEW_BUCKETS: u32 = 16;
+
+/// Whether one of the next few buckets can give this width to one item, by the links from this one on.
 pub(crate) fn has_room(room: u16, buckets: &[LinkedBucket], first: Link) -> bool
     ensures { IsTrue result → room ≤ spec.widest_from most_buckets buckets.now first }
 {
     let mut at = first;
-    for _step in 0..MOST_BUCKETS {
+    for _step in 0..FEW_BUCKETS {
         let Some(number) = at.number() else {
             return false;
         };

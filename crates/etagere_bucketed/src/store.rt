@@ -546,7 +546,8 @@ fn widest_of(shelves: &[KeptShelf], number: usize) -> u16
 }
 
 /// The greatest width that a bucket of a shelf can give, after the one that was found gave an item, and had this
-/// room before. All buckets are looked at only where none behind it has as much room as the widest had.
+/// room before. Buckets from the first one on are looked at only where it was the widest, and none of the next
+/// ones has as much room, and then up to one that has.
 fn widest_after(shelves: &[KeptShelf], buckets: &[LinkedBucket], found: &Found, room: u16) -> u16
     requires number { found.now.shelf < length shelves.now }
     requires widest { spec.IsWidestKept found.now.shelf found.now.bucket room shelves.now
@@ -559,7 +560,7 @@ fn widest_after(shelves: &[KeptShelf], buckets: &[LinkedBucket], found: &Found, 
     if room < widest || has_room(widest, buckets, next_of(buckets, found.bucket)) {
         return widest;
     }
-    widest_room(buckets, first_bucket(shelves, found.shelf))
+    widest_room(buckets, first_bucket(shelves, found.shelf), widest)
 }
 
 /// Counts one more live item in the shelf of a bucket that was found and had this room before, and keeps what the
