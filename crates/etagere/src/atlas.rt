@@ -149,9 +149,9 @@ impl AtlasAllocator {
     /// it stands.
     ///
     /// Returns a fault whose rule is broken; `Memory` only where there was no memory. The snapshot is used up either
-    /// way, and its records become those of the atlas. Takes some memory for each record while it runs, and for a place
-    /// by height for each shelf record, used or not. The time is linear in the number of records, but for a sort of the
-    /// shelves in use.
+    /// way. Its records are made anew, so for a while there is memory for them twice. Takes some more for each record
+    /// while it runs, and for a place by height for each shelf record, used or not. The time is linear in the number of
+    /// records, but for a sort of the shelves in use.
     pub fn restore(alloc: Global, snapshot: AtlasSnapshot) -> Result<AtlasAllocator, RestoreFault>
         ensures ok { IfOk result (λ atlas. StandsFor (snapshot_records snapshot) atlas) }
         ensures fault { IfErr result (IsBroken (snapshot_records snapshot)) }

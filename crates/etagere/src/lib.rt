@@ -20,7 +20,7 @@ pub use etagere_bucketed::{
     BucketedAtlasAllocator, BucketedSnapshot, GrowFault, LinkedBucket as BucketRecord,
     LinkedBucketShelf as BucketShelfRecord,
 };
-pub use etagere_links::{Link, LinkedItem as ItemRecord, LinkedShelf as ShelfRecord};
+pub use etagere_links::Link;
 pub use listing::Iter;
 pub use shelf_model::faults::AtlasGrowFault;
-pub use shelf_records::snapshots::AtlasSnapshot;
+pub use shelf_records::snapshots::{AtlasSnapshot, ItemRecord, ShelfRecord};

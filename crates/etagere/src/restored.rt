@@ -100,7 +100,8 @@ fn judge_atlas(
 /// what the laws of restoring are stated of, and not meant for users.
 ///
 /// Returns a fault whose rule is broken; `Memory` only where there was no memory. The snapshot is used up either way.
-/// Takes some memory for each record while it runs, and for a place by height for each shelf record, used or not.
+/// The records are made anew, so for a while there is memory for them twice. Takes some more for each record while it
+/// runs, and for a place by height for each shelf record, used or not.
 ///
 /// `steps` becomes the number of links that were followed, whether the snapshot is accepted or refused: at most four
 /// times the number of its records, and after `Ok` at least as many as shelves and items are in use.
@@ -120,7 +121,7 @@ pub fn restore_atlas(
         ≤ 4 * (length snapshot.shelves.items + length snapshot.items.items) }
 {
     *steps = 0;
-    let atlas = LoadedAtlas::of_snapshot(snapshot)?;
+    let atlas = LoadedAtlas::of_snapshot(alloc, snapshot)?;
     let shelves = judge_atlas(alloc, &atlas, steps)?;
     let Ok(ranked) = ranked_shelves(alloc, &atlas.frame, &atlas.records, &shelves) else {
         return Err(RestoreFault::Memory);

@@ -1,4 +1,4 @@
-//! The records of a shelf atlas, as a snapshot has them: their fields are those of the format.
+//! The records of a shelf atlas. What they are saved as has the same fields, with plain numbers for links.
 //!
 //! Definitions: `Records`, which fields are the links of which list.
 
@@ -6,10 +6,9 @@ ghost use Rattle.etagere_links.specs.Records.{item_chain, free_list, shelf_chain
 
 use crate::chained::{Chain, FreeList, Linked};
 use crate::links::Link;
-use serde::{Deserialize, Serialize};
 
 /// A stretch of a shelf, or an unused record for one. Lengths and places are in pixels.
-#[derive(Clone, Copy, Debug, PartialEq, Eq, Serialize, Deserialize)]
+#[derive(Clone, Copy, Debug, PartialEq, Eq)]
 pub struct LinkedItem {
     /// Where the item begins along the shelf.
     pub x: u16,
@@ -32,7 +31,7 @@ pub struct LinkedItem {
 }
 
 /// A strip across a column, or an unused record for one. Lengths and places are in pixels.
-#[derive(Clone, Copy, Debug, PartialEq, Eq, Serialize, Deserialize)]
+#[derive(Clone, Copy, Debug, PartialEq, Eq)]
 pub struct LinkedShelf {
     /// Where its column begins along the shelves.
     pub x: u16,

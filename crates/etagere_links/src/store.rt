@@ -129,18 +129,9 @@ impl Records {
         self.unused_shelves
     }
 
-    /// A copy of the item records. Takes memory for all of them.
-    pub fn copied_items(&self) -> Result<Vec<LinkedItem>, AllocError>
-        ensures { IfOk result (λ items. items.items ≡ self.now.items) }
-    {
-        self.item_records.clone()
-    }
-
-    /// A copy of the shelf records. Takes memory for all of them.
-    pub fn copied_shelves(&self) -> Result<Vec<LinkedShelf>, AllocError>
-        ensures { IfOk result (λ shelves. shelves.items ≡ self.now.shelves) }
-    {
-        self.shelf_records.clone()
+    /// The allocator that the records were made with.
+    pub fn allocator(&self) -> Global {
+        *self.item_records.allocator()
     }
 
     /// Puts the records to use that the rests of a split need: those that became unused last, and new ones where

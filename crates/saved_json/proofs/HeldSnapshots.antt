@@ -12,9 +12,9 @@ use Rattle.json.proofs.Trees.{view-Object}
 use Rattle.etagere_bucketed.specs.declared.snapshots.BucketedSnapshot.{BucketedSnapshot}
 use Rattle.etagere_bucketed.specs.declared.records.LinkedBucket.{LinkedBucket}
 use Rattle.etagere_bucketed.specs.declared.records.LinkedBucketShelf.{LinkedBucketShelf}
-use Rattle.etagere_links.specs.declared.records.LinkedItem.{LinkedItem}
-use Rattle.etagere_links.specs.declared.records.LinkedShelf.{LinkedShelf}
 use Rattle.shelf_records.specs.declared.snapshots.AtlasSnapshot.{AtlasSnapshot}
+use Rattle.shelf_records.specs.declared.snapshots.ItemRecord.{ItemRecord}
+use Rattle.shelf_records.specs.declared.snapshots.ShelfRecord.{ShelfRecord}
 use Rattle.saved_json.specs.Fields.{field, the_only}
 use Rattle.saved_json.specs.Records.{IsBucket, IsBucketShelf, IsItem, IsShelf}
 use Rattle.saved_json.specs.Private.Held.{AreMembers, Arrays, Opens, Passes, PassesMembers, arrays_of}
@@ -24,7 +24,7 @@ use Rattle.saved_json.specs.declared.saved.Saved.TheVariants.{Atlas, Bucketed}
 use Rattle.saved_json.proofs.PassedItems.{value-shorter}
 use Rattle.saved_json.proofs.KeptMembers.{first-array, kept-values, second-array}
 
-abbrev atlas_arrays : AtlasSnapshot → Arrays LinkedShelf LinkedItem
+abbrev atlas_arrays : AtlasSnapshot → Arrays ShelfRecord ItemRecord
 atlas_arrays snapshot = arrays_of IsShelf snapshot.shelves.items (codes "items") IsItem snapshot.items.items
 
 abbrev bucketed_arrays : BucketedSnapshot → Arrays LinkedBucketShelf LinkedBucket
@@ -100,7 +100,7 @@ object-passed old start new all first are =
     ap (value 127) first ∙ value-begin_object 127 start (omega arith) ∙ ap (parse_map object) are
 
 pub atlas-passed : {A : Type 0} (snapshot : AtlasSnapshot) (old start new : List Token)
-    (kept : Vec (Bor (List ℕ) × Value A) A) (first : List LinkedShelf) (second : List LinkedItem) (shelves items : Json)
+    (kept : Vec (Bor (List ℕ) × Value A) A) (first : List ShelfRecord) (second : List ItemRecord) (shelves items : Json)
     → old ≡ begin_object ∷ start → first ≡ snapshot.shelves.items → second ≡ snapshot.items.items
     → PassesMembers (arrays_of IsShelf first (codes "items") IsItem second) 126 start (members_view kept.items) new
     → field 12 10 (codes "shelves") (value_view (Object kept)) ≡ Some shelves
@@ -108,10 +108,10 @@ pub atlas-passed : {A : Type 0} (snapshot : AtlasSnapshot) (old start new : List
     → HasAtlasFields (value_view (Object kept)) snapshot → Passes 127 old (λ json. IsAtlas json snapshot) new
 atlas-passed snapshot old start new kept first second shelves items opened first_is second_is passed one other has =
     let view = view-Object kept in
-    let with_first = subst (λ (f : List LinkedShelf).
+    let with_first = subst (λ (f : List ShelfRecord).
     PassesMembers (arrays_of IsShelf f (codes "items") IsItem second) 126 start (members_view kept.items) new)
     first_is passed in
-    let whole = subst (λ (s : List LinkedItem).
+    let whole = subst (λ (s : List ItemRecord).
     PassesMembers (arrays_of IsShelf snapshot.shelves.items (codes "items") IsItem s) 126 start
     (members_view kept.items) new) second_is with_first in
     record {

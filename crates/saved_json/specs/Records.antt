@@ -3,30 +3,30 @@ use Rattle.std.specs.Prelude.{◌≡◌, List, [], ◌∷◌, Some, codes}
 use Rattle.json.specs.Json.{Json, boolean, Items, no_items, item}
 use Rattle.etagere_bucketed.specs.declared.records.LinkedBucket.{LinkedBucket}
 use Rattle.etagere_bucketed.specs.declared.records.LinkedBucketShelf.{LinkedBucketShelf}
-use Rattle.etagere_links.specs.declared.records.LinkedItem.{LinkedItem}
-use Rattle.etagere_links.specs.declared.records.LinkedShelf.{LinkedShelf}
 use Rattle.etagere_links.specs.Links.{bits_of}
+use Rattle.shelf_records.specs.declared.snapshots.ItemRecord.{ItemRecord}
+use Rattle.shelf_records.specs.declared.snapshots.ShelfRecord.{ShelfRecord}
 use Rattle.saved_json.specs.Fields.{field, natural}
 
-pub record IsItem (json : Json) (item : LinkedItem) : Type 0 where
+pub record IsItem (json : Json) (item : ItemRecord) : Type 0 where
   pub x : field 9 0 (codes "x") json ≡ Some (natural item.x)
   pub width : field 9 1 (codes "width") json ≡ Some (natural item.width)
-  pub prev : field 9 2 (codes "prev") json ≡ Some (natural (bits_of item.prev))
-  pub next : field 9 3 (codes "next") json ≡ Some (natural (bits_of item.next))
-  pub prev_unallocated : field 9 4 (codes "prev_unallocated") json ≡ Some (natural (bits_of item.prev_unallocated))
-  pub next_unallocated : field 9 5 (codes "next_unallocated") json ≡ Some (natural (bits_of item.next_unallocated))
+  pub prev : field 9 2 (codes "prev") json ≡ Some (natural item.prev)
+  pub next : field 9 3 (codes "next") json ≡ Some (natural item.next)
+  pub prev_unallocated : field 9 4 (codes "prev_unallocated") json ≡ Some (natural item.prev_unallocated)
+  pub next_unallocated : field 9 5 (codes "next_unallocated") json ≡ Some (natural item.next_unallocated)
   pub shelf : field 9 6 (codes "shelf") json ≡ Some (natural item.shelf)
   pub allocated : field 9 7 (codes "allocated") json ≡ Some (boolean item.allocated)
   pub generation : field 9 8 (codes "generation") json ≡ Some (natural item.generation)
 
-pub record IsShelf (json : Json) (shelf : LinkedShelf) : Type 0 where
+pub record IsShelf (json : Json) (shelf : ShelfRecord) : Type 0 where
   pub x : field 8 0 (codes "x") json ≡ Some (natural shelf.x)
   pub y : field 8 1 (codes "y") json ≡ Some (natural shelf.y)
   pub height : field 8 2 (codes "height") json ≡ Some (natural shelf.height)
-  pub prev : field 8 3 (codes "prev") json ≡ Some (natural (bits_of shelf.prev))
-  pub next : field 8 4 (codes "next") json ≡ Some (natural (bits_of shelf.next))
-  pub first_item : field 8 5 (codes "first_item") json ≡ Some (natural (bits_of shelf.first_item))
-  pub first_unallocated : field 8 6 (codes "first_unallocated") json ≡ Some (natural (bits_of shelf.first_unallocated))
+  pub prev : field 8 3 (codes "prev") json ≡ Some (natural shelf.prev)
+  pub next : field 8 4 (codes "next") json ≡ Some (natural shelf.next)
+  pub first_item : field 8 5 (codes "first_item") json ≡ Some (natural shelf.first_item)
+  pub first_unallocated : field 8 6 (codes "first_unallocated") json ≡ Some (natural shelf.first_unallocated)
   pub is_empty : field 8 7 (codes "is_empty") json ≡ Some (boolean shelf.is_empty)
 
 pub record IsBucketShelf (json : Json) (shelf : LinkedBucketShelf) : Type 0 where

@@ -25,9 +25,9 @@ pub record HasSides (count : ℕ) (json : Json) (size alignment : Size) (vertica
 -- the other fields of a snapshot that are no arrays
 pub record HasStarts (json : Json) (snapshot : AtlasSnapshot) : Type 0 where
   pub shelf_width : field 12 5 (codes "shelf_width") json ≡ Some (natural snapshot.shelf_width)
-  pub first_shelf : field 12 6 (codes "first_shelf") json ≡ Some (natural (bits_of snapshot.first_shelf))
-  pub free_items : field 12 7 (codes "free_items") json ≡ Some (natural (bits_of snapshot.free_items))
-  pub free_shelves : field 12 8 (codes "free_shelves") json ≡ Some (natural (bits_of snapshot.free_shelves))
+  pub first_shelf : field 12 6 (codes "first_shelf") json ≡ Some (natural snapshot.first_shelf)
+  pub free_items : field 12 7 (codes "free_items") json ≡ Some (natural snapshot.free_items)
+  pub free_shelves : field 12 8 (codes "free_shelves") json ≡ Some (natural snapshot.free_shelves)
   pub allocated_space : field 12 9 (codes "allocated_space") json ≡ Some (whole snapshot.allocated_space)
 
 pub record HasColumns (json : Json) (snapshot : BucketedSnapshot) : Type 0 where

@@ -1,6 +1,6 @@
 //! Whether a JSON value spells a record.
 //!
-//! Definitions: `Records`. A record's type is in `etagere_links` or `etagere_bucketed`, with its fields in their order.
+//! Definitions: `Records`. A record's type is in `shelf_records` or `etagere_bucketed`, with its fields in their order.
 
 ghost use Rattle.std.specs.Prelude.{IsTrue};
 ghost use Rattle.json.specs.Json.{Json};
@@ -28,10 +28,10 @@ impl Spelled for ItemRecord {
     fn is_spelled_by(&self, json: &Value<'_>) -> bool {
         holds_natural(json, 9, 0, "x", self.x)
             && holds_natural(json, 9, 1, "width", self.width)
-            && holds_natural(json, 9, 2, "prev", self.prev.bits())
-            && holds_natural(json, 9, 3, "next", self.next.bits())
-            && holds_natural(json, 9, 4, "prev_unallocated", self.prev_unallocated.bits())
-            && holds_natural(json, 9, 5, "next_unallocated", self.next_unallocated.bits())
+            && holds_natural(json, 9, 2, "prev", self.prev)
+            && holds_natural(json, 9, 3, "next", self.next)
+            && holds_natural(json, 9, 4, "prev_unallocated", self.prev_unallocated)
+            && holds_natural(json, 9, 5, "next_unallocated", self.next_unallocated)
             && holds_natural(json, 9, 6, "shelf", self.shelf)
             && holds_boolean(json, 9, 7, "allocated", self.allocated)
             && holds_natural(json, 9, 8, "generation", self.generation)
@@ -57,16 +57,10 @@ impl Spelled for ShelfRecord {
         holds_natural(json, 8, 0, "x", self.x)
             && holds_natural(json, 8, 1, "y", self.y)
             && holds_natural(json, 8, 2, "height", self.height)
-            && holds_natural(json, 8, 3, "prev", self.prev.bits())
-            && holds_natural(json, 8, 4, "next", self.next.bits())
-            && holds_natural(json, 8, 5, "first_item", self.first_item.bits())
-            && holds_natural(
-                json,
-                8,
-                6,
-                "first_unallocated",
-                self.first_unallocated.bits(),
-            )
+            && holds_natural(json, 8, 3, "prev", self.prev)
+            && holds_natural(json, 8, 4, "next", self.next)
+            && holds_natural(json, 8, 5, "first_item", self.first_item)
+            && holds_natural(json, 8, 6, "first_unallocated", self.first_unallocated)
             && holds_boolean(json, 8, 7, "is_empty", self.is_empty)
     }
 }

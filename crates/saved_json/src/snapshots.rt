@@ -51,9 +51,9 @@ fn has_starts(json: &Value<'_>, snapshot: &AtlasSnapshot) -> bool
     ensures { IsTrue result → HasStarts (value_view json.now) snapshot.now }
 {
     holds_natural(json, 12, 5, "shelf_width", snapshot.shelf_width)
-        && holds_natural(json, 12, 6, "first_shelf", snapshot.first_shelf.bits())
-        && holds_natural(json, 12, 7, "free_items", snapshot.free_items.bits())
-        && holds_natural(json, 12, 8, "free_shelves", snapshot.free_shelves.bits())
+        && holds_natural(json, 12, 6, "first_shelf", snapshot.first_shelf)
+        && holds_natural(json, 12, 7, "free_items", snapshot.free_items)
+        && holds_natural(json, 12, 8, "free_shelves", snapshot.free_shelves)
         && holds_whole(json, 12, 9, "allocated_space", snapshot.allocated_space)
 }
 

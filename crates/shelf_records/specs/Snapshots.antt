@@ -1,13 +1,18 @@
 -- What a snapshot says, and the rules that it has to keep.
-use Rattle.std.specs.Prelude.{◌≡◌, ◌/◌, false, pos}
+use Rattle.std.specs.Prelude.{◌≡◌, ◌/◌, false, map, pos}
 use Rattle.etagere_base.specs.declared.faults.RestoreFault.{RestoreFault}
 use Rattle.etagere_base.specs.declared.faults.RestoreFault.TheVariants.{Frame, Counts, Link, Shelves, Runs, Neighbours, FreeList, Sharing, Unused, Space, Memory}
 use Rattle.etagere_base.specs.declared.frames.Frame as frames
 use Rattle.etagere_base.specs.Frames.{IsFrame, longest_side}
 use Rattle.etagere_base.specs.Lists.{Each}
 use Rattle.etagere_base.specs.Sides.{side, swapped_axes}
+use Rattle.etagere_links.specs.declared.records.LinkedItem.{LinkedItem}
+use Rattle.etagere_links.specs.declared.records.LinkedShelf.{LinkedShelf}
+use Rattle.etagere_links.specs.Links.{link_of}
 use Rattle.etagere_links.specs.RecordLists.{unused_item_walk}
 use Rattle.shelf_records.specs.declared.snapshots.AtlasSnapshot.{AtlasSnapshot}
+use Rattle.shelf_records.specs.declared.snapshots.ItemRecord.{ItemRecord}
+use Rattle.shelf_records.specs.declared.snapshots.ShelfRecord.{ShelfRecord}
 use Rattle.shelf_records.specs.AtlasRecords.{AtlasRecords, is_allocated_at, spelled_state, walked_entries}
 use Rattle.shelf_model.specs.Space.{space_in}
 use Rattle.shelf_model.specs.State.{AtlasState}
@@ -29,6 +34,35 @@ snapshot_frame snapshot =
           / snapshot.shelf_width;
     }
 
+-- the item that a saved one stands for
+abbrev pub linked_item : ItemRecord → LinkedItem
+linked_item item =
+    record {
+      x = item.x;
+      width = item.width;
+      prev = link_of item.prev;
+      next = link_of item.next;
+      prev_unallocated = link_of item.prev_unallocated;
+      next_unallocated = link_of item.next_unallocated;
+      shelf = item.shelf;
+      allocated = item.allocated;
+      generation = item.generation;
+    }
+
+-- the shelf that a saved one stands for
+abbrev pub linked_shelf : ShelfRecord → LinkedShelf
+linked_shelf shelf =
+    record {
+      x = shelf.x;
+      y = shelf.y;
+      height = shelf.height;
+      prev = link_of shelf.prev;
+      next = link_of shelf.next;
+      first_item = link_of shelf.first_item;
+      first_unallocated = link_of shelf.first_unallocated;
+      is_empty = shelf.is_empty;
+    }
+
 -- the records that a snapshot says
 abbrev pub snapshot_records : AtlasSnapshot → AtlasRecords
 snapshot_records snapshot =
@@ -36,11 +70,11 @@ snapshot_records snapshot =
       frame = snapshot_frame snapshot;
       records =
           record {
-            shelves = snapshot.shelves.items;
-            items = snapshot.items.items;
-            first_shelf = snapshot.first_shelf;
-            unused_items = snapshot.free_items;
-            unused_shelves = snapshot.free_shelves;
+            shelves = map linked_shelf snapshot.shelves.items;
+            items = map linked_item snapshot.items.items;
+            first_shelf = link_of snapshot.first_shelf;
+            unused_items = link_of snapshot.free_items;
+            unused_shelves = link_of snapshot.free_shelves;
           };
       allocated_space = snapshot.allocated_space;
     }

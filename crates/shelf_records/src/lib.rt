@@ -5,4 +5,5 @@
 #![tactic(auto)]
 
 pub mod fields;
+pub mod saving;
 pub mod snapshots;

@@ -12,36 +12,48 @@ ghost use Rattle.shelf_records.specs.StandsFor.{HasCounts};
 use crate::judging::framing::{has_counts, is_frame};
 use crate::loaded_atlas::LoadedAtlas;
 use etagere_base::{Frame, RestoreFault, Sides, side, swapped_axes};
-use etagere_links::Records;
+use etagere_links::{Link, Records};
+use shelf_records::saving::{linked_items, linked_shelves};
 use shelf_records::snapshots::AtlasSnapshot;
+use std::alloc::{AllocError, Global};
 
 impl LoadedAtlas {
-    /// The atlas that a snapshot says, where its frame and the counts of its records keep their ranges. Takes no
-    /// memory.
-    pub fn of_snapshot(snapshot: AtlasSnapshot) -> Result<LoadedAtlas, RestoreFault>
+    /// The atlas that a snapshot says, where its frame and the counts of its records keep their ranges, and there is
+    /// memory for the records, which are made anew.
+    pub fn of_snapshot(alloc: Global, snapshot: AtlasSnapshot) -> Result<LoadedAtlas, RestoreFault>
         ensures ok { IfOk result (λ atlas. atlas ≡ snapshot_records snapshot) }
         ensures frame { OnOk result (IsFrame longest_side (snapshot_records snapshot).frame) }
         ensures counts { OnOk result (HasCounts (snapshot_records snapshot)) }
         ensures fault { IfErr result (IsBroken (snapshot_records snapshot)) }
-        ensures early { IfErr result (λ fault. (fault ≡ faults.Frame) ⊎ (fault ≡ faults.Counts)) }
+        ensures early { IfErr result
+            (λ fault. (fault ≡ faults.Frame) ⊎ (fault ≡ faults.Counts) ⊎ (fault ≡ faults.Memory)) }
     {
         let frame = snapshot_frame(&snapshot)?;
-        if !has_counts(&frame, &snapshot.shelves, &snapshot.items) {
+        if !has_counts(&snapshot) {
             return Err(RestoreFault::Counts);
         }
-        let records = Records::of_lists(
-            snapshot.shelves,
-            snapshot.items,
-            snapshot.first_shelf,
-            snapshot.free_items,
-            snapshot.free_shelves,
-        );
+        let Ok(records) = linked_records(alloc, &snapshot) else {
+            return Err(RestoreFault::Memory);
+        };
         Ok(LoadedAtlas {
             frame,
             records,
             allocated_space: snapshot.allocated_space,
         })
     }
+}
+
+/// The records that a snapshot says. Takes memory for all of them.
+fn linked_records(alloc: Global, snapshot: &AtlasSnapshot) -> Result<Records, AllocError>
+    ensures { IfOk result (λ records. records ≡ (snapshot_records snapshot.now).lists) }
+{
+    Ok(Records::of_lists(
+        linked_shelves(alloc, &snapshot.shelves)?,
+        linked_items(alloc, &snapshot.items)?,
+        Link::from_bits(snapshot.first_shelf),
+        Link::from_bits(snapshot.free_items),
+        Link::from_bits(snapshot.free_shelves),
+    ))
 }
 
 /// The frame that a snapshot says, where it keeps its ranges.

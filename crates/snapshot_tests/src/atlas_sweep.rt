@@ -4,8 +4,7 @@
 
 use crate::judging::{holds, holds_at};
 use crate::plain_walks::{
-    PlainWalk, altered_values, is_each_once, is_multiple, link_of, number_of, plain_walk, times,
-    wide_link,
+    PlainWalk, altered_values, is_each_once, is_multiple, plain_walk, times,
 };
 use etagere::{
     AllocatorOptions, AtlasAllocator, AtlasSnapshot, ItemRecord, ShelfRecord, Size, laws, size2,
@@ -41,8 +40,8 @@ fn row_of(
     after_free: &[usize],
 ) -> Result<Row, Fail> {
     let shelf = shelf_of(snapshot, number)?;
-    let items = plain_walk(alloc, after, number_of(shelf.first_item))?;
-    let free = plain_walk(alloc, after_free, number_of(shelf.first_unallocated))?;
+    let items = plain_walk(alloc, after, usize::from(shelf.first_item))?;
+    let free = plain_walk(alloc, after_free, usize::from(shelf.first_unallocated))?;
     Ok(Row {
         number,
         items,
@@ -54,17 +53,17 @@ fn all_walks(alloc: Global, snapshot: &AtlasSnapshot) -> Result<Walks, Fail> {
     let mut after = Vec::new(alloc);
     let mut after_free = Vec::new(alloc);
     for item in &snapshot.items {
-        after.push(number_of(item.next))?;
-        after_free.push(number_of(item.next_unallocated))?;
+        after.push(usize::from(item.next))?;
+        after_free.push(usize::from(item.next_unallocated))?;
     }
     let mut links = Vec::new(alloc);
     for shelf in &snapshot.shelves {
-        links.push(number_of(shelf.next))?;
+        links.push(usize::from(shelf.next))?;
     }
     let links = links.as_slice();
-    let shelves = plain_walk(alloc, links, number_of(snapshot.first_shelf))?;
-    let unused_shelves = plain_walk(alloc, links, number_of(snapshot.free_shelves))?;
-    let unused_items = plain_walk(alloc, after.as_slice(), number_of(snapshot.free_items))?;
+    let shelves = plain_walk(alloc, links, usize::from(snapshot.first_shelf))?;
+    let unused_shelves = plain_walk(alloc, links, usize::from(snapshot.free_shelves))?;
+    let unused_items = plain_walk(alloc, after.as_slice(), usize::from(snapshot.free_items))?;
     let mut rows = Vec::new(alloc);
     for number in &shelves.met {
         rows.push(row_of(
@@ -136,12 +135,12 @@ fn links_hold(snapshot: &AtlasSnapshot, walks: &Walks) -> Result<bool, Fail> {
     let mut before = 65535;
     for row in &walks.rows {
         let shelf = shelf_of(snapshot, row.number)?;
-        holds = holds && number_of(shelf.prev) == before;
+        holds = holds && usize::from(shelf.prev) == before;
         before = row.number;
         let mut item_before = 65535;
         for number in &row.items.met {
             let item = item_of(snapshot, *number)?;
-            holds = holds && number_of(item.prev) == item_before;
+            holds = holds && usize::from(item.prev) == item_before;
             holds = holds && usize::from(item.shelf) == row.number;
             item_before = *number;
         }
@@ -249,7 +248,7 @@ fn free_list_holds(snapshot: &AtlasSnapshot, row: &Row) -> Result<bool, Fail> {
     let mut before = 65535;
     for number in &row.free.met {
         let item = item_of(snapshot, *number)?;
-        holds = holds && !item.allocated && number_of(item.prev_unallocated) == before;
+        holds = holds && !item.allocated && usize::from(item.prev_unallocated) == before;
         holds = holds && times(row.items.met.as_slice(), *number) == 1;
         before = *number;
     }
@@ -406,9 +405,9 @@ fn frame_numbers(snapshot: &AtlasSnapshot) -> [i64; 10] {
         i64::from(snapshot.alignment_height),
         i64::from(snapshot.vertical_shelves),
         i64::from(snapshot.shelf_width),
-        wide_link(snapshot.first_shelf),
-        wide_link(snapshot.free_items),
-        wide_link(snapshot.free_shelves),
+        i64::from(snapshot.first_shelf),
+        i64::from(snapshot.free_items),
+        i64::from(snapshot.free_shelves),
         i64::from(snapshot.allocated_space),
     ]
 }
@@ -418,10 +417,10 @@ fn shelf_numbers(shelf: &ShelfRecord) -> [i64; 8] {
         i64::from(shelf.x),
         i64::from(shelf.y),
         i64::from(shelf.height),
-        wide_link(shelf.prev),
-        wide_link(shelf.next),
-        wide_link(shelf.first_item),
-        wide_link(shelf.first_unallocated),
+        i64::from(shelf.prev),
+        i64::from(shelf.next),
+        i64::from(shelf.first_item),
+        i64::from(shelf.first_unallocated),
         i64::from(shelf.is_empty),
     ]
 }
@@ -430,10 +429,10 @@ fn item_numbers(item: &ItemRecord) -> [i64; 9] {
     [
         i64::from(item.x),
         i64::from(item.width),
-        wide_link(item.prev),
-        wide_link(item.next),
-        wide_link(item.prev_unallocated),
-        wide_link(item.next_unallocated),
+        i64::from(item.prev),
+        i64::from(item.next),
+        i64::from(item.prev_unallocated),
+        i64::from(item.next_unallocated),
         i64::from(item.shelf),
         i64::from(item.allocated),
         i64::from(item.generation),
@@ -449,9 +448,9 @@ fn alter_frame(snapshot: &mut AtlasSnapshot, field: usize, value: i64) -> Option
         3 => snapshot.alignment_height = i32::try_from(value).ok()?,
         4 => snapshot.vertical_shelves = value > 0,
         5 => snapshot.shelf_width = u16::try_from(value).ok()?,
-        6 => snapshot.first_shelf = link_of(u16::try_from(value).ok()?),
-        7 => snapshot.free_items = link_of(u16::try_from(value).ok()?),
-        8 => snapshot.free_shelves = link_of(u16::try_from(value).ok()?),
+        6 => snapshot.first_shelf = u16::try_from(value).ok()?,
+        7 => snapshot.free_items = u16::try_from(value).ok()?,
+        8 => snapshot.free_shelves = u16::try_from(value).ok()?,
         9 => snapshot.allocated_space = i32::try_from(value).ok()?,
         _ => return None,
     }
@@ -465,10 +464,10 @@ fn alter_shelf(shelf: &mut ShelfRecord, field: usize, value: i64) -> Option<()> 
         0 => shelf.x = number,
         1 => shelf.y = number,
         2 => shelf.height = number,
-        3 => shelf.prev = link_of(number),
-        4 => shelf.next = link_of(number),
-        5 => shelf.first_item = link_of(number),
-        6 => shelf.first_unallocated = link_of(number),
+        3 => shelf.prev = number,
+        4 => shelf.next = number,
+        5 => shelf.first_item = number,
+        6 => shelf.first_unallocated = number,
         7 => shelf.is_empty = number > 0,
         _ => return None,
     }
@@ -481,10 +480,10 @@ fn alter_item(item: &mut ItemRecord, field: usize, value: i64) -> Option<()> {
     match field {
         0 => item.x = number,
         1 => item.width = number,
-        2 => item.prev = link_of(number),
-        3 => item.next = link_of(number),
-        4 => item.prev_unallocated = link_of(number),
-        5 => item.next_unallocated = link_of(number),
+        2 => item.prev = number,
+        3 => item.next = number,
+        4 => item.prev_unallocated = number,
+        5 => item.next_unallocated = number,
         6 => item.shelf = number,
         7 => item.allocated = number > 0,
         8 => item.generation = number,

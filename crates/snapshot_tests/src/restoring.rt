@@ -6,7 +6,7 @@ use crate::judging::{answer_alike, are_saved_alike, equal, has_spaces, holds, ho
 use crate::round_trips::{Saved, look_alike};
 use etagere::laws::restore_atlas;
 use etagere::{
-    AllocId, AllocatorOptions, AtlasAllocator, AtlasSnapshot, DEFAULT_OPTIONS, ItemRecord, Link,
+    AllocId, AllocatorOptions, AtlasAllocator, AtlasSnapshot, DEFAULT_OPTIONS, ItemRecord,
     Rectangle, RestoreFault, ShelfRecord, point2, size2,
 };
 use std::process::Abort;
@@ -77,7 +77,7 @@ fn the_readme_example_is_restored_with_its_ids(rt: HostRuntime) -> Result<(), Fa
     let wanted = rectangle(0, 336, 300, 560);
     equal(&rt, &atlas.get(third), &Some(wanted));
     let mut circle = saved_example(&rt)?;
-    item(&mut circle, 0)?.next = Link::to(0);
+    item(&mut circle, 0)?.next = 0;
     is_refused(&rt, circle, &[RestoreFault::Sharing]);
     Ok(())
 }
@@ -85,10 +85,10 @@ fn the_readme_example_is_restored_with_its_ids(rt: HostRuntime) -> Result<(), Fa
 #[test]
 fn items_are_in_one_list_each(rt: HostRuntime) -> Result<(), Fail> {
     let mut circle = saved(&rt)?;
-    item(&mut circle, 1)?.next = Link::to(0);
+    item(&mut circle, 1)?.next = 0;
     is_refused(&rt, circle, &[RestoreFault::Sharing]);
     let mut lost = saved(&rt)?;
-    item(&mut lost, 0)?.next = Link::none();
+    item(&mut lost, 0)?.next = u16::MAX;
     let faults = [
         RestoreFault::Runs,
         RestoreFault::FreeList,
@@ -96,7 +96,7 @@ fn items_are_in_one_list_each(rt: HostRuntime) -> Result<(), Fail> {
     ];
     is_refused(&rt, lost, &faults);
     let mut shared = saved(&rt)?;
-    shared.free_items = Link::to(1);
+    shared.free_items = 1;
     is_refused(&rt, shared, &[RestoreFault::Sharing]);
     Ok(())
 }
@@ -104,13 +104,13 @@ fn items_are_in_one_list_each(rt: HostRuntime) -> Result<(), Fail> {
 #[test]
 fn links_name_records_and_lead_back(rt: HostRuntime) -> Result<(), Fail> {
     let mut outside = saved(&rt)?;
-    outside.free_items = Link::to(2);
+    outside.free_items = 2;
     is_refused(&rt, outside, &[RestoreFault::Link, RestoreFault::Sharing]);
     let mut back = saved(&rt)?;
-    item(&mut back, 1)?.prev = Link::none();
+    item(&mut back, 1)?.prev = u16::MAX;
     is_refused(&rt, back, &[RestoreFault::Link]);
     let mut shelf_back = saved(&rt)?;
-    first_shelf(&mut shelf_back)?.prev = Link::to(0);
+    first_shelf(&mut shelf_back)?.prev = 0;
     is_refused(&rt, shelf_back, &[RestoreFault::Link]);
     let mut owner = saved(&rt)?;
     item(&mut owner, 1)?.shelf = 1;
@@ -121,7 +121,7 @@ fn links_name_records_and_lead_back(rt: HostRuntime) -> Result<(), Fail> {
 #[test]
 fn a_free_list_has_each_free_item_once(rt: HostRuntime) -> Result<(), Fail> {
     let mut circle = saved(&rt)?;
-    item(&mut circle, 1)?.next_unallocated = Link::to(1);
+    item(&mut circle, 1)?.next_unallocated = 1;
     is_refused(&rt, circle, &[RestoreFault::FreeList]);
     let mut freed = saved(&rt)?;
     item(&mut freed, 0)?.allocated = false;
@@ -164,15 +164,15 @@ fn two_shelves_share_no_items(rt: HostRuntime) -> Result<(), Fail> {
     let mut shared = saved(&rt)?;
     let shelf = first_shelf(&mut shared)?;
     shelf.height = 4;
-    shelf.next = Link::to(1);
+    shelf.next = 1;
     shared.shelves.push(ShelfRecord {
         x: 0,
         y: 4,
         height: 4,
-        prev: Link::to(0),
-        next: Link::none(),
-        first_item: Link::to(0),
-        first_unallocated: Link::to(1),
+        prev: 0,
+        next: u16::MAX,
+        first_item: 0,
+        first_unallocated: 1,
         is_empty: false,
     })?;
     is_refused(&rt, shared, &[RestoreFault::Link, RestoreFault::Sharing]);
@@ -189,15 +189,15 @@ fn with_unused(
     snapshot.items.push(ItemRecord {
         x: 0,
         width: 0,
-        prev: Link::none(),
-        next: Link::none(),
-        prev_unallocated: Link::none(),
-        next_unallocated: Link::none(),
+        prev: u16::MAX,
+        next: u16::MAX,
+        prev_unallocated: u16::MAX,
+        next_unallocated: u16::MAX,
         shelf: 0,
         allocated,
         generation,
     })?;
-    snapshot.free_items = Link::to(2);
+    snapshot.free_items = 2;
     Ok(snapshot)
 }
 
@@ -278,16 +278,12 @@ fn a_chain_that_many_shelves_share_is_followed_once(rt: HostRuntime) -> Result<(
     let atlas = atlas_with(rt.alloc(), (1000, 8), &options)?;
     let mut snapshot = atlas.snapshot()?;
     for shelf in &mut snapshot.shelves {
-        shelf.first_item = Link::to(0);
+        shelf.first_item = 0;
     }
     let mut number = 0;
     for item in &mut snapshot.items {
-        number = usize::wrapping_add(number, 1);
-        item.next = if number < 1000 {
-            Link::to(number)
-        } else {
-            Link::none()
-        };
+        number = u16::wrapping_add(number, 1);
+        item.next = if number < 1000 { number } else { u16::MAX };
     }
     let mut steps = 0;
     let Err(fault) = restore_atlas(rt.alloc(), snapshot, &mut steps) else {

@@ -8,11 +8,11 @@ ghost use Rattle.etagere_base.specs.Deciding.{Decides};
 ghost use Rattle.etagere_base.specs.Frames as frames;
 ghost use Rattle.etagere_base.specs.Frames.{IsFrame, longest_side};
 ghost use Rattle.etagere_links.specs.Links.{no_link};
-ghost use Rattle.shelf_records.specs.Private.Judging.{judged};
+ghost use Rattle.shelf_records.specs.Snapshots.{snapshot_records};
 ghost use Rattle.shelf_records.specs.StandsFor.{HasCounts};
 
 use etagere_base::Frame;
-use etagere_links::{LinkedItem, LinkedShelf};
+use shelf_records::snapshots::AtlasSnapshot;
 
 /// No side of an atlas is longer, in pixels.
 const LONGEST_SIDE: u32 = 65535;
@@ -54,14 +54,14 @@ pub fn is_frame(frame: &Frame) -> bool
     u64::from(frame.columns) * u64::from(frame.column_width) <= u64::from(along_side(frame))
 }
 
-/// Whether there are as many records of each kind as an atlas may have.
-pub fn has_counts(frame: &Frame, shelves: &[LinkedShelf], items: &[LinkedItem]) -> bool
-    ensures { Decides result (HasCounts (judged frame.now shelves.now items.now)) }
+/// Whether a snapshot has as many records of each kind as an atlas may have.
+pub fn has_counts(snapshot: &AtlasSnapshot) -> bool
+    ensures { Decides result (HasCounts (snapshot_records snapshot.now)) }
 {
-    if !is_count(shelves.len()) {
+    if !is_count(snapshot.shelves.len()) {
         return false;
     }
-    is_count(items.len())
+    is_count(snapshot.items.len())
 }
 
 /// The alignment along the shelves.
