@@ -17,10 +17,8 @@ pub use etagere_base::{
     RestoreFault, Size, UnknownId, point2, size2,
 };
 pub use etagere_bucketed::{
-    BucketedAtlasAllocator, BucketedSnapshot, GrowFault, LinkedBucket as BucketRecord,
-    LinkedBucketShelf as BucketShelfRecord,
+    BucketRecord, BucketShelfRecord, BucketedAtlasAllocator, BucketedSnapshot, GrowFault,
 };
-pub use etagere_links::Link;
 pub use listing::Iter;
 pub use shelf_model::faults::AtlasGrowFault;
 pub use shelf_records::snapshots::{AtlasSnapshot, ItemRecord, ShelfRecord};

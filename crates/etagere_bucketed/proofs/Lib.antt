@@ -7,6 +7,7 @@ pub mod KnownBlocks
 pub mod Ledger
 pub mod PassedShelves
 pub mod Promises
+pub mod Saved
 pub mod Searched
 pub mod Shelving
 pub mod Spacing

@@ -1,15 +1,44 @@
 -- What a snapshot of a bucketed atlas stands for, and which of its rules a refusal names.
-use Rattle.std.specs.Prelude.{◌≡◌, false}
+use Rattle.std.specs.Prelude.{◌≡◌, false, map}
 use Rattle.etagere_base.specs.declared.faults.RestoreFault.{RestoreFault}
 use Rattle.etagere_base.specs.declared.faults.RestoreFault.TheVariants.{Frame, Counts, Link, Shelves, Runs, Neighbours, FreeList, Sharing, Unused, Space, Memory}
 use Rattle.etagere_base.specs.Lists.{Each}
 use Rattle.etagere_base.specs.Sides.{side}
+use Rattle.etagere_links.specs.Links.{link_of}
+use Rattle.etagere_bucketed.specs.declared.records.LinkedBucket.{LinkedBucket}
+use Rattle.etagere_bucketed.specs.declared.records.LinkedBucketShelf.{LinkedBucketShelf}
+use Rattle.etagere_bucketed.specs.declared.snapshots.BucketRecord.{BucketRecord}
+use Rattle.etagere_bucketed.specs.declared.snapshots.BucketShelfRecord.{BucketShelfRecord}
 use Rattle.etagere_bucketed.specs.declared.snapshots.BucketedSnapshot.{BucketedSnapshot}
 use Rattle.etagere_bucketed.specs.BucketRecords.{BucketRecords, bucket_walk, spelled_state}
 use Rattle.etagere_bucketed.specs.Frames.{IsBucketedFrame}
 use Rattle.etagere_bucketed.specs.StandsFor.{HasBuckets, HasCounts, HasLinks, HasShelves, IsShared, StandsFor, live_of, used_area}
 use Rattle.etagere_bucketed.specs.State.{BucketedState}
 use Rattle.etagere_bucketed.specs.Valid.{ends_idle}
+
+-- the linked shelf for which a saved one stands
+abbrev pub linked_shelf : BucketShelfRecord → LinkedBucketShelf
+linked_shelf shelf =
+    record {
+      x = shelf.x;
+      y = shelf.y;
+      height = shelf.height;
+      bucket_width = shelf.bucket_width;
+      first_bucket = link_of shelf.first_bucket;
+    }
+
+-- the linked bucket for which a saved one stands
+abbrev pub linked_bucket : BucketRecord → LinkedBucket
+linked_bucket bucket =
+    record {
+      x = bucket.x;
+      free_space = bucket.free_space;
+      next = link_of bucket.next;
+      refcount = bucket.refcount;
+      item_count = bucket.item_count;
+      shelf = bucket.shelf;
+      generation = bucket.generation;
+    }
 
 -- the records of a snapshot
 abbrev pub snapshot_records : BucketedSnapshot → BucketRecords
@@ -24,9 +53,9 @@ snapshot_records snapshot =
         column_width = snapshot.column_width;
         columns = snapshot.num_columns;
       };
-      shelves = snapshot.shelves.items;
-      buckets = snapshot.buckets.items;
-      unused = snapshot.first_unallocated_bucket;
+      shelves = map linked_shelf snapshot.shelves.items;
+      buckets = map linked_bucket snapshot.buckets.items;
+      unused = link_of snapshot.first_unallocated_bucket;
       current_column = snapshot.current_column;
       available_height = snapshot.available_height;
       allocated_space = snapshot.allocated_space;

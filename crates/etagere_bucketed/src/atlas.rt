@@ -17,7 +17,7 @@ ghost use Rattle.etagere_bucketed.specs.Frames.{longest_bucketed_side};
 ghost use Rattle.etagere_bucketed.specs.Growing as growing;
 ghost use Rattle.etagere_bucketed.specs.Ledgers.{AddsEntry, IsClear, KeepsEntries, KeepsKnown, SameKnown, SameOthers, TakesEntry};
 ghost use Rattle.etagere_bucketed.specs.Placing.{IsBucketRefused};
-ghost use Rattle.etagere_bucketed.specs.Private.Restored.{IsSnapshotJudged};
+ghost use Rattle.etagere_bucketed.specs.Private.Restored.{IsSnapshotJudged, linked_records};
 ghost use Rattle.etagere_bucketed.specs.Restoring.{Breaks, snapshot_records, state_of};
 ghost use Rattle.etagere_bucketed.specs.Returning.{bucket_returned, is_known};
 ghost use Rattle.etagere_bucketed.specs.Space as space;
@@ -35,6 +35,7 @@ use crate::frames::{LONGEST_BUCKETED_SIDE, bucketed_frame, grow_fault, grown_fra
 use crate::placing::place_of;
 use crate::restoring::{JudgedSnapshot, Totals, restore_bucketed, snapshot_of};
 use crate::returning::bucket_number;
+use crate::saving::LinkedSnapshot;
 use crate::searching::MOST_BUCKETS;
 use crate::snapshots::BucketedSnapshot;
 use crate::store::Store;
@@ -132,8 +133,8 @@ impl BucketedAtlasAllocator {
     /// it stands.
     ///
     /// Returns a fault whose rule is broken; `Memory` only where there was no memory. The snapshot is used up either
-    /// way. Takes memory for what is kept beside the shelves, and some for each record while it runs. The time is
-    /// linear in the number of records.
+    /// way. Takes memory for all records and for what is kept beside the shelves, and some more for each while it
+    /// runs. The time is linear in the number of records.
     pub fn restore(
         alloc: Global,
         snapshot: BucketedSnapshot,
@@ -153,8 +154,8 @@ impl BucketedAtlasAllocator {
     pub fn snapshot(&self) -> Result<BucketedSnapshot, AllocError>
         ensures { IfOk result (λ snapshot. StandsFor (snapshot_records snapshot) self.now) }
     {
-        let shelves = self.store.shelf_records()?;
-        let buckets = self.store.bucket_records()?;
+        let shelves = self.store.saved_shelves()?;
+        let buckets = self.store.saved_buckets()?;
         let unused = self.store.first_unused();
         let said = Totals {
             column: self.current_column,
@@ -167,11 +168,11 @@ impl BucketedAtlasAllocator {
     /// The atlas of a snapshot that was judged.
     pub(crate) fn of_judged(
         judged: JudgedSnapshot,
-        snapshot: BucketedSnapshot,
+        snapshot: LinkedSnapshot,
     ) -> BucketedAtlasAllocator
-        requires { IsSnapshotJudged (snapshot_records snapshot) judged.frame judged.shelves.items
+        requires { IsSnapshotJudged (linked_records snapshot) judged.frame judged.shelves.items
             judged.in_use judged.space }
-        ensures state { result ≡ state_of (snapshot_records snapshot) }
+        ensures state { result ≡ state_of (linked_records snapshot) }
         ensures promises { KeepsPromises result }
     {
         let blocks = Blocks::of(&judged.shelves);
@@ -180,7 +181,7 @@ impl BucketedAtlasAllocator {
             store: Store {
                 shelves: judged.shelves,
                 buckets: snapshot.buckets,
-                unused: snapshot.first_unallocated_bucket,
+                unused: snapshot.first_unused,
                 blocks,
             },
             current_column: u32::from(snapshot.current_column),

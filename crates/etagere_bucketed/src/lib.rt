@@ -1,8 +1,8 @@
 //! The bucketed atlas: shelves of buckets that are filled from the front and emptied as a whole. Here are
 //! its model, its laws and its code.
 //!
-//! `atlas` has the public calls, `faults` why a growth is refused, `laws` what the laws of restoring are stated of; `records` and
-//! `snapshots` are what is saved. All else is private. `store` has the records and the steps of which calls are made.
+//! `atlas` has the public calls, `faults` why a growth is refused, `laws` what the laws of restoring are stated of; `snapshots` has
+//! what is saved, and `saving` how it stands for what is kept. All else is private. `store` has the records and the steps of which calls are made.
 //! For an allocation `placing` decides the place: by `searching` in a bucket, by `adding` on a new shelf, or by
 //! `merging` on idle ones; by what `blocks` know of shelves these pass over many at once. `returning` and `dropping`
 //! are the steps of a return, `growing` those of a growth, and `making` makes buckets for shelves that are added and
@@ -27,6 +27,7 @@ mod placing;
 mod records;
 mod restoring;
 mod returning;
+mod saving;
 mod searching;
 mod snapshots;
 mod store;
@@ -34,5 +35,4 @@ mod walking;
 
 pub use atlas::BucketedAtlasAllocator;
 pub use faults::GrowFault;
-pub use records::{LinkedBucket, LinkedBucketShelf};
-pub use snapshots::BucketedSnapshot;
+pub use snapshots::{BucketRecord, BucketShelfRecord, BucketedSnapshot};

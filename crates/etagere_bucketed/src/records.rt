@@ -1,12 +1,11 @@
-//! The records of a bucketed atlas, as a snapshot has them: their fields are those of the format.
+//! The records of a bucketed atlas, as it keeps them.
 //!
 //! Definitions: `BucketRecords`, what they spell.
 
 use etagere_links::Link;
-use serde::{Deserialize, Serialize};
 
 /// A strip across a column. Lengths and places are in pixels.
-#[derive(Clone, Copy, Debug, PartialEq, Eq, Serialize, Deserialize)]
+#[derive(Clone, Copy, Debug, PartialEq, Eq)]
 pub struct LinkedBucketShelf {
     /// Where its column begins along the shelves.
     pub x: u16,
@@ -21,7 +20,7 @@ pub struct LinkedBucketShelf {
 }
 
 /// A bucket of a shelf, or an unused record for one. Lengths and places are in pixels.
-#[derive(Clone, Copy, Debug, PartialEq, Eq, Serialize, Deserialize)]
+#[derive(Clone, Copy, Debug, PartialEq, Eq)]
 pub struct LinkedBucket {
     /// Where the bucket begins along the shelf.
     pub x: u16,

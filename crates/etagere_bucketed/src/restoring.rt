@@ -7,7 +7,7 @@ ghost use Rattle.std.specs.Prelude.{◌≡◌, ◌≤◌, ◌<◌, ◌*◌, ◌+
 ghost use Rattle.etagere_bucketed.specs.Atlas.{KeepsPromises};
 ghost use Rattle.etagere_bucketed.specs.Frames.{IsBucketedFrame};
 ghost use Rattle.etagere_bucketed.specs.Private.Judging as judging;
-ghost use Rattle.etagere_bucketed.specs.Private.Restored.{IsSnapshotJudged};
+ghost use Rattle.etagere_bucketed.specs.Private.Restored.{IsSnapshotJudged, linked_records};
 ghost use Rattle.etagere_bucketed.specs.Private.Store.{shelf_record};
 ghost use Rattle.etagere_bucketed.specs.Restoring as spec;
 ghost use Rattle.etagere_bucketed.specs.RestoringSteps.{IsRead, links_of_all};
@@ -15,9 +15,9 @@ ghost use Rattle.etagere_bucketed.specs.StandsFor.{StandsFor};
 
 use crate::atlas::BucketedAtlasAllocator;
 use crate::judging::{is_frame, is_stacked};
-use crate::records::{LinkedBucket, LinkedBucketShelf};
+use crate::saving::{LinkedSnapshot, saved_buckets, saved_shelves};
 use crate::searching::MOST_BUCKETS;
-use crate::snapshots::BucketedSnapshot;
+use crate::snapshots::{BucketRecord, BucketShelfRecord, BucketedSnapshot};
 use crate::store::{KeptShelf, Store};
 use crate::walking::judged_lists;
 use etagere_base::{Frame, RestoreFault, side};
@@ -34,8 +34,8 @@ pub(crate) struct JudgedSnapshot {
 }
 
 /// The frame that a snapshot says.
-fn snapshot_frame(snapshot: &BucketedSnapshot) -> Frame
-    ensures value { result ≡ (spec.snapshot_records snapshot.now).frame }
+fn snapshot_frame(snapshot: &LinkedSnapshot) -> Frame
+    ensures value { result ≡ (linked_records snapshot.now).frame }
     ensures column_width { result.column_width < 2 ^ 16 }
     ensures columns { result.columns < 2 ^ 16 }
 {
@@ -51,7 +51,7 @@ fn snapshot_frame(snapshot: &BucketedSnapshot) -> Frame
 }
 
 /// The allocated space that a snapshot says, in square pixels, if it is this one.
-fn said_space(snapshot: &BucketedSnapshot, space: u64) -> Option<u32>
+fn said_space(snapshot: &LinkedSnapshot, space: u64) -> Option<u32>
     ensures said { IfSome result (λ _. snapshot.now.allocated_space ≡ pos space) }
     ensures same { IfSome result (λ area. area ≡ space) }
     ensures none { IfNone result (snapshot.now.allocated_space ≡ pos space → ⊥) }
@@ -77,15 +77,15 @@ fn ends_idle(shelves: &[KeptShelf]) -> bool
 /// Judges a snapshot, rule by rule, and counts the links that it reads.
 pub(crate) fn judged_snapshot(
     alloc: Global,
-    snapshot: &BucketedSnapshot,
+    snapshot: &LinkedSnapshot,
     steps: &mut u64,
 ) -> Result<JudgedSnapshot, RestoreFault>
-    ensures ok { IfOk result (λ judged. IsSnapshotJudged (spec.snapshot_records snapshot.now)
+    ensures ok { IfOk result (λ judged. IsSnapshotJudged (linked_records snapshot.now)
         judged.frame judged.shelves.items judged.in_use judged.space) }
     ensures fault { IfErr result
-        (λ fault. spec.Breaks (spec.snapshot_records snapshot.now) fault) }
-    ensures all { OnOk result (steps.new ≡ links_of_all (spec.snapshot_records snapshot.now)) }
-    ensures until { IfErr result (IsRead (spec.snapshot_records snapshot.now) steps.new) }
+        (λ fault. spec.Breaks (linked_records snapshot.now) fault) }
+    ensures all { OnOk result (steps.new ≡ links_of_all (linked_records snapshot.now)) }
+    ensures until { IfErr result (IsRead (linked_records snapshot.now) steps.new) }
     ensures steps { OnOk result (length snapshot.now.buckets.items ≤ steps.new) }
     ensures bound { steps.new ≤ 2 * length snapshot.now.buckets.items }
 {
@@ -106,7 +106,7 @@ pub(crate) fn judged_snapshot(
     ) {
         return Err(RestoreFault::Shelves);
     }
-    let unused = snapshot.first_unallocated_bucket;
+    let unused = snapshot.first_unused;
     let lists = judged_lists(
         alloc,
         steps,
@@ -136,7 +136,8 @@ pub(crate) fn judged_snapshot(
 ///
 /// `steps` becomes the number of links that were read, whether the snapshot is accepted or refused: after `Ok` that of
 /// all lists, and else that of the lists up to the first shelf that is refused, which is at most four times the number
-/// of records. Takes memory for what is kept beside the shelves, and some for each record while it runs.
+/// of records. Takes memory for all records and for what is kept beside the shelves, and some more for each while it
+/// runs.
 pub fn restore_bucketed(
     alloc: Global,
     snapshot: BucketedSnapshot,
@@ -151,37 +152,28 @@ pub fn restore_bucketed(
     ensures bound { steps.new
         ≤ 4 * (length snapshot.shelves.items + length snapshot.buckets.items) }
 {
-    let judged = judged_snapshot(alloc, &snapshot, steps)?;
-    Ok(BucketedAtlasAllocator::of_judged(judged, snapshot))
-}
-
-/// The records of shelves.
-fn shelf_records(alloc: Global, shelves: &[KeptShelf]) -> Result<Vec<LinkedBucketShelf>, AllocError>
-    ensures { IfOk result (λ records. records.items ≡ map shelf_record shelves.now) }
-{
-    shelves.iter().map(|kept| kept.shelf).collect(alloc)
-}
-
-/// The same records of buckets.
-fn bucket_records(alloc: Global, buckets: &[LinkedBucket]) -> Result<Vec<LinkedBucket>, AllocError>
-    ensures { IfOk result (λ records. records.items ≡ buckets.now) }
-{
-    buckets.iter().copied().collect(alloc)
+    *steps = 0;
+    let Ok(linked) = LinkedSnapshot::of(alloc, &snapshot) else {
+        return Err(RestoreFault::Memory);
+    };
+    let judged = judged_snapshot(alloc, &linked, steps)?;
+    Ok(BucketedAtlasAllocator::of_judged(judged, linked))
 }
 
 impl Store {
-    /// The records of the shelves, to be saved.
-    pub(crate) fn shelf_records(&self) -> Result<Vec<LinkedBucketShelf>, AllocError>
-        ensures { IfOk result (λ records. records.items ≡ map shelf_record self.now.shelves) }
+    /// What the shelves are saved as.
+    pub(crate) fn saved_shelves(&self) -> Result<Vec<BucketShelfRecord>, AllocError>
+        ensures { IfOk result (λ saved.
+            map spec.linked_shelf saved.items ≡ map shelf_record self.now.shelves) }
     {
-        shelf_records(*self.shelves.allocator(), &self.shelves)
+        saved_shelves(*self.shelves.allocator(), &self.shelves)
     }
 
-    /// The records of the buckets, to be saved.
-    pub(crate) fn bucket_records(&self) -> Result<Vec<LinkedBucket>, AllocError>
-        ensures { IfOk result (λ records. records.items ≡ self.now.buckets) }
+    /// What the buckets are saved as.
+    pub(crate) fn saved_buckets(&self) -> Result<Vec<BucketRecord>, AllocError>
+        ensures { IfOk result (λ saved. map spec.linked_bucket saved.items ≡ self.now.buckets) }
     {
-        bucket_records(*self.buckets.allocator(), &self.buckets)
+        saved_buckets(*self.buckets.allocator(), &self.buckets)
     }
 
     /// Where the records begin that are unused.
@@ -205,8 +197,8 @@ pub(crate) fn snapshot_of(
     frame: &Frame,
     said: Totals,
     unused: Link,
-    shelves: Vec<LinkedBucketShelf>,
-    buckets: Vec<LinkedBucket>,
+    shelves: Vec<BucketShelfRecord>,
+    buckets: Vec<BucketRecord>,
 ) -> BucketedSnapshot
     requires frame { IsBucketedFrame frame.now }
     requires column_width { frame.now.column_width < 2 ^ 16 }
@@ -217,8 +209,8 @@ pub(crate) fn snapshot_of(
     ensures { spec.snapshot_records result
         ≡ record {
           frame = frame.now;
-          shelves = shelves.items;
-          buckets = buckets.items;
+          shelves = map spec.linked_shelf shelves.items;
+          buckets = map spec.linked_bucket buckets.items;
           unused = unused;
           current_column = said.column;
           available_height = said.height;
@@ -235,7 +227,7 @@ pub(crate) fn snapshot_of(
         num_columns: frame.columns as u16,
         current_column: said.column as u16,
         available_height: said.height as u16,
-        first_unallocated_bucket: unused,
+        first_unallocated_bucket: unused.bits(),
         allocated_space: said.space as i32,
         shelves,
         buckets,

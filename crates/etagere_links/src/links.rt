@@ -5,13 +5,11 @@
 ghost use Rattle.std.specs.Prelude.{◌≡◌, ℕ, ◌<◌, Option, IfSome};
 ghost use Rattle.etagere_links.specs.Links.{no_link, link_of, bits_of};
 
-use serde::{Deserialize, Serialize};
 use std::marker::Model;
 
-/// Names a record by its number, which is below 65535, or names none. It is serialized as 16 bits, which
-/// are 65535 where it names none.
-#[derive(Clone, Copy, Debug, PartialEq, Eq, Serialize, Deserialize)]
-#[serde(transparent)]
+/// Names a record by its number, which is below 65535, or names none. It is saved as 16 bits, which are 65535
+/// where it names none.
+#[derive(Clone, Copy, Debug, PartialEq, Eq)]
 pub struct Link {
     bits: u16,
 }

@@ -10,8 +10,8 @@ use Rattle.json.specs.declared.value.Value.{Value, Object}
 use Rattle.json.proofs.Grammar.{members_end, members_more, read_key-shorter, value-begin_object}
 use Rattle.json.proofs.Trees.{view-Object}
 use Rattle.etagere_bucketed.specs.declared.snapshots.BucketedSnapshot.{BucketedSnapshot}
-use Rattle.etagere_bucketed.specs.declared.records.LinkedBucket.{LinkedBucket}
-use Rattle.etagere_bucketed.specs.declared.records.LinkedBucketShelf.{LinkedBucketShelf}
+use Rattle.etagere_bucketed.specs.declared.snapshots.BucketRecord.{BucketRecord}
+use Rattle.etagere_bucketed.specs.declared.snapshots.BucketShelfRecord.{BucketShelfRecord}
 use Rattle.shelf_records.specs.declared.snapshots.AtlasSnapshot.{AtlasSnapshot}
 use Rattle.shelf_records.specs.declared.snapshots.ItemRecord.{ItemRecord}
 use Rattle.shelf_records.specs.declared.snapshots.ShelfRecord.{ShelfRecord}
@@ -27,7 +27,7 @@ use Rattle.saved_json.proofs.KeptMembers.{first-array, kept-values, second-array
 abbrev atlas_arrays : AtlasSnapshot → Arrays ShelfRecord ItemRecord
 atlas_arrays snapshot = arrays_of IsShelf snapshot.shelves.items (codes "items") IsItem snapshot.items.items
 
-abbrev bucketed_arrays : BucketedSnapshot → Arrays LinkedBucketShelf LinkedBucket
+abbrev bucketed_arrays : BucketedSnapshot → Arrays BucketShelfRecord BucketRecord
 bucketed_arrays snapshot =
     arrays_of IsBucketShelf snapshot.shelves.items (codes "buckets") IsBucket snapshot.buckets.items
 
@@ -123,7 +123,7 @@ atlas-passed snapshot old start new kept first second shelves items opened first
     }
 
 pub bucketed-passed : {A : Type 0} (snapshot : BucketedSnapshot) (old start new : List Token)
-    (kept : Vec (Bor (List ℕ) × Value A) A) (first : List LinkedBucketShelf) (second : List LinkedBucket)
+    (kept : Vec (Bor (List ℕ) × Value A) A) (first : List BucketShelfRecord) (second : List BucketRecord)
     (shelves buckets : Json)
     → old ≡ begin_object ∷ start → first ≡ snapshot.shelves.items → second ≡ snapshot.buckets.items
     → PassesMembers (arrays_of IsBucketShelf first (codes "buckets") IsBucket second) 126 start
@@ -133,10 +133,10 @@ pub bucketed-passed : {A : Type 0} (snapshot : BucketedSnapshot) (old start new 
     → HasBucketedFields (value_view (Object kept)) snapshot → Passes 127 old (λ json. IsBucketed json snapshot) new
 bucketed-passed snapshot old start new kept first second shelves buckets opened first_is second_is passed one other has =
     let view = view-Object kept in
-    let with_first = subst (λ (f : List LinkedBucketShelf).
+    let with_first = subst (λ (f : List BucketShelfRecord).
     PassesMembers (arrays_of IsBucketShelf f (codes "buckets") IsBucket second) 126 start
     (members_view kept.items) new) first_is passed in
-    let whole = subst (λ (s : List LinkedBucket).
+    let whole = subst (λ (s : List BucketRecord).
     PassesMembers (arrays_of IsBucketShelf snapshot.shelves.items (codes "buckets") IsBucket s) 126 start
     (members_view kept.items) new) second_is with_first in
     record {

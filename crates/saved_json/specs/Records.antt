@@ -1,9 +1,8 @@
 -- How a JSON value spells each record of a snapshot.
 use Rattle.std.specs.Prelude.{◌≡◌, List, [], ◌∷◌, Some, codes}
 use Rattle.json.specs.Json.{Json, boolean, Items, no_items, item}
-use Rattle.etagere_bucketed.specs.declared.records.LinkedBucket.{LinkedBucket}
-use Rattle.etagere_bucketed.specs.declared.records.LinkedBucketShelf.{LinkedBucketShelf}
-use Rattle.etagere_links.specs.Links.{bits_of}
+use Rattle.etagere_bucketed.specs.declared.snapshots.BucketRecord.{BucketRecord}
+use Rattle.etagere_bucketed.specs.declared.snapshots.BucketShelfRecord.{BucketShelfRecord}
 use Rattle.shelf_records.specs.declared.snapshots.ItemRecord.{ItemRecord}
 use Rattle.shelf_records.specs.declared.snapshots.ShelfRecord.{ShelfRecord}
 use Rattle.saved_json.specs.Fields.{field, natural}
@@ -29,17 +28,17 @@ pub record IsShelf (json : Json) (shelf : ShelfRecord) : Type 0 where
   pub first_unallocated : field 8 6 (codes "first_unallocated") json ≡ Some (natural shelf.first_unallocated)
   pub is_empty : field 8 7 (codes "is_empty") json ≡ Some (boolean shelf.is_empty)
 
-pub record IsBucketShelf (json : Json) (shelf : LinkedBucketShelf) : Type 0 where
+pub record IsBucketShelf (json : Json) (shelf : BucketShelfRecord) : Type 0 where
   pub x : field 5 0 (codes "x") json ≡ Some (natural shelf.x)
   pub y : field 5 1 (codes "y") json ≡ Some (natural shelf.y)
   pub height : field 5 2 (codes "height") json ≡ Some (natural shelf.height)
   pub bucket_width : field 5 3 (codes "bucket_width") json ≡ Some (natural shelf.bucket_width)
-  pub first_bucket : field 5 4 (codes "first_bucket") json ≡ Some (natural (bits_of shelf.first_bucket))
+  pub first_bucket : field 5 4 (codes "first_bucket") json ≡ Some (natural shelf.first_bucket)
 
-pub record IsBucket (json : Json) (bucket : LinkedBucket) : Type 0 where
+pub record IsBucket (json : Json) (bucket : BucketRecord) : Type 0 where
   pub x : field 7 0 (codes "x") json ≡ Some (natural bucket.x)
   pub free_space : field 7 1 (codes "free_space") json ≡ Some (natural bucket.free_space)
-  pub next : field 7 2 (codes "next") json ≡ Some (natural (bits_of bucket.next))
+  pub next : field 7 2 (codes "next") json ≡ Some (natural bucket.next)
   pub refcount : field 7 3 (codes "refcount") json ≡ Some (natural bucket.refcount)
   pub item_count : field 7 4 (codes "item_count") json ≡ Some (natural bucket.item_count)
   pub shelf : field 7 5 (codes "shelf") json ≡ Some (natural bucket.shelf)

@@ -3,7 +3,6 @@ use Rattle.std.specs.Prelude.{◌≡◌, ℕ, Bool, List, Option, Some, IsUtf8, 
 use Rattle.json.specs.Json.{Json, array, boolean, document, member, no_members, object, Items}
 use Rattle.etagere_base.specs.declared.geometry.Size.{Size}
 use Rattle.etagere_bucketed.specs.declared.snapshots.BucketedSnapshot.{BucketedSnapshot}
-use Rattle.etagere_links.specs.Links.{bits_of}
 use Rattle.shelf_records.specs.declared.snapshots.AtlasSnapshot.{AtlasSnapshot}
 use Rattle.saved_json.specs.declared.saved.Saved.{Saved}
 use Rattle.saved_json.specs.declared.saved.Saved.TheVariants.{Atlas, Bucketed}
@@ -36,7 +35,7 @@ pub record HasColumns (json : Json) (snapshot : BucketedSnapshot) : Type 0 where
   pub current_column : field 13 7 (codes "current_column") json ≡ Some (natural snapshot.current_column)
   pub available_height : field 13 8 (codes "available_height") json ≡ Some (natural snapshot.available_height)
   pub first_unallocated_bucket :
-      field 13 9 (codes "first_unallocated_bucket") json ≡ Some (natural (bits_of snapshot.first_unallocated_bucket))
+      field 13 9 (codes "first_unallocated_bucket") json ≡ Some (natural snapshot.first_unallocated_bucket)
   pub allocated_space : field 13 10 (codes "allocated_space") json ≡ Some (whole snapshot.allocated_space)
 
 -- all fields of a snapshot that are no arrays

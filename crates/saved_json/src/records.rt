@@ -46,7 +46,7 @@ impl Spelled for BucketShelfRecord {
             && holds_natural(json, 5, 1, "y", self.y)
             && holds_natural(json, 5, 2, "height", self.height)
             && holds_natural(json, 5, 3, "bucket_width", self.bucket_width)
-            && holds_natural(json, 5, 4, "first_bucket", self.first_bucket.bits())
+            && holds_natural(json, 5, 4, "first_bucket", self.first_bucket)
     }
 }
 
@@ -71,7 +71,7 @@ impl Spelled for BucketRecord {
     fn is_spelled_by(&self, json: &Value<'_>) -> bool {
         holds_natural(json, 7, 0, "x", self.x)
             && holds_natural(json, 7, 1, "free_space", self.free_space)
-            && holds_natural(json, 7, 2, "next", self.next.bits())
+            && holds_natural(json, 7, 2, "next", self.next)
             && holds_natural(json, 7, 3, "refcount", self.refcount)
             && holds_natural(json, 7, 4, "item_count", self.item_count)
             && holds_natural(json, 7, 5, "shelf", self.shelf)

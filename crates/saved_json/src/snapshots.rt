@@ -83,7 +83,7 @@ fn has_columns(json: &Value<'_>, snapshot: &BucketedSnapshot) -> bool
             13,
             9,
             "first_unallocated_bucket",
-            snapshot.first_unallocated_bucket.bits(),
+            snapshot.first_unallocated_bucket,
         )
         && holds_whole(json, 13, 10, "allocated_space", snapshot.allocated_space)
 }

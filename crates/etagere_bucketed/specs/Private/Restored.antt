@@ -2,14 +2,37 @@
 use Rattle.std.specs.Prelude.{◌≡◌, ℕ, Option, List, []}
 use Rattle.etagere_base.specs.declared.frames.Frame.{Frame}
 use Rattle.etagere_base.specs.Lists.{Each}
+use Rattle.etagere_base.specs.Sides.{side}
 use Rattle.etagere_links.specs.Links.{bits_of, link_of}
 use Rattle.etagere_bucketed.specs.declared.records.LinkedBucketShelf.{LinkedBucketShelf}
+use Rattle.etagere_bucketed.specs.declared.saving.LinkedSnapshot.{LinkedSnapshot}
 use Rattle.etagere_bucketed.specs.BucketRecords.{BucketRecords, bucket_walk, next_of}
 use Rattle.etagere_bucketed.specs.Private.Store.{KeptShelf, Stored, kept_shelves}
 use Rattle.etagere_bucketed.specs.Private.Witnessed.{HasTotals, Witnessed}
 use Rattle.etagere_bucketed.specs.Restoring.{state_of}
 use Rattle.etagere_bucketed.specs.StandsFor.{StandsFor}
 use Rattle.etagere_bucketed.specs.State.{BucketedState}
+
+-- the records of a snapshot whose links were read
+abbrev pub linked_records : LinkedSnapshot → BucketRecords
+linked_records snapshot =
+    record {
+      frame = record {
+        width = side snapshot.width;
+        height = side snapshot.height;
+        alignment_width = side snapshot.alignment_width;
+        alignment_height = side snapshot.alignment_height;
+        vertical = snapshot.vertical_shelves;
+        column_width = snapshot.column_width;
+        columns = snapshot.num_columns;
+      };
+      shelves = snapshot.shelves.items;
+      buckets = snapshot.buckets.items;
+      unused = snapshot.first_unused;
+      current_column = snapshot.current_column;
+      available_height = snapshot.available_height;
+      allocated_space = snapshot.allocated_space;
+    }
 
 -- a link fits its bits: it doesn't name the number that stands for none
 abbrev pub LinkFits : Option ℕ → Type 0

@@ -10,7 +10,8 @@ use Rattle.etagere_bucketed.specs.Private.Judging as judging
 use Rattle.etagere_bucketed.specs.Private.Judging.{is_frame, is_stacked}
 use Rattle.etagere_bucketed.specs.Private.Store.{KeptShelf}
 use Rattle.etagere_bucketed.specs.Private.Witnessed.{HasTotals}
-use Rattle.etagere_bucketed.specs.Restoring.{Keeps, snapshot_records, state_of}
+use Rattle.etagere_bucketed.specs.Private.Restored.{linked_records}
+use Rattle.etagere_bucketed.specs.Restoring.{Keeps, state_of}
 use Rattle.etagere_bucketed.specs.StandsFor.{HasCounts, HasShelves}
 use Rattle.etagere_bucketed.specs.Valid.{ends_idle}
 use Rattle.etagere_bucketed.proofs.Judged.Assembled.{area-judged, assembled, columns-said, idle-kept, restored, same-lists, totals}
@@ -33,7 +34,7 @@ framed atlas frame result same is passed =
 
 pub returns-then-not-is_stacked-clause-fault : goal.returns-then-not-is_stacked-clause-fault
 returns-then-not-is_stacked-clause-fault c =
-    let atlas : BucketRecords = snapshot_records c.args.snapshot.now in
+    let atlas : BucketRecords = linked_records c.args.snapshot.now in
     let frame = framed atlas c.snapshot_frame-frame.result c.is_frame.result c.snapshot_frame-frame.ensures.value c.is_frame.ensures (grind (arith, c.if-not-is_frame.false)) in
     let none : c.is_stacked.result ≡ false = grind (arith, c.if-not-is_stacked.true) in
     denied (is_stacked atlas.frame atlas.shelves atlas.current_column atlas.available_height) (HasShelves atlas (state_of atlas)) (stacked-decided atlas frame.column_width)
@@ -41,7 +42,7 @@ returns-then-not-is_stacked-clause-fault c =
 
 pub judged_lists-requires-clause-along : goal.judged_lists-requires-clause-along
 judged_lists-requires-clause-along c =
-    let atlas : BucketRecords = snapshot_records c.args.snapshot.now in
+    let atlas : BucketRecords = linked_records c.args.snapshot.now in
     let frame = framed atlas c.snapshot_frame-frame.result c.is_frame.result c.snapshot_frame-frame.ensures.value c.is_frame.ensures (grind (arith, c.if-not-is_frame.false)) in
     let all : c.is_stacked.result ≡ true = grind (arith, c.if-not-is_stacked.false) in
     let has = granted (is_stacked atlas.frame atlas.shelves atlas.current_column atlas.available_height) (HasShelves atlas (state_of atlas)) (stacked-decided atlas frame.column_width)
@@ -51,7 +52,7 @@ judged_lists-requires-clause-along c =
 
 pub judged_lists-requires-clause-columns : goal.judged_lists-requires-clause-columns
 judged_lists-requires-clause-columns c =
-    let atlas : BucketRecords = snapshot_records c.args.snapshot.now in
+    let atlas : BucketRecords = linked_records c.args.snapshot.now in
     let frame = framed atlas c.snapshot_frame-frame.result c.is_frame.result c.snapshot_frame-frame.ensures.value c.is_frame.ensures (grind (arith, c.if-not-is_frame.false)) in
     let all : c.is_stacked.result ≡ true = grind (arith, c.if-not-is_stacked.false) in
     let has = granted (is_stacked atlas.frame atlas.shelves atlas.current_column atlas.available_height) (HasShelves atlas (state_of atlas)) (stacked-decided atlas frame.column_width)
@@ -63,11 +64,11 @@ judged_lists-requires-clause-columns c =
 pub returns-in_err-lists-clause-fault : goal.returns-in_err-lists-clause-fault
 returns-in_err-lists-clause-fault c =
     let passed = err_from_is_err_and c.from_residual.result c.from_residual.ensures.1 in
-    rw (passed.1, passed.2) (c.in_err-lists.ensures.fault (snapshot_records c.args.snapshot.now) (sym c.snapshot_frame-frame.ensures.value) (sym c.deref-3.ensures.value) (sym c.deref-2.ensures.value) refl)
+    rw (passed.1, passed.2) (c.in_err-lists.ensures.fault (linked_records c.args.snapshot.now) (sym c.snapshot_frame-frame.ensures.value) (sym c.deref-3.ensures.value) (sym c.deref-2.ensures.value) refl)
 
 pub returns-then-ends_idle-clause-fault : goal.returns-then-ends_idle-clause-fault
 returns-then-ends_idle-clause-fault c =
-    let atlas : BucketRecords = snapshot_records c.args.snapshot.now in
+    let atlas : BucketRecords = linked_records c.args.snapshot.now in
     let lists = same-lists atlas c.snapshot_frame-frame.result c.deref-2.result.now c.deref-3.result.now c.in_ok-lists.lists.kept.shelves.items c.in_ok-lists.lists.in_use c.in_ok-lists.lists.kept.space
     c.snapshot_frame-frame.ensures.value c.deref-2.ensures.value c.deref-3.ensures.value c.in_ok-lists.ensures.ok in
     let said : c.ends_idle.result ≡ ends_idle (state_of atlas).shelves =
@@ -76,7 +77,7 @@ returns-then-ends_idle-clause-fault c =
 
 pub returns-in_default-clause-fault : goal.returns-in_default-clause-fault
 returns-in_default-clause-fault c =
-    let atlas : BucketRecords = snapshot_records c.args.snapshot.now in
+    let atlas : BucketRecords = linked_records c.args.snapshot.now in
     let kept : List KeptShelf = c.in_ok-lists.lists.kept.shelves.items in
     let used : ℕ = c.in_ok-lists.lists.in_use in
     let area : ℕ = c.in_ok-lists.lists.kept.space in
@@ -86,7 +87,7 @@ returns-in_default-clause-fault c =
 
 pub returns-clause-ok : goal.returns-clause-ok
 returns-clause-ok c =
-    let atlas : BucketRecords = snapshot_records c.args.snapshot.now in
+    let atlas : BucketRecords = linked_records c.args.snapshot.now in
     let frame = framed atlas c.snapshot_frame-frame.result c.is_frame.result c.snapshot_frame-frame.ensures.value c.is_frame.ensures (grind (arith, c.if-not-is_frame.false)) in
     let all : c.is_stacked.result ≡ true = grind (arith, c.if-not-is_stacked.false) in
     let shelves : HasShelves atlas (state_of atlas) =
@@ -113,11 +114,11 @@ returns-clause-ok c =
 pub returns-in_err-lists-clause-until : goal.returns-in_err-lists-clause-until
 returns-in_err-lists-clause-until c =
     let passed = err_from_is_err_and c.from_residual.result c.from_residual.ensures.1 in
-    rw (passed.1, passed.2) (c.in_err-lists.ensures.until (snapshot_records c.args.snapshot.now) (sym c.snapshot_frame-frame.ensures.value) (sym c.deref-3.ensures.value) (sym c.deref-2.ensures.value) refl)
+    rw (passed.1, passed.2) (c.in_err-lists.ensures.until (linked_records c.args.snapshot.now) (sym c.snapshot_frame-frame.ensures.value) (sym c.deref-3.ensures.value) (sym c.deref-2.ensures.value) refl)
 
 pub returns-then-ends_idle-clause-until : goal.returns-then-ends_idle-clause-until
 returns-then-ends_idle-clause-until c =
-    let atlas : BucketRecords = snapshot_records c.args.snapshot.now in
+    let atlas : BucketRecords = linked_records c.args.snapshot.now in
     let kept : List KeptShelf = c.in_ok-lists.lists.kept.shelves.items in
     let used : ℕ = c.in_ok-lists.lists.in_use in
     let area : ℕ = c.in_ok-lists.lists.kept.space in
@@ -127,7 +128,7 @@ returns-then-ends_idle-clause-until c =
 
 pub returns-in_default-clause-until : goal.returns-in_default-clause-until
 returns-in_default-clause-until c =
-    let atlas : BucketRecords = snapshot_records c.args.snapshot.now in
+    let atlas : BucketRecords = linked_records c.args.snapshot.now in
     let kept : List KeptShelf = c.in_ok-lists.lists.kept.shelves.items in
     let used : ℕ = c.in_ok-lists.lists.in_use in
     let area : ℕ = c.in_ok-lists.lists.kept.space in
@@ -137,5 +138,5 @@ returns-in_default-clause-until c =
 
 pub returns-clause-all : goal.returns-clause-all
 returns-clause-all c =
-    let atlas : BucketRecords = snapshot_records c.args.snapshot.now in
+    let atlas : BucketRecords = linked_records c.args.snapshot.now in
     c.in_ok-lists.ensures.all ∙ rw (c.deref-2.ensures.value, c.deref-3.ensures.value) (sym (all-links atlas))

@@ -3,10 +3,10 @@ use Rattle.std.proofs.Common.{◌≡◌, ◌∙◌, ℕ, List, ap, subst, sym}
 use Rattle.etagere_base.specs.declared.frames.Frame.{Frame}
 use Rattle.etagere_bucketed.specs.Atlas.{KeepsPromises}
 use Rattle.etagere_bucketed.specs.BucketRecords.{BucketRecords, bucket_walk}
-use Rattle.etagere_bucketed.specs.Private.Restored.{IsSnapshotJudged}
+use Rattle.etagere_bucketed.specs.Private.Restored.{IsSnapshotJudged, linked_records}
 use Rattle.etagere_bucketed.specs.Private.Store.{KeptShelf, Stored, stored_state}
 use Rattle.etagere_bucketed.specs.Private.Witnessed.{HasTotals, Witnessed}
-use Rattle.etagere_bucketed.specs.Restoring.{snapshot_records, state_of}
+use Rattle.etagere_bucketed.specs.Restoring.{state_of}
 use Rattle.etagere_bucketed.specs.State.{BucketedState}
 use Rattle.etagere_bucketed.proofs.Promises.{valid-promises}
 use Rattle.etagere_bucketed.proofs.Spelling.ReadBack.{state-read}
@@ -26,7 +26,7 @@ invariant_of-result c = subst (AreKnown c.of-blocks.result.each) c.deref.ensures
 
 pub invariant_of-result-2 : goal.invariant_of-result-2
 invariant_of-result-2 c =
-    let atlas : BucketRecords = snapshot_records c.args.snapshot in
+    let atlas : BucketRecords = linked_records c.args.snapshot in
     let stored : Stored = record { shelves = c.args.judged.shelves.items; buckets = atlas.buckets; unused = atlas.unused } in
     let same = sym (judged-state atlas c.args.judged.frame c.args.judged.shelves.items c.args.judged.in_use c.args.judged.space c.requires) in
     let totals = c.requires.totals in
@@ -38,10 +38,10 @@ invariant_of-result-2 c =
     }
 
 pub returns-clause-state : goal.returns-clause-state
-returns-clause-state c = judged-state (snapshot_records c.args.snapshot) c.args.judged.frame c.args.judged.shelves.items c.args.judged.in_use c.args.judged.space c.requires
+returns-clause-state c = judged-state (linked_records c.args.snapshot) c.args.judged.frame c.args.judged.shelves.items c.args.judged.in_use c.args.judged.space c.requires
 
 pub returns-clause-promises : goal.returns-clause-promises
 returns-clause-promises c =
-    let atlas : BucketRecords = snapshot_records c.args.snapshot in
+    let atlas : BucketRecords = linked_records c.args.snapshot in
     subst KeepsPromises (sym (judged-state atlas c.args.judged.frame c.args.judged.shelves.items c.args.judged.in_use c.args.judged.space c.requires))
     (valid-promises (state_of atlas) c.requires.witnessed.valid)

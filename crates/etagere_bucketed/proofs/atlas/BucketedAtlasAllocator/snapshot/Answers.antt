@@ -6,7 +6,7 @@ use Rattle.etagere_bucketed.specs.declared.records.LinkedBucketShelf.{LinkedBuck
 use Rattle.etagere_bucketed.specs.BucketRecords.{BucketRecords}
 use Rattle.etagere_bucketed.specs.Private.Consistent.{state_in}
 use Rattle.etagere_bucketed.specs.Private.Store.{shelf_record}
-use Rattle.etagere_bucketed.specs.Restoring.{snapshot_records}
+use Rattle.etagere_bucketed.specs.Restoring.{linked_bucket, linked_shelf, snapshot_records}
 use Rattle.etagere_bucketed.specs.StandsFor.{StandsFor}
 use Rattle.etagere_bucketed.specs.State.{BucketedState}
 use Rattle.etagere_bucketed.proofs.Shelving.Added.{current-below}
@@ -42,11 +42,11 @@ returns c =
       available_height = inside.available_height;
       allocated_space = pos inside.allocated_space;
     } in same in
-    let shelves : c.in_ok-shelves.shelves.items ≡ map shelf_record inside.store.shelves = c.in_ok-shelves.ensures in
-    let buckets : c.in_ok-buckets.buckets.items ≡ inside.store.buckets = c.in_ok-buckets.ensures in
+    let shelves : map linked_shelf c.in_ok-shelves.shelves.items ≡ map shelf_record inside.store.shelves = c.in_ok-shelves.ensures in
+    let buckets : map linked_bucket c.in_ok-buckets.buckets.items ≡ inside.store.buckets = c.in_ok-buckets.ensures in
     let same : snapshot_records c.snapshot_of.result ≡ atlas inside.store.unused (map shelf_record inside.store.shelves) inside.store.buckets =
-    c.snapshot_of.ensures ∙ ap (λ (link : Option ℕ). atlas link c.in_ok-shelves.shelves.items c.in_ok-buckets.buckets.items) c.first_unused-unused.ensures
-    ∙ ap (λ (ss : List LinkedBucketShelf). atlas inside.store.unused ss c.in_ok-buckets.buckets.items) shelves
+    c.snapshot_of.ensures ∙ ap (λ (link : Option ℕ). atlas link (map linked_shelf c.in_ok-shelves.shelves.items) (map linked_bucket c.in_ok-buckets.buckets.items)) c.first_unused-unused.ensures
+    ∙ ap (λ (ss : List LinkedBucketShelf). atlas inside.store.unused ss (map linked_bucket c.in_ok-buckets.buckets.items)) shelves
     ∙ ap (λ (bs : List LinkedBucket). atlas inside.store.unused (map shelf_record inside.store.shelves) bs) buckets in
     subst (λ (records : BucketRecords). StandsFor records c.args.self.now) (sym same)
     (subst (λ (state : BucketedState). StandsFor (atlas inside.store.unused (map shelf_record inside.store.shelves) inside.store.buckets) state) c.self.view_is stands)
