@@ -2,18 +2,75 @@
 //! the one of the rules.
 
 use crate::judging::{equal, holds};
-use crate::runs::{Shape, replies};
-use crate::scripts::replayed;
-use etagere::{DEFAULT_OPTIONS, size2};
+use etagere::{AllocatorOptions, DEFAULT_OPTIONS, Size, size2};
 use etagere_run::{AtlasCommand, BucketedCommand, Outcome, Reply, replay, run_atlas, run_bucketed};
 use std::alloc::{AllocError, Global};
 use std::fmt::Write;
 use std::io::{self, Read};
+use std::process::Abort;
 use std::test::Fail;
 use test_support::squares::{Grid, MANY_SHELVES, SQUARE, VERTICAL_COLUMNS, comes_again};
 
 /// How many commands the longest runs have.
 const MANY: usize = 1_100_000;
+
+/// A reply without its id and index.
+#[derive(Clone, Copy, Debug, PartialEq, Eq)]
+enum Shape {
+    Placed([i32; 4]),
+    Refused,
+    Returned,
+    At([i32; 4]),
+    NotLive,
+    Cleared,
+    Grown,
+    GrowRefused(u32),
+    NoMemory,
+}
+
+fn shape_of(reply: Reply) -> Shape {
+    match reply {
+        Reply::Placed(allocation) => {
+            let place = allocation.rectangle;
+            Shape::Placed([place.min.x, place.min.y, place.max.x, place.max.y])
+        }
+        Reply::Refused => Shape::Refused,
+        Reply::Returned => Shape::Returned,
+        Reply::At(place, _) => Shape::At([place.min.x, place.min.y, place.max.x, place.max.y]),
+        Reply::NotLive => Shape::NotLive,
+        Reply::Cleared => Shape::Cleared,
+        Reply::Grown => Shape::Grown,
+        Reply::GrowRefused(number) => Shape::GrowRefused(number),
+        Reply::NoMemory => Shape::NoMemory,
+    }
+}
+
+/// Runs the commands, and holds each reply to the shape beside it.
+fn replies(
+    rt: &(impl AllocGlobal + Abort),
+    size: Size,
+    options: &AllocatorOptions,
+    table: &[(AtlasCommand, Shape)],
+) -> Result<(), Fail> {
+    let mut commands = Vec::new(rt.alloc());
+    for (command, _) in table {
+        commands.push(*command)?;
+    }
+    let given = run_atlas(rt.alloc(), size, options, commands.as_slice())?;
+    equal(rt, &given.len(), &table.len());
+    for (reply, (_, shape)) in given.iter().zip(table) {
+        equal(rt, &shape_of(*reply), shape);
+    }
+    Ok(())
+}
+
+/// What a replay writes, as text, and how it ends.
+fn replayed(rt: &impl AllocGlobal, script: &[u8]) -> Result<(Outcome, String), Fail> {
+    let mut reader = script;
+    let mut writer = Vec::new(rt.alloc());
+    let outcome = replay(rt.alloc(), &mut reader, &mut writer)?;
+    Ok((outcome, String::from_utf8(writer)?))
+}
 
 /// Commands, and what the rules answer to each.
 type Table = Vec<(AtlasCommand, Shape)>;
@@ -161,6 +218,22 @@ fn a_text_of_more_than_a_megabyte_is_written(rt: HostRuntime) -> Result<(), Fail
     holds(&rt, text.len() > 1_000_000);
     let lines = lines_of(rt.alloc(), table.as_slice())?;
     holds(&rt, without_ids(rt.alloc(), text.as_str())? == lines);
+    Ok(())
+}
+
+#[test]
+fn a_line_may_be_long(rt: HostRuntime) -> Result<(), Fail> {
+    let mut script = b"atlas 8 8 1 1 1 h\na ".to_vec(rt.alloc())?;
+    for _ in 0..1000 {
+        script.extend_from_slice(&[b'0'; 1000])?;
+    }
+    script.extend_from_slice(b"9 1\n")?;
+    let (outcome, text) = replayed(&rt, script.as_slice())?;
+    equal(&rt, &outcome, &Outcome::Done);
+    equal(&rt, &text.as_str(), &"refused\n");
+    script.push(b'x')?;
+    let (outcome, _) = replayed(&rt, script.as_slice())?;
+    equal(&rt, &outcome, &Outcome::BadLine(3));
     Ok(())
 }
 

@@ -1,4 +1,5 @@
-//! Tests of runs, scripts, streams and checks, of what no clause says.
+//! Tests of runs, scripts, streams and checks, of what no clause and no row says: readers and writers that fail, large
+//! cases with ample memory, messages and statuses.
 //!
 //! The program replays and draws each example of the folder that it is run in, and prints whether it
 //! wrote what stands beside the script. `rt ci` runs it in `data/`, which is `examples/` at the root, and
@@ -8,8 +9,6 @@
 #[cfg(test)]
 mod ample_memory;
 #[cfg(test)]
-mod bucketed_runs;
-#[cfg(test)]
 mod checks;
 #[cfg(test)]
 mod drawings;
@@ -18,14 +17,6 @@ mod examples;
 mod faults;
 #[cfg(test)]
 mod judging;
-#[cfg(test)]
-mod options;
-#[cfg(test)]
-mod readings;
-#[cfg(test)]
-mod runs;
-#[cfg(test)]
-mod scripts;
 #[cfg(test)]
 mod streaming;
 #[cfg(test)]

@@ -2,8 +2,8 @@
 //! goes out in one write, where the writer takes it whole, so a writer that fails at its k-th write has k-1 lines.
 //! The lines are those of the README's example.
 
-use crate::judging::{equal, equal_at, holds};
-use etagere::{DEFAULT_OPTIONS, OptionsFault, size2};
+use crate::judging::{equal, equal_at};
+use etagere::{DEFAULT_OPTIONS, size2};
 use etagere_run::{AtlasCommand, BucketedCommand, StreamFault, stream_atlas, stream_bucketed};
 use std::io::Write;
 use std::test::Fail;
@@ -78,28 +78,6 @@ fn a_beginning_goes_out_before_a_failed_write(rt: HostRuntime) {
     }
 }
 
-#[test]
-fn a_hundred_thousand_commands_are_streamed(rt: HostRuntime) -> Result<(), Fail> {
-    let mut commands = Vec::new(rt.alloc());
-    let mut lines = Vec::new(rt.alloc());
-    for _ in 0..50_000 {
-        commands.push(AtlasCommand::Allocate(size2(64, 64)))?;
-        commands.push(AtlasCommand::Clear)?;
-        lines.extend_from_slice(b"placed 65536 0 0 64 64\ncleared\n")?;
-    }
-    let mut text = Vec::new(rt.alloc());
-    let size = size2(64, 64);
-    stream_atlas(
-        rt.alloc(),
-        size,
-        &DEFAULT_OPTIONS,
-        commands.as_slice(),
-        &mut text,
-    )?;
-    holds(&rt, text.as_slice() == lines.as_slice());
-    Ok(())
-}
-
 const BUCKETED_TEXT: &[u8] = b"not live\nrefused\ngrow refused 2\ngrown\ncleared\n";
 
 /// Streams commands to a bucketed atlas, one of each reply that has no place.
@@ -143,18 +121,4 @@ fn each_line_of_a_bucketed_run_goes_out_in_one_write(rt: HostRuntime) {
     equal(&rt, &stream_buckets(&rt, &mut writer), &Ok(()));
     equal(&rt, &writer.written(), &BUCKETED_TEXT);
     equal(&rt, &writer.left(), &1);
-}
-
-#[test]
-fn a_bucketed_run_of_refused_options_writes_nothing(rt: HostRuntime) {
-    let table = [
-        (size2(0, 8), OptionsFault::Size),
-        (size2(46341, 46341), OptionsFault::Area),
-    ];
-    for (size, fault) in table {
-        let mut text = Vec::<u8>::new(rt.alloc());
-        let streamed = stream_bucketed(rt.alloc(), size, &DEFAULT_OPTIONS, &[], &mut text);
-        equal(&rt, &streamed, &Err(StreamFault::Options(fault)));
-        holds(&rt, text.is_empty());
-    }
 }
