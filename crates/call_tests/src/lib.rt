@@ -1,9 +1,11 @@
-//! Tests of calls that no row of `call_rows` can say: pictures over writers that fail, large atlases, the plain types,
-//! and the end of an iterator.
+//! Tests of calls that no row of `call_rows` can say: pictures over writers that fail, large atlases, the plain types
+//! and their JSON text, the end of an iterator, walks along links, and how many of these are read.
 #![tactic(auto)]
 
 #[cfg(test)]
 mod dumps;
+#[cfg(test)]
+mod json;
 #[cfg(test)]
 mod judging;
 #[cfg(test)]
@@ -12,3 +14,7 @@ mod large_atlases;
 mod listing;
 #[cfg(test)]
 mod plain_types;
+#[cfg(test)]
+mod steps;
+#[cfg(test)]
+mod walks;

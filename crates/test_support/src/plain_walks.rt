@@ -1,8 +1,6 @@
 //! Links followed in the plainest way, for tests that judge a snapshot by its rules alone.
 
-use etagere::Link;
-use std::alloc::Global;
-use std::test::Fail;
+use std::alloc::{AllocError, Global};
 
 /// What stands for the link that names no record.
 pub const NONE: usize = 65535;
@@ -21,21 +19,8 @@ impl PlainWalk {
     }
 }
 
-pub fn number_of(link: Link) -> usize {
-    link.number().unwrap_or(NONE)
-}
-
-/// The link that a number stands for.
-pub fn link_of(number: u16) -> Link {
-    if number == u16::MAX {
-        Link::none()
-    } else {
-        Link::to(usize::from(number))
-    }
-}
-
 /// Follows links until none, a number that names no record, or one that was met.
-pub fn plain_walk(alloc: Global, links: &[usize], start: usize) -> Result<PlainWalk, Fail> {
+pub fn plain_walk(alloc: Global, links: &[usize], start: usize) -> Result<PlainWalk, AllocError> {
     let mut met = Vec::new(alloc);
     let mut end = start;
     for _ in 0..links.len() {
@@ -83,8 +68,4 @@ pub fn altered_values(own: i64, neighbour: i64) -> [i64; 11] {
     [
         own, 0, 1, neighbour, less, more, -1, 255, 65534, 65535, longest,
     ]
-}
-
-pub fn wide_link(link: Link) -> i64 {
-    i64::try_from(number_of(link)).unwrap_or(-1)
 }
