@@ -22,6 +22,8 @@ KINDS = ("atlas", "bucketed")
 COPIES = [f"{call} {kind}" for call in ("new", "with_options", "clone", "snapshot", "restore") for kind in KINDS]
 # Trials that take no memory once they have written a line.
 QUIET = [f"quiet {kind}" for kind in KINDS]
+# A trial that asks for one growth once it is prepared.
+ONCE = "split atlas"
 CHECKS = [f"check {kind}" for kind in KINDS]
 # Trials that answer one call.
 CALLS = ["walk links"]

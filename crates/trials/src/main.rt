@@ -13,6 +13,7 @@ mod growths;
 mod lines;
 mod quiet;
 mod runs;
+mod splits;
 mod tried;
 mod walks;
 
@@ -88,6 +89,7 @@ fn shelf_trial(rt: &(impl Print + AllocGlobal), call: &str) -> Result<bool, Repl
         "check" => checks::check_shelves(rt)?,
         "grow" => growths::grow_shelves(rt)?,
         "quiet" => quiet::quiet_shelves(rt)?,
+        "split" => splits::split_items(rt)?,
         _ => return Ok(false),
     }
     Ok(true)

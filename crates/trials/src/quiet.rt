@@ -25,9 +25,9 @@ pub fn quiet_shelves(rt: &(impl Print + AllocGlobal)) -> Result<(), ReplayFault>
     try_shelves(rt, restored, kept)
 }
 
-/// The rest of a shelf is filled without a split, another shelf is split by records that were unused, and after the
-/// clear the whole atlas is filled. Where nothing is allocated, a growth needs no record, nor does one to the present
-/// size.
+/// The rest of a shelf is filled without a split. By unused records another shelf is split with its item, and then, where
+/// the list by height is full, an item alone. After the clear the whole atlas is filled. Where nothing is allocated, a
+/// growth needs no record, nor does one to the present size.
 fn try_shelves(
     rt: &impl Print,
     mut atlas: AtlasAllocator,
@@ -35,7 +35,8 @@ fn try_shelves(
 ) -> Result<(), ReplayFault> {
     look_at(rt, &atlas, kept)?;
     list(rt, &atlas)?;
-    try_all(rt, &mut atlas, kept, &[size2(696, 200), size2(500, 300)])?;
+    let sizes = [size2(696, 200), size2(500, 300), size2(200, 100)];
+    try_all(rt, &mut atlas, kept, &sizes)?;
     let larger = size2(1200, 1100);
     say_reply(rt, &atlas.grow_to(larger))?;
     say_reply(rt, &atlas.place(larger))?;

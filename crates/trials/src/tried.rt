@@ -157,8 +157,10 @@ impl Used for AtlasAllocator {
         given(&mut atlas, 900, 200)?;
         atlas.give_back(first);
         let kept = given(&mut atlas, 300, 200)?;
-        let tall = given(&mut atlas, 500, 300)?;
-        atlas.give_back(tall);
+        let returned = [given(&mut atlas, 500, 300)?, given(&mut atlas, 200, 100)?];
+        for id in returned {
+            atlas.give_back(id);
+        }
         Ok((atlas, kept))
     }
 }
@@ -200,7 +202,7 @@ fn returned(answer: Result<(), UnknownId>) -> Reply {
 }
 
 /// The id of what a size is given that has a place.
-fn given<A: Tried>(atlas: &mut A, width: i32, height: i32) -> Result<AllocId, ReplayFault> {
+pub fn given<A: Tried>(atlas: &mut A, width: i32, height: i32) -> Result<AllocId, ReplayFault> {
     match atlas.place(size2(width, height)) {
         Reply::Placed(allocation) => Ok(allocation.id),
         _ => Err(ReplayFault::Memory),
