@@ -45,7 +45,7 @@ impl LoadedAtlas {
 
 /// The records that a snapshot says. Takes memory for all of them.
 fn linked_records(alloc: Global, snapshot: &AtlasSnapshot) -> Result<Records, AllocError>
-    ensures { IfOk result (λ records. records ≡ (snapshot_records snapshot.now).lists) }
+    ensures { IfOk result (λ records. records ≡ (snapshot_records snapshot.now).records) }
 {
     Ok(Records::of_lists(
         linked_shelves(alloc, &snapshot.shelves)?,
