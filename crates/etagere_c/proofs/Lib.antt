@@ -1,0 +1,3 @@
+mod AtlasBox
+mod BucketedBox
+mod HandleSteps

@@ -1,0 +1,4 @@
+pub mod Calls
+pub mod Crossing
+pub mod Held
+pub mod Statuses

@@ -1,0 +1,38 @@
+-- The numbers that calls answer.
+use Rattle.std.specs.Prelude.{ℕ, ◌+◌}
+use Rattle.etagere_base.specs.Faults.{options_fault_number}
+use Rattle.etagere_base.specs.declared.faults.OptionsFault.{OptionsFault}
+use Rattle.shelf_model.specs.Faults.{grow_fault_number}
+use Rattle.shelf_model.specs.declared.faults.AtlasGrowFault.{AtlasGrowFault}
+use Rattle.etagere_bucketed.specs.Faults as buckets
+use Rattle.etagere_bucketed.specs.declared.faults.GrowFault.{GrowFault}
+
+abbrev pub ok : ℕ
+ok = 0
+
+abbrev pub null_handle : ℕ
+null_handle = 1
+
+abbrev pub handle_in_use : ℕ
+handle_in_use = 2
+
+abbrev pub no_room : ℕ
+no_room = 3
+
+abbrev pub out_of_memory : ℕ
+out_of_memory = 6
+
+abbrev pub unknown_id : ℕ
+unknown_id = 501
+
+-- the fault of a call that makes an atlas
+abbrev pub options_refused : OptionsFault → ℕ
+options_refused fault = 100 + options_fault_number fault
+
+-- the fault of a growth
+abbrev pub grow_refused : AtlasGrowFault → ℕ
+grow_refused fault = 200 + grow_fault_number fault
+
+-- the fault of a growth of a bucketed atlas
+abbrev pub bucketed_grow_refused : GrowFault → ℕ
+bucketed_grow_refused fault = 300 + buckets.grow_fault_number fault

@@ -1,0 +1,364 @@
+//! The calls of a bucketed atlas. Each takes what the handle holds, calls it, and puts it back.
+//!
+//! Definitions: `Calls`, `Crossing`, `Statuses`, and those of `etagere_bucketed`.
+
+ghost use Rattle.std.specs.Prelude.{◌≡◌, ◌↔◌, ◌≢◌, ◌*◌, ◌-◌, [], ◌∷◌, None, Some, pos, true, false, Err, IsSome, IfErr, IfNone, IfOk, IfSome};
+ghost use Rattle.std.specs.List.{list_all};
+ghost use Rattle.etagere_base.specs.Frames.{options_fault};
+ghost use Rattle.etagere_base.specs.declared.faults.OptionsFault.TheVariants as faults;
+ghost use Rattle.etagere_bucketed.specs.declared.faults.GrowFault.TheVariants as grow_faults;
+ghost use Rattle.etagere_bucketed.specs.Atlas.{Allocates, Grows, KeepsPromises, NeedsBuckets, NeedsShelf};
+ghost use Rattle.etagere_bucketed.specs.Frames as frames;
+ghost use Rattle.etagere_bucketed.specs.Frames.{longest_bucketed_side};
+ghost use Rattle.etagere_bucketed.specs.Growing as growing;
+ghost use Rattle.etagere_bucketed.specs.Placing.{IsBucketRefused};
+ghost use Rattle.etagere_bucketed.specs.Returning.{bucket_returned, is_known};
+ghost use Rattle.etagere_bucketed.specs.Space as spaces;
+ghost use Rattle.etagere_bucketed.specs.State.{fresh, is_idle};
+ghost use Rattle.etagere_c.specs.Calls.{IsAmong, IsFlag, Leads};
+ghost use Rattle.etagere_c.specs.Crossing.{allocation_in, options_in, size_in};
+ghost use Rattle.etagere_c.specs.Statuses as statuses;
+
+use crate::bucketed_handle::EtagereBucketed;
+use crate::geometry::{EtagereAllocation, EtagereOptions, EtagereSize};
+use crate::statuses::{
+    HANDLE_IN_USE, MEMORY, NO_ROOM, NULL_HANDLE, OK, UNKNOWN_ID, bucketed_grow_refused,
+    options_refused,
+};
+use etagere::{AllocId, BucketedAtlasAllocator, OptionsFault};
+use std::alloc::Global;
+
+/// A boxed atlas of this size and options.
+fn made(
+    alloc: Global,
+    size: EtagereSize,
+    options: &EtagereOptions,
+) -> Result<Box<BucketedAtlasAllocator>, OptionsFault>
+    ensures made { IfOk result (λ boxed. boxed.value
+        ≡ fresh (frames.bucketed_frame (size_in size) (options_in options.now))) }
+    ensures fault { IfSome (options_fault longest_bucketed_side (size_in size) (options_in options.now))
+        (λ fault. result ≡ Err fault) }
+    ensures promises { IfOk result (λ boxed. KeepsPromises boxed.value) }
+    ensures memory { IfErr result (λ fault. options_fault longest_bucketed_side (size_in size) (options_in options.now) ≡ None → fault ≡ faults.Memory) }
+{
+    let atlas = BucketedAtlasAllocator::with_options(alloc, size.size(), &options.options())?;
+    match Box::new(alloc, atlas) {
+        Ok(boxed) => Ok(boxed),
+        Err(_) => Err(OptionsFault::Memory),
+    }
+}
+
+/// Fills a null handle with an empty bucketed atlas.
+///
+/// Answers ETAGERE_OK; ETAGERE_HANDLE_IN_USE; ETAGERE_OPTIONS_.., the first fault, ETAGERE_OPTIONS_MEMORY only where
+/// there is no other and no memory for what the handle points to. Takes constant time.
+#[unsafe(no_mangle)]
+pub extern "C" fn etagere_bucketed_new(
+    alloc: Global,
+    atlas: &mut EtagereBucketed,
+    size: EtagereSize,
+    options: &EtagereOptions,
+) -> u32
+    ensures in_use { (result ≡ statuses.handle_in_use) ↔ IsSome atlas.old.state }
+    ensures made { result ≡ statuses.ok → atlas.new.state ≡ Some (fresh (frames.bucketed_frame (size_in size) (options_in options.now))) }
+    ensures fault { atlas.old.state ≡ None → IfSome (options_fault longest_bucketed_side (size_in size) (options_in options.now)) (λ fault. result ≡ statuses.options_refused fault) }
+    ensures memory { atlas.old.state ≡ None → options_fault longest_bucketed_side (size_in size) (options_in options.now) ≡ None → IsAmong (statuses.ok ∷ statuses.options_refused faults.Memory ∷ []) result }
+    ensures stays { result ≢ statuses.ok → atlas.new.state ≡ atlas.old.state }
+    ensures promises { result ≡ statuses.ok → IfSome atlas.new.state KeepsPromises }
+{
+    if let Some(held) = atlas.take(alloc) {
+        atlas.put(held);
+        return HANDLE_IN_USE;
+    }
+    match made(alloc, size, options) {
+        Ok(boxed) => {
+            atlas.put(boxed);
+            OK
+        }
+        Err(fault) => options_refused(fault),
+    }
+}
+
+/// Frees a bucketed atlas with all that it holds, and makes the handle null.
+///
+/// Answers ETAGERE_OK; ETAGERE_NULL_HANDLE. Takes constant time, and that of free.
+#[unsafe(no_mangle)]
+pub extern "C" fn etagere_bucketed_delete(alloc: Global, atlas: &mut EtagereBucketed) -> u32
+    ensures null { (result ≡ statuses.null_handle) ↔ (atlas.old.state ≡ None) }
+    ensures status { IsAmong (statuses.ok ∷ statuses.null_handle ∷ []) result }
+    ensures deleted { atlas.new.state ≡ None }
+{
+    match atlas.take(alloc) {
+        Some(_) => OK,
+        None => NULL_HANDLE,
+    }
+}
+
+/// Allocates a size, and says by a status how that went.
+fn allocate(
+    atlas: &mut BucketedAtlasAllocator,
+    size: EtagereSize,
+    allocation: &mut EtagereAllocation,
+) -> u32
+    ensures status { IsAmong (statuses.ok ∷ statuses.no_room ∷ statuses.out_of_memory ∷ []) result }
+    ensures placed { result ≡ statuses.ok
+        → Allocates atlas.old (size_in size) (allocation_in allocation.new) atlas.new }
+    ensures refused { result ≡ statuses.no_room → IsBucketRefused atlas.old (size_in size) }
+    ensures shelf { result ≡ statuses.out_of_memory → NeedsShelf atlas.old (size_in size) }
+    ensures stays { result ≢ statuses.ok → atlas.new ≡ atlas.old }
+    ensures unwritten { result ≢ statuses.ok → allocation.new ≡ allocation.old }
+    ensures promises { KeepsPromises atlas.new }
+{
+    match atlas.allocate(size.size()) {
+        Ok(Some(given)) => {
+            *allocation = EtagereAllocation::of(given);
+            OK
+        }
+        Ok(None) => NO_ROOM,
+        Err(_) => MEMORY,
+    }
+}
+
+/// Gives a rectangle that is at least as large as the size, with the id under which it is allocated.
+///
+/// Answers ETAGERE_OK; ETAGERE_NULL_HANDLE; ETAGERE_NO_ROOM where there is no place; ETAGERE_MEMORY, only where a shelf
+/// is to be added and there was no memory. Goes through all shelves a few times.
+#[unsafe(no_mangle)]
+pub extern "C" fn etagere_bucketed_allocate(
+    alloc: Global,
+    atlas: &mut EtagereBucketed,
+    size: EtagereSize,
+    allocation: &mut EtagereAllocation,
+) -> u32
+    ensures null { (result ≡ statuses.null_handle) ↔ (atlas.old.state ≡ None) }
+    ensures status { IsAmong (statuses.ok ∷ statuses.null_handle ∷ statuses.no_room ∷ statuses.out_of_memory ∷ []) result }
+    ensures placed { result ≡ statuses.ok → Leads atlas.old.state atlas.new.state (λ before after. Allocates before (size_in size) (allocation_in allocation.new) after) }
+    ensures refused { result ≡ statuses.no_room → IfSome atlas.old.state (λ held. IsBucketRefused held (size_in size)) }
+    ensures shelf { result ≡ statuses.out_of_memory → IfSome atlas.old.state (λ held. NeedsShelf held (size_in size)) }
+    ensures stays { result ≢ statuses.ok → atlas.new.state ≡ atlas.old.state }
+    ensures unwritten { result ≢ statuses.ok → allocation.new ≡ allocation.old }
+    ensures promises { IfSome atlas.new.state KeepsPromises }
+{
+    let Some(mut held) = atlas.take(alloc) else {
+        return NULL_HANDLE;
+    };
+    let status = allocate(&mut held, size, allocation);
+    atlas.put(held);
+    status
+}
+
+/// Takes back the rectangle that was given under an id. The last one of a bucket makes that empty, and shelves at the
+/// end that hold nothing are dropped.
+///
+/// Answers ETAGERE_OK; ETAGERE_NULL_HANDLE; ETAGERE_UNKNOWN_ID exactly where no bucket that holds something has given
+/// an item under the id since it was empty. That an id comes back once is the caller's part: a second return of one is
+/// taken for that of another item of its bucket. Takes no memory, and constant time but for the shelves that are
+/// dropped.
+#[unsafe(no_mangle)]
+pub extern "C" fn etagere_bucketed_deallocate(
+    alloc: Global,
+    atlas: &mut EtagereBucketed,
+    id: u32,
+) -> u32
+    ensures null { (result ≡ statuses.null_handle) ↔ (atlas.old.state ≡ None) }
+    ensures status { IsAmong (statuses.ok ∷ statuses.null_handle ∷ statuses.unknown_id ∷ []) result }
+    ensures returned { result ≡ statuses.ok → Leads atlas.old.state atlas.new.state (λ before after. after ≡ bucket_returned before id) }
+    ensures unknown { IfSome atlas.old.state (λ held. (result ≡ statuses.unknown_id) ↔ (is_known held id ≡ false)) }
+    ensures stays { result ≢ statuses.ok → atlas.new.state ≡ atlas.old.state }
+    ensures promises { IfSome atlas.new.state KeepsPromises }
+{
+    let Some(mut held) = atlas.take(alloc) else {
+        return NULL_HANDLE;
+    };
+    let returned = held.deallocate(AllocId::deserialize(id));
+    atlas.put(held);
+    match returned {
+        Ok(()) => OK,
+        Err(_) => UNKNOWN_ID,
+    }
+}
+
+/// Takes everything back at once: the atlas is as new, with its present size and columns.
+///
+/// Answers ETAGERE_OK; ETAGERE_NULL_HANDLE. Takes no memory, and constant time.
+#[unsafe(no_mangle)]
+pub extern "C" fn etagere_bucketed_clear(alloc: Global, atlas: &mut EtagereBucketed) -> u32
+    ensures null { (result ≡ statuses.null_handle) ↔ (atlas.old.state ≡ None) }
+    ensures status { IsAmong (statuses.ok ∷ statuses.null_handle ∷ []) result }
+    ensures cleared { Leads atlas.old.state atlas.new.state (λ before after. after ≡ fresh before.frame) }
+    ensures null_stays { IfNone atlas.old.state (atlas.new.state ≡ None) }
+    ensures promises { IfSome atlas.new.state KeepsPromises }
+{
+    let Some(mut held) = atlas.take(alloc) else {
+        return NULL_HANDLE;
+    };
+    held.clear();
+    atlas.put(held);
+    OK
+}
+
+/// Gives the size of the atlas, as it was made or has grown. The atlas stays.
+///
+/// Answers ETAGERE_OK; ETAGERE_NULL_HANDLE. Takes constant time.
+#[unsafe(no_mangle)]
+pub extern "C" fn etagere_bucketed_size(
+    alloc: Global,
+    atlas: &mut EtagereBucketed,
+    size: &mut EtagereSize,
+) -> u32
+    ensures null { (result ≡ statuses.null_handle) ↔ (atlas.old.state ≡ None) }
+    ensures status { IsAmong (statuses.ok ∷ statuses.null_handle ∷ []) result }
+    ensures size { result ≡ statuses.ok → IfSome atlas.old.state (λ held. size_in size.new ≡ record { width = pos held.frame.width; height = pos held.frame.height }) }
+    ensures unwritten { result ≢ statuses.ok → size.new ≡ size.old }
+    ensures stays { atlas.new.state ≡ atlas.old.state }
+{
+    let Some(held) = atlas.take(alloc) else {
+        return NULL_HANDLE;
+    };
+    *size = EtagereSize::of(held.size());
+    atlas.put(held);
+    OK
+}
+
+/// Gives 1 where nothing is allocated, and else 0. The atlas stays.
+///
+/// Answers ETAGERE_OK; ETAGERE_NULL_HANDLE. Takes constant time.
+#[unsafe(no_mangle)]
+pub extern "C" fn etagere_bucketed_is_empty(
+    alloc: Global,
+    atlas: &mut EtagereBucketed,
+    is_empty: &mut u32,
+) -> u32
+    ensures null { (result ≡ statuses.null_handle) ↔ (atlas.old.state ≡ None) }
+    ensures status { IsAmong (statuses.ok ∷ statuses.null_handle ∷ []) result }
+    ensures is_empty { result ≡ statuses.ok → IfSome atlas.old.state (λ held. IsFlag is_empty.new (list_all is_idle held.shelves ≡ true)) }
+    ensures unwritten { result ≢ statuses.ok → is_empty.new ≡ is_empty.old }
+    ensures stays { atlas.new.state ≡ atlas.old.state }
+{
+    let Some(held) = atlas.take(alloc) else {
+        return NULL_HANDLE;
+    };
+    *is_empty = u32::from(held.is_empty());
+    atlas.put(held);
+    OK
+}
+
+/// Gives the area that the buckets have used, each as tall as its shelf, in square pixels. The atlas stays.
+///
+/// Answers ETAGERE_OK; ETAGERE_NULL_HANDLE. Takes constant time.
+#[unsafe(no_mangle)]
+pub extern "C" fn etagere_bucketed_allocated_space(
+    alloc: Global,
+    atlas: &mut EtagereBucketed,
+    space: &mut i32,
+) -> u32
+    ensures null { (result ≡ statuses.null_handle) ↔ (atlas.old.state ≡ None) }
+    ensures status { IsAmong (statuses.ok ∷ statuses.null_handle ∷ []) result }
+    ensures allocated_space { result ≡ statuses.ok → IfSome atlas.old.state (λ held. space.new ≡ pos (spaces.allocated_space held)) }
+    ensures unwritten { result ≢ statuses.ok → space.new ≡ space.old }
+    ensures stays { atlas.new.state ≡ atlas.old.state }
+{
+    let Some(held) = atlas.take(alloc) else {
+        return NULL_HANDLE;
+    };
+    *space = held.allocated_space();
+    atlas.put(held);
+    OK
+}
+
+/// Gives the area of the atlas less what the buckets have used, in square pixels. The atlas stays.
+///
+/// Answers ETAGERE_OK; ETAGERE_NULL_HANDLE. Takes constant time.
+#[unsafe(no_mangle)]
+pub extern "C" fn etagere_bucketed_free_space(
+    alloc: Global,
+    atlas: &mut EtagereBucketed,
+    space: &mut i32,
+) -> u32
+    ensures null { (result ≡ statuses.null_handle) ↔ (atlas.old.state ≡ None) }
+    ensures status { IsAmong (statuses.ok ∷ statuses.null_handle ∷ []) result }
+    ensures free_space { result ≡ statuses.ok → IfSome atlas.old.state (λ held. space.new ≡ pos (held.frame.width * held.frame.height - spaces.allocated_space held)) }
+    ensures unwritten { result ≢ statuses.ok → space.new ≡ space.old }
+    ensures stays { atlas.new.state ≡ atlas.old.state }
+{
+    let Some(held) = atlas.take(alloc) else {
+        return NULL_HANDLE;
+    };
+    *space = held.free_space();
+    atlas.put(held);
+    OK
+}
+
+/// Makes the atlas larger. What is allocated keeps its place and its id.
+///
+/// Answers ETAGERE_OK; ETAGERE_NULL_HANDLE; ETAGERE_BUCKETED_GROW_.., the first fault, ETAGERE_BUCKETED_GROW_MEMORY
+/// only where there is no other, buckets are to be made and there was no memory. Goes through all shelves.
+#[unsafe(no_mangle)]
+pub extern "C" fn etagere_bucketed_grow(
+    alloc: Global,
+    atlas: &mut EtagereBucketed,
+    size: EtagereSize,
+) -> u32
+    ensures null { (result ≡ statuses.null_handle) ↔ (atlas.old.state ≡ None) }
+    ensures grown { result ≡ statuses.ok → Leads atlas.old.state atlas.new.state (λ before after. Grows before (size_in size) after) }
+    ensures fault { IfSome atlas.old.state (λ held. IfSome (growing.grow_fault held.frame (size_in size)) (λ fault. result ≡ statuses.bucketed_grow_refused fault)) }
+    ensures memory { IfSome atlas.old.state (λ held. growing.grow_fault held.frame (size_in size) ≡ None → result ≢ statuses.ok → (result ≡ statuses.bucketed_grow_refused grow_faults.Memory) × NeedsBuckets held (size_in size)) }
+    ensures stays { result ≢ statuses.ok → atlas.new.state ≡ atlas.old.state }
+    ensures promises { IfSome atlas.new.state KeepsPromises }
+{
+    let Some(mut held) = atlas.take(alloc) else {
+        return NULL_HANDLE;
+    };
+    let grown = held.grow(size.size());
+    atlas.put(held);
+    match grown {
+        Ok(()) => OK,
+        Err(fault) => bucketed_grow_refused(fault),
+    }
+}
+
+/// A boxed copy of an atlas, or none where there was no memory.
+fn copied(alloc: Global, atlas: &BucketedAtlasAllocator) -> Option<Box<BucketedAtlasAllocator>>
+    ensures { IfSome result (λ boxed. boxed.value ≡ atlas.now) }
+{
+    let copy = atlas.clone().ok()?;
+    Box::new(alloc, copy).ok()
+}
+
+/// Fills a null handle with an atlas that equals this one, its ids and later answers too. The atlas stays, and shares
+/// nothing with the copy.
+///
+/// Answers ETAGERE_OK; ETAGERE_NULL_HANDLE where the atlas is null; ETAGERE_HANDLE_IN_USE where the copy isn't;
+/// ETAGERE_MEMORY. Takes memory for all records, and goes through them.
+#[unsafe(no_mangle)]
+pub extern "C" fn etagere_bucketed_clone(
+    alloc: Global,
+    atlas: &mut EtagereBucketed,
+    copy: &mut EtagereBucketed,
+) -> u32
+    ensures null { (result ≡ statuses.null_handle) ↔ (atlas.old.state ≡ None) }
+    ensures status { IsAmong (statuses.ok ∷ statuses.null_handle ∷ statuses.handle_in_use ∷ statuses.out_of_memory ∷ []) result }
+    ensures in_use { IsSome atlas.old.state → (result ≡ statuses.handle_in_use) ↔ IsSome copy.old.state }
+    ensures copied { result ≡ statuses.ok → copy.new.state ≡ atlas.old.state }
+    ensures uncopied { result ≢ statuses.ok → copy.new.state ≡ copy.old.state }
+    ensures stays { atlas.new.state ≡ atlas.old.state }
+{
+    let Some(held) = atlas.take(alloc) else {
+        return NULL_HANDLE;
+    };
+    let status = match copy.take(alloc) {
+        Some(other) => {
+            copy.put(other);
+            HANDLE_IN_USE
+        }
+        None => match copied(alloc, &held) {
+            Some(boxed) => {
+                copy.put(boxed);
+                OK
+            }
+            None => MEMORY,
+        },
+    };
+    atlas.put(held);
+    status
+}

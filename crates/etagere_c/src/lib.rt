@@ -1,0 +1,33 @@
+//! The library that is called from C: the calls of both atlases and of the cache, over handles of one pointer.
+//!
+//! The header `include/etagere.h` has the same calls, with what a caller in C owes. `geometry` has what crosses by
+//! value, `statuses` the numbers that calls answer, `parts` and `atlas_handle` what a handle owns, and `atlas` the
+//! calls themselves.
+#![tactic(auto)]
+
+mod atlas;
+mod atlas_handle;
+mod bucketed;
+mod bucketed_handle;
+mod geometry;
+mod parts;
+mod statuses;
+
+pub use atlas::{
+    etagere_atlas_allocate, etagere_atlas_allocated_space, etagere_atlas_clear,
+    etagere_atlas_clone, etagere_atlas_deallocate, etagere_atlas_delete,
+    etagere_atlas_fits_when_empty, etagere_atlas_free_space, etagere_atlas_get,
+    etagere_atlas_get_index, etagere_atlas_grow, etagere_atlas_is_empty, etagere_atlas_new,
+    etagere_atlas_size,
+};
+pub use atlas_handle::EtagereAtlas;
+pub use bucketed::{
+    etagere_bucketed_allocate, etagere_bucketed_allocated_space, etagere_bucketed_clear,
+    etagere_bucketed_clone, etagere_bucketed_deallocate, etagere_bucketed_delete,
+    etagere_bucketed_free_space, etagere_bucketed_grow, etagere_bucketed_is_empty,
+    etagere_bucketed_new, etagere_bucketed_size,
+};
+pub use bucketed_handle::EtagereBucketed;
+pub use geometry::{
+    EtagereAllocation, EtagereOptions, EtagerePoint, EtagereRectangle, EtagereSize,
+};
