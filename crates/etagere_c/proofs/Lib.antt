@@ -1,3 +1,5 @@
 mod AtlasBox
 mod BucketedBox
+mod CacheBox
+mod Evicted
 mod HandleSteps

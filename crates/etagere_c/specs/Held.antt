@@ -10,6 +10,7 @@ use base.Fml.{Fml, ftrue, fex}
 use denote.RattleType.{RattleType}
 use denote.RawPtr.{Ptr, null_ptr}
 use Rattle.etagere.specs.contracts.atlas.AtlasAllocator as Atlas
+use Rattle.glyph_shelf.specs.contracts.cache.GlyphCache as Cache
 use Rattle.etagere_bucketed.specs.contracts.atlas.BucketedAtlasAllocator as Bucketed
 
 abbrev pub held : (R : RattleType) → Global → Ptr → Option R.Denot → Fml
@@ -27,3 +28,9 @@ bucketed_owns = held Bucketed.the_row
 
 abbrev pub bucketed_coded : Coded (Option Bucketed.the_row.Denot)
 bucketed_coded = coded_option Bucketed.the_row.coded
+
+abbrev pub cache_owns : Global → Ptr → Option Cache.the_row.Denot → Fml
+cache_owns = held Cache.the_row
+
+abbrev pub cache_coded : Coded (Option Cache.the_row.Denot)
+cache_coded = coded_option Cache.the_row.coded

@@ -1,4 +1,5 @@
 pub mod Calls
 pub mod Crossing
+pub mod Evicted
 pub mod Held
 pub mod Statuses

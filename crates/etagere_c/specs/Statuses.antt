@@ -6,6 +6,8 @@ use Rattle.shelf_model.specs.Faults.{grow_fault_number}
 use Rattle.shelf_model.specs.declared.faults.AtlasGrowFault.{AtlasGrowFault}
 use Rattle.etagere_bucketed.specs.Faults as buckets
 use Rattle.etagere_bucketed.specs.declared.faults.GrowFault.{GrowFault}
+use Rattle.glyph_shelf.specs.Faults.{glyph_fault_number}
+use Rattle.glyph_shelf.specs.declared.faults.GlyphFault.{GlyphFault}
 
 abbrev pub ok : ℕ
 ok = 0
@@ -19,8 +21,14 @@ handle_in_use = 2
 abbrev pub no_room : ℕ
 no_room = 3
 
+abbrev pub too_short : ℕ
+too_short = 4
+
 abbrev pub out_of_memory : ℕ
 out_of_memory = 6
+
+abbrev pub unknown_key : ℕ
+unknown_key = 7
 
 abbrev pub unknown_id : ℕ
 unknown_id = 501
@@ -36,3 +44,13 @@ grow_refused fault = 200 + grow_fault_number fault
 -- the fault of a growth of a bucketed atlas
 abbrev pub bucketed_grow_refused : GrowFault → ℕ
 bucketed_grow_refused fault = 300 + buckets.grow_fault_number fault
+
+-- the fault of placing a key
+abbrev pub cache_refused : GlyphFault → ℕ
+cache_refused fault = 600 + glyph_fault_number fault
+
+abbrev pub too_large : ℕ
+too_large = 601
+
+abbrev pub cache_memory : ℕ
+cache_memory = 602

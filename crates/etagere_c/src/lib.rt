@@ -9,6 +9,9 @@ mod atlas;
 mod atlas_handle;
 mod bucketed;
 mod bucketed_handle;
+mod buffers;
+mod cache;
+mod cache_handle;
 mod geometry;
 mod parts;
 mod statuses;
@@ -28,6 +31,13 @@ pub use bucketed::{
     etagere_bucketed_new, etagere_bucketed_size,
 };
 pub use bucketed_handle::EtagereBucketed;
+pub use cache::{
+    etagere_cache_allocated_space, etagere_cache_capacity, etagere_cache_clear,
+    etagere_cache_delete, etagere_cache_free_space, etagere_cache_get, etagere_cache_is_empty,
+    etagere_cache_len, etagere_cache_new, etagere_cache_place, etagere_cache_remove,
+    etagere_cache_size,
+};
+pub use cache_handle::EtagereCache;
 pub use geometry::{
     EtagereAllocation, EtagereOptions, EtagerePoint, EtagereRectangle, EtagereSize,
 };

@@ -3,9 +3,10 @@
 //! Definitions: `Statuses`. The header has the same numbers.
 
 ghost use Rattle.std.specs.Prelude.{◌≡◌};
-ghost use Rattle.etagere_c.specs.Statuses.{bucketed_grow_refused, grow_refused, options_refused};
+ghost use Rattle.etagere_c.specs.Statuses.{bucketed_grow_refused, cache_refused, grow_refused, options_refused};
 
 use etagere::{AtlasGrowFault, GrowFault, OptionsFault};
+use glyph_shelf::GlyphFault;
 
 pub const OK: u32 = 0;
 
@@ -18,8 +19,14 @@ pub const HANDLE_IN_USE: u32 = 2;
 /// There is no place for the size.
 pub const NO_ROOM: u32 = 3;
 
+/// A buffer is too short, or a capacity is 0.
+pub const LENGTH: u32 = 4;
+
 /// There was no memory.
 pub const MEMORY: u32 = 6;
+
+/// The cache hasn't the key.
+pub const UNKNOWN_KEY: u32 = 7;
 
 /// Nothing is allocated under the id.
 pub const UNKNOWN_ID: u32 = 501;
@@ -43,4 +50,11 @@ pub fn bucketed_grow_refused(fault: GrowFault) -> u32
     ensures { result ≡ bucketed_grow_refused fault }
 {
     300 + fault.number()
+}
+
+/// Why a cache has no place for a key.
+pub fn cache_refused(fault: &GlyphFault) -> u32
+    ensures { result ≡ cache_refused fault.now }
+{
+    600 + fault.number()
 }

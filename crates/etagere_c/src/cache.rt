@@ -1,0 +1,398 @@
+//! The calls of a cache. Each takes what the handle holds, calls it, and puts it back.
+//!
+//! Definitions: `Calls`, `Crossing`, `Statuses`, and those of `glyph_shelf`.
+
+ghost use Rattle.std.specs.Prelude.{◌≡◌, ◌↔◌, ◌≢◌, ◌*◌, ◌-◌, ◌<◌, ◌≤◌, [], ◌∷◌, ◌++◌, None, Some, pos, false, length, take, drop, Err, IsSome, IfErr, IfNone, IfOk, IfSome};
+ghost use Rattle.std.specs.NonZero.{non_zero_usize_get};
+ghost use Rattle.etagere_base.specs.Frames as frames;
+ghost use Rattle.etagere_base.specs.Frames.{longest_side, options_fault};
+ghost use Rattle.etagere_base.specs.declared.faults.OptionsFault.TheVariants as faults;
+ghost use Rattle.shelf_model.specs.Space as spaces;
+ghost use Rattle.glyph_shelf.specs.Cache.{empty_cache, rectangle_at, used, without_key};
+ghost use Rattle.glyph_shelf.specs.Placing.{IsNew, IsTooLarge, Places, RanOut};
+ghost use Rattle.glyph_shelf.specs.Promises.{KeepsCachePromises};
+ghost use Rattle.etagere_c.specs.Calls.{IsAmong, IsFlag, IsWritten, Leads};
+ghost use Rattle.etagere_c.specs.Evicted.{HasRoomFor, IsGone};
+ghost use Rattle.etagere_c.specs.Crossing.{options_in, rectangle_in, size_in};
+ghost use Rattle.etagere_c.specs.Statuses as statuses;
+
+use crate::buffers::write_keys;
+use crate::cache_handle::EtagereCache;
+use crate::geometry::{EtagereOptions, EtagereRectangle, EtagereSize};
+use crate::statuses::{
+    HANDLE_IN_USE, LENGTH, NULL_HANDLE, OK, UNKNOWN_KEY, cache_refused, options_refused,
+};
+use etagere::OptionsFault;
+use glyph_shelf::{GlyphCache, GlyphFault, Placed};
+use std::alloc::Global;
+use std::num::NonZeroUsize;
+
+/// A boxed cache of this size and options.
+fn made(
+    alloc: Global,
+    size: EtagereSize,
+    options: &EtagereOptions,
+    capacity: NonZeroUsize,
+) -> Result<Box<GlyphCache>, OptionsFault>
+    ensures made { IfOk result (λ boxed. boxed.value
+        ≡ empty_cache (frames.atlas_frame (size_in size) (options_in options.now)) (non_zero_usize_get capacity)) }
+    ensures fault { IfSome (options_fault longest_side (size_in size) (options_in options.now))
+        (λ fault. result ≡ Err fault) }
+    ensures promises { IfOk result (λ boxed. KeepsCachePromises boxed.value) }
+    ensures memory { IfErr result (λ fault. options_fault longest_side (size_in size) (options_in options.now) ≡ None → fault ≡ faults.Memory) }
+{
+    let cache = GlyphCache::new(alloc, size.size(), &options.options(), capacity)?;
+    match Box::new(alloc, cache) {
+        Ok(boxed) => Ok(boxed),
+        Err(_) => Err(OptionsFault::Memory),
+    }
+}
+
+/// Fills a null handle with an empty cache of at most `capacity` keys, over an atlas of this size.
+///
+/// Answers ETAGERE_OK; ETAGERE_HANDLE_IN_USE; ETAGERE_LENGTH where the capacity is 0; ETAGERE_OPTIONS_.., the first
+/// fault, ETAGERE_OPTIONS_MEMORY only where there is no other and no memory. Takes no memory for keys that aren't there
+/// yet, and goes through the columns.
+#[unsafe(no_mangle)]
+pub extern "C" fn etagere_cache_new(
+    alloc: Global,
+    cache: &mut EtagereCache,
+    size: EtagereSize,
+    options: &EtagereOptions,
+    capacity: usize,
+) -> u32
+    ensures in_use { (result ≡ statuses.handle_in_use) ↔ IsSome cache.old.state }
+    ensures zero { cache.old.state ≡ None → (result ≡ statuses.too_short) ↔ (capacity ≡ 0) }
+    ensures made { result ≡ statuses.ok → cache.new.state ≡ Some (empty_cache (frames.atlas_frame (size_in size) (options_in options.now)) capacity) }
+    ensures fault { cache.old.state ≡ None → capacity ≢ 0 → IfSome (options_fault longest_side (size_in size) (options_in options.now)) (λ fault. result ≡ statuses.options_refused fault) }
+    ensures memory { cache.old.state ≡ None → capacity ≢ 0 → options_fault longest_side (size_in size) (options_in options.now) ≡ None → IsAmong (statuses.ok ∷ statuses.options_refused faults.Memory ∷ []) result }
+    ensures stays { result ≢ statuses.ok → cache.new.state ≡ cache.old.state }
+    ensures promises { result ≡ statuses.ok → IfSome cache.new.state KeepsCachePromises }
+{
+    if let Some(held) = cache.take(alloc) {
+        cache.put(held);
+        return HANDLE_IN_USE;
+    }
+    let Some(capacity) = NonZeroUsize::new(capacity) else {
+        return LENGTH;
+    };
+    match made(alloc, size, options, capacity) {
+        Ok(boxed) => {
+            cache.put(boxed);
+            OK
+        }
+        Err(fault) => options_refused(fault),
+    }
+}
+
+/// Frees a cache with all that it holds, and makes the handle null.
+///
+/// Answers ETAGERE_OK; ETAGERE_NULL_HANDLE. Goes through the keys.
+#[unsafe(no_mangle)]
+pub extern "C" fn etagere_cache_delete(alloc: Global, cache: &mut EtagereCache) -> u32
+    ensures null { (result ≡ statuses.null_handle) ↔ (cache.old.state ≡ None) }
+    ensures status { IsAmong (statuses.ok ∷ statuses.null_handle ∷ []) result }
+    ensures deleted { cache.new.state ≡ None }
+{
+    match cache.take(alloc) {
+        Some(_) => OK,
+        None => NULL_HANDLE,
+    }
+}
+
+/// Writes what a placing gave, and says by a status how it went.
+fn write_placed(
+    placed: Result<Placed, GlyphFault>,
+    rectangle: &mut EtagereRectangle,
+    evicted: &mut [u64],
+    count: &mut usize,
+) -> u32
+    requires { HasRoomFor evicted.old placed }
+    ensures placed { IfOk placed (λ placed. (result ≡ statuses.ok) × (rectangle_in rectangle.new ≡ placed.rectangle)
+        × IsWritten placed.evicted.items evicted.old evicted.new count.new) }
+    ensures fault { IfErr placed (λ fault. result ≡ statuses.cache_refused fault) }
+    ensures gone { IfErr placed (λ fault. IsGone fault evicted.old evicted.new count.old count.new) }
+    ensures unwritten { result ≢ statuses.ok → rectangle.new ≡ rectangle.old }
+{
+    match placed {
+        Ok(placed) => {
+            *rectangle = EtagereRectangle::of(placed.rectangle);
+            *count = write_keys(placed.evicted.as_slice(), evicted);
+            OK
+        }
+        Err(fault) => {
+            if let GlyphFault::Memory(gone) = &fault {
+                *count = write_keys(gone.as_slice(), evicted);
+            }
+            cache_refused(&fault)
+        }
+    }
+}
+
+/// Gives the rectangle of a key. A key that is there becomes the most recently used; its size isn't looked at. A new
+/// key gets a rectangle at least as large as the size and becomes the most recently used; where there is no room, the
+/// keys used least recently are evicted before, no more than needed. Writes the evicted keys to the front of the
+/// buffer, the least recently used first, and how many to *count; what is behind stays.
+///
+/// Answers ETAGERE_OK; ETAGERE_NULL_HANDLE; ETAGERE_LENGTH where the buffer is shorter than etagere_cache_len says,
+/// with nothing written; ETAGERE_CACHE_TOO_LARGE exactly where the key is new and an empty atlas has no place for the
+/// size, with nothing written; ETAGERE_CACHE_MEMORY, only for a new key: then the evicted keys and *count are written
+/// too, these keys are gone, and the others stand. Asks the atlas once, and once more for each key that is evicted.
+#[unsafe(no_mangle)]
+pub extern "C" fn etagere_cache_place(
+    alloc: Global,
+    cache: &mut EtagereCache,
+    key: u64,
+    size: EtagereSize,
+    rectangle: &mut EtagereRectangle,
+    evicted: &mut [u64],
+    count: &mut usize,
+) -> u32
+    ensures null { (result ≡ statuses.null_handle) ↔ (cache.old.state ≡ None) }
+    ensures short { IfSome cache.old.state (λ held. (result ≡ statuses.too_short) ↔ (length evicted.old < length held.entries)) }
+    ensures status { IsAmong (statuses.ok ∷ statuses.null_handle ∷ statuses.too_short ∷ statuses.too_large ∷ statuses.cache_memory ∷ []) result }
+    ensures found { result ≡ statuses.ok → Leads cache.old.state cache.new.state (λ before after.
+        IfSome (rectangle_at before key) (λ found. (rectangle_in rectangle.new ≡ found) × (count.new ≡ 0) × (after ≡ used before key))) }
+    ensures placed { result ≡ statuses.ok → Leads cache.old.state cache.new.state (λ before after.
+        IsNew before key → Places before key (size_in size) (rectangle_in rectangle.new) (take count.new evicted.new) after) }
+    ensures too_large { IfSome cache.old.state (λ held. result ≡ statuses.too_large → IsNew held key × IsTooLarge held (size_in size)) }
+    ensures large { IfSome cache.old.state (λ held. length held.entries ≤ length evicted.old → IsNew held key → IsTooLarge held (size_in size) → result ≡ statuses.too_large) }
+    ensures memory { result ≡ statuses.cache_memory → Leads cache.old.state cache.new.state (λ before after.
+        RanOut before (size_in size) (take count.new evicted.new) after) }
+    ensures stays { result ≢ statuses.ok → result ≢ statuses.cache_memory → cache.new.state ≡ cache.old.state }
+    ensures unwritten { result ≢ statuses.ok → rectangle.new ≡ rectangle.old }
+    ensures uncounted { result ≢ statuses.ok → result ≢ statuses.cache_memory → (evicted.new ≡ evicted.old) × (count.new ≡ count.old) }
+    ensures behind { drop count.new evicted.new ≡ drop count.new evicted.old }
+    ensures promises { IfSome cache.new.state KeepsCachePromises }
+{
+    let Some(mut held) = cache.take(alloc) else {
+        return NULL_HANDLE;
+    };
+    if evicted.len() < held.len() {
+        cache.put(held);
+        return LENGTH;
+    }
+    let placed = held.place(key, size.size());
+    cache.put(held);
+    write_placed(placed, rectangle, evicted, count)
+}
+
+/// Gives the rectangle of a key, which becomes the most recently used.
+///
+/// Answers ETAGERE_OK; ETAGERE_NULL_HANDLE; ETAGERE_UNKNOWN_KEY. Takes no memory, and constant time on average.
+#[unsafe(no_mangle)]
+pub extern "C" fn etagere_cache_get(
+    alloc: Global,
+    cache: &mut EtagereCache,
+    key: u64,
+    rectangle: &mut EtagereRectangle,
+) -> u32
+    ensures null { (result ≡ statuses.null_handle) ↔ (cache.old.state ≡ None) }
+    ensures status { IsAmong (statuses.ok ∷ statuses.null_handle ∷ statuses.unknown_key ∷ []) result }
+    ensures found { result ≡ statuses.ok → IfSome cache.old.state (λ held. rectangle_at held key ≡ Some (rectangle_in rectangle.new)) }
+    ensures unknown { IfSome cache.old.state (λ held. (result ≡ statuses.unknown_key) ↔ (rectangle_at held key ≡ None)) }
+    ensures after { Leads cache.old.state cache.new.state (λ before after. after ≡ used before key) }
+    ensures null_stays { IfNone cache.old.state (cache.new.state ≡ None) }
+    ensures unwritten { result ≢ statuses.ok → rectangle.new ≡ rectangle.old }
+    ensures promises { IfSome cache.new.state KeepsCachePromises }
+{
+    let Some(mut held) = cache.take(alloc) else {
+        return NULL_HANDLE;
+    };
+    let found = held.get(key);
+    cache.put(held);
+    match found {
+        Some(found) => {
+            *rectangle = EtagereRectangle::of(found);
+            OK
+        }
+        None => UNKNOWN_KEY,
+    }
+}
+
+/// Takes a key out, and gives the rectangle that it had.
+///
+/// Answers ETAGERE_OK; ETAGERE_NULL_HANDLE; ETAGERE_UNKNOWN_KEY. Takes no memory, and costs what
+/// etagere_atlas_deallocate does.
+#[unsafe(no_mangle)]
+pub extern "C" fn etagere_cache_remove(
+    alloc: Global,
+    cache: &mut EtagereCache,
+    key: u64,
+    rectangle: &mut EtagereRectangle,
+) -> u32
+    ensures null { (result ≡ statuses.null_handle) ↔ (cache.old.state ≡ None) }
+    ensures status { IsAmong (statuses.ok ∷ statuses.null_handle ∷ statuses.unknown_key ∷ []) result }
+    ensures found { result ≡ statuses.ok → IfSome cache.old.state (λ held. rectangle_at held key ≡ Some (rectangle_in rectangle.new)) }
+    ensures unknown { IfSome cache.old.state (λ held. (result ≡ statuses.unknown_key) ↔ (rectangle_at held key ≡ None)) }
+    ensures after { Leads cache.old.state cache.new.state (λ before after. after ≡ without_key before key) }
+    ensures null_stays { IfNone cache.old.state (cache.new.state ≡ None) }
+    ensures unwritten { result ≢ statuses.ok → rectangle.new ≡ rectangle.old }
+    ensures promises { IfSome cache.new.state KeepsCachePromises }
+{
+    let Some(mut held) = cache.take(alloc) else {
+        return NULL_HANDLE;
+    };
+    let found = held.remove(key);
+    cache.put(held);
+    match found {
+        Some(found) => {
+            *rectangle = EtagereRectangle::of(found);
+            OK
+        }
+        None => UNKNOWN_KEY,
+    }
+}
+
+/// Takes all keys out: the cache is as new.
+///
+/// Answers ETAGERE_OK; ETAGERE_NULL_HANDLE. Takes no memory, and goes through the keys and the columns.
+#[unsafe(no_mangle)]
+pub extern "C" fn etagere_cache_clear(alloc: Global, cache: &mut EtagereCache) -> u32
+    ensures null { (result ≡ statuses.null_handle) ↔ (cache.old.state ≡ None) }
+    ensures status { IsAmong (statuses.ok ∷ statuses.null_handle ∷ []) result }
+    ensures cleared { Leads cache.old.state cache.new.state (λ before after. after ≡ empty_cache before.atlas.frame before.capacity) }
+    ensures null_stays { IfNone cache.old.state (cache.new.state ≡ None) }
+    ensures promises { IfSome cache.new.state KeepsCachePromises }
+{
+    let Some(mut held) = cache.take(alloc) else {
+        return NULL_HANDLE;
+    };
+    held.clear();
+    cache.put(held);
+    OK
+}
+
+/// Gives how many keys are there. The cache stays.
+///
+/// Answers ETAGERE_OK; ETAGERE_NULL_HANDLE. Takes constant time.
+#[unsafe(no_mangle)]
+pub extern "C" fn etagere_cache_len(alloc: Global, cache: &mut EtagereCache, len: &mut usize) -> u32
+    ensures null { (result ≡ statuses.null_handle) ↔ (cache.old.state ≡ None) }
+    ensures status { IsAmong (statuses.ok ∷ statuses.null_handle ∷ []) result }
+    ensures len { result ≡ statuses.ok → IfSome cache.old.state (λ held. len.new ≡ length held.entries) }
+    ensures unwritten { result ≢ statuses.ok → len.new ≡ len.old }
+    ensures stays { cache.new.state ≡ cache.old.state }
+{
+    let Some(held) = cache.take(alloc) else {
+        return NULL_HANDLE;
+    };
+    *len = held.len();
+    cache.put(held);
+    OK
+}
+
+/// Gives 1 where no key is there, and else 0. The cache stays.
+///
+/// Answers ETAGERE_OK; ETAGERE_NULL_HANDLE. Takes constant time.
+#[unsafe(no_mangle)]
+pub extern "C" fn etagere_cache_is_empty(
+    alloc: Global,
+    cache: &mut EtagereCache,
+    is_empty: &mut u32,
+) -> u32
+    ensures null { (result ≡ statuses.null_handle) ↔ (cache.old.state ≡ None) }
+    ensures status { IsAmong (statuses.ok ∷ statuses.null_handle ∷ []) result }
+    ensures is_empty { result ≡ statuses.ok → IfSome cache.old.state (λ held. IsFlag is_empty.new (held.entries ≡ [])) }
+    ensures unwritten { result ≢ statuses.ok → is_empty.new ≡ is_empty.old }
+    ensures stays { cache.new.state ≡ cache.old.state }
+{
+    let Some(held) = cache.take(alloc) else {
+        return NULL_HANDLE;
+    };
+    *is_empty = u32::from(held.is_empty());
+    cache.put(held);
+    OK
+}
+
+/// Gives how many keys there may be. The cache stays.
+///
+/// Answers ETAGERE_OK; ETAGERE_NULL_HANDLE. Takes constant time.
+#[unsafe(no_mangle)]
+pub extern "C" fn etagere_cache_capacity(
+    alloc: Global,
+    cache: &mut EtagereCache,
+    capacity: &mut usize,
+) -> u32
+    ensures null { (result ≡ statuses.null_handle) ↔ (cache.old.state ≡ None) }
+    ensures status { IsAmong (statuses.ok ∷ statuses.null_handle ∷ []) result }
+    ensures capacity { result ≡ statuses.ok → IfSome cache.old.state (λ held. capacity.new ≡ held.capacity) }
+    ensures unwritten { result ≢ statuses.ok → capacity.new ≡ capacity.old }
+    ensures stays { cache.new.state ≡ cache.old.state }
+{
+    let Some(held) = cache.take(alloc) else {
+        return NULL_HANDLE;
+    };
+    *capacity = held.capacity().get();
+    cache.put(held);
+    OK
+}
+
+/// Gives the size of the atlas. The cache stays.
+///
+/// Answers ETAGERE_OK; ETAGERE_NULL_HANDLE. Takes constant time.
+#[unsafe(no_mangle)]
+pub extern "C" fn etagere_cache_size(
+    alloc: Global,
+    cache: &mut EtagereCache,
+    size: &mut EtagereSize,
+) -> u32
+    ensures null { (result ≡ statuses.null_handle) ↔ (cache.old.state ≡ None) }
+    ensures status { IsAmong (statuses.ok ∷ statuses.null_handle ∷ []) result }
+    ensures size { result ≡ statuses.ok → IfSome cache.old.state (λ held. size_in size.new ≡ record { width = pos held.atlas.frame.width; height = pos held.atlas.frame.height }) }
+    ensures unwritten { result ≢ statuses.ok → size.new ≡ size.old }
+    ensures stays { cache.new.state ≡ cache.old.state }
+{
+    let Some(held) = cache.take(alloc) else {
+        return NULL_HANDLE;
+    };
+    *size = EtagereSize::of(held.atlas().size());
+    cache.put(held);
+    OK
+}
+
+/// Gives the areas of all keys' rectangles, added up, in square pixels. The cache stays.
+///
+/// Answers ETAGERE_OK; ETAGERE_NULL_HANDLE. Takes constant time.
+#[unsafe(no_mangle)]
+pub extern "C" fn etagere_cache_allocated_space(
+    alloc: Global,
+    cache: &mut EtagereCache,
+    space: &mut i32,
+) -> u32
+    ensures null { (result ≡ statuses.null_handle) ↔ (cache.old.state ≡ None) }
+    ensures status { IsAmong (statuses.ok ∷ statuses.null_handle ∷ []) result }
+    ensures allocated_space { result ≡ statuses.ok → IfSome cache.old.state (λ held. space.new ≡ pos (spaces.allocated_space held.atlas)) }
+    ensures unwritten { result ≢ statuses.ok → space.new ≡ space.old }
+    ensures stays { cache.new.state ≡ cache.old.state }
+{
+    let Some(held) = cache.take(alloc) else {
+        return NULL_HANDLE;
+    };
+    *space = held.atlas().allocated_space();
+    cache.put(held);
+    OK
+}
+
+/// Gives the area of the atlas less that of all keys' rectangles, in square pixels. The cache stays.
+///
+/// Answers ETAGERE_OK; ETAGERE_NULL_HANDLE. Takes constant time.
+#[unsafe(no_mangle)]
+pub extern "C" fn etagere_cache_free_space(
+    alloc: Global,
+    cache: &mut EtagereCache,
+    space: &mut i32,
+) -> u32
+    ensures null { (result ≡ statuses.null_handle) ↔ (cache.old.state ≡ None) }
+    ensures status { IsAmong (statuses.ok ∷ statuses.null_handle ∷ []) result }
+    ensures free_space { result ≡ statuses.ok → IfSome cache.old.state (λ held. space.new ≡ pos (held.atlas.frame.width * held.atlas.frame.height - spaces.allocated_space held.atlas)) }
+    ensures unwritten { result ≢ statuses.ok → space.new ≡ space.old }
+    ensures stays { cache.new.state ≡ cache.old.state }
+{
+    let Some(held) = cache.take(alloc) else {
+        return NULL_HANDLE;
+    };
+    *space = held.atlas().free_space();
+    cache.put(held);
+    OK
+}
