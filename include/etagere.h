@@ -280,24 +280,25 @@ EtagereStatus etagere_atlas_list(EtagereAtlas *atlas, EtagereAllocation *allocat
                                  size_t *count);
 
 /* Gives the length in bytes of the picture of etagere_atlas_picture. The atlas stays.
- * Answers ETAGERE_OK; ETAGERE_NULL_HANDLE. Takes no memory, and goes through all items. */
-EtagereStatus etagere_atlas_picture_length(EtagereAtlas *atlas, size_t *length);
+ * Answers ETAGERE_OK; ETAGERE_NULL_HANDLE; ETAGERE_MEMORY. Takes memory for the text, and goes through all items. */
+EtagereStatus etagere_atlas_picture_length(EtagereAtlas *atlas, size_t *text_length);
 
-/* Writes an SVG document to the front of the buffer, without a zero behind it, and its length to *length: the atlas and
+/* Writes an SVG document to the front of the buffer, without a zero behind it, and its length to *text_length: the atlas and
  * every item, what is allocated in blue, what is free in grey. What is behind stays, and the atlas does.
  * Answers ETAGERE_OK; ETAGERE_NULL_HANDLE; ETAGERE_LENGTH where the buffer is shorter than etagere_atlas_picture_length
- * says, with nothing written. Takes no memory, and goes through all items twice. */
-EtagereStatus etagere_atlas_picture(EtagereAtlas *atlas, uint8_t *buffer, size_t buffer_length, size_t *length);
+ * says, with nothing written; ETAGERE_MEMORY. Takes memory for the text, and goes through all
+ * items. */
+EtagereStatus etagere_atlas_picture(EtagereAtlas *atlas, uint8_t *buffer, size_t buffer_length, size_t *text_length);
 
 /* Gives the length in bytes of the text of etagere_atlas_snapshot. The atlas stays.
  * Answers ETAGERE_OK; ETAGERE_NULL_HANDLE; ETAGERE_MEMORY. Takes memory for a copy of all records and for the text. */
-EtagereStatus etagere_atlas_snapshot_length(EtagereAtlas *atlas, size_t *length);
+EtagereStatus etagere_atlas_snapshot_length(EtagereAtlas *atlas, size_t *text_length);
 
-/* Writes the atlas as JSON text to the front of the buffer, without a zero behind it, and its length to *length. What is
+/* Writes the atlas as JSON text to the front of the buffer, without a zero behind it, and its length to *text_length. What is
  * behind stays, and the atlas does.
  * Answers ETAGERE_OK; ETAGERE_NULL_HANDLE; ETAGERE_LENGTH where the buffer is shorter than etagere_atlas_snapshot_length
  * says, with nothing written; ETAGERE_MEMORY. Takes memory for a copy of all records and for the text. */
-EtagereStatus etagere_atlas_snapshot(EtagereAtlas *atlas, uint8_t *buffer, size_t buffer_length, size_t *length);
+EtagereStatus etagere_atlas_snapshot(EtagereAtlas *atlas, uint8_t *buffer, size_t buffer_length, size_t *text_length);
 
 /* Fills a null handle with the atlas that a JSON text stands for, whoever wrote it: only where the text keeps every rule
  * that an atlas keeps.
@@ -376,25 +377,26 @@ EtagereStatus etagere_bucketed_deallocate_many(EtagereBucketed *atlas, const uin
                                                size_t *count);
 
 /* Gives the length in bytes of the picture of etagere_bucketed_picture. The atlas stays.
- * Answers ETAGERE_OK; ETAGERE_NULL_HANDLE. Takes no memory, and goes through all buckets. */
-EtagereStatus etagere_bucketed_picture_length(EtagereBucketed *atlas, size_t *length);
+ * Answers ETAGERE_OK; ETAGERE_NULL_HANDLE; ETAGERE_MEMORY. Takes memory for the text, and goes through all buckets. */
+EtagereStatus etagere_bucketed_picture_length(EtagereBucketed *atlas, size_t *text_length);
 
-/* Writes an SVG document to the front of the buffer, without a zero behind it, and its length to *length: the atlas and
+/* Writes an SVG document to the front of the buffer, without a zero behind it, and its length to *text_length: the atlas and
  * every bucket, what is used in blue, what is free in grey. What is behind stays, and the atlas does.
  * Answers ETAGERE_OK; ETAGERE_NULL_HANDLE; ETAGERE_LENGTH where the buffer is shorter than
- * etagere_bucketed_picture_length says, with nothing written. Takes no memory, and goes through all buckets twice. */
-EtagereStatus etagere_bucketed_picture(EtagereBucketed *atlas, uint8_t *buffer, size_t buffer_length, size_t *length);
+ * etagere_bucketed_picture_length says, with nothing written; ETAGERE_MEMORY. Takes memory for the text, and goes through all
+ * buckets. */
+EtagereStatus etagere_bucketed_picture(EtagereBucketed *atlas, uint8_t *buffer, size_t buffer_length, size_t *text_length);
 
 /* Gives the length in bytes of the text of etagere_bucketed_snapshot. The atlas stays.
  * Answers ETAGERE_OK; ETAGERE_NULL_HANDLE; ETAGERE_MEMORY. Takes memory for a copy of all records and for the text. */
-EtagereStatus etagere_bucketed_snapshot_length(EtagereBucketed *atlas, size_t *length);
+EtagereStatus etagere_bucketed_snapshot_length(EtagereBucketed *atlas, size_t *text_length);
 
-/* Writes the atlas as JSON text to the front of the buffer, without a zero behind it, and its length to *length. What is
+/* Writes the atlas as JSON text to the front of the buffer, without a zero behind it, and its length to *text_length. What is
  * behind stays, and the atlas does.
  * Answers ETAGERE_OK; ETAGERE_NULL_HANDLE; ETAGERE_LENGTH where the buffer is shorter than
  * etagere_bucketed_snapshot_length says, with nothing written; ETAGERE_MEMORY. Takes memory for a copy of all records
  * and for the text. */
-EtagereStatus etagere_bucketed_snapshot(EtagereBucketed *atlas, uint8_t *buffer, size_t buffer_length, size_t *length);
+EtagereStatus etagere_bucketed_snapshot(EtagereBucketed *atlas, uint8_t *buffer, size_t buffer_length, size_t *text_length);
 
 /* Fills a null handle with the atlas that a JSON text stands for, whoever wrote it: only where the text keeps every rule
  * that a bucketed atlas keeps.
@@ -463,13 +465,14 @@ EtagereStatus etagere_cache_allocated_space(EtagereCache *cache, int32_t *space)
 EtagereStatus etagere_cache_free_space(EtagereCache *cache, int32_t *space);
 
 /* Gives the length in bytes of the picture of etagere_cache_picture. The cache stays.
- * Answers ETAGERE_OK; ETAGERE_NULL_HANDLE. Takes no memory, and goes through all items. */
-EtagereStatus etagere_cache_picture_length(EtagereCache *cache, size_t *length);
+ * Answers ETAGERE_OK; ETAGERE_NULL_HANDLE; ETAGERE_MEMORY. Takes memory for the text, and goes through all items. */
+EtagereStatus etagere_cache_picture_length(EtagereCache *cache, size_t *text_length);
 
 /* Writes the picture of the atlas, as etagere_atlas_picture does. The cache stays.
  * Answers ETAGERE_OK; ETAGERE_NULL_HANDLE; ETAGERE_LENGTH where the buffer is shorter than etagere_cache_picture_length
- * says, with nothing written. Takes no memory, and goes through all items twice. */
-EtagereStatus etagere_cache_picture(EtagereCache *cache, uint8_t *buffer, size_t buffer_length, size_t *length);
+ * says, with nothing written; ETAGERE_MEMORY. Takes memory for the text, and goes through all
+ * items. */
+EtagereStatus etagere_cache_picture(EtagereCache *cache, uint8_t *buffer, size_t buffer_length, size_t *text_length);
 
 #ifdef __cplusplus
 }

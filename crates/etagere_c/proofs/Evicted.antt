@@ -1,11 +1,10 @@
 -- A placing evicts no more keys than there are, so a buffer for as many has room.
-use Rattle.std.proofs.Common.{◌≡◌, ℕ, ◌≤◌, Option, Some, None, List, [], length, arith, sym, subst, ap, refl}
+use Rattle.std.proofs.Common.{◌≡◌, ℕ, ◌≤◌, Option, Some, None, List, [], length, arith, ap}
 use Rattle.std.specs.Prelude.{IfErr, IfOk, IfSome, IsOkAnd, Result, Ok, Err, nat_eq, reverse}
 use Rattle.std.specs.Map.{keys_of, lookup}
 use Rattle.std.specs.Prelude.{option_map}
 use Rattle.std.proofs.lemmas.List.{length-reverse, length-take}
 use Rattle.std.proofs.lemmas.Map.Entries.{length-keys_of}
-use Rattle.etagere_base.specs.declared.geometry.Rectangle.{Rectangle}
 use Rattle.etagere_base.specs.declared.geometry.Size.{Size}
 use Rattle.etagere_base.specs.declared.ids.Allocation.{Allocation}
 use Rattle.glyph_shelf.specs.Cache.{CacheState, dropped_keys, used}

@@ -1,4 +1,5 @@
 mod AtlasBox
+mod BatchSteps
 mod BucketedBox
 mod CacheBox
 mod Evicted

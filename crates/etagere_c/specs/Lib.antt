@@ -1,3 +1,4 @@
+pub mod Batches
 pub mod Calls
 pub mod Crossing
 pub mod Evicted

@@ -7,6 +7,7 @@
 
 mod atlas;
 mod atlas_handle;
+mod batches;
 mod bucketed;
 mod bucketed_handle;
 mod buffers;
@@ -14,6 +15,7 @@ mod cache;
 mod cache_handle;
 mod geometry;
 mod parts;
+mod pictures;
 mod statuses;
 
 pub use atlas::{
@@ -24,6 +26,10 @@ pub use atlas::{
     etagere_atlas_size,
 };
 pub use atlas_handle::EtagereAtlas;
+pub use batches::{
+    etagere_atlas_allocate_many, etagere_atlas_deallocate_many, etagere_bucketed_allocate_many,
+    etagere_bucketed_deallocate_many,
+};
 pub use bucketed::{
     etagere_bucketed_allocate, etagere_bucketed_allocated_space, etagere_bucketed_clear,
     etagere_bucketed_clone, etagere_bucketed_deallocate, etagere_bucketed_delete,
@@ -40,4 +46,8 @@ pub use cache::{
 pub use cache_handle::EtagereCache;
 pub use geometry::{
     EtagereAllocation, EtagereOptions, EtagerePoint, EtagereRectangle, EtagereSize,
+};
+pub use pictures::{
+    etagere_atlas_picture, etagere_atlas_picture_length, etagere_bucketed_picture,
+    etagere_bucketed_picture_length, etagere_cache_picture, etagere_cache_picture_length,
 };

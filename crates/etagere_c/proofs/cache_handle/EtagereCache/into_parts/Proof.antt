@@ -1,5 +1,5 @@
 -- `into_parts` tests the pointer: at null the handle owns nothing, else what it owns goes with its fields.
-use mathlib.Core.Path.{◌≡◌, refl, sym, ap, ◌∙◌, subst}
+use mathlib.Core.Path.{refl, sym, ap, ◌∙◌, subst}
 use mathlib.Core.List.{List, [], ◌∷◌, ◌++◌}
 use lib.Dec.{lit<}
 use seplogic.Ra.Ura.{Ura}
@@ -19,9 +19,7 @@ use types.Part.{whole, sub, agg}
 use types.Run.{stop, fld, lit, bin, no_more, and_then, of_opd, returns, enter, first, branches, exec}
 use types.ByLocal.{alloc_all, pass_all, free_all, look_at, get, get_in, sets, sets_last, env}
 use denote.Exit.{yes}
-use denote.Laws.{Typed}
 use denote.Signature.{type_at}
-use denote.Param.{layout}
 use denote.RawPtr.{Ptr, block_ptr, null_ptr, tests_null}
 use denote.RattleType.{RattleType}
 use denote.Steps.{nothing}
@@ -35,7 +33,7 @@ use Rattle.std_alloc.proofs.ResultValues.{and_tt}
 use Rattle.etagere_c.proofs.CacheBox.{Handle, Lent}
 use Rattle.std.specs.contracts.alloc.Global as heap
 use Rattle.etagere_c.specs.contracts.cache_handle.EtagereCache.{the_row as TheRow}
-use Rattle.etagere_c.proofs.HandleSteps.{pointer_typed, word, word_typed, handle_out, handle_in, either_held, boxed, Good}
+use Rattle.etagere_c.proofs.HandleSteps.{pointer_typed, word, word_typed, handle_out, handle_in, either_held, boxed}
 use Rattle.etagere_c.specs.Held.{held}
 use Rattle.glyph_shelf.specs.contracts.cache.GlyphCache as Cache
 use Rattle.etagere_c.specs.contracts.cache_handle.EtagereCache.into_parts as F

@@ -1,0 +1,247 @@
+//! Many calls in one: sizes that are allocated and ids that come back, up to the first that is refused.
+//!
+//! Definitions: `Batches`, `Calls`, `Crossing`, `Statuses`, and those of both atlases.
+
+ghost use Rattle.std.specs.Prelude.{◌≡◌, ◌↔◌, ◌≢◌, ◌<◌, ◌≤◌, [], ◌∷◌, None, Some, false, true, drop, length, take, slice_get, slice_index, IfSome};
+ghost use Rattle.shelf_model.specs.Atlas.{Allocates};
+ghost use Rattle.shelf_model.specs.Choice.{IsRefused};
+ghost use Rattle.shelf_model.specs.Places.{is_allocated};
+ghost use Rattle.shelf_model.specs.Returning.{returned};
+ghost use Rattle.etagere_bucketed.specs.Atlas as buckets;
+ghost use Rattle.etagere_bucketed.specs.Placing.{IsBucketRefused};
+ghost use Rattle.etagere_bucketed.specs.Returning.{bucket_returned, is_known};
+ghost use Rattle.etagere_c.specs.Batches.{GivesOver, StepsOver};
+ghost use Rattle.etagere_c.specs.Calls.{IsAmong, Leads};
+ghost use Rattle.etagere_c.specs.Crossing.{allocation_in, size_in};
+ghost use Rattle.etagere_c.specs.Statuses as statuses;
+
+use crate::atlas_handle::EtagereAtlas;
+use crate::bucketed_handle::EtagereBucketed;
+use crate::geometry::{EtagereAllocation, EtagereSize};
+use crate::statuses::{LENGTH, MEMORY, NO_ROOM, NULL_HANDLE, OK, UNKNOWN_ID};
+use etagere::{AllocId, AtlasAllocator, BucketedAtlasAllocator};
+use std::alloc::Global;
+
+/// Allocates sizes in turn up to the first that isn't given a place, and counts them.
+fn allocate_each(
+    atlas: &mut AtlasAllocator,
+    sizes: &[EtagereSize],
+    allocations: &mut [EtagereAllocation],
+    count: &mut usize,
+) -> u32
+    requires { length sizes.now ≤ length allocations.old }
+    ensures status { IsAmong (statuses.ok ∷ statuses.no_room ∷ statuses.out_of_memory ∷ []) result }
+    ensures given { GivesOver (λ before size allocation after. Allocates before (size_in size) (allocation_in allocation) after) atlas.old (take count.new sizes.now) (take count.new allocations.new) atlas.new }
+    ensures behind { drop count.new allocations.new ≡ drop count.new allocations.old }
+    ensures all { result ≡ statuses.ok → count.new ≡ length sizes.now }
+    ensures some { result ≢ statuses.ok → count.new < length sizes.now }
+    ensures refused { result ≡ statuses.no_room → IfSome (slice_get sizes.now count.new) (λ size. IsRefused atlas.new (size_in size)) }
+{
+    for i in 0..sizes.len() {
+        let answer = atlas.allocate(sizes[i].size());
+        let Ok(Some(given)) = answer else {
+            *count = i;
+            return if answer.is_ok() { NO_ROOM } else { MEMORY };
+        };
+        allocations[i] = EtagereAllocation::of(given);
+    }
+    *count = sizes.len();
+    OK
+}
+
+/// Takes ids back in turn up to the first that is unknown, and counts them.
+fn return_each(atlas: &mut AtlasAllocator, ids: &[u32], count: &mut usize) -> u32
+    ensures status { IsAmong (statuses.ok ∷ statuses.unknown_id ∷ []) result }
+    ensures returned { StepsOver (λ before id after. (is_allocated before id ≡ true) × (after ≡ returned before id)) atlas.old (take count.new ids.now) atlas.new }
+    ensures all { result ≡ statuses.ok → count.new ≡ length ids.now }
+    ensures some { result ≢ statuses.ok → count.new < length ids.now }
+    ensures unknown { result ≡ statuses.unknown_id → is_allocated atlas.new (slice_index ids.now count.new) ≡ false }
+{
+    for i in 0..ids.len() {
+        if atlas.deallocate(AllocId::deserialize(ids[i])).is_err() {
+            *count = i;
+            return UNKNOWN_ID;
+        }
+    }
+    *count = ids.len();
+    OK
+}
+
+/// Allocates many sizes, one after the other, as etagere_atlas_allocate does, up to the first that isn't given a place.
+/// Writes how many were to *count, and their allocations to the front of the buffer; what is behind stays. What was
+/// allocated stays so whatever the status.
+///
+/// Answers ETAGERE_OK where all were; ETAGERE_NULL_HANDLE and ETAGERE_LENGTH (the buffer is shorter than the sizes),
+/// with nothing written; ETAGERE_NO_ROOM or ETAGERE_MEMORY, of the size with the number *count. Costs as the single
+/// calls.
+#[unsafe(no_mangle)]
+pub extern "C" fn etagere_atlas_allocate_many(
+    alloc: Global,
+    atlas: &mut EtagereAtlas,
+    sizes: &[EtagereSize],
+    allocations: &mut [EtagereAllocation],
+    count: &mut usize,
+) -> u32
+    ensures null { (result ≡ statuses.null_handle) ↔ (atlas.old.state ≡ None) }
+    ensures short { IfSome atlas.old.state (λ held. (result ≡ statuses.too_short) ↔ (length allocations.old < length sizes.now)) }
+    ensures status { IsAmong (statuses.ok ∷ statuses.null_handle ∷ statuses.no_room ∷ statuses.too_short ∷ statuses.out_of_memory ∷ []) result }
+    ensures given { length sizes.now ≤ length allocations.old → Leads atlas.old.state atlas.new.state (λ before after.
+        GivesOver (λ before size allocation after. Allocates before (size_in size) (allocation_in allocation) after) before (take count.new sizes.now) (take count.new allocations.new) after) }
+    ensures behind { drop count.new allocations.new ≡ drop count.new allocations.old }
+    ensures all { result ≡ statuses.ok → count.new ≡ length sizes.now }
+    ensures some { result ≡ statuses.no_room → count.new < length sizes.now }
+    ensures refused { result ≡ statuses.no_room → IfSome atlas.new.state (λ held. IfSome (slice_get sizes.now count.new) (λ size. IsRefused held (size_in size))) }
+    ensures null_stays { result ≡ statuses.null_handle → (atlas.new.state ≡ atlas.old.state) × (allocations.new ≡ allocations.old) × (count.new ≡ count.old) }
+    ensures short_stays { result ≡ statuses.too_short → (atlas.new.state ≡ atlas.old.state) × (allocations.new ≡ allocations.old) × (count.new ≡ count.old) }
+{
+    let Some(mut held) = atlas.take(alloc) else {
+        return NULL_HANDLE;
+    };
+    if allocations.len() < sizes.len() {
+        atlas.put(held);
+        return LENGTH;
+    }
+    let status = allocate_each(&mut held, sizes, allocations, count);
+    atlas.put(held);
+    status
+}
+
+/// Takes many ids back, one after the other, as etagere_atlas_deallocate does, up to the first that is unknown. Writes
+/// how many were taken back to *count; they are gone whatever the status.
+///
+/// Answers ETAGERE_OK where all were; ETAGERE_NULL_HANDLE, with nothing written; ETAGERE_UNKNOWN_ID, of the id with the
+/// number *count. Costs as the single calls.
+#[unsafe(no_mangle)]
+pub extern "C" fn etagere_atlas_deallocate_many(
+    alloc: Global,
+    atlas: &mut EtagereAtlas,
+    ids: &[u32],
+    count: &mut usize,
+) -> u32
+    ensures null { (result ≡ statuses.null_handle) ↔ (atlas.old.state ≡ None) }
+    ensures status { IsAmong (statuses.ok ∷ statuses.null_handle ∷ statuses.unknown_id ∷ []) result }
+    ensures returned { Leads atlas.old.state atlas.new.state (λ before after. StepsOver (λ before id after. (is_allocated before id ≡ true) × (after ≡ returned before id)) before (take count.new ids.now) after) }
+    ensures all { result ≡ statuses.ok → count.new ≡ length ids.now }
+    ensures some { result ≡ statuses.unknown_id → count.new < length ids.now }
+    ensures unknown { result ≡ statuses.unknown_id → IfSome atlas.new.state (λ held. is_allocated held (slice_index ids.now count.new) ≡ false) }
+    ensures null_stays { result ≡ statuses.null_handle → (atlas.new.state ≡ atlas.old.state) × (count.new ≡ count.old) }
+{
+    let Some(mut held) = atlas.take(alloc) else {
+        return NULL_HANDLE;
+    };
+    let status = return_each(&mut held, ids, count);
+    atlas.put(held);
+    status
+}
+
+/// Allocates sizes in turn up to the first that isn't given a place, and counts them.
+fn allocate_each_bucketed(
+    atlas: &mut BucketedAtlasAllocator,
+    sizes: &[EtagereSize],
+    allocations: &mut [EtagereAllocation],
+    count: &mut usize,
+) -> u32
+    requires { length sizes.now ≤ length allocations.old }
+    ensures status { IsAmong (statuses.ok ∷ statuses.no_room ∷ statuses.out_of_memory ∷ []) result }
+    ensures given { GivesOver (λ before size allocation after. buckets.Allocates before (size_in size) (allocation_in allocation) after) atlas.old (take count.new sizes.now) (take count.new allocations.new) atlas.new }
+    ensures behind { drop count.new allocations.new ≡ drop count.new allocations.old }
+    ensures all { result ≡ statuses.ok → count.new ≡ length sizes.now }
+    ensures some { result ≢ statuses.ok → count.new < length sizes.now }
+    ensures refused { result ≡ statuses.no_room → IfSome (slice_get sizes.now count.new) (λ size. IsBucketRefused atlas.new (size_in size)) }
+{
+    for i in 0..sizes.len() {
+        let answer = atlas.allocate(sizes[i].size());
+        let Ok(Some(given)) = answer else {
+            *count = i;
+            return if answer.is_ok() { NO_ROOM } else { MEMORY };
+        };
+        allocations[i] = EtagereAllocation::of(given);
+    }
+    *count = sizes.len();
+    OK
+}
+
+/// Takes ids back in turn up to the first that is unknown, and counts them.
+fn return_each_bucketed(atlas: &mut BucketedAtlasAllocator, ids: &[u32], count: &mut usize) -> u32
+    ensures status { IsAmong (statuses.ok ∷ statuses.unknown_id ∷ []) result }
+    ensures returned { StepsOver (λ before id after. (is_known before id ≡ true) × (after ≡ bucket_returned before id)) atlas.old (take count.new ids.now) atlas.new }
+    ensures all { result ≡ statuses.ok → count.new ≡ length ids.now }
+    ensures some { result ≢ statuses.ok → count.new < length ids.now }
+    ensures unknown { result ≡ statuses.unknown_id → is_known atlas.new (slice_index ids.now count.new) ≡ false }
+{
+    for i in 0..ids.len() {
+        if atlas.deallocate(AllocId::deserialize(ids[i])).is_err() {
+            *count = i;
+            return UNKNOWN_ID;
+        }
+    }
+    *count = ids.len();
+    OK
+}
+
+/// Allocates many sizes, one after the other, as etagere_bucketed_allocate does, up to the first that isn't given a
+/// place. Writes how many were to *count, and their allocations to the front of the buffer; what is behind stays. What
+/// was allocated stays so whatever the status.
+///
+/// Answers ETAGERE_OK where all were; ETAGERE_NULL_HANDLE and ETAGERE_LENGTH (the buffer is shorter than the sizes),
+/// with nothing written; ETAGERE_NO_ROOM or ETAGERE_MEMORY, of the size with the number *count. Costs as the single
+/// calls.
+#[unsafe(no_mangle)]
+pub extern "C" fn etagere_bucketed_allocate_many(
+    alloc: Global,
+    atlas: &mut EtagereBucketed,
+    sizes: &[EtagereSize],
+    allocations: &mut [EtagereAllocation],
+    count: &mut usize,
+) -> u32
+    ensures null { (result ≡ statuses.null_handle) ↔ (atlas.old.state ≡ None) }
+    ensures short { IfSome atlas.old.state (λ held. (result ≡ statuses.too_short) ↔ (length allocations.old < length sizes.now)) }
+    ensures status { IsAmong (statuses.ok ∷ statuses.null_handle ∷ statuses.no_room ∷ statuses.too_short ∷ statuses.out_of_memory ∷ []) result }
+    ensures given { length sizes.now ≤ length allocations.old → Leads atlas.old.state atlas.new.state (λ before after.
+        GivesOver (λ before size allocation after. buckets.Allocates before (size_in size) (allocation_in allocation) after) before (take count.new sizes.now) (take count.new allocations.new) after) }
+    ensures behind { drop count.new allocations.new ≡ drop count.new allocations.old }
+    ensures all { result ≡ statuses.ok → count.new ≡ length sizes.now }
+    ensures some { result ≡ statuses.no_room → count.new < length sizes.now }
+    ensures refused { result ≡ statuses.no_room → IfSome atlas.new.state (λ held. IfSome (slice_get sizes.now count.new) (λ size. IsBucketRefused held (size_in size))) }
+    ensures null_stays { result ≡ statuses.null_handle → (atlas.new.state ≡ atlas.old.state) × (allocations.new ≡ allocations.old) × (count.new ≡ count.old) }
+    ensures short_stays { result ≡ statuses.too_short → (atlas.new.state ≡ atlas.old.state) × (allocations.new ≡ allocations.old) × (count.new ≡ count.old) }
+{
+    let Some(mut held) = atlas.take(alloc) else {
+        return NULL_HANDLE;
+    };
+    if allocations.len() < sizes.len() {
+        atlas.put(held);
+        return LENGTH;
+    }
+    let status = allocate_each_bucketed(&mut held, sizes, allocations, count);
+    atlas.put(held);
+    status
+}
+
+/// Takes many ids back, one after the other, as etagere_bucketed_deallocate does, up to the first that is unknown.
+/// Writes how many were taken back to *count; they are gone whatever the status.
+///
+/// Answers ETAGERE_OK where all were; ETAGERE_NULL_HANDLE, with nothing written; ETAGERE_UNKNOWN_ID, of the id with the
+/// number *count. Costs as the single calls.
+#[unsafe(no_mangle)]
+pub extern "C" fn etagere_bucketed_deallocate_many(
+    alloc: Global,
+    atlas: &mut EtagereBucketed,
+    ids: &[u32],
+    count: &mut usize,
+) -> u32
+    ensures null { (result ≡ statuses.null_handle) ↔ (atlas.old.state ≡ None) }
+    ensures status { IsAmong (statuses.ok ∷ statuses.null_handle ∷ statuses.unknown_id ∷ []) result }
+    ensures returned { Leads atlas.old.state atlas.new.state (λ before after. StepsOver (λ before id after. (is_known before id ≡ true) × (after ≡ bucket_returned before id)) before (take count.new ids.now) after) }
+    ensures all { result ≡ statuses.ok → count.new ≡ length ids.now }
+    ensures some { result ≡ statuses.unknown_id → count.new < length ids.now }
+    ensures unknown { result ≡ statuses.unknown_id → IfSome atlas.new.state (λ held. is_known held (slice_index ids.now count.new) ≡ false) }
+    ensures null_stays { result ≡ statuses.null_handle → (atlas.new.state ≡ atlas.old.state) × (count.new ≡ count.old) }
+{
+    let Some(mut held) = atlas.take(alloc) else {
+        return NULL_HANDLE;
+    };
+    let status = return_each_bucketed(&mut held, ids, count);
+    atlas.put(held);
+    status
+}
