@@ -4,22 +4,21 @@
  * same time) and EtagereCache (rectangles under keys, of which those used least recently are evicted). Lengths are
  * whole pixels; in a rectangle `max` is the first pixel past it.
  *
- * Handles. A handle is a struct of one pointer that the caller keeps. It begins as ETAGERE_NULL; `.._new`, `.._clone`
- * and `.._restore` fill a null one, and `.._delete` frees what it holds and makes it null again. It may be moved, never
- * used twice: after a copy only one of the two is used. Of a null handle each call answers ETAGERE_NULL_HANDLE, and
- * changes nothing.
+ * Handles. A handle is a struct of one pointer that the caller keeps. It begins as ETAGERE_NULL; `.._new` and
+ * `.._clone` fill a null one, and `.._delete` frees what it holds and makes it null again. It may be moved, never used
+ * twice: after a copy only one of the two is used. Of a null handle each call answers ETAGERE_NULL_HANDLE, and changes
+ * nothing.
  *
- * Statuses. Each call but etagere_default_options answers a status. After any status but ETAGERE_OK nothing has changed
- * and nothing was written to what the caller passed, unless the comment of the function says so. The last two digits of
- * a status from 100 on are the number of the fault among those of its kind.
+ * Statuses. Each call answers a status. After any status but ETAGERE_OK nothing has changed and nothing was written to
+ * what the caller passed, unless the comment of the function says so. The last two digits of a status from 100 on are
+ * the number of the fault among those of its kind.
  *
  * What the caller owes, since no call can tell it:
- *   - A handle is ETAGERE_NULL, or was filled by a call and not deleted since, under this or another copy. Its pointer is
- *     never written or read.
- *   - No two calls at the same time share a handle; that includes calls that only read. A handle may go from thread to
- *     thread, ordered as for any memory. Different handles share nothing.
- *   - Each pointer that is passed points to what its type says, aligned, and isn't NULL, for a length of 0 too. A pointer
- *     with a length has as many in a row. What a call writes to overlaps nothing else that was passed.
+ *   - A handle is ETAGERE_NULL, or was filled by a call and not deleted since, under this or another copy. Its pointer
+ *     is never written or read.
+ *   - A handle stays on the thread that filled it. Different handles share nothing, so each thread may have its own.
+ *   - Each pointer that is passed points to what its type says, aligned, and isn't NULL, for a length of 0 too. A
+ *     pointer with a length has as many in a row. What a call writes to overlaps nothing else that was passed.
  *   - malloc, realloc and free are of one allocator, and align a block to each power of two up to 16 that divides its
  *     size. No call is made from a signal handler, nor from the forked child of a process with threads.
  *
@@ -48,8 +47,6 @@ enum {
     ETAGERE_NO_ROOM = 3,
     /* A buffer is too short, or a capacity is 0. */
     ETAGERE_LENGTH = 4,
-    /* The bytes aren't the JSON text of a saved atlas of this kind, or there was no memory to read them. */
-    ETAGERE_NOT_JSON = 5,
     /* There was no memory. */
     ETAGERE_MEMORY = 6,
     /* The cache hasn't the key. */
@@ -90,30 +87,6 @@ enum {
     ETAGERE_BUCKETED_GROW_AREA = 303,
     /* There was no memory. */
     ETAGERE_BUCKETED_GROW_MEMORY = 304,
-
-    /* Why a snapshot can't be restored: a rule that it breaks, any of them where it breaks several. */
-    /* A side, the area, an alignment or the width of a column is out of its range. */
-    ETAGERE_RESTORE_FRAME = 401,
-    /* There are too few or too many records of a kind. */
-    ETAGERE_RESTORE_COUNTS = 402,
-    /* A link names no record, a link back is wrong, or a record names another shelf than its own. */
-    ETAGERE_RESTORE_LINK = 403,
-    /* The shelves don't fill their columns as they must. */
-    ETAGERE_RESTORE_SHELVES = 404,
-    /* The items or buckets of a shelf don't fill it as they must. */
-    ETAGERE_RESTORE_RUNS = 405,
-    /* Two free items of a shelf, or two empty shelves of a column, are neighbours. */
-    ETAGERE_RESTORE_NEIGHBOURS = 406,
-    /* A free list hasn't each free item of its shelf once. */
-    ETAGERE_RESTORE_FREE_LIST = 407,
-    /* A record is in no list or in two, or a list doesn't end. */
-    ETAGERE_RESTORE_SHARING = 408,
-    /* An unused record is marked as allocated. */
-    ETAGERE_RESTORE_UNUSED = 409,
-    /* The allocated space is not that of what is allocated. */
-    ETAGERE_RESTORE_SPACE = 410,
-    /* There was no memory. */
-    ETAGERE_RESTORE_MEMORY = 411,
 
     /* Nothing is allocated under the id. */
     ETAGERE_UNKNOWN_ID = 501,
@@ -180,15 +153,12 @@ typedef struct EtagereCache {
     void *state;
 } EtagereCache;
 
-/* Writes the default options, those of ETAGERE_DEFAULT_OPTIONS. It can't fail. */
-void etagere_default_options(EtagereOptions *options);
-
 /* ---- An atlas of shelves ---------------------------------------------------------------------------------------- */
 
 /* Fills a null handle with an empty atlas.
  * Answers ETAGERE_OK; ETAGERE_HANDLE_IN_USE where the handle isn't null; ETAGERE_OPTIONS_.., the first fault,
- * ETAGERE_OPTIONS_MEMORY only where there is no other and no memory. Takes memory for the records of each column, and
- * goes through the columns. */
+ * ETAGERE_OPTIONS_MEMORY only where there is no other and no memory. Takes memory for the records of each column,
+ * and goes through the columns. */
 EtagereStatus etagere_atlas_new(EtagereAtlas *atlas, EtagereSize size, const EtagereOptions *options);
 
 /* Frees an atlas with all that it holds, and makes the handle null.
@@ -196,25 +166,25 @@ EtagereStatus etagere_atlas_new(EtagereAtlas *atlas, EtagereSize size, const Eta
 EtagereStatus etagere_atlas_delete(EtagereAtlas *atlas);
 
 /* Gives a rectangle that is at least as large as the size, with the id under which it is allocated.
- * Answers ETAGERE_OK; ETAGERE_NULL_HANDLE; ETAGERE_NO_ROOM where there is no place; ETAGERE_MEMORY, only where the place
- * is to be split and there was no memory. Finds by binary search where the shelves begin that are tall enough, and goes
- * through them by height, in each that may have an item wide enough through its free list. */
+ * Answers ETAGERE_OK; ETAGERE_NULL_HANDLE; ETAGERE_NO_ROOM where there is no place; ETAGERE_MEMORY, only where the
+ * place is to be split and there was no memory. Finds by binary search where the shelves begin that are tall enough,
+ * and goes through them by height, in each that may have an item wide enough through its free list. */
 EtagereStatus etagere_atlas_allocate(EtagereAtlas *atlas, EtagereSize size, EtagereAllocation *allocation);
 
 /* Takes back the rectangle that is allocated under an id, and merges what is free with its neighbours.
- * Answers ETAGERE_OK; ETAGERE_NULL_HANDLE; ETAGERE_UNKNOWN_ID exactly where nothing is allocated under the id. Takes no
- * memory, and looks at the record and those beside it. */
+ * Answers ETAGERE_OK; ETAGERE_NULL_HANDLE; ETAGERE_UNKNOWN_ID exactly where nothing is allocated under the id. Takes
+ * no memory, and looks at the record and those beside it. */
 EtagereStatus etagere_atlas_deallocate(EtagereAtlas *atlas, uint32_t id);
 
 /* Gives the rectangle that is allocated under an id, as it was first given. The atlas stays.
- * Answers ETAGERE_OK; ETAGERE_NULL_HANDLE; ETAGERE_UNKNOWN_ID exactly where nothing is allocated under the id. Takes no
- * memory, and constant time. */
+ * Answers ETAGERE_OK; ETAGERE_NULL_HANDLE; ETAGERE_UNKNOWN_ID exactly where nothing is allocated under the id. Takes
+ * no memory, and constant time. */
 EtagereStatus etagere_atlas_get(EtagereAtlas *atlas, uint32_t id, EtagereRectangle *rectangle);
 
-/* Gives the index of what is allocated under an id: a small number that it keeps as long as it is allocated, and that
- * nothing else has at that time. The atlas stays.
- * Answers ETAGERE_OK; ETAGERE_NULL_HANDLE; ETAGERE_UNKNOWN_ID exactly where nothing is allocated under the id. Takes no
- * memory, and constant time. */
+/* Gives the index of what is allocated under an id: a small number that it keeps as long as it is allocated, and
+ * that nothing else has at that time. The atlas stays.
+ * Answers ETAGERE_OK; ETAGERE_NULL_HANDLE; ETAGERE_UNKNOWN_ID exactly where nothing is allocated under the id. Takes
+ * no memory, and constant time. */
 EtagereStatus etagere_atlas_get_index(EtagereAtlas *atlas, uint32_t id, uint32_t *index);
 
 /* Takes everything back at once: the atlas is as new, with its present size and columns.
@@ -242,9 +212,9 @@ EtagereStatus etagere_atlas_free_space(EtagereAtlas *atlas, int32_t *space);
 EtagereStatus etagere_atlas_fits_when_empty(EtagereAtlas *atlas, EtagereSize size, uint32_t *fits);
 
 /* Makes the atlas larger. What is allocated keeps its place, its id and its index.
- * Answers ETAGERE_OK; ETAGERE_NULL_HANDLE; ETAGERE_GROW_.., the first fault, ETAGERE_GROW_MEMORY only where there is no
- * other, the growth needs records and there was no memory. Goes through all shelves, for wider columns through all items
- * too, and sorts the shelves. */
+ * Answers ETAGERE_OK; ETAGERE_NULL_HANDLE; ETAGERE_GROW_.., the first fault, ETAGERE_GROW_MEMORY only where there is
+ * no other, the growth needs records and there was no memory. Goes through all shelves, for wider columns through
+ * all items too, and sorts the shelves. */
 EtagereStatus etagere_atlas_grow(EtagereAtlas *atlas, EtagereSize size);
 
 /* Fills a null handle with an atlas that equals this one, its ids and later answers too. The atlas stays, and shares
@@ -253,58 +223,33 @@ EtagereStatus etagere_atlas_grow(EtagereAtlas *atlas, EtagereSize size);
  * ETAGERE_MEMORY. Takes memory for all records, and goes through them. */
 EtagereStatus etagere_atlas_clone(EtagereAtlas *atlas, EtagereAtlas *copy);
 
-/* Allocates many sizes, one after the other, as etagere_atlas_allocate does, up to the first that isn't given a place.
- * Writes how many were to *count, and their allocations to the front of the buffer; what is behind stays. What was
- * allocated stays so whatever the status.
- * Answers ETAGERE_OK where all were; ETAGERE_NULL_HANDLE and ETAGERE_LENGTH (the buffer is shorter than the sizes), with
- * nothing written; ETAGERE_NO_ROOM or ETAGERE_MEMORY, of the size with the number *count. Costs as the single calls. */
-EtagereStatus etagere_atlas_allocate_many(EtagereAtlas *atlas, const EtagereSize *sizes, size_t sizes_length,
-                                          EtagereAllocation *allocations, size_t allocations_length, size_t *count);
+/* Allocates many sizes, one after the other, as etagere_atlas_allocate does, up to the first that isn't given a
+ * place. Writes how many were to *count, and their allocations to the front of the buffer; what is behind stays.
+ * What was allocated stays so whatever the status.
+ * Answers ETAGERE_OK where all were; ETAGERE_NULL_HANDLE and ETAGERE_LENGTH (the buffer is shorter than the sizes),
+ * with nothing written; ETAGERE_NO_ROOM or ETAGERE_MEMORY, of the size with the number *count. Costs as the single
+ * calls. */
+EtagereStatus etagere_atlas_allocate_many(
+    EtagereAtlas *atlas, const EtagereSize *sizes, size_t sizes_length, EtagereAllocation *allocations, size_t
+    allocations_length, size_t *count);
 
-/* Takes many ids back, one after the other, as etagere_atlas_deallocate does, up to the first that is unknown. Writes
- * how many were taken back to *count; they are gone whatever the status.
- * Answers ETAGERE_OK where all were; ETAGERE_NULL_HANDLE, with nothing written; ETAGERE_UNKNOWN_ID, of the id with the
- * number *count. Costs as the single calls. */
+/* Takes many ids back, one after the other, as etagere_atlas_deallocate does, up to the first that is unknown.
+ * Writes how many were taken back to *count; they are gone whatever the status.
+ * Answers ETAGERE_OK where all were; ETAGERE_NULL_HANDLE, with nothing written; ETAGERE_UNKNOWN_ID, of the id with
+ * the number *count. Costs as the single calls. */
 EtagereStatus etagere_atlas_deallocate_many(EtagereAtlas *atlas, const uint32_t *ids, size_t ids_length,
                                             size_t *count);
-
-/* Gives how many rectangles are allocated. The atlas stays.
- * Answers ETAGERE_OK; ETAGERE_NULL_HANDLE. Takes no memory, and goes through all records. */
-EtagereStatus etagere_atlas_count(EtagereAtlas *atlas, size_t *count);
-
-/* Writes everything that is allocated to the front of the buffer, each once, by rising index, and how many to *count.
- * What is behind stays, and the atlas does.
- * Answers ETAGERE_OK; ETAGERE_NULL_HANDLE; ETAGERE_LENGTH where the buffer is shorter than etagere_atlas_count says,
- * with nothing written. Takes no memory, and goes through all records. */
-EtagereStatus etagere_atlas_list(EtagereAtlas *atlas, EtagereAllocation *allocations, size_t allocations_length,
-                                 size_t *count);
 
 /* Gives the length in bytes of the picture of etagere_atlas_picture. The atlas stays.
  * Answers ETAGERE_OK; ETAGERE_NULL_HANDLE; ETAGERE_MEMORY. Takes memory for the text, and goes through all items. */
 EtagereStatus etagere_atlas_picture_length(EtagereAtlas *atlas, size_t *text_length);
 
-/* Writes an SVG document to the front of the buffer, without a zero behind it, and its length to *text_length: the atlas and
- * every item, what is allocated in blue, what is free in grey. What is behind stays, and the atlas does.
- * Answers ETAGERE_OK; ETAGERE_NULL_HANDLE; ETAGERE_LENGTH where the buffer is shorter than etagere_atlas_picture_length
- * says, with nothing written; ETAGERE_MEMORY. Takes memory for the text, and goes through all
- * items. */
+/* Writes an SVG document to the front of the buffer, without a zero behind it, and its length to *text_length: the
+ * atlas and every item, what is allocated in blue, what is free in grey. What is behind stays, and the atlas does.
+ * Answers ETAGERE_OK; ETAGERE_NULL_HANDLE; ETAGERE_LENGTH where the buffer is shorter than
+ * etagere_atlas_picture_length says, with nothing written; ETAGERE_MEMORY. Takes memory for the text, and goes
+ * through all items. */
 EtagereStatus etagere_atlas_picture(EtagereAtlas *atlas, uint8_t *buffer, size_t buffer_length, size_t *text_length);
-
-/* Gives the length in bytes of the text of etagere_atlas_snapshot. The atlas stays.
- * Answers ETAGERE_OK; ETAGERE_NULL_HANDLE; ETAGERE_MEMORY. Takes memory for a copy of all records and for the text. */
-EtagereStatus etagere_atlas_snapshot_length(EtagereAtlas *atlas, size_t *text_length);
-
-/* Writes the atlas as JSON text to the front of the buffer, without a zero behind it, and its length to *text_length. What is
- * behind stays, and the atlas does.
- * Answers ETAGERE_OK; ETAGERE_NULL_HANDLE; ETAGERE_LENGTH where the buffer is shorter than etagere_atlas_snapshot_length
- * says, with nothing written; ETAGERE_MEMORY. Takes memory for a copy of all records and for the text. */
-EtagereStatus etagere_atlas_snapshot(EtagereAtlas *atlas, uint8_t *buffer, size_t buffer_length, size_t *text_length);
-
-/* Fills a null handle with the atlas that a JSON text stands for, whoever wrote it: only where the text keeps every rule
- * that an atlas keeps.
- * Answers ETAGERE_OK; ETAGERE_HANDLE_IN_USE; ETAGERE_NOT_JSON; ETAGERE_RESTORE_.., a rule that is broken. Takes memory
- * and time linear in the length of the text, and sorts the shelves. */
-EtagereStatus etagere_atlas_restore(EtagereAtlas *atlas, const uint8_t *text, size_t text_length);
 
 /* ---- An atlas of buckets ---------------------------------------------------------------------------------------- */
 
@@ -318,15 +263,16 @@ EtagereStatus etagere_bucketed_new(EtagereBucketed *atlas, EtagereSize size, con
 EtagereStatus etagere_bucketed_delete(EtagereBucketed *atlas);
 
 /* Gives a rectangle that is at least as large as the size, with the id under which it is allocated.
- * Answers ETAGERE_OK; ETAGERE_NULL_HANDLE; ETAGERE_NO_ROOM where there is no place; ETAGERE_MEMORY, only where a shelf
- * is to be added and there was no memory. Goes through all shelves a few times. */
+ * Answers ETAGERE_OK; ETAGERE_NULL_HANDLE; ETAGERE_NO_ROOM where there is no place; ETAGERE_MEMORY, only where a
+ * shelf is to be added and there was no memory. Goes through all shelves a few times. */
 EtagereStatus etagere_bucketed_allocate(EtagereBucketed *atlas, EtagereSize size, EtagereAllocation *allocation);
 
-/* Takes back the rectangle that was given under an id. The last one of a bucket makes that empty, and shelves at the end
- * that hold nothing are dropped.
- * Answers ETAGERE_OK; ETAGERE_NULL_HANDLE; ETAGERE_UNKNOWN_ID exactly where no bucket that holds something has given an
- * item under the id since it was empty. That an id comes back once is the caller's part: a second return of one is taken
- * for that of another item of its bucket. Takes no memory, and constant time but for the shelves that are dropped. */
+/* Takes back the rectangle that was given under an id. The last one of a bucket makes that empty, and shelves at the
+ * end that hold nothing are dropped.
+ * Answers ETAGERE_OK; ETAGERE_NULL_HANDLE; ETAGERE_UNKNOWN_ID exactly where no bucket that holds something has given
+ * an item under the id since it was empty. That an id comes back once is the caller's part: a second return of one
+ * is taken for that of another item of its bucket. Takes no memory, and constant time but for the shelves that are
+ * dropped. */
 EtagereStatus etagere_bucketed_deallocate(EtagereBucketed *atlas, uint32_t id);
 
 /* Takes everything back at once: the atlas is as new, with its present size and columns.
@@ -350,8 +296,8 @@ EtagereStatus etagere_bucketed_allocated_space(EtagereBucketed *atlas, int32_t *
 EtagereStatus etagere_bucketed_free_space(EtagereBucketed *atlas, int32_t *space);
 
 /* Makes the atlas larger. What is allocated keeps its place and its id.
- * Answers ETAGERE_OK; ETAGERE_NULL_HANDLE; ETAGERE_BUCKETED_GROW_.., the first fault, ETAGERE_BUCKETED_GROW_MEMORY only
- * where there is no other, buckets are to be made and there was no memory. Goes through all shelves. */
+ * Answers ETAGERE_OK; ETAGERE_NULL_HANDLE; ETAGERE_BUCKETED_GROW_.., the first fault, ETAGERE_BUCKETED_GROW_MEMORY
+ * only where there is no other, buckets are to be made and there was no memory. Goes through all shelves. */
 EtagereStatus etagere_bucketed_grow(EtagereBucketed *atlas, EtagereSize size);
 
 /* Fills a null handle with an atlas that equals this one, its ids and later answers too. The atlas stays, and shares
@@ -361,79 +307,65 @@ EtagereStatus etagere_bucketed_grow(EtagereBucketed *atlas, EtagereSize size);
 EtagereStatus etagere_bucketed_clone(EtagereBucketed *atlas, EtagereBucketed *copy);
 
 /* Allocates many sizes, one after the other, as etagere_bucketed_allocate does, up to the first that isn't given a
- * place. Writes how many were to *count, and their allocations to the front of the buffer; what is behind stays. What
- * was allocated stays so whatever the status.
- * Answers ETAGERE_OK where all were; ETAGERE_NULL_HANDLE and ETAGERE_LENGTH (the buffer is shorter than the sizes), with
- * nothing written; ETAGERE_NO_ROOM or ETAGERE_MEMORY, of the size with the number *count. Costs as the single calls. */
-EtagereStatus etagere_bucketed_allocate_many(EtagereBucketed *atlas, const EtagereSize *sizes, size_t sizes_length,
-                                             EtagereAllocation *allocations, size_t allocations_length,
-                                             size_t *count);
+ * place. Writes how many were to *count, and their allocations to the front of the buffer; what is behind stays.
+ * What was allocated stays so whatever the status.
+ * Answers ETAGERE_OK where all were; ETAGERE_NULL_HANDLE and ETAGERE_LENGTH (the buffer is shorter than the sizes),
+ * with nothing written; ETAGERE_NO_ROOM or ETAGERE_MEMORY, of the size with the number *count. Costs as the single
+ * calls. */
+EtagereStatus etagere_bucketed_allocate_many(
+    EtagereBucketed *atlas, const EtagereSize *sizes, size_t sizes_length, EtagereAllocation *allocations,
+    size_t allocations_length, size_t *count);
 
-/* Takes many ids back, one after the other, as etagere_bucketed_deallocate does, up to the first that is unknown. Writes
- * how many were taken back to *count; they are gone whatever the status.
- * Answers ETAGERE_OK where all were; ETAGERE_NULL_HANDLE, with nothing written; ETAGERE_UNKNOWN_ID, of the id with the
- * number *count. Costs as the single calls. */
-EtagereStatus etagere_bucketed_deallocate_many(EtagereBucketed *atlas, const uint32_t *ids, size_t ids_length,
-                                               size_t *count);
+/* Takes many ids back, one after the other, as etagere_bucketed_deallocate does, up to the first that is unknown.
+ * Writes how many were taken back to *count; they are gone whatever the status.
+ * Answers ETAGERE_OK where all were; ETAGERE_NULL_HANDLE, with nothing written; ETAGERE_UNKNOWN_ID, of the id with
+ * the number *count. Costs as the single calls. */
+EtagereStatus etagere_bucketed_deallocate_many(
+    EtagereBucketed *atlas, const uint32_t *ids, size_t ids_length, size_t *count);
 
 /* Gives the length in bytes of the picture of etagere_bucketed_picture. The atlas stays.
  * Answers ETAGERE_OK; ETAGERE_NULL_HANDLE; ETAGERE_MEMORY. Takes memory for the text, and goes through all buckets. */
 EtagereStatus etagere_bucketed_picture_length(EtagereBucketed *atlas, size_t *text_length);
 
-/* Writes an SVG document to the front of the buffer, without a zero behind it, and its length to *text_length: the atlas and
- * every bucket, what is used in blue, what is free in grey. What is behind stays, and the atlas does.
+/* Writes an SVG document to the front of the buffer, without a zero behind it, and its length to *text_length: the
+ * atlas and every bucket, what is used in blue, what is free in grey. What is behind stays, and the atlas does.
  * Answers ETAGERE_OK; ETAGERE_NULL_HANDLE; ETAGERE_LENGTH where the buffer is shorter than
- * etagere_bucketed_picture_length says, with nothing written; ETAGERE_MEMORY. Takes memory for the text, and goes through all
- * buckets. */
-EtagereStatus etagere_bucketed_picture(EtagereBucketed *atlas, uint8_t *buffer, size_t buffer_length, size_t *text_length);
-
-/* Gives the length in bytes of the text of etagere_bucketed_snapshot. The atlas stays.
- * Answers ETAGERE_OK; ETAGERE_NULL_HANDLE; ETAGERE_MEMORY. Takes memory for a copy of all records and for the text. */
-EtagereStatus etagere_bucketed_snapshot_length(EtagereBucketed *atlas, size_t *text_length);
-
-/* Writes the atlas as JSON text to the front of the buffer, without a zero behind it, and its length to *text_length. What is
- * behind stays, and the atlas does.
- * Answers ETAGERE_OK; ETAGERE_NULL_HANDLE; ETAGERE_LENGTH where the buffer is shorter than
- * etagere_bucketed_snapshot_length says, with nothing written; ETAGERE_MEMORY. Takes memory for a copy of all records
- * and for the text. */
-EtagereStatus etagere_bucketed_snapshot(EtagereBucketed *atlas, uint8_t *buffer, size_t buffer_length, size_t *text_length);
-
-/* Fills a null handle with the atlas that a JSON text stands for, whoever wrote it: only where the text keeps every rule
- * that a bucketed atlas keeps.
- * Answers ETAGERE_OK; ETAGERE_HANDLE_IN_USE; ETAGERE_NOT_JSON; ETAGERE_RESTORE_.., a rule that is broken. Takes memory
- * and time linear in the length of the text. */
-EtagereStatus etagere_bucketed_restore(EtagereBucketed *atlas, const uint8_t *text, size_t text_length);
+ * etagere_bucketed_picture_length says, with nothing written; ETAGERE_MEMORY. Takes memory for the text, and goes
+ * through all buckets. */
+EtagereStatus etagere_bucketed_picture(
+    EtagereBucketed *atlas, uint8_t *buffer, size_t buffer_length, size_t *text_length);
 
 /* ---- A cache ---------------------------------------------------------------------------------------------------- */
 
 /* Fills a null handle with an empty cache of at most `capacity` keys, over an atlas of this size.
  * Answers ETAGERE_OK; ETAGERE_HANDLE_IN_USE; ETAGERE_LENGTH where the capacity is 0; ETAGERE_OPTIONS_.., the first
- * fault, ETAGERE_OPTIONS_MEMORY only where there is no other and no memory. Takes no memory for keys that aren't there
- * yet, and goes through the columns. */
+ * fault, ETAGERE_OPTIONS_MEMORY only where there is no other and no memory. Takes no memory for keys that aren't
+ * there yet, and goes through the columns. */
 EtagereStatus etagere_cache_new(EtagereCache *cache, EtagereSize size, const EtagereOptions *options, size_t capacity);
 
 /* Frees a cache with all that it holds, and makes the handle null.
  * Answers ETAGERE_OK; ETAGERE_NULL_HANDLE. Goes through the keys. */
 EtagereStatus etagere_cache_delete(EtagereCache *cache);
 
-/* Gives the rectangle of a key. A key that is there becomes the most recently used; its size isn't looked at. A new key
- * gets a rectangle at least as large as the size and becomes the most recently used; where there is no room, the keys
- * used least recently are evicted before, no more than needed. Writes the evicted keys to the front of the buffer, the
- * least recently used first, and how many to *count; what is behind stays.
- * Answers ETAGERE_OK; ETAGERE_NULL_HANDLE; ETAGERE_LENGTH where the buffer is shorter than etagere_cache_len says, with
- * nothing written; ETAGERE_CACHE_TOO_LARGE exactly where the key is new and an empty atlas has no place for the size,
- * with nothing written; ETAGERE_CACHE_MEMORY, only for a new key: then the evicted keys and *count are written too,
- * these keys are gone, and the others stand. Asks the atlas once, and once more for each key that is evicted. */
-EtagereStatus etagere_cache_place(EtagereCache *cache, uint64_t key, EtagereSize size, EtagereRectangle *rectangle,
-                                  uint64_t *evicted, size_t evicted_length, size_t *count);
+/* Gives the rectangle of a key. A key that is there becomes the most recently used; its size isn't looked at. A new
+ * key gets a rectangle at least as large as the size and becomes the most recently used; where there is no room, the
+ * keys used least recently are evicted before, no more than needed. Writes the evicted keys to the front of the
+ * buffer, the least recently used first, and how many to *count; what is behind stays.
+ * Answers ETAGERE_OK; ETAGERE_NULL_HANDLE; ETAGERE_LENGTH where the buffer is shorter than etagere_cache_len says,
+ * with nothing written; ETAGERE_CACHE_TOO_LARGE exactly where the key is new and an empty atlas has no place for the
+ * size, with nothing written; ETAGERE_CACHE_MEMORY, only for a new key: then the evicted keys and *count are written
+ * too, these keys are gone, and the others stand. Asks the atlas once, and once more for each key that is evicted. */
+EtagereStatus etagere_cache_place(
+    EtagereCache *cache, uint64_t key, EtagereSize size, EtagereRectangle *rectangle, uint64_t *evicted, size_t
+    evicted_length, size_t *count);
 
 /* Gives the rectangle of a key, which becomes the most recently used.
  * Answers ETAGERE_OK; ETAGERE_NULL_HANDLE; ETAGERE_UNKNOWN_KEY. Takes no memory, and constant time on average. */
 EtagereStatus etagere_cache_get(EtagereCache *cache, uint64_t key, EtagereRectangle *rectangle);
 
 /* Takes a key out, and gives the rectangle that it had.
- * Answers ETAGERE_OK; ETAGERE_NULL_HANDLE; ETAGERE_UNKNOWN_KEY. Takes no memory, and costs what etagere_atlas_deallocate
- * does. */
+ * Answers ETAGERE_OK; ETAGERE_NULL_HANDLE; ETAGERE_UNKNOWN_KEY. Takes no memory, and costs what
+ * etagere_atlas_deallocate does. */
 EtagereStatus etagere_cache_remove(EtagereCache *cache, uint64_t key, EtagereRectangle *rectangle);
 
 /* Takes all keys out: the cache is as new.
@@ -469,9 +401,9 @@ EtagereStatus etagere_cache_free_space(EtagereCache *cache, int32_t *space);
 EtagereStatus etagere_cache_picture_length(EtagereCache *cache, size_t *text_length);
 
 /* Writes the picture of the atlas, as etagere_atlas_picture does. The cache stays.
- * Answers ETAGERE_OK; ETAGERE_NULL_HANDLE; ETAGERE_LENGTH where the buffer is shorter than etagere_cache_picture_length
- * says, with nothing written; ETAGERE_MEMORY. Takes memory for the text, and goes through all
- * items. */
+ * Answers ETAGERE_OK; ETAGERE_NULL_HANDLE; ETAGERE_LENGTH where the buffer is shorter than
+ * etagere_cache_picture_length says, with nothing written; ETAGERE_MEMORY. Takes memory for the text, and goes
+ * through all items. */
 EtagereStatus etagere_cache_picture(EtagereCache *cache, uint8_t *buffer, size_t buffer_length, size_t *text_length);
 
 #ifdef __cplusplus

@@ -163,6 +163,144 @@ static void null_atlas(void) {
     CHECK(atlas.state == NULL);
 }
 
+static void batches(void) {
+    EtagereAtlas atlas = ETAGERE_NULL;
+    EtagereOptions options = ETAGERE_DEFAULT_OPTIONS;
+    EtagereSize sizes[4];
+    EtagereAllocation given[5];
+    uint32_t ids[4];
+    size_t count = 77, i;
+
+    sizes[0] = size2(64, 16);
+    sizes[1] = size2(32, 16);
+    sizes[2] = size2(65, 1);
+    sizes[3] = size2(1, 1);
+    for (i = 0; i < 5; i += 1) {
+        given[i] = nothing();
+    }
+    CHECK(etagere_atlas_allocate_many(&atlas, sizes, 4, given, 5, &count) == ETAGERE_NULL_HANDLE && count == 77);
+    CHECK(etagere_atlas_new(&atlas, size2(64, 64), &options) == ETAGERE_OK);
+    CHECK(etagere_atlas_allocate_many(&atlas, sizes, 4, given, 3, &count) == ETAGERE_LENGTH && count == 77);
+    CHECK(is_nothing(given[0]));
+    CHECK(etagere_atlas_allocate_many(&atlas, sizes, 4, given, 5, &count) == ETAGERE_NO_ROOM && count == 2);
+    CHECK(lies(given[0].rectangle, 0, 0, 64, 16) && lies(given[1].rectangle, 0, 16, 32, 32) && is_nothing(given[2]));
+    CHECK(etagere_atlas_allocate_many(&atlas, sizes + 3, 1, given + 2, 1, &count) == ETAGERE_OK && count == 1);
+    CHECK(etagere_atlas_allocate_many(&atlas, sizes, 0, given, 0, &count) == ETAGERE_OK && count == 0);
+    ids[0] = given[2].id;
+    ids[1] = given[0].id;
+    ids[2] = given[0].id;
+    ids[3] = given[1].id;
+    CHECK(etagere_atlas_deallocate_many(&atlas, ids, 4, &count) == ETAGERE_UNKNOWN_ID && count == 2);
+    CHECK(etagere_atlas_deallocate_many(&atlas, ids + 3, 1, &count) == ETAGERE_OK && count == 1);
+    CHECK(etagere_atlas_delete(&atlas) == ETAGERE_OK);
+    CHECK(etagere_atlas_deallocate_many(&atlas, ids, 4, &count) == ETAGERE_NULL_HANDLE && count == 1);
+}
+
+static void pictures(void) {
+    EtagereAtlas atlas = ETAGERE_NULL;
+    EtagereOptions options = ETAGERE_DEFAULT_OPTIONS;
+    uint8_t buffer[4096];
+    size_t needed = 7, written = 7;
+
+    CHECK(etagere_atlas_picture_length(&atlas, &needed) == ETAGERE_NULL_HANDLE && needed == 7);
+    CHECK(etagere_atlas_picture(&atlas, buffer, sizeof buffer, &written) == ETAGERE_NULL_HANDLE && written == 7);
+    CHECK(etagere_atlas_new(&atlas, size2(64, 64), &options) == ETAGERE_OK);
+    CHECK(etagere_atlas_picture_length(&atlas, &needed) == ETAGERE_OK && needed > 100 && needed < sizeof buffer);
+    memset(buffer, '#', sizeof buffer);
+    CHECK(etagere_atlas_picture(&atlas, buffer, needed - 1, &written) == ETAGERE_LENGTH && written == 7);
+    CHECK(buffer[0] == '#');
+    CHECK(etagere_atlas_picture(&atlas, buffer, sizeof buffer, &written) == ETAGERE_OK && written == needed);
+    CHECK(memcmp(buffer, "<svg", 4) == 0 && buffer[needed] == '#' && buffer[needed - 1] != '#');
+    CHECK(etagere_atlas_picture(&atlas, buffer, needed, &written) == ETAGERE_OK);
+    CHECK(etagere_atlas_delete(&atlas) == ETAGERE_OK);
+}
+
+static void buckets(void) {
+    EtagereBucketed atlas = ETAGERE_NULL, copy = ETAGERE_NULL;
+    EtagereOptions options = ETAGERE_DEFAULT_OPTIONS;
+    EtagereAllocation first, second, none = nothing();
+    EtagereSize size;
+    uint8_t buffer[4096];
+    size_t length, count;
+    int32_t space;
+    uint32_t number;
+
+    CHECK(etagere_bucketed_allocate(&atlas, size2(1, 1), &none) == ETAGERE_NULL_HANDLE && is_nothing(none));
+    CHECK(etagere_bucketed_new(&atlas, size2(65535, 1), &options) == ETAGERE_OPTIONS_SIZE);
+    CHECK(etagere_bucketed_new(&atlas, size2(32, 64), &options) == ETAGERE_OK);
+    CHECK(etagere_bucketed_new(&atlas, size2(32, 64), &options) == ETAGERE_HANDLE_IN_USE);
+    CHECK(etagere_bucketed_allocate(&atlas, size2(20, 16), &first) == ETAGERE_OK && lies(first.rectangle, 0, 0, 20, 16));
+    CHECK(etagere_bucketed_allocate(&atlas, size2(24, 16), &second) == ETAGERE_OK);
+    CHECK(lies(second.rectangle, 0, 16, 24, 32));
+    CHECK(etagere_bucketed_allocate(&atlas, size2(33, 1), &none) == ETAGERE_NO_ROOM && is_nothing(none));
+    CHECK(etagere_bucketed_allocated_space(&atlas, &space) == ETAGERE_OK && space == 44 * 16);
+    CHECK(etagere_bucketed_free_space(&atlas, &space) == ETAGERE_OK && space == 32 * 64 - 44 * 16);
+    CHECK(etagere_bucketed_picture_length(&atlas, &length) == ETAGERE_OK && length < sizeof buffer);
+    CHECK(etagere_bucketed_picture(&atlas, buffer, length - 1, &count) == ETAGERE_LENGTH);
+    CHECK(etagere_bucketed_picture(&atlas, buffer, sizeof buffer, &count) == ETAGERE_OK && count == length);
+    CHECK(etagere_bucketed_clone(&atlas, &copy) == ETAGERE_OK);
+    CHECK(etagere_bucketed_clone(&atlas, &copy) == ETAGERE_HANDLE_IN_USE);
+    CHECK(etagere_bucketed_deallocate(&copy, second.id) == ETAGERE_OK);
+    CHECK(etagere_bucketed_deallocate(&copy, second.id) == ETAGERE_UNKNOWN_ID);
+    CHECK(etagere_bucketed_delete(&copy) == ETAGERE_OK && etagere_bucketed_delete(&copy) == ETAGERE_NULL_HANDLE);
+    CHECK(etagere_bucketed_deallocate_many(&atlas, &second.id, 1, &count) == ETAGERE_OK && count == 1);
+    size = size2(24, 16);
+    CHECK(etagere_bucketed_allocate_many(&atlas, &size, 1, &second, 1, &count) == ETAGERE_OK && count == 1);
+    CHECK(etagere_bucketed_grow(&atlas, size2(31, 64)) == ETAGERE_BUCKETED_GROW_SMALLER);
+    CHECK(etagere_bucketed_grow(&atlas, size2(65535, 64)) == ETAGERE_BUCKETED_GROW_SIZE);
+    CHECK(etagere_bucketed_grow(&atlas, size2(65534, 65534)) == ETAGERE_BUCKETED_GROW_AREA);
+    CHECK(etagere_bucketed_grow(&atlas, size2(64, 64)) == ETAGERE_OK);
+    CHECK(etagere_bucketed_size(&atlas, &size) == ETAGERE_OK && size.width == 64 && size.height == 64);
+    CHECK(etagere_bucketed_is_empty(&atlas, &number) == ETAGERE_OK && number == 0);
+    CHECK(etagere_bucketed_clear(&atlas) == ETAGERE_OK);
+    CHECK(etagere_bucketed_is_empty(&atlas, &number) == ETAGERE_OK && number == 1);
+    CHECK(etagere_bucketed_delete(&atlas) == ETAGERE_OK);
+}
+
+static void cache(void) {
+    EtagereCache cache = ETAGERE_NULL;
+    EtagereOptions options = ETAGERE_DEFAULT_OPTIONS;
+    EtagereRectangle rectangle;
+    EtagereSize size;
+    uint64_t evicted[3] = { 9, 9, 9 };
+    uint8_t buffer[4096];
+    size_t count = 7, length;
+    int32_t space;
+    uint32_t number;
+
+    CHECK(etagere_cache_place(&cache, 1, size2(1, 1), &rectangle, evicted, 3, &count) == ETAGERE_NULL_HANDLE);
+    CHECK(etagere_cache_new(&cache, size2(32, 32), &options, 0) == ETAGERE_LENGTH);
+    CHECK(etagere_cache_new(&cache, size2(32, 0), &options, 3) == ETAGERE_OPTIONS_SIZE);
+    CHECK(etagere_cache_new(&cache, size2(32, 32), &options, 3) == ETAGERE_OK);
+    CHECK(etagere_cache_new(&cache, size2(32, 32), &options, 3) == ETAGERE_HANDLE_IN_USE);
+    CHECK(etagere_cache_is_empty(&cache, &number) == ETAGERE_OK && number == 1);
+    CHECK(etagere_cache_place(&cache, 1, size2(32, 8), &rectangle, evicted, 0, &count) == ETAGERE_OK && count == 0);
+    CHECK(etagere_cache_place(&cache, 2, size2(32, 8), &rectangle, evicted, 1, &count) == ETAGERE_OK && count == 0);
+    CHECK(etagere_cache_place(&cache, 3, size2(32, 8), &rectangle, evicted, 2, &count) == ETAGERE_OK && count == 0);
+    CHECK(etagere_cache_get(&cache, 1, &rectangle) == ETAGERE_OK && lies(rectangle, 0, 0, 32, 8));
+    CHECK(etagere_cache_get(&cache, 7, &rectangle) == ETAGERE_UNKNOWN_KEY && lies(rectangle, 0, 0, 32, 8));
+    count = 7;
+    CHECK(etagere_cache_place(&cache, 4, size2(32, 8), &rectangle, evicted, 2, &count) == ETAGERE_LENGTH && count == 7);
+    CHECK(etagere_cache_place(&cache, 4, size2(33, 8), &rectangle, evicted, 3, &count) == ETAGERE_CACHE_TOO_LARGE);
+    CHECK(count == 7 && evicted[0] == 9);
+    CHECK(etagere_cache_place(&cache, 4, size2(32, 8), &rectangle, evicted, 3, &count) == ETAGERE_OK);
+    CHECK(count == 1 && evicted[0] == 2 && evicted[1] == 9 && lies(rectangle, 0, 8, 32, 16));
+    CHECK(etagere_cache_place(&cache, 5, size2(32, 32), &rectangle, evicted, 3, &count) == ETAGERE_OK);
+    CHECK(count == 3 && evicted[0] == 3 && evicted[1] == 1 && evicted[2] == 4 && lies(rectangle, 0, 0, 32, 32));
+    CHECK(etagere_cache_len(&cache, &length) == ETAGERE_OK && length == 1);
+    CHECK(etagere_cache_capacity(&cache, &length) == ETAGERE_OK && length == 3);
+    CHECK(etagere_cache_size(&cache, &size) == ETAGERE_OK && size.width == 32 && size.height == 32);
+    CHECK(etagere_cache_allocated_space(&cache, &space) == ETAGERE_OK && space == 1024);
+    CHECK(etagere_cache_free_space(&cache, &space) == ETAGERE_OK && space == 0);
+    CHECK(etagere_cache_picture_length(&cache, &length) == ETAGERE_OK && length < sizeof buffer);
+    CHECK(etagere_cache_picture(&cache, buffer, sizeof buffer, &count) == ETAGERE_OK && count == length);
+    CHECK(etagere_cache_remove(&cache, 6, &rectangle) == ETAGERE_UNKNOWN_KEY);
+    CHECK(etagere_cache_remove(&cache, 5, &rectangle) == ETAGERE_OK && lies(rectangle, 0, 0, 32, 32));
+    CHECK(etagere_cache_is_empty(&cache, &number) == ETAGERE_OK && number == 1);
+    CHECK(etagere_cache_clear(&cache) == ETAGERE_OK);
+    CHECK(etagere_cache_delete(&cache) == ETAGERE_OK && etagere_cache_delete(&cache) == ETAGERE_NULL_HANDLE);
+}
+
 int main(void) {
     shelf_atlas();
     atlas_that_cannot_be_made();
@@ -170,6 +308,10 @@ int main(void) {
     upright_shelves();
     copies();
     null_atlas();
+    batches();
+    pictures();
+    buckets();
+    cache();
     if (failures > 0) {
         return 1;
     }
