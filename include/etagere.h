@@ -16,7 +16,8 @@
  * What the caller owes, since no call can tell it:
  *   - A handle is ETAGERE_NULL, or was filled by a call and not deleted since, under this or another copy. Its pointer
  *     is never written or read.
- *   - A handle stays on the thread that filled it. Different handles share nothing, so each thread may have its own.
+ *   - No two calls at the same time share a handle; that includes calls that only read. A handle may go to another
+ *     thread, ordered by a lock, a start or join of a thread, or an atomic. Different handles share nothing.
  *   - Each pointer that is passed points to what its type says, aligned, and isn't NULL, for a length of 0 too. A
  *     pointer with a length has as many in a row. What a call writes to overlaps nothing else that was passed.
  *   - malloc, realloc and free are of one allocator, and align a block to each power of two up to 16 that divides its

@@ -4,3 +4,4 @@ mod BucketedBox
 mod CacheBox
 mod Evicted
 mod HandleSteps
+mod Sending

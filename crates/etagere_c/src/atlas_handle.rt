@@ -86,3 +86,5 @@ impl Drop for EtagereAtlas {
         }
     }
 }
+
+unsafe impl Send for EtagereAtlas {}

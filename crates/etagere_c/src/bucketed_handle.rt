@@ -86,3 +86,5 @@ impl Drop for EtagereBucketed {
         }
     }
 }
+
+unsafe impl Send for EtagereBucketed {}

@@ -86,3 +86,5 @@ impl Drop for EtagereCache {
         }
     }
 }
+
+unsafe impl Send for EtagereCache {}
