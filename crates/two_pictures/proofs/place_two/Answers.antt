@@ -13,9 +13,9 @@ returns-in-Ok-Some-clause-inside c =
     let one = c.in-Some.one in
     let other = c.in-Ok-Some.other in
     let first : Adds (allocations c.args.atlas.now) one (allocations c.allocate.new.self) =
-        rw c.in-Some.is at c.in_ok-one.ensures.allocated in
+    rw c.in-Some.is at c.in_ok-one.ensures.allocated in
     let second : Adds (allocations c.allocate.new.self) other (allocations c.allocate-2.new.self) =
-        rw c.in-Ok-Some.field-0-is at c.in-Ok-Some.ensures.allocated in
+    rw c.in-Ok-Some.field-0-is at c.in-Ok-Some.ensures.allocated in
     let all = subst (Each P) second.after c.in-Ok-Some.ensures.promises.inside in
     let older = subst (Each P) (sym second.before) (Each-remove_place P second.front other second.back all) in (
       Each-middle P first.front one first.back (subst (Each P) first.after older),
