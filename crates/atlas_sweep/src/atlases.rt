@@ -44,13 +44,7 @@ pub fn worn(alloc: Global, options: &AllocatorOptions) -> Result<AtlasAllocator>
         atlas.deallocate(*ids.get(number).context("not given")?)?;
     }
     let snapshot = atlas.snapshot()?;
-    ensure!(
-        snapshot.free_items.number().is_some(),
-        "no record was put aside"
-    );
-    ensure!(
-        snapshot.free_shelves.number().is_some(),
-        "no record was put aside"
-    );
+    ensure!(snapshot.free_items != u16::MAX, "no record is unused");
+    ensure!(snapshot.free_shelves != u16::MAX, "no record is unused");
     Ok(atlas)
 }

@@ -46,8 +46,8 @@ pub fn worn(
     }
     let snapshot = atlas.snapshot()?;
     ensure!(
-        snapshot.first_unallocated_bucket.number().is_some(),
-        "no record was put aside"
+        snapshot.first_unallocated_bucket != u16::MAX,
+        "no record is unused"
     );
     ensure!(snapshot.shelves.len() > 2, "few shelves");
     Ok(atlas)
