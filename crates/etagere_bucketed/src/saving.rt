@@ -91,13 +91,21 @@ fn linked_shelves(
 ) -> Result<Vec<LinkedBucketShelf>, AllocError>
     ensures { IfOk result (λ linked. linked.items ≡ map spec.linked_shelf shelves.now) }
 {
-    shelves.iter().map(linked_shelf).collect(alloc)
+    let mut linked = Vec::with_capacity(alloc, shelves.len())?;
+    for shelf in shelves {
+        linked.push_reserved(linked_shelf(shelf));
+    }
+    Ok(linked)
 }
 
 fn linked_buckets(alloc: Global, buckets: &[BucketRecord]) -> Result<Vec<LinkedBucket>, AllocError>
     ensures { IfOk result (λ linked. linked.items ≡ map spec.linked_bucket buckets.now) }
 {
-    buckets.iter().map(linked_bucket).collect(alloc)
+    let mut linked = Vec::with_capacity(alloc, buckets.len())?;
+    for bucket in buckets {
+        linked.push_reserved(linked_bucket(bucket));
+    }
+    Ok(linked)
 }
 
 /// What a shelf is saved as.

@@ -79,7 +79,11 @@ pub fn saved_shelf(shelf: &LinkedShelf) -> ShelfRecord
 pub fn linked_items(alloc: Global, items: &[ItemRecord]) -> Result<Vec<LinkedItem>, AllocError>
     ensures { IfOk result (λ linked. linked.items ≡ map spec.linked_item items.now) }
 {
-    items.iter().map(|item| linked_item(item)).collect(alloc)
+    let mut linked = Vec::with_capacity(alloc, items.len())?;
+    for item in items {
+        linked.push_reserved(linked_item(item));
+    }
+    Ok(linked)
 }
 
 /// The shelves that saved ones stand for. Takes memory for all of them.
@@ -89,10 +93,11 @@ pub fn linked_shelves(
 ) -> Result<Vec<LinkedShelf>, AllocError>
     ensures { IfOk result (λ linked. linked.items ≡ map spec.linked_shelf shelves.now) }
 {
-    shelves
-        .iter()
-        .map(|shelf| linked_shelf(shelf))
-        .collect(alloc)
+    let mut linked = Vec::with_capacity(alloc, shelves.len())?;
+    for shelf in shelves {
+        linked.push_reserved(linked_shelf(shelf));
+    }
+    Ok(linked)
 }
 
 /// What items are saved as. Takes memory for all of them.
