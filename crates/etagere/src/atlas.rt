@@ -393,7 +393,8 @@ impl AtlasAllocator {
 
     /// The areas of everything that is allocated, added up, in square pixels. Takes constant time.
     pub fn allocated_space(&self) -> i32
-        ensures { result ≡ pos (space.allocated_space self.now) }
+        ensures space { result ≡ pos (space.allocated_space self.now) }
+        ensures promises { KeepsPromises self.now }
     {
         self.allocated_space as i32
     }
