@@ -28,7 +28,7 @@ fn sized(options: &AllocatorOptions, along: i32, across: i32) -> Size {
 
 /// An atlas of 80 along and 40 across after seven sizes, of which the last and the first two were
 /// returned. It has buckets with something live and without, a shelf with nothing live before
-/// others, and a bucket put aside.
+/// others, and a bucket unused.
 pub fn worn(
     alloc: Global,
     options: &AllocatorOptions,

@@ -11,34 +11,34 @@ ghost use Rattle.etagere_base.specs.Frames.{IsAccepted, options_fault};
 ghost use Rattle.etagere_base.specs.Options.{default_options};
 ghost use Rattle.etagere_base.specs.Rectangles.{IsAligned, IsInside, IsLarge};
 ghost use Rattle.etagere_base.specs.Sending.{AppendsBeginning};
-ghost use Rattle.etagere_bucketed.specs.Atlas.{Allocates, Grows, KeepsPromises, NeedsBuckets, NeedsShelf};
-ghost use Rattle.etagere_bucketed.specs.Frames as frames;
-ghost use Rattle.etagere_bucketed.specs.Frames.{longest_bucketed_side};
-ghost use Rattle.etagere_bucketed.specs.Growing as growing;
-ghost use Rattle.etagere_bucketed.specs.Ledgers.{AddsEntry, IsClear, KeepsEntries, KeepsKnown, SameKnown, SameOthers, TakesEntry};
-ghost use Rattle.etagere_bucketed.specs.Placing.{IsBucketRefused};
-ghost use Rattle.etagere_bucketed.specs.Private.Restored.{IsSnapshotJudged, linked_records};
-ghost use Rattle.etagere_bucketed.specs.Restoring.{Breaks, snapshot_records, state_of};
-ghost use Rattle.etagere_bucketed.specs.Returning.{bucket_returned, is_known};
-ghost use Rattle.etagere_bucketed.specs.Space as space;
-ghost use Rattle.etagere_bucketed.specs.StandsFor.{StandsFor};
-ghost use Rattle.etagere_bucketed.specs.State.{fresh, is_idle};
-ghost use Rattle.etagere_bucketed.specs.Svg.{svg, svg_into};
-ghost use Rattle.etagere_bucketed.specs.Tied.{AreTied};
-ghost use Rattle.etagere_bucketed.specs.declared.faults.GrowFault.TheVariants as grow_faults;
+ghost use Rattle.bucketed_model.specs.Atlas.{Allocates, Grows, KeepsPromises, NeedsBuckets, NeedsShelf};
+ghost use Rattle.bucketed_model.specs.Frames as frames;
+ghost use Rattle.bucketed_model.specs.Frames.{longest_bucketed_side};
+ghost use Rattle.bucketed_model.specs.Growing as growing;
+ghost use Rattle.bucketed_model.specs.Ledgers.{AddsEntry, IsClear, KeepsEntries, KeepsKnown, SameKnown, SameOthers, TakesEntry};
+ghost use Rattle.bucketed_model.specs.Placing.{IsBucketRefused};
+ghost use Rattle.bucketed_model.specs.Returning.{bucket_returned, is_known};
+ghost use Rattle.bucketed_model.specs.Space as space;
+ghost use Rattle.bucketed_model.specs.State.{fresh, is_idle};
+ghost use Rattle.bucketed_model.specs.Svg.{svg, svg_into};
+ghost use Rattle.bucketed_model.specs.Tied.{AreTied};
+ghost use Rattle.bucketed_model.specs.declared.faults.GrowFault.TheVariants as grow_faults;
+ghost use Rattle.bucketed_records.specs.Private.Restored.{IsSnapshotJudged, linked_records};
+ghost use Rattle.bucketed_records.specs.Restoring.{Breaks, snapshot_records, state_of};
+ghost use Rattle.bucketed_records.specs.StandsFor.{StandsFor};
 
-use crate::adding::Remaining;
-use crate::blocks::Blocks;
-use crate::drawing::{send_document, send_part, send_picture};
-use crate::faults::GrowFault;
-use crate::frames::{LONGEST_BUCKETED_SIDE, bucketed_frame, grow_fault, grown_frame};
-use crate::placing::place_of;
-use crate::restoring::{JudgedSnapshot, Totals, restore_bucketed, snapshot_of};
-use crate::returning::bucket_number;
-use crate::saving::LinkedSnapshot;
-use crate::searching::MOST_BUCKETS;
-use crate::snapshots::BucketedSnapshot;
-use crate::store::Store;
+use crate::restored::restore_bucketed;
+use bucketed_model::adding::Remaining;
+use bucketed_model::faults::GrowFault;
+use bucketed_model::frames::{LONGEST_BUCKETED_SIDE, bucketed_frame, grow_fault, grown_frame};
+use bucketed_records::records::MOST_BUCKETS;
+use bucketed_records::saving::LinkedSnapshot;
+use bucketed_records::snapshots::{BucketedSnapshot, Totals, snapshot_of};
+use bucketed_restoring::restoring::JudgedSnapshot;
+use bucketed_store::drawing::{send_document, send_part, send_picture};
+use bucketed_store::placing::place_of;
+use bucketed_store::returning::bucket_number;
+use bucketed_store::store::Store;
 use etagere_base::{
     AllocId, Allocation, AllocatorOptions, DEFAULT_OPTIONS, Frame, OptionsFault, Rectangle,
     RestoreFault, Size, UnknownId, asked, options_fault,
@@ -71,7 +71,7 @@ pub struct BucketedAtlasAllocator {
 }
 
 impl Model for BucketedAtlasAllocator {
-    ghost use Rattle.etagere_bucketed.specs.State.{BucketedState};
+    ghost use Rattle.bucketed_model.specs.State.{BucketedState};
 
     ghost Value = { BucketedState };
 
@@ -175,15 +175,9 @@ impl BucketedAtlasAllocator {
         ensures state { result ≡ state_of (linked_records snapshot) }
         ensures promises { KeepsPromises result }
     {
-        let blocks = Blocks::of(&judged.shelves);
         BucketedAtlasAllocator {
             frame: judged.frame,
-            store: Store {
-                shelves: judged.shelves,
-                buckets: snapshot.buckets,
-                unused: snapshot.first_unused,
-                blocks,
-            },
+            store: Store::of_records(judged.shelves, snapshot.buckets, snapshot.first_unused),
             current_column: u32::from(snapshot.current_column),
             available_height: u32::from(snapshot.available_height),
             buckets_in_use: judged.in_use,

@@ -3,11 +3,10 @@
 
 ghost use Rattle.std.specs.Prelude.{◌≡◌, IfErr, IfOk};
 ghost use Rattle.etagere_base.specs.declared.faults.RestoreFault.TheVariants as faults;
-ghost use Rattle.etagere_bucketed.specs.Laws.{StandsForOne};
-ghost use Rattle.etagere_bucketed.specs.Restoring.{BrokenStandsForNone};
+ghost use Rattle.etagere_bucketed.specs.RecordLaws.{StandsForOne, BrokenStandsForNone};
 
 use crate::atlas::BucketedAtlasAllocator;
-pub use crate::restoring::restore_bucketed;
+pub use crate::restored::restore_bucketed;
 use etagere_base::RestoreFault;
 use std::alloc::Global;
 

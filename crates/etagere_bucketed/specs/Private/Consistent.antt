@@ -1,9 +1,9 @@
 -- What the fields of a bucketed atlas keep, and the state that they stand for.
 use Rattle.std.specs.Prelude.{ℕ, List}
+use Rattle.bucketed_model.specs.State.{BucketedState}
+use Rattle.bucketed_records.specs.Private.Store.{stored_state}
+use Rattle.bucketed_records.specs.Private.Witnessed.{HasTotals, Witnessed}
 use Rattle.etagere_bucketed.specs.declared.atlas.BucketedAtlasAllocator.TheInside.{Inside}
-use Rattle.etagere_bucketed.specs.Private.Store.{stored_state}
-use Rattle.etagere_bucketed.specs.Private.Witnessed.{HasTotals, Witnessed}
-use Rattle.etagere_bucketed.specs.State.{BucketedState}
 
 -- what the fields of an atlas stand for
 abbrev pub state_in : Inside → BucketedState

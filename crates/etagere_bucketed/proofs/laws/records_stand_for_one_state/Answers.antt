@@ -1,5 +1,5 @@
 use Rattle.std.proofs.Common.{sym, ◌∙◌}
-use Rattle.etagere_bucketed.proofs.Judged.Broken.{broken-stands}
+use Rattle.etagere_bucketed.proofs.Broken.{broken-stands}
 use Rattle.etagere_bucketed.proofs.laws.records_stand_for_one_state.Goals as goal
 
 -- each is the state that the records spell

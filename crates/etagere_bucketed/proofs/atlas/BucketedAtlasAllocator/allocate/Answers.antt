@@ -1,39 +1,40 @@
 use Rattle.std.specs.Prelude.{OnErr, Result, Ok, Err, option_map, slice_get, ◌^◌}
 use Rattle.std.proofs.Common.{◌≡◌, ℕ, ◌+◌, ◌-◌, ◌*◌, ◌<◌, Option, Some, List, [], ◌∷◌, ◌++◌, length, ap, sym, subst, ◌∙◌, arith}
 use Rattle.std.proofs.Math.Nat.{le-mul_of_pos_right}
+use Rattle.std.specs.List.{AllByRecursion}
 use Rattle.etagere_base.proofs.FrameSides.{sides_low}
 use Rattle.etagere_base.specs.declared.frames.Frame.{Frame}
 use Rattle.etagere_base.specs.declared.geometry.Size.{Size}
 use Rattle.etagere_base.specs.declared.sides.Sides.{Sides}
 use Rattle.etagere_base.specs.declared.ids.Allocation.{Allocation}
 use Rattle.etagere_base.proofs.EachLemmas.{Each-middle}
-use Rattle.etagere_base.specs.Lists.{Each}
 use Rattle.etagere_base.specs.Frames.{asked}
 use Rattle.etagere_base.specs.Rectangles.{AreApart, IsAligned, IsInside, IsLarge, SharesNone}
+use Rattle.bucketed_model.specs.Adding.{Remaining, left_to}
+use Rattle.bucketed_model.specs.Atlas.{Allocates, KeepsPromises, NeedsShelf}
+use Rattle.bucketed_model.specs.Ledgers.{KeepsKnown}
+use Rattle.bucketed_model.specs.Placing.{IsBucketRefused}
+use Rattle.bucketed_model.specs.State.{BucketedState, available_height, current_column, most_buckets}
+use Rattle.bucketed_model.proofs.Allocating.{allocates-aligned, allocates-inside, allocates-large, allocates-tied, allocates-valid}
+use Rattle.bucketed_model.proofs.Ledger.KnownBusy.{allocates-known}
+use Rattle.bucketed_model.proofs.Promises.{valid-promises}
+use Rattle.bucketed_model.proofs.Shelving.Added.{current-below}
+use Rattle.bucketed_model.proofs.Ledger.EntriesApart.{tied-apart}
+use Rattle.bucketed_records.specs.Private.Store.{Stored, stored_state}
+use Rattle.bucketed_records.specs.Private.Witnessed.{HasTotals, Witnessed}
+use Rattle.bucketed_records.proofs.Spelling.Fresh.{space-small}
+use Rattle.bucketed_store.specs.declared.placing.Place as code
+use Rattle.bucketed_store.specs.declared.searching.Found.{Found}
+use Rattle.bucketed_store.specs.Private.Searching.{Place, kept_place, place_seen}
+use Rattle.bucketed_store.specs.Private.StoreEdits.{CanGive, IsShort, end_of, found_of, height_of, kept_allocation, live_items_of, stored_ready, stored_taken}
+use Rattle.bucketed_store.specs.Private.StoreEdits as store
+use Rattle.bucketed_store.proofs.Spelling.AllocatedRecords.{IsAllocation, Makes, allocation-is, makes, needed-few, needs-shelf, refused}
 use Rattle.etagere_bucketed.specs.declared.atlas.BucketedAtlasAllocator.TheInside.{Inside}
-use Rattle.etagere_bucketed.specs.declared.placing.Place as code
-use Rattle.etagere_bucketed.specs.Adding.{Remaining, left_to}
-use Rattle.etagere_bucketed.specs.Atlas.{Allocates, KeepsPromises, NeedsShelf}
-use Rattle.etagere_bucketed.specs.Ledgers.{KeepsKnown}
-use Rattle.etagere_bucketed.specs.Placing.{IsBucketRefused}
 use Rattle.etagere_bucketed.specs.Private.Consistent.{IsConsistent, state_in}
-use Rattle.etagere_bucketed.specs.Private.Searching.{Found, Place, kept_place, place_seen}
-use Rattle.etagere_bucketed.specs.Private.Store.{Stored, stored_state}
-use Rattle.etagere_bucketed.specs.Private.StoreEdits.{CanGive, IsShort, end_of, found_of, height_of, kept_allocation, live_items_of, stored_ready, stored_taken}
-use Rattle.etagere_bucketed.specs.Private.StoreEdits as store
-use Rattle.etagere_bucketed.specs.Private.Witnessed.{HasTotals, Witnessed}
-use Rattle.etagere_bucketed.specs.State.{BucketedState, available_height, current_column, most_buckets}
-use Rattle.etagere_bucketed.proofs.Allocating.{allocates-aligned, allocates-inside, allocates-large, allocates-tied, allocates-valid}
-use Rattle.etagere_bucketed.proofs.Ledger.KnownBusy.{allocates-known}
-use Rattle.etagere_bucketed.proofs.Promises.{valid-promises}
-use Rattle.etagere_bucketed.proofs.Shelving.Added.{current-below}
-use Rattle.etagere_bucketed.proofs.Spelling.AllocatedRecords.{IsAllocation, Makes, allocation-is, makes, needed-few, needs-shelf, refused}
-use Rattle.etagere_bucketed.proofs.Spelling.Fresh.{space-small}
-use Rattle.etagere_bucketed.proofs.Ledger.EntriesApart.{tied-apart}
 use Rattle.etagere_bucketed.proofs.atlas.BucketedAtlasAllocator.allocate.Goals as goal
 
 -- the last of allocations that are apart is apart from each other
-last-apart : (entries : List Allocation) (last : Allocation) → AreApart (entries ++ last ∷ []) → Each (λ (entry : Allocation). SharesNone entry.rectangle last.rectangle) entries
+last-apart : (entries : List Allocation) (last : Allocation) → AreApart (entries ++ last ∷ []) → AllByRecursion (λ (entry : Allocation). SharesNone entry.rectangle last.rectangle) entries
 last-apart [] last apart = tt
 last-apart (e ∷ es) last apart =
     (Each-middle (λ (other : Allocation). SharesNone e.rectangle other.rectangle) es last [] apart.0, last-apart es last apart.1)

@@ -1,11 +1,11 @@
 use Rattle.std.specs.Prelude.{pos, ◌^◌}
 use Rattle.std.proofs.Common.{◌<◌, ap, arith, subst, ◌∙◌, w32}
 use Rattle.std.proofs.lemmas.Int.{ints, to_z_pos}
+use Rattle.bucketed_model.specs.Space.{allocated_space}
+use Rattle.bucketed_model.specs.Atlas.{KeepsPromises}
+use Rattle.bucketed_model.proofs.Promises.{valid-promises}
+use Rattle.bucketed_records.proofs.Spelling.Fresh.{space-small}
 use Rattle.etagere_bucketed.specs.Private.Consistent.{state_in}
-use Rattle.etagere_bucketed.specs.Space.{allocated_space}
-use Rattle.etagere_bucketed.proofs.Spelling.Fresh.{space-small}
-use Rattle.etagere_bucketed.specs.Atlas.{KeepsPromises}
-use Rattle.etagere_bucketed.proofs.Promises.{valid-promises}
 use Rattle.etagere_bucketed.proofs.atlas.BucketedAtlasAllocator.allocated_space.Goals as goal
 
 pub overflow_cast-result : goal.overflow_cast-result

@@ -1,15 +1,15 @@
 use Rattle.std.proofs.Common.{◌≡◌, ◌-◌, true, false, refl, ap, sym, ◌∙◌, subst, arith}
 use Rattle.etagere_base.specs.declared.sides.Sides.{Sides}
-use Rattle.etagere_bucketed.specs.Atlas.{KeepsPromises}
-use Rattle.etagere_bucketed.specs.Ledgers.{SameOthers}
+use Rattle.bucketed_model.specs.Atlas.{KeepsPromises}
+use Rattle.bucketed_model.specs.Ledgers.{SameOthers}
+use Rattle.bucketed_model.specs.Returning.{bucket_returned, is_known}
+use Rattle.bucketed_model.specs.State.{BucketedState}
+use Rattle.bucketed_model.proofs.Promises.{valid-promises}
+use Rattle.bucketed_model.proofs.Ledger.KnownBusy.{returned-known}
+use Rattle.bucketed_model.proofs.Ledger.TiedReturned.{tied-returned}
+use Rattle.bucketed_records.specs.Private.Witnessed.{HasTotals, Witnessed}
 use Rattle.etagere_bucketed.specs.Private.Consistent.{state_in}
-use Rattle.etagere_bucketed.specs.Private.Witnessed.{HasTotals, Witnessed}
-use Rattle.etagere_bucketed.specs.Returning.{bucket_returned, is_known}
-use Rattle.etagere_bucketed.specs.State.{BucketedState}
-use Rattle.etagere_bucketed.proofs.Emptying.AtlasReturns.{after-return, atlas-known, atlas-returned}
-use Rattle.etagere_bucketed.proofs.Promises.{valid-promises}
-use Rattle.etagere_bucketed.proofs.Ledger.KnownBusy.{returned-known}
-use Rattle.etagere_bucketed.proofs.Ledger.TiedReturned.{tied-returned}
+use Rattle.etagere_bucketed.proofs.AtlasReturns.{after-return, atlas-known, atlas-returned}
 use Rattle.etagere_bucketed.proofs.atlas.BucketedAtlasAllocator.deallocate.Goals as goal
 
 pub returns-then-not-is_known-clause-unknown : goal.returns-then-not-is_known-clause-unknown

@@ -1,9 +1,9 @@
 use Rattle.std.proofs.Common.{Bor, OnErr, Option, option_map, subst, sym}
 use Rattle.etagere_base.specs.Sending.{AppendsBeginning}
 use Rattle.etagere_base.specs.declared.geometry.Rectangle.{Rectangle}
-use Rattle.etagere_bucketed.specs.Private.Store.{stored_state}
-use Rattle.etagere_bucketed.specs.State.{BucketedState}
-use Rattle.etagere_bucketed.specs.Svg.{svg_into}
+use Rattle.bucketed_model.specs.State.{BucketedState}
+use Rattle.bucketed_model.specs.Svg.{svg_into}
+use Rattle.bucketed_records.specs.Private.Store.{stored_state}
 use Rattle.etagere_bucketed.proofs.atlas.BucketedAtlasAllocator.dump_into_svg.Goals as goal
 
 -- a beginning went out of a picture that fills a rectangle

@@ -1,7 +1,7 @@
 use Rattle.std.proofs.Common.{OnOk, subst}
 use Rattle.std.specs.Io.KnownBytes.{Appends}
-use Rattle.etagere_bucketed.specs.State.{BucketedState}
-use Rattle.etagere_bucketed.specs.Svg.{svg}
+use Rattle.bucketed_model.specs.State.{BucketedState}
+use Rattle.bucketed_model.specs.Svg.{svg}
 use Rattle.etagere_bucketed.proofs.atlas.BucketedAtlasAllocator.dump_svg.Goals as goal
 
 -- all went out of the document

@@ -1,12 +1,12 @@
 use Rattle.std.specs.Prelude.{pos, ◌^◌, ◌+ℤ◌}
 use Rattle.std.proofs.Common.{◌≡◌, ◌-◌, ◌*◌, ◌<◌, ap, arith, subst, to_z, w32}
 use Rattle.std.proofs.lemmas.Int.{to_z_pos}
+use Rattle.bucketed_model.specs.Space.{allocated_space}
+use Rattle.bucketed_model.specs.State.{BucketedState}
+use Rattle.bucketed_model.proofs.Spacing.SpacesBounded.{space-area}
+use Rattle.bucketed_model.specs.Atlas.{KeepsPromises}
+use Rattle.bucketed_model.proofs.Promises.{valid-promises}
 use Rattle.etagere_bucketed.specs.Private.Consistent.{state_in}
-use Rattle.etagere_bucketed.specs.Space.{allocated_space}
-use Rattle.etagere_bucketed.specs.State.{BucketedState}
-use Rattle.etagere_bucketed.proofs.Spacing.SpacesBounded.{space-area}
-use Rattle.etagere_bucketed.specs.Atlas.{KeepsPromises}
-use Rattle.etagere_bucketed.proofs.Promises.{valid-promises}
 use Rattle.etagere_bucketed.proofs.atlas.BucketedAtlasAllocator.free_space.Goals as goal
 
 pub overflow_sub-result : goal.overflow_sub-result

@@ -1,16 +1,16 @@
 use Rattle.std.proofs.Common.{◌+◌, refl, ap, arith, sym, ◌∙◌, subst}
 use Rattle.etagere_base.specs.declared.sides.Sides.{Sides}
-use Rattle.etagere_bucketed.specs.Atlas.{Grows, KeepsPromises, NeedsBuckets}
+use Rattle.bucketed_model.specs.Atlas.{Grows, KeepsPromises, NeedsBuckets}
+use Rattle.bucketed_model.specs.State.{BucketedState}
+use Rattle.bucketed_model.proofs.Promises.{valid-promises}
+use Rattle.bucketed_model.proofs.Ledger.KnownBusy.{grows-known}
+use Rattle.bucketed_model.proofs.Ledger.TiedGrown.{grows-tied}
+use Rattle.bucketed_records.specs.Private.Store.{stored_state}
+use Rattle.bucketed_records.specs.Private.Witnessed.{HasTotals, Witnessed}
+use Rattle.bucketed_store.proofs.Emptying.EndTotals.{tells-end}
+use Rattle.bucketed_store.proofs.Widening.Grown.{width-grows}
 use Rattle.etagere_bucketed.specs.Private.Consistent.{state_in}
-use Rattle.etagere_bucketed.specs.Private.Store.{stored_state}
-use Rattle.etagere_bucketed.specs.Private.Witnessed.{HasTotals, Witnessed}
-use Rattle.etagere_bucketed.specs.State.{BucketedState}
-use Rattle.etagere_bucketed.proofs.Emptying.EndTotals.{tells-end}
-use Rattle.etagere_bucketed.proofs.Promises.{valid-promises}
-use Rattle.etagere_bucketed.proofs.Widening.AtlasGrowths.{after-growth, atlas-grown, growth-needs, growth-uses}
-use Rattle.etagere_bucketed.proofs.Widening.Grown.{width-grows}
-use Rattle.etagere_bucketed.proofs.Ledger.KnownBusy.{grows-known}
-use Rattle.etagere_bucketed.proofs.Ledger.TiedGrown.{grows-tied}
+use Rattle.etagere_bucketed.proofs.AtlasGrowths.{after-growth, atlas-grown, growth-needs, growth-uses}
 use Rattle.etagere_bucketed.proofs.atlas.BucketedAtlasAllocator.grow.Goals as goal
 
 pub returns-in-Some-clause-promises : goal.returns-in-Some-clause-promises

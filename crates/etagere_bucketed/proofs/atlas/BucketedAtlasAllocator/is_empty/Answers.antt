@@ -1,11 +1,11 @@
 use Rattle.std.proofs.Common.{◌≡◌, true, ap, subst, ◌∙◌, sym, eq-eqb}
 use Rattle.std.proofs.lemmas.Bool.{eqb-true}
 use Rattle.std.specs.List.{list_all}
+use Rattle.bucketed_model.specs.Space.{allocated_space}
+use Rattle.bucketed_model.specs.State.{BucketedState, is_idle}
+use Rattle.bucketed_model.proofs.Promises.{valid-promises}
+use Rattle.bucketed_model.specs.Atlas.{KeepsPromises}
 use Rattle.etagere_bucketed.specs.Private.Consistent.{state_in}
-use Rattle.etagere_bucketed.specs.Space.{allocated_space}
-use Rattle.etagere_bucketed.specs.State.{BucketedState, is_idle}
-use Rattle.etagere_bucketed.proofs.Promises.{valid-promises}
-use Rattle.etagere_bucketed.specs.Atlas.{KeepsPromises}
 use Rattle.etagere_bucketed.proofs.atlas.BucketedAtlasAllocator.is_empty.Goals as goal
 
 pub returns-clause-empty : goal.returns-clause-empty

@@ -1,17 +1,17 @@
 use Rattle.std.proofs.Common.{pos, ◌≡◌, ◌∙◌, ◌*◌, ◌≤◌, ℕ, Option, List, ap, arith, map, subst, sym}
 use Rattle.std.proofs.Math.Nat.{mul-le-mul_left}
 use Rattle.etagere_base.proofs.FrameSides.{sides_low}
-use Rattle.etagere_bucketed.specs.declared.records.LinkedBucket.{LinkedBucket}
-use Rattle.etagere_bucketed.specs.declared.records.LinkedBucketShelf.{LinkedBucketShelf}
-use Rattle.etagere_bucketed.specs.BucketRecords.{BucketRecords}
+use Rattle.bucketed_model.specs.State.{BucketedState}
+use Rattle.bucketed_model.proofs.Shelving.Added.{current-below}
+use Rattle.bucketed_model.proofs.Spacing.SpacesBounded.{space-area}
+use Rattle.bucketed_records.specs.declared.records.LinkedBucket.{LinkedBucket}
+use Rattle.bucketed_records.specs.declared.records.LinkedBucketShelf.{LinkedBucketShelf}
+use Rattle.bucketed_records.specs.BucketRecords.{BucketRecords}
+use Rattle.bucketed_records.specs.Private.Store.{shelf_record}
+use Rattle.bucketed_records.specs.Restoring.{linked_bucket, linked_shelf, snapshot_records}
+use Rattle.bucketed_records.specs.StandsFor.{StandsFor}
+use Rattle.bucketed_records.proofs.Spelling.Stands.{witnessed-stands}
 use Rattle.etagere_bucketed.specs.Private.Consistent.{state_in}
-use Rattle.etagere_bucketed.specs.Private.Store.{shelf_record}
-use Rattle.etagere_bucketed.specs.Restoring.{linked_bucket, linked_shelf, snapshot_records}
-use Rattle.etagere_bucketed.specs.StandsFor.{StandsFor}
-use Rattle.etagere_bucketed.specs.State.{BucketedState}
-use Rattle.etagere_bucketed.proofs.Shelving.Added.{current-below}
-use Rattle.etagere_bucketed.proofs.Spacing.SpacesBounded.{space-area}
-use Rattle.etagere_bucketed.proofs.Spelling.Stands.{witnessed-stands}
 use Rattle.etagere_bucketed.proofs.atlas.BucketedAtlasAllocator.snapshot.Goals as goal
 
 pub snapshot_of-requires-clause-column : goal.snapshot_of-requires-clause-column

@@ -1,9 +1,9 @@
 use Rattle.std.proofs.Common.{ℕ, [], subst, sym}
-use Rattle.etagere_bucketed.specs.Private.Store.{Stored, stored_state}
-use Rattle.etagere_bucketed.specs.Private.Witnessed.{HasTotals, Witnessed}
-use Rattle.etagere_bucketed.proofs.Spelling.Fresh.{fresh-totals, fresh-witnessed, no_records}
-use Rattle.etagere_bucketed.specs.Tied.{AreTied}
-use Rattle.etagere_bucketed.proofs.Ledger.TiedTaken.{tied-fresh}
+use Rattle.bucketed_model.specs.Tied.{AreTied}
+use Rattle.bucketed_model.proofs.Ledger.TiedTaken.{tied-fresh}
+use Rattle.bucketed_records.specs.Private.Store.{Stored, stored_state}
+use Rattle.bucketed_records.specs.Private.Witnessed.{HasTotals, Witnessed}
+use Rattle.bucketed_records.proofs.Spelling.Fresh.{fresh-totals, fresh-witnessed, no_records}
 use Rattle.etagere_bucketed.proofs.atlas.BucketedAtlasAllocator.with_options.Goals as goal
 
 pub invariant_of-result : goal.invariant_of-result

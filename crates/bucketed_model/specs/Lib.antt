@@ -1,0 +1,17 @@
+pub mod Adding
+pub mod Atlas
+pub mod Faults
+pub mod Frames
+pub mod Growing
+pub mod Laws
+pub mod Ledgers
+pub mod Merging
+pub mod Picking
+pub mod Placing
+pub mod Returning
+pub mod Space
+pub mod State
+pub mod Svg
+pub mod Taking
+pub mod Tied
+pub mod Valid

@@ -1,0 +1,11 @@
+//! The model of a bucketed atlas and its laws: shelves in order, each with its buckets. Nothing here is linked.
+//!
+//! Definitions: `State` first; `Picking`, `Adding`, `Merging` and `Placing` for where a size goes, `Taking`,
+//! `Returning` and `Growing` for what calls mean. Here are the laws, the faults of a growth, the frame, and the shelves
+//! that are added.
+#![tactic(auto)]
+
+pub mod adding;
+pub mod faults;
+pub mod frames;
+pub mod model_laws;

@@ -1,0 +1,2 @@
+pub mod Saved
+pub mod Spelling

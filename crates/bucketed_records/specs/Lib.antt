@@ -1,0 +1,4 @@
+pub mod BucketRecords
+pub mod Private
+pub mod Restoring
+pub mod StandsFor

@@ -1,0 +1,4 @@
+-- What contracts of steps and invariants of types cite; no public clause of the atlas does.
+pub mod Restored
+pub mod Store
+pub mod Witnessed

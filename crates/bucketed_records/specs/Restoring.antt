@@ -1,0 +1,85 @@
+-- What a snapshot of a bucketed atlas stands for, and which of its rules a refusal names.
+use Rattle.std.specs.Prelude.{◌≡◌, false, map}
+use Rattle.std.specs.List.{AllByRecursion}
+use Rattle.etagere_base.specs.declared.faults.RestoreFault.{RestoreFault}
+use Rattle.etagere_base.specs.declared.faults.RestoreFault.TheVariants.{Frame, Counts, Link, Shelves, Runs, Neighbours, FreeList, Sharing, Unused, Space, Memory}
+use Rattle.etagere_base.specs.Sides.{side}
+use Rattle.etagere_links.specs.Links.{link_of}
+use Rattle.bucketed_model.specs.Frames.{IsBucketedFrame}
+use Rattle.bucketed_model.specs.State.{BucketedState}
+use Rattle.bucketed_model.specs.Valid.{ends_idle}
+use Rattle.bucketed_records.specs.declared.records.LinkedBucket.{LinkedBucket}
+use Rattle.bucketed_records.specs.declared.records.LinkedBucketShelf.{LinkedBucketShelf}
+use Rattle.bucketed_records.specs.declared.snapshots.BucketRecord.{BucketRecord}
+use Rattle.bucketed_records.specs.declared.snapshots.BucketShelfRecord.{BucketShelfRecord}
+use Rattle.bucketed_records.specs.declared.snapshots.BucketedSnapshot.{BucketedSnapshot}
+use Rattle.bucketed_records.specs.BucketRecords.{BucketRecords, bucket_walk, spelled_state}
+use Rattle.bucketed_records.specs.StandsFor.{HasBuckets, HasCounts, HasLinks, HasShelves, IsShared, live_of, used_area}
+
+-- the linked shelf for which a saved one stands
+abbrev pub linked_shelf : BucketShelfRecord → LinkedBucketShelf
+linked_shelf shelf =
+    record {
+      x = shelf.x;
+      y = shelf.y;
+      height = shelf.height;
+      bucket_width = shelf.bucket_width;
+      first_bucket = link_of shelf.first_bucket;
+    }
+
+-- the linked bucket for which a saved one stands
+abbrev pub linked_bucket : BucketRecord → LinkedBucket
+linked_bucket bucket =
+    record {
+      x = bucket.x;
+      free_space = bucket.free_space;
+      next = link_of bucket.next;
+      refcount = bucket.refcount;
+      item_count = bucket.item_count;
+      shelf = bucket.shelf;
+      generation = bucket.generation;
+    }
+
+-- the records of a snapshot
+abbrev pub snapshot_records : BucketedSnapshot → BucketRecords
+snapshot_records snapshot =
+    record {
+      frame = record {
+        width = side snapshot.width;
+        height = side snapshot.height;
+        alignment_width = side snapshot.alignment_width;
+        alignment_height = side snapshot.alignment_height;
+        vertical = snapshot.vertical_shelves;
+        column_width = snapshot.column_width;
+        columns = snapshot.num_columns;
+      };
+      shelves = map linked_shelf snapshot.shelves.items;
+      buckets = map linked_bucket snapshot.buckets.items;
+      unused = link_of snapshot.first_unallocated_bucket;
+      current_column = snapshot.current_column;
+      available_height = snapshot.available_height;
+      allocated_space = snapshot.allocated_space;
+    }
+
+-- the state that records spell
+abbrev pub state_of : BucketRecords → BucketedState
+state_of atlas = spelled_state atlas.frame atlas.shelves atlas.buckets
+
+-- the rule that a fault names holds; memory is no rule, nor is there one of free lists
+abbrev pub Keeps : BucketRecords → RestoreFault → Type 0
+Keeps atlas Frame = IsBucketedFrame atlas.frame
+Keeps atlas Counts = HasCounts atlas
+Keeps atlas Link = HasLinks atlas
+Keeps atlas Shelves = HasShelves atlas (state_of atlas)
+Keeps atlas Runs = AllByRecursion (HasBuckets atlas) atlas.shelves
+Keeps atlas Neighbours = ends_idle (state_of atlas).shelves ≡ false
+Keeps atlas FreeList = Unit {0}
+Keeps atlas Sharing = IsShared atlas
+Keeps atlas Unused = AllByRecursion (λ bucket. live_of atlas.buckets bucket ≡ 0) (bucket_walk atlas.buckets atlas.unused).met
+Keeps atlas Space = atlas.allocated_space ≡ used_area atlas.buckets atlas.shelves
+Keeps atlas Memory = Unit {0}
+
+-- the rule that a fault names is broken, or memory was wanting
+abbrev pub Breaks : BucketRecords → RestoreFault → Type 0
+Breaks atlas Memory = Unit {0}
+Breaks atlas fault = Keeps atlas fault → ⊥

@@ -1,0 +1,11 @@
+-- What a return does to records: an item leaves its bucket, and shelves at the end are dropped.
+pub mod EndDrops
+pub mod EndTotals
+pub mod IdleEnds
+pub mod ItemReturns
+pub mod KnownRecords
+pub mod Returned
+pub mod SpelledDrops
+pub mod SpelledPlaces
+pub mod SpelledReturns
+pub mod Splices

@@ -1,0 +1,7 @@
+pub mod Drawn
+pub mod Emptying
+pub mod KnownBlocks
+pub mod PassedShelves
+pub mod Searched
+pub mod Spelling
+pub mod Widening

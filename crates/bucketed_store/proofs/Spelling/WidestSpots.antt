@@ -1,0 +1,74 @@
+-- What is kept of the shelf of a bucket is the widest room of its buckets, and those behind the bucket are some of them.
+use Rattle.std.proofs.Common.{◌≡◌, ℕ, suc, ◌+◌, ◌≤◌, Option, None, Some, List, [], ◌∷◌, ◌++◌, length, map, refl, ap, sym, subst, ◌∙◌, arith, length-append}
+use Rattle.std.specs.Option.{option_map_or}
+use Rattle.std.specs.Prelude.{option_and_then}
+use Rattle.etagere_base.specs.declared.frames.Frame.{Frame}
+use Rattle.etagere_links.specs.Edits.{changed_by}
+use Rattle.bucketed_model.specs.Picking.{Spot}
+use Rattle.bucketed_model.specs.State.{Bucket, BucketShelf, changed_at, most_buckets}
+use Rattle.bucketed_model.specs.Taking.{taken_bucket}
+use Rattle.bucketed_model.specs.Valid.{AreShelves}
+use Rattle.bucketed_model.proofs.Validity.Spots.{IsSpot}
+use Rattle.bucketed_records.specs.declared.records.LinkedBucket.{LinkedBucket}
+use Rattle.bucketed_records.specs.BucketRecords.{next_of}
+use Rattle.bucketed_records.specs.Private.Store.{AreBucketsSpelled, Spells, Stored, first_link, widest_room}
+use Rattle.bucketed_records.specs.declared.records.KeptShelf.{KeptShelf}
+use Rattle.bucketed_store.specs.Private.Searching.{widest_from}
+use Rattle.bucketed_store.specs.Private.StoreEdits.{IsWidest, first_bucket_of, taken_record, widest_of}
+use Rattle.bucketed_store.proofs.Spelling.FoundFirst.{spelled-back, widest-read}
+use Rattle.bucketed_store.proofs.Spelling.FoundPlace.{few-at, spelled-at}
+use Rattle.bucketed_store.proofs.Spelling.SpotRecords.{spot-records}
+use Rattle.bucketed_store.proofs.Spelling.TakenRecords.{buckets-taken, first-taken}
+
+-- the widest of the last buckets is one of all
+widest-back : (width : ℕ) (front back : List Bucket) → widest_room width back ≤ widest_room width (front ++ back)
+widest-back width [] back = omega arith
+widest-back width (b ∷ front) back = omega (arith, widest-back width front back)
+
+-- as many buckets after one has changed
+length-taken : (n item : ℕ) (bs : List Bucket) → length (map (changed_at n (taken_bucket item)) bs) ≡ length bs
+length-taken n item [] = refl
+length-taken n item (b ∷ bs) = ap suc (length-taken n item bs)
+
+-- the widest of the buckets of which one may have changed
+widest-taken : (records : List LinkedBucket) (n item number width : ℕ) (bs : List Bucket) → length bs ≤ most_buckets → AreBucketsSpelled records number width bs
+    → widest_from most_buckets (changed_by (Some n) (taken_record item) records) (first_link bs) ≡ widest_room width (map (changed_at n (taken_bucket item)) bs)
+widest-taken records n item number width bs few h =
+    ap (widest_from most_buckets (changed_by (Some n) (taken_record item) records)) (sym (first-taken n item bs))
+    ∙ widest-read (changed_by (Some n) (taken_record item) records) number width most_buckets (map (changed_at n (taken_bucket item)) bs) (omega (arith, few, length-taken n item bs))
+    (buckets-taken records n item number width bs h)
+
+-- the changed buckets behind some
+map-back : (f : Bucket → Bucket) (front back : List Bucket) → map f (front ++ back) ≡ map f front ++ map f back
+map-back f [] back = refl
+map-back f (b ∷ front) back = ap (λ (bs : List Bucket). f b ∷ bs) (map-back f front back)
+
+-- the shelf of a spot has the widest room that is kept
+pub spot-widest : (frame : Frame) (stored : Stored) (unused : List ℕ) (shelves : List BucketShelf) (spot : Spot) (item : ℕ) → AreShelves frame shelves → Spells frame stored unused shelves → IsSpot shelves spot
+    → IsWidest spot.number spot.bucket.tag.number item stored
+spot-widest frame stored unused shelves spot item valid spells at =
+    let records = spot-records frame stored unused shelves spot valid spells at in
+    let kept = records.shelf frame spells.shelves in
+    let width = spot.shelf.bucket_width in
+    let n = spot.bucket.tag.number in
+    let number = 0 + spot.number in
+    let own : AreBucketsSpelled stored.buckets number width spot.shelf.buckets = spelled-at stored.buckets 0 shelves spot.number spot.shelf spells.buckets records.at in
+    let first : first_bucket_of stored.shelves spot.number ≡ first_link spot.shelf.buckets =
+    ap (λ (r : Option KeptShelf). option_map_or (λ (one : KeptShelf). one.shelf.first_bucket) r None) kept in
+    let wide : widest_of stored.shelves spot.number ≡ widest_room width spot.shelf.buckets =
+    ap (λ (r : Option KeptShelf). option_map_or (λ (one : KeptShelf). one.widest_room) r 0) kept in
+    let few : length spot.shelf.buckets ≤ most_buckets = omega (arith, few-at shelves spot.number spot.shelf records.at, valid.few) in
+    let tail = spelled-back stored.buckets number width at.left (spot.bucket ∷ at.right) (subst (AreBucketsSpelled stored.buckets number width) at.buckets own) in
+    let next : next_of stored.buckets n ≡ first_link at.right = ap (option_and_then (λ (bucket : LinkedBucket). bucket.next)) tail.0 in
+    let long : length spot.shelf.buckets ≡ length at.left + suc (length at.right) = ap (λ (bs : List Bucket). length bs) at.buckets ∙ length-append at.left (spot.bucket ∷ at.right) in
+    let all = widest-taken stored.buckets n item number width spot.shelf.buckets few own in
+    let some = widest-taken stored.buckets n item number width at.right (omega (arith, few, long)) tail.1 in
+    let part : widest_room width (map (changed_at n (taken_bucket item)) at.right) ≤ widest_room width (map (changed_at n (taken_bucket item)) spot.shelf.buckets) =
+    subst (λ (bs : List Bucket). widest_room width (map (changed_at n (taken_bucket item)) at.right) ≤ widest_room width bs)
+    (sym (ap (map (changed_at n (taken_bucket item))) at.buckets ∙ map-back (changed_at n (taken_bucket item)) at.left (spot.bucket ∷ at.right)))
+    (omega (arith, widest-back width (map (changed_at n (taken_bucket item)) at.left) (map (changed_at n (taken_bucket item)) (spot.bucket ∷ at.right)))) in
+    let after = changed_by (Some n) (taken_record item) stored.buckets in
+    record {
+      exact = ap (widest_from most_buckets stored.buckets) first ∙ widest-read stored.buckets number width most_buckets spot.shelf.buckets few own ∙ sym wide;
+      behind = omega (arith, ap (widest_from most_buckets after) next, ap (widest_from most_buckets after) first, all, some, part);
+    }

@@ -1,0 +1,5 @@
+-- What a growth does to records: shelves get further buckets in front of their own.
+pub mod Grown
+pub mod Shares
+pub mod WidenedShelf
+pub mod WidenedShelves

@@ -1,0 +1,75 @@
+use Rattle.std.proofs.Common.{◌≡◌, ℕ, ◌+◌, ◌%◌, ◌≤◌, ◌++◌, [], ◌∷◌, Option, None, Some, List, length, ap, sym, ◌∙◌, arith}
+use Rattle.std.proofs.lemmas.Option.{slice_get-get_or, slice_get_past}
+use Rattle.std.specs.Option.{option_map_or}
+use Rattle.std.specs.Prelude.{slice_get}
+use Rattle.etagere_links.proofs.EditLemmas.{set-changed}
+use Rattle.bucketed_records.specs.declared.records.LinkedBucket.{LinkedBucket}
+use Rattle.bucketed_store.specs.Private.StoreEdits.{Made, made_again, made_new, made_one, new_record}
+use Rattle.bucketed_store.specs.declared.making.NewBuckets.{NewBuckets}
+use Rattle.bucketed_store.proofs.making.make_bucket.Goals as goal
+use Rattle.bucketed_store.proofs.making.make_bucket.Goals.{in-Some+else-number-len, in_default}
+
+-- what is made by what is found under a link
+made_one-by : (new : NewBuckets) (made : Made) (link : Option ℕ) → made.unused ≡ link
+    → made_one new made ≡ option_map_or (λ (number : ℕ). option_map_or (made_again new made number) (slice_get made.buckets number) (made_new new made)) link (made_new new made)
+made_one-by new made link names =
+    ap (λ (l : Option ℕ). option_map_or (λ (number : ℕ). option_map_or (made_again new made number) (slice_get made.buckets number) (made_new new made)) l (made_new new made)) names
+
+-- a bucket is made in a record that is found under a link
+made-found : (new : NewBuckets) (made : Made) (number : ℕ) (old : LinkedBucket) → made.unused ≡ Some number → slice_get made.buckets number ≡ Some old → made_one new made ≡ made_again new made number old
+made-found new made number old names at =
+    made_one-by new made (Some number) names ∙ ap (λ (r : Option LinkedBucket). option_map_or (made_again new made number) r (made_new new made)) at
+
+-- a bucket is made in a new record where no record is found under a link
+made-past : (new : NewBuckets) (made : Made) (number : ℕ) → made.unused ≡ Some number → length made.buckets ≤ number → made_one new made ≡ made_new new made
+made-past new made number names past =
+    made_one-by new made (Some number) names
+    ∙ ap (λ (r : Option LinkedBucket). option_map_or (made_again new made number) r (made_new new made)) (slice_get_past made.buckets number past)
+
+-- what there was
+abbrev before : List LinkedBucket → Option ℕ → Option ℕ → Made
+before buckets unused first = record { buckets = buckets; unused = unused; first = first }
+
+-- what is made in an unused record
+again : (c : goal.After-to) → made_one c.args.new.now (before c.args.buckets.now.items c.args.unused.now c.args.first)
+    ≡ made_again c.args.new.now (before c.args.buckets.now.items c.args.unused.now c.args.first) c.in-Some.number c.index-old.result.now
+again c =
+    made-found c.args.new.now (before c.args.buckets.now.items c.args.unused.now c.args.first) c.in-Some.number c.index-old.result.now (sym c.number.ensures.value ∙ c.in-Some.is)
+    (slice_get-get_or c.args.buckets.now.items c.in-Some.number c.index-old.result.now (omega (arith, c.if-number-len.true, c.len.ensures)) ∙ ap (λ (r : LinkedBucket). Some r) (sym c.index-old.ensures))
+
+pub returns-then-number-len-clause-buckets : goal.returns-then-number-len-clause-buckets
+returns-then-number-len-clause-buckets c =
+    let made = before c.args.buckets.now.items c.args.unused.now c.args.first in
+    let r = new_record c.args.new.now c.args.first ((c.index-old.result.now.generation + 1) % 256) in
+    rw c.new_record.ensures
+    (set-changed (λ (_ : LinkedBucket). r) c.args.buckets.now.items c.in-Some.number r (omega (arith, c.if-number-len.true, c.len.ensures))
+    ∙ ap (λ (m : Made). m.buckets) (sym (again c)))
+
+pub returns-then-number-len-clause-unused : goal.returns-then-number-len-clause-unused
+returns-then-number-len-clause-unused c = ap (λ (m : Made). m.unused) (sym (again c))
+
+pub returns-then-number-len-clause-first : goal.returns-then-number-len-clause-first
+returns-then-number-len-clause-first c = c.to.ensures ∙ ap (λ (m : Made). m.first) (sym (again c))
+
+-- what is made in a new record
+fresh : (c : goal.After-to-2) → made_one c.args.new.now (before c.args.buckets.now.items c.args.unused.now c.args.first)
+    ≡ made_new c.args.new.now (before c.args.buckets.now.items c.args.unused.now c.args.first)
+fresh c =
+    let made = before c.args.buckets.now.items c.args.unused.now c.args.first in
+    elim c.match-number.branch [
+      | in-Some+else-number-len w ↦
+          made-past c.args.new.now made w.in-Some.number (sym c.number.ensures.value ∙ w.in-Some.is) (omega (arith, w.if-number-len.false, w.len.ensures))
+      | in_default w ↦ made_one-by c.args.new.now made None (sym c.number.ensures.value ∙ w.in_default.is)
+    ]
+
+pub returns-clause-buckets : goal.returns-clause-buckets
+returns-clause-buckets c =
+    (rw c.unwrap.ensures at c.push.ensures.items)
+    ∙ ap (λ (r : LinkedBucket). c.args.buckets.now.items ++ r ∷ []) c.new_record-2.ensures
+    ∙ ap (λ (m : Made). m.buckets) (sym (fresh c))
+
+pub returns-clause-unused : goal.returns-clause-unused
+returns-clause-unused c = ap (λ (m : Made). m.unused) (sym (fresh c))
+
+pub returns-clause-first : goal.returns-clause-first
+returns-clause-first c = c.to-2.ensures ∙ ap (λ (n : ℕ). Some n) (omega (arith, c.len-number.ensures)) ∙ ap (λ (m : Made). m.first) (sym (fresh c))

@@ -1,0 +1,17 @@
+use Rattle.std.proofs.Common.{List, ap, subst, sym, ◌∙◌}
+use Rattle.bucketed_records.specs.declared.records.LinkedBucket.{LinkedBucket}
+use Rattle.bucketed_records.specs.declared.records.KeptShelf.{KeptShelf}
+use Rattle.bucketed_records.specs.Private.Store.{Stored}
+use Rattle.bucketed_store.specs.Private.Blocks.{AreKnown}
+use Rattle.bucketed_store.specs.Private.Searching.{kept_place}
+use Rattle.bucketed_store.proofs.placing.place_of.Goals as goal
+
+pub place_among-requires-clause-known : goal.place_among-requires-clause-known
+place_among-requires-clause-known c = subst (λ (shelves : List KeptShelf). AreKnown c.store.inside.blocks.each shelves) (sym c.deref.ensures.value) c.store.invariant
+
+pub returns : goal.returns
+returns c =
+    c.place_among.ensures
+    ∙ ap (λ (shelves : List KeptShelf). kept_place c.args.frame.now c.args.left.now c.args.sides.now shelves c.deref-2.result.now) c.deref.ensures.value
+    ∙ ap (λ (buckets : List LinkedBucket). kept_place c.args.frame.now c.args.left.now c.args.sides.now c.store.inside.shelves.items buckets) c.deref-2.ensures.value
+    ∙ ap (λ (stored : Stored). kept_place c.args.frame.now c.args.left.now c.args.sides.now stored.shelves stored.buckets) c.store.view_is

@@ -1,0 +1,48 @@
+use Rattle.std.proofs.Common.{length, ap, arith, subst, sym, ◌∙◌}
+use Rattle.bucketed_model.specs.Adding.{NewShelves, news_of}
+use Rattle.bucketed_records.specs.Private.Store.{Stored}
+use Rattle.bucketed_store.specs.Private.StoreEdits.{IsShort, stored_shelves}
+use Rattle.bucketed_store.proofs.Spelling.MadeLengths.{filler-keeps}
+use Rattle.bucketed_store.proofs.Spelling.MadeShelves.{first-short}
+use Rattle.bucketed_store.specs.Private.Blocks.{AreKnown}
+use Rattle.bucketed_store.specs.declared.store.Store.TheInside.{Inside}
+use Rattle.bucketed_store.proofs.store.Store.add.Goals as goal
+use Rattle.bucketed_store.proofs.store.Store.add.Goals.{in-Some, in_default}
+
+pub add_shelf-requires-clause-bucket_room : goal.add_shelf-requires-clause-bucket_room
+add_shelf-requires-clause-bucket_room c =
+    let stored : Stored = record { shelves = c.self.inside.shelves.items; buckets = c.self.inside.buckets.items; unused = c.self.inside.unused } in
+    let fills = ap (λ (n : NewShelves). n.filler) (sym c.news.view_is) ∙ c.in-Some.is in
+    rw (c.reserve.ensures.items, c.in_ok-reserve_records.ensures.same)
+    (omega (
+      arith,
+      filler-keeps c.args.frame.now c.in-Some.filler c.args.news.now stored fills,
+      ap (λ (s : Stored). length (stored_shelves c.args.frame.now (news_of c.args.news.now) s).buckets) c.self.view_is,
+      ap (λ (s : Stored). length s.buckets) c.self.view_is,
+      c.requires.news.records,
+      c.total_count.ensures,
+      c.in_ok-reserve_records.ensures.room,
+      c.reserve_records.ensures.within,
+      ap (λ bs. length bs) c.in_ok-reserve_records.ensures.same,
+    ))
+
+pub add_shelf-requires-clause-short : goal.add_shelf-requires-clause-short
+add_shelf-requires-clause-short c =
+    rw c.reserve.ensures.items
+    (subst (λ (s : Stored). IsShort c.args.frame.now s.shelves) (sym c.self.view_is) (first-short c.args.frame.now c.args.news.now c.args.self.now c.requires.news.short))
+
+pub invariant_of-self : goal.invariant_of-self
+invariant_of-self c = subst (AreKnown c.self.inside.blocks.each) (sym c.reserve.ensures.items) c.self.invariant
+
+pub invariant_of-self-in_err-reserve_records : goal.invariant_of-self-in_err-reserve_records
+invariant_of-self-in_err-reserve_records c = subst (AreKnown c.self.inside.blocks.each) (sym c.reserve.ensures.items) c.self.invariant
+
+pub add_shelf-requires-clause-known : goal.add_shelf-requires-clause-known
+add_shelf-requires-clause-known c = subst (AreKnown c.self.inside.blocks.each) (sym c.reserve.ensures.items) c.self.invariant
+
+pub add_shelf-requires-2-clause-known : goal.add_shelf-requires-2-clause-known
+add_shelf-requires-2-clause-known c =
+    elim c.match-news.branch [
+      | in-Some w ↦ subst (λ (inside : Inside). AreKnown inside.blocks.each inside.shelves.items) (sym w.self-inside-is) w.add_shelf.ensures.known
+      | in_default w ↦ subst (λ (inside : Inside). AreKnown inside.blocks.each inside.shelves.items) (sym w.self-inside-is) (subst (AreKnown c.self.inside.blocks.each) (sym c.reserve.ensures.items) c.self.invariant)
+    ]

@@ -1,0 +1,41 @@
+use Rattle.std.proofs.Common.{◌≡◌, List, ap, subst, sym, ◌∙◌, arith}
+use Rattle.std.proofs.lemmas.List.{with_items_is}
+use Rattle.std.specs.Vec.{with_items}
+use Rattle.bucketed_model.specs.State.{most_buckets}
+use Rattle.bucketed_records.specs.declared.records.LinkedBucket.{LinkedBucket}
+use Rattle.bucketed_records.specs.declared.records.KeptShelf.{KeptShelf}
+use Rattle.bucketed_records.specs.Private.Store.{Stored}
+use Rattle.bucketed_store.specs.Private.Blocks.{AreKnown, AreOthersKnown}
+use Rattle.bucketed_store.specs.Private.Searching.{widest_from}
+use Rattle.bucketed_store.specs.Private.StoreEdits.{first_bucket_of, given_from, shelves_given}
+use Rattle.bucketed_store.proofs.KnownBlocks.{known-others}
+use Rattle.bucketed_store.proofs.store.Store.give_from.Goals as goal
+
+pub returns : goal.returns
+returns c =
+    let shelves = c.self.inside.shelves in
+    let items : (with_items shelves c.give_from.new.shelves).items ≡ c.give_from.new.shelves =
+    with_items_is shelves c.give_from.new.shelves (omega (arith, c.give_from.auto.shelves, c.deref_mut.ensures.len)) in
+    let given : (with_items shelves c.give_from.new.shelves).items ≡ shelves_given c.args.found.now.shelf shelves.items c.self.inside.buckets.items =
+    items
+    ∙ c.give_from.ensures
+    ∙ ap (λ (xs : List KeptShelf). shelves_given c.args.found.now.shelf xs c.deref.result.now) c.deref_mut.ensures.value
+    ∙ ap (λ (bs : List LinkedBucket). shelves_given c.args.found.now.shelf shelves.items bs) c.deref.ensures.value in
+    ap (λ (xs : List KeptShelf). let stored : Stored = record { shelves = xs; buckets = c.self.inside.buckets.items; unused = c.self.inside.unused } in stored) given
+    ∙ ap (λ (stored : Stored). record stored { shelves = shelves_given c.args.found.now.shelf stored.shelves stored.buckets }) c.self.view_is
+
+pub follow-requires-clause-others : goal.follow-requires-clause-others
+follow-requires-clause-others c =
+    let inside = c.self.inside in
+    let shelf = c.args.found.now.shelf in
+    let items : (with_items inside.shelves c.give_from.new.shelves).items ≡ c.give_from.new.shelves =
+    with_items_is inside.shelves c.give_from.new.shelves (omega (arith, c.give_from.auto.shelves, c.deref_mut.ensures.len)) in
+    let given : c.give_from.new.shelves ≡ shelves_given shelf inside.shelves.items inside.buckets.items =
+    c.give_from.ensures
+    ∙ ap (λ (xs : List KeptShelf). shelves_given shelf xs c.deref.result.now) c.deref_mut.ensures.value
+    ∙ ap (λ (bs : List LinkedBucket). shelves_given shelf inside.shelves.items bs) c.deref.ensures.value in
+    subst (AreOthersKnown shelf inside.blocks.each) (sym (c.deref-2.ensures.value ∙ items ∙ given))
+    (known-others shelf (given_from (widest_from most_buckets inside.buckets.items (first_bucket_of inside.shelves.items shelf))) inside.blocks.each inside.shelves.items c.self.invariant)
+
+pub invariant_of-self : goal.invariant_of-self
+invariant_of-self c = subst (AreKnown c.follow.new.self.each) c.deref-2.ensures.value c.follow.ensures

@@ -1,0 +1,32 @@
+use Rattle.std.proofs.Common.{◌≡◌, ℕ, List, Some, ap, subst, sym, ◌∙◌, arith}
+use Rattle.std.proofs.lemmas.List.{with_items_is}
+use Rattle.std.specs.Prelude.{nat_le}
+use Rattle.std.specs.Vec.{with_items}
+use Rattle.etagere_links.specs.Edits.{changed_by}
+use Rattle.bucketed_records.specs.declared.records.LinkedBucket.{LinkedBucket}
+use Rattle.bucketed_records.specs.declared.records.KeptShelf.{KeptShelf}
+use Rattle.bucketed_records.specs.StandsFor.{live_of, shelf_of}
+use Rattle.bucketed_store.specs.Private.Blocks.{AreKnown, AreOthersKnown}
+use Rattle.bucketed_store.specs.Private.Returns.{returned_kept}
+use Rattle.bucketed_store.proofs.KnownBlocks.{known-others}
+use Rattle.bucketed_store.proofs.store.Store.return_item.Goals as goal
+
+pub follow-requires-clause-others : goal.follow-requires-clause-others
+follow-requires-clause-others c =
+    let inside = c.self.inside in
+    let number = c.args.number in
+    let shelf : c.shelf_number-shelf.result ≡ shelf_of inside.buckets.items number =
+    c.shelf_number-shelf.ensures ∙ ap (λ (bs : List LinkedBucket). shelf_of bs number) c.deref-3.ensures.value in
+    let change = returned_kept (nat_le (live_of inside.buckets.items number) 1) in
+    let items : (with_items inside.shelves c.return_item.new.shelves).items ≡ c.return_item.new.shelves =
+    with_items_is inside.shelves c.return_item.new.shelves (omega (arith, c.return_item.auto.shelves, c.deref_mut.ensures.len)) in
+    let returned : c.return_item.new.shelves ≡ changed_by (Some c.shelf_number-shelf.result) change inside.shelves.items =
+    c.return_item.ensures.shelves
+    ∙ ap (λ (bs : List LinkedBucket). changed_by (Some (shelf_of bs number)) (returned_kept (nat_le (live_of bs number) 1)) c.deref_mut.result.now) c.deref_mut-2.ensures.value
+    ∙ ap (λ (xs : List KeptShelf). changed_by (Some (shelf_of inside.buckets.items number)) change xs) c.deref_mut.ensures.value
+    ∙ ap (λ (n : ℕ). changed_by (Some n) change inside.shelves.items) (sym shelf) in
+    subst (AreOthersKnown c.shelf_number-shelf.result inside.blocks.each) (sym (c.deref-4.ensures.value ∙ items ∙ returned))
+    (known-others c.shelf_number-shelf.result change inside.blocks.each inside.shelves.items c.self.invariant)
+
+pub invariant_of-self : goal.invariant_of-self
+invariant_of-self c = subst (AreKnown c.follow.new.self.each) c.deref-4.ensures.value c.follow.ensures

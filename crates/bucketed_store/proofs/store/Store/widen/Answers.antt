@@ -1,0 +1,13 @@
+use Rattle.std.proofs.Common.{arith, subst}
+use Rattle.bucketed_store.specs.Private.Blocks.{AreKnown}
+use Rattle.bucketed_store.proofs.Widening.Shares.{left-le}
+use Rattle.bucketed_store.proofs.store.Store.widen.Goals as goal
+
+pub overflow_sub-rest : goal.overflow_sub-rest
+overflow_sub-rest c = omega (arith, c.left_after-rest.ensures, left-le c.args.added c.args.left c.deref.result.now, c.requires.left)
+
+pub overflow_sub-result : goal.overflow_sub-result
+overflow_sub-result c = omega (arith, c.left_after-rest.ensures, left-le c.args.added c.args.left c.deref.result.now)
+
+pub invariant_of-self-2 : goal.invariant_of-self-2
+invariant_of-self-2 c = subst (AreKnown c.of-self-inside.result.each) c.deref-2.ensures.value c.of-self-inside.ensures

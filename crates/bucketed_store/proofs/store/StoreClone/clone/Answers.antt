@@ -1,0 +1,29 @@
+use Rattle.std.proofs.Common.{◌≡◌, List, [], ◌∷◌, refl, ap, subst, sym, ◌∙◌}
+use Rattle.std.specs.List.{AllZip}
+use Rattle.bucketed_records.specs.declared.records.LinkedBucket.{LinkedBucket}
+use Rattle.bucketed_records.specs.declared.records.KeptShelf.{KeptShelf}
+use Rattle.bucketed_records.specs.Private.Store.{Stored}
+use Rattle.bucketed_store.specs.Private.Blocks.{AreKnown}
+use Rattle.bucketed_store.proofs.store.StoreClone.clone.Goals as goal
+
+-- a list of copies is the list
+copied : {X : Type 0} (xs ys : List X) → AllZip (λ x y. y ≡ x) xs ys → ys ≡ xs
+copied [] [] same = refl
+copied [] (y ∷ ys) same = absurd same
+copied (x ∷ xs) [] same = absurd same
+copied (x ∷ xs) (y ∷ ys) same = ap (λ z. z ∷ ys) same.0 ∙ ap (λ zs. x ∷ zs) (copied xs ys same.1)
+
+pub invariant_of-result : goal.invariant_of-result
+invariant_of-result c =
+    subst (AreKnown c.self.inside.blocks.each) (sym (copied c.self.inside.shelves.items c.in_ok-clone.field-0.items c.in_ok-clone.ensures.cases.0)) c.self.invariant
+
+pub returns : goal.returns
+returns c =
+    let inside = c.self.inside in
+    let shelves = copied inside.shelves.items c.in_ok-clone.field-0.items c.in_ok-clone.ensures.cases.0 in
+    let buckets = copied inside.buckets.items c.in_ok-clone-2.field-0.items c.in_ok-clone-2.ensures.cases.0 in
+    record {
+      cases = ap (λ (xs : List KeptShelf). let stored : Stored = record { shelves = xs; buckets = c.in_ok-clone-2.field-0.items; unused = inside.unused } in stored) shelves
+          ∙ ap (λ (bs : List LinkedBucket). let stored : Stored = record { shelves = inside.shelves.items; buckets = bs; unused = inside.unused } in stored) buckets
+          ∙ c.self.view_is;
+    }

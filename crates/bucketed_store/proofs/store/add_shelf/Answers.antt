@@ -1,0 +1,38 @@
+use Rattle.std.proofs.Common.{◌≡◌, ℕ, suc, ◌*◌, ◌≤◌, ◌∙◌, ap, arith, subst, sym}
+use Rattle.std.proofs.Math.Nat.{mul-le-mul_right, suc-mul}
+use Rattle.std.specs.Result.{is_ok}
+use Rattle.etagere_base.proofs.FrameSides.{sides_low}
+use Rattle.bucketed_model.specs.Adding.{NewShelf, width_of_share}
+use Rattle.bucketed_model.proofs.Shelving.Shares.{shares-fit}
+use Rattle.bucketed_store.specs.Private.StoreEdits.{EndsBy}
+use Rattle.bucketed_store.specs.Private.Blocks.{AreKnown}
+use Rattle.bucketed_store.proofs.KnownBlocks.{known-last}
+use Rattle.bucketed_store.proofs.store.add_shelf.Goals as goal
+
+pub make_buckets-first_bucket-requires-clause-narrow : goal.make_buckets-first_bucket-requires-clause-narrow
+make_buckets-first_bucket-requires-clause-narrow c =
+    let frame = c.args.frame.now in
+    let new = c.new.inside in
+    let width : c.width_of_share-width.result ≡ width_of_share frame new.count = c.width_of_share-width.ensures in
+    let below : suc new.column ≤ frame.columns = omega (arith, c.requires.new.column, ap (λ (n : NewShelf). n.column) c.new.view_is) in
+    omega (
+      arith,
+      ap (λ (w : ℕ). new.count * w) width,
+      shares-fit frame new.count,
+      mul-le-mul_right {m = suc new.column} {n = frame.columns} frame.column_width below,
+      suc-mul new.column frame.column_width,
+      c.requires.frame.columns.1,
+      (sides_low 65534 frame c.requires.frame).0,
+    )
+
+pub next_across-y-requires : goal.next_across-y-requires
+next_across-y-requires c =
+    subst (EndsBy 65534) (sym c.deref.ensures.value)
+    (λ last e. omega (arith, c.requires.short last e, (sides_low 65534 c.args.frame.now c.requires.frame).1))
+
+pub add_last-requires-clause-others : goal.add_last-requires-clause-others
+add_last-requires-clause-others c =
+    known-last _ c.args.blocks.now.each c.args.shelves.now.items c.deref-2.result.now (is_ok c.push.result) (ap is_ok c.unwrap.ensures) (c.deref-2.ensures.value ∙ c.push.ensures.items) c.requires.known
+
+pub returns-clause-known : goal.returns-clause-known
+returns-clause-known c = subst (AreKnown c.add_last.new.self.each) c.deref-2.ensures.value c.add_last.ensures

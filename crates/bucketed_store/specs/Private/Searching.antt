@@ -1,0 +1,158 @@
+-- Searching among records: what the private functions find, by the links that they follow.
+use Rattle.std.specs.Prelude.{ℕ, zero, suc, ◌+◌, ◌-◌, max, Bool, false, ◌&&◌, not, Option, None, Some, option_map, option_and_then, unwrap_or, List, [], ◌∷◌, length, map, take, drop, slice_get, nat_le, nat_lt, ◌==◌, if◌then◌else◌}
+use Rattle.std.specs.List.{list_all}
+use Rattle.std.specs.Option.{option_map_or}
+use Rattle.etagere_base.specs.declared.frames.Frame.{Frame}
+use Rattle.etagere_base.specs.declared.sides.Sides.{Sides}
+use Rattle.etagere_base.specs.Least.{first_least, Found as Least}
+use Rattle.bucketed_model.specs.Picking.{or_else}
+use Rattle.bucketed_model.specs.Adding.{Remaining, NewShelf, can_add, new_shelves, news_of}
+use Rattle.bucketed_model.specs.Merging.{Group}
+use Rattle.bucketed_model.specs.State.{most_buckets, most_given}
+use Rattle.bucketed_records.specs.declared.records.LinkedBucket.{LinkedBucket}
+use Rattle.bucketed_records.specs.declared.records.KeptShelf.{KeptShelf}
+use Rattle.bucketed_records.specs.StandsFor.{free_of}
+use Rattle.bucketed_records.specs.Private.Store.{record_room, is_kept_idle}
+pub use Rattle.bucketed_store.specs.declared.searching.Wanted.{Wanted}
+use Rattle.bucketed_store.specs.declared.searching.Wanted.TheVariants.{Roomy, Exact}
+pub use Rattle.bucketed_store.specs.declared.searching.Found.{Found}
+use Rattle.bucketed_store.specs.declared.placing.Place as code
+use Rattle.bucketed_store.specs.declared.placing.Place.TheVariants as places
+
+-- where an item goes: a bucket that was found, shelves to be added, or shelves to be merged
+pub data Place : Type 0 where
+  InBucket : (found : Found) → Place
+  InAdded : (news : List NewShelf) → Place
+  InMerged : (group : Group) → Place
+
+-- the place that the code's type stands for
+abbrev pub place_seen : code.Place → Place
+place_seen (places.InBucket found) = InBucket found
+place_seen (places.InAdded news) = InAdded (news_of news)
+place_seen (places.InMerged group) = InMerged group
+
+-- a bucket record is what is wanted
+abbrev pub is_wanted : Wanted → LinkedBucket → Bool
+is_wanted (Roomy width) bucket =
+    nat_le width bucket.free_space && nat_lt bucket.item_count most_given
+is_wanted (Exact width) bucket =
+    (nat_le width bucket.free_space && nat_lt bucket.item_count most_given)
+    && bucket.free_space == width
+
+-- the number of the first record that is wanted, in so many steps from a link on
+abbrev pub first_from : ℕ → Wanted → List LinkedBucket → Option ℕ → Option ℕ
+first_from zero wanted buckets at = None
+first_from (suc steps) wanted buckets None = None
+first_from (suc steps) wanted buckets (Some number) =
+    option_and_then
+    (λ (bucket : LinkedBucket). if is_wanted wanted bucket then Some number
+    else first_from steps wanted buckets bucket.next)
+    (slice_get buckets number)
+
+-- the number of the first bucket of a shelf that is wanted
+abbrev pub first_wanted : Wanted → List LinkedBucket → KeptShelf → Option ℕ
+first_wanted wanted buckets kept = first_from most_buckets wanted buckets kept.shelf.first_bucket
+
+-- the greatest width that a record can give, in so many steps from a link on
+abbrev pub widest_from : ℕ → List LinkedBucket → Option ℕ → ℕ
+widest_from zero buckets at = 0
+widest_from (suc steps) buckets None = 0
+widest_from (suc steps) buckets (Some number) =
+    option_map_or
+    (λ (bucket : LinkedBucket). max (record_room bucket) (widest_from steps buckets bucket.next))
+    (slice_get buckets number) 0
+
+-- the height that a shelf wastes where it is eligible and has room
+abbrev pub kept_waste : Bool → Sides → KeptShelf → Option ℕ
+kept_waste adds sides kept =
+    if (nat_le sides.across kept.shelf.height
+    && (nat_le sides.along kept.shelf.bucket_width
+    && not (adds && nat_lt sides.across (kept.shelf.height - sides.across))))
+    && nat_le sides.along kept.widest_room
+    then Some (kept.shelf.height - sides.across)
+    else None
+
+-- a shelf was found that wastes nothing
+abbrev pub wastes_nothing : Option Least → Bool
+wastes_nothing None = false
+wastes_nothing (Some least) = least.rank == 0
+
+-- the number of a shelf and that of its first bucket that is wanted
+abbrev pub found_in : Wanted → List LinkedBucket → ℕ → KeptShelf → Option Found
+found_in wanted buckets number kept =
+    option_map (λ bucket. record { shelf = number; bucket = bucket })
+    (first_wanted wanted buckets kept)
+
+-- the first exact bucket of a shelf that wastes no height
+abbrev pub exact_in : Sides → List LinkedBucket → ℕ → KeptShelf → Option Found
+exact_in sides buckets number kept =
+    if kept.shelf.height == sides.across && nat_le sides.along kept.widest_room
+    then found_in (Exact sides.along) buckets number kept
+    else None
+
+-- the first exact bucket of shelves that waste no height, of which the first has this number
+abbrev pub exact_from : Sides → List LinkedBucket → ℕ → List KeptShelf → Option Found
+exact_from sides buckets number [] = None
+exact_from sides buckets number (kept ∷ shelves) =
+    or_else (exact_in sides buckets number kept) (exact_from sides buckets (suc number) shelves)
+
+-- what was found, unless it wastes width alone, and there is an exact bucket in a later shelf
+abbrev pub exact_or_found : Sides → List KeptShelf → List LinkedBucket → Least → ℕ → Found
+exact_or_found sides shelves buckets least bucket =
+    let found : Found = record { shelf = least.number; bucket = bucket } in
+    if least.rank == 0 && not (free_of buckets bucket == sides.along)
+    then unwrap_or (exact_from sides buckets (suc least.number) (drop (suc least.number) shelves))
+    found
+    else found
+
+-- the bucket that is picked for these sides
+abbrev pub picked : Bool → Sides → List KeptShelf → List LinkedBucket → Option Found
+picked adds sides shelves buckets =
+    option_and_then
+    (λ (least : Least). option_and_then
+    (λ (kept : KeptShelf). option_map (exact_or_found sides shelves buckets least)
+    (first_wanted (Roomy sides.along) buckets kept))
+    (slice_get shelves least.number))
+    (first_least (map (kept_waste adds sides) shelves))
+
+-- the heights of shelves, added up
+abbrev pub kept_height : List KeptShelf → ℕ
+kept_height [] = 0
+kept_height (kept ∷ shelves) = kept.shelf.height + kept_height shelves
+
+-- a shelf of this column holds nothing live
+abbrev pub is_kept_idle_in : ℕ → KeptShelf → Bool
+is_kept_idle_in x kept = kept.shelf.x == x && is_kept_idle kept
+
+-- a shelf and as many after it serve these sides
+abbrev pub kept_serves : Sides → ℕ → KeptShelf → List KeptShelf → Bool
+kept_serves sides others kept shelves =
+    let next = take others shelves in
+    length next == others
+    && (is_kept_idle kept && list_all (is_kept_idle_in kept.shelf.x) next)
+    && (nat_le sides.along kept.shelf.bucket_width
+    && nat_le sides.across (kept.shelf.height + kept_height next))
+
+-- the first shelf, of which the first one here has this number, that serves with the next or the
+-- next two
+abbrev pub kept_mergeable : Sides → ℕ → List KeptShelf → Option Group
+kept_mergeable sides number [] = None
+kept_mergeable sides number (kept ∷ shelves) =
+    if kept_serves sides 1 kept shelves then Some (record { first = number; others = 1 })
+    else (if kept_serves sides 2 kept shelves then Some (record { first = number; others = 2 })
+    else kept_mergeable sides (suc number) shelves)
+
+-- the first of these shelves and as many after it serve these sides
+abbrev pub serves_at : Sides → ℕ → List KeptShelf → Bool
+serves_at sides others [] = false
+serves_at sides others (kept ∷ shelves) = kept_serves sides others kept shelves
+
+-- the place for these sides: the bucket that is picked, else shelves to be added, else shelves to
+-- be merged
+abbrev pub kept_place : Frame → Remaining → Sides → List KeptShelf → List LinkedBucket → Option Place
+kept_place frame left sides shelves buckets =
+    let adds = can_add frame left sides.across in
+    or_else
+    (option_map InBucket (picked adds sides shelves buckets))
+    (if adds then Some (InAdded (new_shelves frame left sides))
+    else option_map InMerged (kept_mergeable sides 0 shelves))

@@ -1,0 +1,108 @@
+//! Dropping the shelves at the end that hold nothing live, and what the others leave.
+//!
+//! Definitions: `Private/Returns`. The buckets of a dropped shelf are unused as a whole, in their order.
+
+ghost use Rattle.std.specs.Prelude.{◌≡◌, ◌<◌, ◌≤◌, ◌+◌, Some, length, vec_len, vec_capacity};
+ghost use Rattle.etagere_links.specs.Edits.{changed_by};
+ghost use Rattle.bucketed_model.specs.Picking.{or_else};
+ghost use Rattle.bucketed_model.specs.State.{most_buckets};
+ghost use Rattle.bucketed_records.specs.BucketRecords.{next_of};
+ghost use Rattle.bucketed_store.specs.Private.Returns as spec;
+
+use bucketed_records::records::{KeptShelf, LinkedBucket};
+use etagere_links::Link;
+
+/// Where a list of buckets ends: its last one, and how many there are.
+#[derive(Clone, Copy, Debug, PartialEq, Eq)]
+pub(crate) struct RowEnd {
+    pub last: usize,
+    pub count: u32,
+}
+
+/// The link to the bucket after the one of this number; none where there is no such bucket.
+pub(crate) fn next_of(buckets: &[LinkedBucket], number: usize) -> Link
+    ensures { result ≡ next_of buckets.now number }
+{
+    if number < buckets.len() {
+        buckets[number].next
+    } else {
+        Link::none()
+    }
+}
+
+/// Where the list of a bucket ends.
+fn row_end(buckets: &[LinkedBucket], first: usize) -> RowEnd
+    requires { length buckets.now ≤ most_buckets }
+    ensures end { result ≡ spec.row_end buckets.now first }
+    ensures small { result.count ≤ most_buckets + 1 }
+{
+    let mut end = RowEnd {
+        last: first,
+        count: 1,
+    };
+    for _step in 0..buckets.len() {
+        let Some(next) = next_of(buckets, end.last).number() else {
+            break;
+        };
+        end = RowEnd {
+            last: next,
+            count: end.count + 1,
+        };
+    }
+    end
+}
+
+/// Changes the link of a bucket.
+fn link_to(buckets: &mut [LinkedBucket], number: usize, next: Link)
+    ensures { buckets.new ≡ changed_by (Some number) (spec.linked_to next) buckets.old }
+{
+    if number < buckets.len() {
+        let bucket = &mut buckets[number];
+        bucket.next = next;
+    }
+}
+
+/// Puts the list of a bucket in front of the unused ones, and answers how many stand in it.
+fn put_row_aside(buckets: &mut [LinkedBucket], unused: &mut Link, first: Link) -> u32
+    requires { length buckets.old ≤ most_buckets }
+    ensures buckets { buckets.new ≡ spec.row_aside first unused.old buckets.old }
+    ensures unused { unused.new ≡ or_else first unused.old }
+    ensures count { result ≡ spec.row_count buckets.old first }
+    ensures small { result ≤ most_buckets + 1 }
+{
+    let Some(number) = first.number() else {
+        return 0;
+    };
+    let end = row_end(buckets, number);
+    link_to(buckets, end.last, *unused);
+    *unused = first;
+    end.count
+}
+
+/// Drops the shelves at the end that hold nothing live, and answers how many buckets became unused.
+pub(crate) fn drop_idle_end(
+    shelves: &mut Vec<KeptShelf>,
+    buckets: &mut [LinkedBucket],
+    unused: &mut Link,
+) -> u32
+    requires shelves { vec_len shelves.old ≤ most_buckets }
+    requires buckets { length buckets.old ≤ most_buckets }
+    ensures dropped { spec.dropping_of shelves.new.items buckets.new unused.new result
+        ≡ spec.end_dropped (vec_len shelves.old)
+        (spec.dropping_of shelves.old.items buckets.old unused.old 0) }
+    ensures capacity { vec_capacity shelves.new ≡ vec_capacity shelves.old }
+{
+    let mut dropped = 0;
+    for _shelf in 0..shelves.len() {
+        let Some(last) = shelves.last() else {
+            break;
+        };
+        let first = last.shelf.first_bucket;
+        if last.live_items > 0 {
+            break;
+        }
+        dropped += put_row_aside(buckets, unused, first);
+        shelves.pop();
+    }
+    dropped
+}

@@ -1,0 +1,21 @@
+//! What calls do to the records of a bucketed atlas: searching, making, taking, merging, returning, dropping, growing
+//! and drawing, each over the records in one store.
+//!
+//! `store` has the records and the steps of which calls are made. For an allocation `placing` decides the place: by
+//! `searching` in a bucket, on a new shelf, or by `merging` on idle ones; by what `blocks` know of shelves these pass
+//! over many at once. `returning` and `dropping` are the steps of a return, `growing` those of a growth, `making` makes
+//! buckets for shelves that are added and for growths, and `drawing` has the picture.
+//!
+//! Definitions: `Store` of `bucketed_records` for what is stored, `StoreEdits` for what steps do to it.
+#![tactic(auto)]
+
+pub mod blocks;
+pub mod drawing;
+pub mod dropping;
+pub mod growing;
+pub mod making;
+pub mod merging;
+pub mod placing;
+pub mod returning;
+pub mod searching;
+pub mod store;

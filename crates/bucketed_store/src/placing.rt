@@ -1,0 +1,87 @@
+//! Where an item goes, and what is made ready for it.
+//!
+//! Definitions: `Searching`, `StoreEdits`, and `Placing` for what they mean.
+
+ghost use Rattle.std.specs.Prelude.{◌≡◌, ◌<◌, ◌^◌};
+ghost use Rattle.std.specs.Option.{option_map};
+ghost use Rattle.bucketed_model.specs.Frames.{IsBucketedFrame};
+ghost use Rattle.bucketed_store.specs.Private.Blocks.{AreKnown};
+ghost use Rattle.bucketed_store.specs.Private.Searching as spec;
+ghost use Rattle.bucketed_store.specs.Private.StoreEdits as edits;
+
+use crate::blocks::Blocks;
+use crate::merging::{Group, mergeable_shelves};
+use crate::searching::{Found, pick};
+use crate::store::Store;
+use bucketed_model::adding::{NewShelves, Remaining, can_add, new_shelves};
+use bucketed_records::records::{KeptShelf, LinkedBucket};
+use etagere_base::{Frame, Sides};
+
+/// Where an item goes.
+#[derive(Clone, Copy)]
+pub enum Place {
+    /// Into a bucket that is there.
+    InBucket(Found),
+    /// Into the first bucket of a shelf that is added.
+    InAdded(NewShelves),
+    /// Into the first bucket of shelves that are merged.
+    InMerged(Group),
+}
+
+impl Place {
+    /// How many buckets have to be made for it.
+    pub fn needed_buckets(&self) -> u32
+        requires { edits.needed_for (spec.place_seen self.now) < 2 ^ 32 }
+        ensures { result ≡ edits.needed_for (spec.place_seen self.now) }
+    {
+        match self {
+            Place::InAdded(news) => news.total_count(),
+            _ => 0,
+        }
+    }
+}
+
+/// The place for these sides: the bucket that is picked, else a shelf to be added, else shelves to be merged.
+pub fn place_of(frame: &Frame, left: &Remaining, sides: &Sides, store: &Store) -> Option<Place>
+    requires frame { IsBucketedFrame frame.now }
+    requires across { (0 < sides.now.across) × (sides.now.across < 2 ^ 31) }
+    requires column { left.now.column < 2 ^ 31 }
+    ensures { option_map spec.place_seen result
+        ≡ spec.kept_place frame.now left.now sides.now store.now.shelves store.now.buckets }
+{
+    place_among(
+        frame,
+        left,
+        sides,
+        &store.shelves,
+        &store.buckets,
+        &store.blocks,
+    )
+}
+
+/// The place for these sides among records, whose shelves are known to these blocks.
+fn place_among(
+    frame: &Frame,
+    left: &Remaining,
+    sides: &Sides,
+    shelves: &[KeptShelf],
+    buckets: &[LinkedBucket],
+    blocks: &Blocks,
+) -> Option<Place>
+    requires frame { IsBucketedFrame frame.now }
+    requires across { (0 < sides.now.across) × (sides.now.across < 2 ^ 31) }
+    requires column { left.now.column < 2 ^ 31 }
+    requires known { AreKnown blocks.now.each shelves.now }
+    ensures { option_map spec.place_seen result
+        ≡ spec.kept_place frame.now left.now sides.now shelves.now buckets.now }
+{
+    let adds = can_add(frame, left, sides.across);
+    if let Some(found) = pick(adds, sides, shelves, buckets, blocks) {
+        return Some(Place::InBucket(found));
+    }
+    if adds {
+        return Some(Place::InAdded(new_shelves(frame, left, sides)));
+    }
+    let group = mergeable_shelves(sides, shelves, blocks)?;
+    Some(Place::InMerged(group))
+}

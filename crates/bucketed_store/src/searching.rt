@@ -1,0 +1,327 @@
+//! Which bucket gives an item: the first with room of the shelf that wastes the least height.
+//!
+//! Definitions: `Searching`, and `Picking` for what it means. No bucket is looked at of a shelf that one
+//! comparison tells has none that is wanted.
+
+ghost use Rattle.std.specs.Prelude.{◌≡◌, ◌+◌, ◌<◌, ◌≤◌, IfSome, IsTrue, length, map, max, take, drop};
+ghost use Rattle.std.specs.Option.{option_map};
+ghost use Rattle.etagere_base.specs.Least.{first_least};
+ghost use Rattle.etagere_base.specs.Least as least;
+ghost use Rattle.bucketed_model.specs.Picking.{or_else};
+ghost use Rattle.bucketed_model.specs.State.{most_buckets};
+ghost use Rattle.bucketed_store.specs.Private.Blocks.{AreKnown};
+ghost use Rattle.bucketed_store.specs.Private.Searching as spec;
+
+use crate::blocks::{Blocks, SHELVES_OF_BLOCK, block_of};
+use bucketed_records::records::{
+    KeptShelf, LinkedBucket, MOST_BUCKETS, MOST_GIVEN, record_room, wider,
+};
+use etagere_base::Sides;
+use etagere_links::Link;
+use std::marker::Model;
+
+/// What a search requires of a bucket.
+#[derive(Clone, Copy, Debug, PartialEq, Eq)]
+pub(crate) enum Wanted {
+    /// At least this width is free, and another item can be given.
+    Roomy(u32),
+    /// Just this width is free, and another item can be given.
+    Exact(u32),
+}
+
+/// A bucket that was found: its number, and that of its shelf.
+#[derive(Clone, Copy, Debug, PartialEq, Eq)]
+pub struct Found {
+    pub shelf: usize,
+    pub bucket: usize,
+}
+
+/// A shelf that was found: its number, and the height that it wastes.
+#[derive(Clone, Copy)]
+pub(crate) struct Least {
+    pub number: usize,
+    pub rank: u32,
+}
+
+impl Model for Least {
+    ghost use Rattle.etagere_base.specs.Least.{Found};
+
+    ghost Value = { Found };
+
+    ghost view = { λ least. record { number = least.number; rank = least.rank } };
+
+    ghost inverse = { λ least. record { number = least.number; rank = least.rank } };
+}
+
+fn is_wanted(wanted: Wanted, bucket: &LinkedBucket) -> bool
+    ensures { result ≡ spec.is_wanted wanted bucket.now }
+{
+    let free = u32::from(bucket.free_space);
+    let can_give = bucket.item_count < MOST_GIVEN;
+    match wanted {
+        Wanted::Roomy(width) => width <= free && can_give,
+        Wanted::Exact(width) => width <= free && can_give && free == width,
+    }
+}
+
+/// The number of the first bucket that is wanted, by the links from this one on.
+pub(crate) fn first_wanted(wanted: Wanted, buckets: &[LinkedBucket], first: Link) -> Option<usize>
+    ensures number { result ≡ spec.first_from most_buckets wanted buckets.now first }
+    ensures within { IfSome result (λ number. number < length buckets.now) }
+{
+    let mut at = first;
+    for _step in 0..MOST_BUCKETS {
+        let Some(number) = at.number() else {
+            return None;
+        };
+        if number >= buckets.len() {
+            return None;
+        }
+        let bucket = &buckets[number];
+        if is_wanted(wanted, bucket) {
+            return Some(number);
+        }
+        at = bucket.next;
+    }
+    None
+}
+
+/// The greatest width that a bucket can give to one item, by the links from this one on, where none can give more
+/// than this one.
+pub(crate) fn widest_room(buckets: &[LinkedBucket], first: Link, most: u16) -> u16
+    requires { spec.widest_from most_buckets buckets.now first ≤ most }
+    ensures { result ≡ spec.widest_from most_buckets buckets.now first }
+{
+    let mut widest = 0;
+    let mut at = first;
+    for _step in 0..MOST_BUCKETS {
+        let Some(number) = at.number() else {
+            break;
+        };
+        if number >= buckets.len() {
+            break;
+        }
+        if most <= widest {
+            break;
+        }
+        let bucket = &buckets[number];
+        widest = wider(widest, record_room(bucket));
+        at = bucket.next;
+    }
+    widest
+}
+
+/// How many buckets `has_room` looks at.
+const FEW_BUCKETS: u32 = 16;
+
+/// Whether one of the next few buckets can give this width to one item, by the links from this one on.
+pub(crate) fn has_room(room: u16, buckets: &[LinkedBucket], first: Link) -> bool
+    ensures { IsTrue result → room ≤ spec.widest_from most_buckets buckets.now first }
+{
+    let mut at = first;
+    for _step in 0..FEW_BUCKETS {
+        let Some(number) = at.number() else {
+            return false;
+        };
+        if number >= buckets.len() {
+            return false;
+        }
+        let bucket = &buckets[number];
+        if room <= record_room(bucket) {
+            return true;
+        }
+        at = bucket.next;
+    }
+    false
+}
+
+/// The height that a shelf wastes where it is eligible and has room.
+fn waste(adds: bool, sides: &Sides, kept: &KeptShelf) -> Option<u32>
+    ensures { result ≡ spec.kept_waste adds sides.now kept.now }
+{
+    let height = u32::from(kept.shelf.height);
+    if u32::from(kept.widest_room) < sides.along || height < sides.across {
+        return None;
+    }
+    let waste = height - sides.across;
+    if (adds && sides.across < waste) || u32::from(kept.shelf.bucket_width) < sides.along {
+        return None;
+    }
+    Some(waste)
+}
+
+/// The shelf that wastes the least height, the first of such. Blocks in which none has room are passed over, and the
+/// first shelf that wastes nothing ends the search.
+fn least_waste(adds: bool, sides: &Sides, shelves: &[KeptShelf], blocks: &Blocks) -> Option<Least>
+    requires known { AreKnown blocks.now.each shelves.now }
+    ensures least { result ≡ first_least (map (spec.kept_waste adds sides.now) shelves.now) }
+    ensures within { IfSome result (λ least. least.number < length shelves.now) }
+{
+    let mut best = None;
+    for block in 0..block_of(shelves.len()) + 1 {
+        if blocks.may_give(block, sides.along) {
+            best = least_in(adds, sides, shelves, block * SHELVES_OF_BLOCK, best);
+            if wastes_nothing(&best) {
+                break;
+            }
+        }
+    }
+    best
+}
+
+/// The same with the shelves of a block, of which the first has this number, where this was found before it.
+fn least_in(
+    adds: bool,
+    sides: &Sides,
+    shelves: &[KeptShelf],
+    from: usize,
+    best: Option<Least>,
+) -> Option<Least>
+    requires from { from ≤ length shelves.now }
+    requires best { best
+        ≡ first_least (map (spec.kept_waste adds sides.now) (take from shelves.now)) }
+    ensures { result
+        ≡ first_least (map (spec.kept_waste adds sides.now) (take (from + 64) shelves.now)) }
+{
+    let mut best = best;
+    for number in from..shelves.len().min(from + SHELVES_OF_BLOCK) {
+        best = better(best, number, waste(adds, sides, &shelves[number]));
+        if wastes_nothing(&best) {
+            break;
+        }
+    }
+    best
+}
+
+/// Whether a shelf was found that wastes nothing.
+fn wastes_nothing(best: &Option<Least>) -> bool
+    ensures { result ≡ spec.wastes_nothing best.now }
+{
+    match best {
+        Some(least) => least.rank == 0,
+        None => false,
+    }
+}
+
+/// What was found before, unless the next shelf wastes less.
+fn better(best: Option<Least>, number: usize, waste: Option<u32>) -> Option<Least>
+    ensures { result ≡ least.better best
+        (option_map (λ rank. record { number = number; rank = rank }) waste) }
+{
+    let Some(rank) = waste else {
+        return best;
+    };
+    match best {
+        Some(found) if found.rank <= rank => Some(found),
+        _ => Some(Least { number, rank }),
+    }
+}
+
+/// The first exact bucket of a shelf that wastes no height, from the shelf of this number on. Blocks in which none has
+/// room are passed over.
+fn exact_from(
+    sides: &Sides,
+    shelves: &[KeptShelf],
+    buckets: &[LinkedBucket],
+    blocks: &Blocks,
+    from: usize,
+) -> Option<Found>
+    requires from { from ≤ length shelves.now }
+    requires known { AreKnown blocks.now.each shelves.now }
+    ensures { result ≡ spec.exact_from sides.now buckets.now from (drop from shelves.now) }
+{
+    for block in block_of(from)..block_of(shelves.len()) + 1 {
+        if blocks.may_give(block, sides.along) {
+            let first = block * SHELVES_OF_BLOCK;
+            let end = first + SHELVES_OF_BLOCK;
+            let found = exact_between(sides, shelves, buckets, from.max(first), end);
+            if found.is_some() {
+                return found;
+            }
+        }
+    }
+    None
+}
+
+/// The first exact bucket of a shelf that wastes no height, from the shelf of one number up to that of another.
+fn exact_between(
+    sides: &Sides,
+    shelves: &[KeptShelf],
+    buckets: &[LinkedBucket],
+    from: usize,
+    end: usize,
+) -> Option<Found>
+    requires from { from ≤ length shelves.now }
+    requires end { from ≤ end }
+    ensures { or_else result (spec.exact_from sides.now buckets.now end (drop end shelves.now))
+        ≡ spec.exact_from sides.now buckets.now from (drop from shelves.now) }
+{
+    for number in from..shelves.len().min(end) {
+        let found = exact_in(sides, &shelves[number], buckets, number);
+        if found.is_some() {
+            return found;
+        }
+    }
+    None
+}
+
+fn exact_in(
+    sides: &Sides,
+    kept: &KeptShelf,
+    buckets: &[LinkedBucket],
+    number: usize,
+) -> Option<Found>
+    ensures { result ≡ spec.exact_in sides.now buckets.now number kept.now }
+{
+    if u32::from(kept.shelf.height) != sides.across || u32::from(kept.widest_room) < sides.along {
+        return None;
+    }
+    let bucket = first_wanted(Wanted::Exact(sides.along), buckets, kept.shelf.first_bucket)?;
+    Some(Found {
+        shelf: number,
+        bucket,
+    })
+}
+
+/// What was found in the shelf of least waste, unless it wastes width alone, and there is an exact bucket in a
+/// later shelf.
+fn exact_or_found(
+    sides: &Sides,
+    shelves: &[KeptShelf],
+    buckets: &[LinkedBucket],
+    blocks: &Blocks,
+    least: Least,
+    bucket: usize,
+) -> Found
+    requires known { AreKnown blocks.now.each shelves.now }
+    requires shelf { least.number < length shelves.now }
+    requires bucket { bucket < length buckets.now }
+    ensures { result ≡ spec.exact_or_found sides.now shelves.now buckets.now least bucket }
+{
+    let found = Found {
+        shelf: least.number,
+        bucket,
+    };
+    if least.rank != 0 || u32::from(buckets[bucket].free_space) == sides.along {
+        return found;
+    }
+    exact_from(sides, shelves, buckets, blocks, least.number + 1).unwrap_or(found)
+}
+
+/// The bucket that is picked for these sides.
+pub(crate) fn pick(
+    adds: bool,
+    sides: &Sides,
+    shelves: &[KeptShelf],
+    buckets: &[LinkedBucket],
+    blocks: &Blocks,
+) -> Option<Found>
+    requires { AreKnown blocks.now.each shelves.now }
+    ensures { result ≡ spec.picked adds sides.now shelves.now buckets.now }
+{
+    let least = least_waste(adds, sides, shelves, blocks)?;
+    let wanted = Wanted::Roomy(sides.along);
+    let first = shelves[least.number].shelf.first_bucket;
+    let bucket = first_wanted(wanted, buckets, first)?;
+    Some(exact_or_found(sides, shelves, buckets, blocks, least, bucket))
+}

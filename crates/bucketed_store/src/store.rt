@@ -1,0 +1,627 @@
+//! The records of an atlas, and the steps of which its calls are made. A step changes just what it says.
+//!
+//! Definitions: `Store`, `StoreEdits`. `Store` also says when records spell a state.
+
+ghost use Rattle.std.specs.Prelude.{◌≡◌, ◌+◌, ◌-◌, ◌*◌, ◌<◌, ◌≤◌, ◌^◌, [], None, Some, IfOk, IsSome, OnOk, OnErr, length, slice_get, vec_len, vec_capacity, map};
+ghost use Rattle.etagere_links.specs.Edits.{changed_by};
+ghost use Rattle.etagere_links.specs.Links.{no_link};
+ghost use Rattle.bucketed_model.specs.Adding as adding;
+ghost use Rattle.bucketed_model.specs.Frames.{IsBucketedFrame, longest_bucketed_side};
+ghost use Rattle.bucketed_model.specs.State.{most_buckets};
+ghost use Rattle.bucketed_model.specs.Taking as taking;
+ghost use Rattle.bucketed_records.specs.StandsFor.{free_of, shelf_of};
+ghost use Rattle.bucketed_records.specs.Private.Store.{record_room, shelf_record};
+ghost use Rattle.bucketed_records.specs.Restoring as restoring;
+ghost use Rattle.bucketed_store.specs.Private.Blocks.{AreKnown};
+ghost use Rattle.bucketed_store.specs.Private.Growths as growths;
+ghost use Rattle.bucketed_store.specs.Private.Returns as returns;
+ghost use Rattle.bucketed_store.specs.Private.Searching as searching;
+ghost use Rattle.bucketed_store.specs.Private.StoreEdits as spec;
+
+use crate::blocks::Blocks;
+use crate::dropping::{drop_idle_end, next_of};
+use crate::growing::{left_after, widen_shelves};
+use crate::making::{NewBuckets, make_buckets, reserve_records};
+use crate::merging::{Group, merge};
+use crate::placing::Place;
+use crate::returning::{is_known, return_item, returned_area, shelf_number};
+use crate::searching::{Found, has_room, widest_room};
+use bucketed_model::adding::{NewShelf, NewShelves, width_of_share};
+use bucketed_records::records::{
+    KeptShelf, LinkedBucket, LinkedBucketShelf, MOST_BUCKETS, record_room,
+};
+use bucketed_records::saving::{saved_buckets, saved_shelves};
+use bucketed_records::snapshots::{BucketRecord, BucketShelfRecord};
+use etagere_base::{AllocId, Allocation, Frame, Sides, rectangle_at};
+use etagere_links::Link;
+use std::alloc::{AllocError, Global};
+use std::marker::Model;
+
+/// The unit of an item's number in an id of this atlas: it stands from bit 12 on, above the bucket's number.
+pub(crate) const GIVEN_UNIT: u32 = 4096;
+
+/// The unit of the bucket's generation in an id of this atlas: it stands from bit 24 on.
+pub(crate) const GENERATION_UNIT: u32 = 16777216;
+
+/// The shelf and bucket records of an atlas, and where the unused bucket records begin.
+#[derive(Drop)]
+pub struct Store {
+    pub(crate) shelves: Vec<KeptShelf>,
+    pub(crate) buckets: Vec<LinkedBucket>,
+    pub(crate) unused: Link,
+    pub(crate) blocks: Blocks,
+}
+
+impl Model for Store {
+    ghost use Rattle.bucketed_store.specs.Private.Blocks.{AreKnown};
+    ghost use Rattle.bucketed_records.specs.Private.Store.{Stored};
+
+    ghost Value = { Stored };
+
+    ghost view = { λ store. record {
+      shelves = store.shelves.items;
+      buckets = store.buckets.items;
+      unused = store.unused;
+    } };
+
+    ghost invariant = { λ store. AreKnown store.blocks.each store.shelves.items };
+}
+
+/// Where the next shelf in the column at a place begins across.
+fn next_across(shelves: &[KeptShelf], x: u16) -> u16
+    requires { spec.EndsBy longest_bucketed_side shelves.now }
+    ensures { result ≡ spec.next_across x shelves.now }
+{
+    match shelves.last() {
+        Some(last) if last.shelf.x == x => last.shelf.y + last.shelf.height,
+        _ => 0,
+    }
+}
+
+impl Store {
+    /// No records. Takes no memory.
+    pub fn new(alloc: Global) -> Store
+        ensures { result ≡ record { shelves = []; buckets = []; unused = None } }
+    {
+        Store {
+            shelves: Vec::new(alloc),
+            buckets: Vec::new(alloc),
+            unused: Link::none(),
+            blocks: Blocks::new(),
+        }
+    }
+
+    /// These records, of which this is the first that is unused.
+    pub fn of_records(shelves: Vec<KeptShelf>, buckets: Vec<LinkedBucket>, unused: Link) -> Store
+        ensures { result
+            ≡ record { shelves = shelves.items; buckets = buckets.items; unused = unused } }
+    {
+        let blocks = Blocks::of(&shelves);
+        Store {
+            shelves,
+            buckets,
+            unused,
+            blocks,
+        }
+    }
+
+    /// Drops all records.
+    pub fn clear(&mut self)
+        ensures { self.new ≡ record { shelves = []; buckets = []; unused = None } }
+    {
+        self.shelves.clear();
+        self.buckets.clear();
+        self.unused = Link::none();
+        self.blocks = Blocks::new();
+    }
+
+    /// Makes the new shelves, with their buckets, where so many are in use. Takes memory for the records
+    /// of shelves, and for those of buckets as far as too few were unused. The error comes only where
+    /// there was no memory, and then nothing has changed.
+    pub(crate) fn add(
+        &mut self,
+        frame: &Frame,
+        news: &NewShelves,
+        in_use: u32,
+    ) -> Result<(), AllocError>
+        requires frame { IsBucketedFrame frame.now }
+        requires news { spec.CanStore frame.now (adding.news_of news.now) in_use self.old }
+        ensures ok { OnOk result
+            (self.new ≡ spec.stored_shelves frame.now (adding.news_of news.now) self.old) }
+        ensures err { OnErr result (self.new ≡ self.old) }
+    {
+        self.shelves.reserve(news.shelf_count())?;
+        reserve_records(&mut self.buckets, in_use + news.total_count())?;
+        if let Some(filler) = &news.filler {
+            add_shelf(
+                frame,
+                &mut self.shelves,
+                &mut self.buckets,
+                &mut self.unused,
+                &mut self.blocks,
+                filler,
+            );
+        }
+        add_shelf(
+            frame,
+            &mut self.shelves,
+            &mut self.buckets,
+            &mut self.unused,
+            &mut self.blocks,
+            &news.asked,
+        );
+        Ok(())
+    }
+
+    /// Makes the records ready for a place, where so many buckets are in use, and answers its bucket.
+    /// The error comes only where shelves are to be added and there was no memory, and then nothing has
+    /// changed.
+    pub fn prepare(
+        &mut self,
+        frame: &Frame,
+        place: &Place,
+        in_use: u32,
+    ) -> Result<Found, AllocError>
+        requires frame { IsBucketedFrame frame.now }
+        requires place { spec.CanPrepare frame.now
+            (searching.place_seen place.now) in_use self.old }
+        ensures ok { OnOk result
+            (self.new ≡ spec.stored_ready frame.now (searching.place_seen place.now) self.old) }
+        ensures found { IfOk result
+            (λ found. spec.found_of (searching.place_seen place.now) self.new ≡ Some found) }
+        ensures err { OnErr result (self.new ≡ self.old) }
+        ensures adds { OnErr result (spec.IsAdding (searching.place_seen place.now)) }
+    {
+        match place {
+            Place::InBucket(found) => Ok(*found),
+            Place::InAdded(news) => {
+                self.add(frame, news, in_use)?;
+                Ok(self.first_of_last())
+            }
+            Place::InMerged(group) => {
+                self.merge(group);
+                Ok(self.first_of(group.first))
+            }
+        }
+    }
+
+    /// Merges neighbouring shelves into the first of them.
+    fn merge(&mut self, group: &Group)
+        requires { spec.IsGroupIn group.now self.old.shelves }
+        ensures { self.new
+            ≡ record self.old { shelves = spec.kept_merged group.now self.old.shelves } }
+    {
+        merge(&mut self.shelves, group);
+    }
+
+    /// The first bucket of the shelf of a number.
+    fn first_of(&self, number: usize) -> Found
+        requires within { number < length self.now.shelves }
+        requires some { IsSome (spec.first_bucket_of self.now.shelves number) }
+        ensures { spec.found_first number self.now.shelves ≡ Some result }
+    {
+        found_first(&self.shelves, number)
+    }
+
+    /// The first bucket of the last shelf.
+    fn first_of_last(&self) -> Found
+        requires within { 0 < length self.now.shelves }
+        requires some { IsSome
+            (spec.first_bucket_of self.now.shelves (length self.now.shelves - 1)) }
+        ensures { spec.found_first (length self.now.shelves - 1) self.now.shelves ≡ Some result }
+    {
+        found_first(&self.shelves, self.shelves.len() - 1)
+    }
+
+    /// What a bucket that was found gives next, if it is this wide.
+    pub fn allocation(&self, frame: &Frame, found: &Found, width: u32) -> Allocation
+        requires { spec.CanGive frame.now width found.now self.now }
+        ensures { (kept : spec.KeptShelf) (bucket : spec.LinkedBucket)
+            → slice_get self.now.shelves found.now.shelf ≡ Some kept
+            → slice_get self.now.buckets found.now.bucket ≡ Some bucket
+            → result ≡ spec.kept_allocation frame.now width found.now kept bucket }
+    {
+        next_item(
+            frame,
+            &self.shelves[found.shelf],
+            &self.buckets[found.bucket],
+            found,
+            width,
+        )
+    }
+
+    /// Takes an item of this width from a bucket that was found, and answers the area that it gets.
+    pub fn take(&mut self, found: &Found, width: u32) -> u32
+        requires shelf { found.now.shelf < length self.old.shelves }
+        requires fits { spec.CanTake found.now.bucket width self.old.buckets }
+        requires few { spec.live_items_of self.old.shelves found.now.shelf + 1 < 2 ^ 32 }
+        requires widest { spec.IsWidest found.now.shelf found.now.bucket width self.old }
+        ensures records { self.new
+            ≡ spec.stored_taken found.now.shelf found.now.bucket width self.old }
+        ensures area { result ≡ width * spec.height_of self.old.shelves found.now.shelf }
+    {
+        let height = height_of(&self.shelves, found.shelf);
+        let room = room_of(&self.buckets, found.bucket);
+        self.take_from(found.bucket, width);
+        self.give_from(found, room);
+        width * height
+    }
+
+    /// Takes an item of this width from the bucket of a number.
+    fn take_from(&mut self, bucket: usize, width: u32)
+        requires { spec.CanTake bucket width self.old.buckets }
+        ensures { self.new
+            ≡ record self.old {
+              buckets = changed_by (Some bucket) (spec.taken_record width) self.old.buckets;
+            } }
+    {
+        take_from(&mut self.buckets, bucket, width);
+    }
+
+    /// Counts one more live item in the shelf of a bucket that was found and had this room before, and keeps
+    /// what the buckets of the shelf can give now.
+    fn give_from(&mut self, found: &Found, room: u16)
+        requires shelf { found.now.shelf < length self.old.shelves }
+        requires few { spec.live_items_of self.old.shelves found.now.shelf + 1 < 2 ^ 32 }
+        requires widest { spec.IsWidestKept found.now.shelf found.now.bucket room
+            self.old.shelves self.old.buckets }
+        ensures { self.new
+            ≡ record self.old {
+              shelves = spec.shelves_given found.now.shelf self.old.shelves self.old.buckets;
+            } }
+    {
+        let before = self.shelves[found.shelf];
+        give_from(&mut self.shelves, &self.buckets, found, room);
+        self.blocks.follow(&self.shelves, found.shelf, &before);
+    }
+
+    /// Whether the bucket that an id names has given its item, and holds something live.
+    pub fn is_known(&self, id: AllocId) -> bool
+        ensures { result ≡ returns.is_known_in self.now.buckets id }
+    {
+        is_known(&self.buckets, id)
+    }
+
+    /// Returns an item to the bucket of a number, and answers the area that this gives back, in square pixels.
+    pub fn return_item(&mut self, number: usize) -> u32
+        requires number { number < length self.old.buckets }
+        requires shelf { shelf_of self.old.buckets number < length self.old.shelves }
+        requires free { free_of self.old.buckets number
+            ≤ returns.width_of self.old.shelves (shelf_of self.old.buckets number) }
+        ensures records { self.new ≡ returns.item_returned number self.old }
+        ensures area { result ≡ returns.returned_area number self.old.shelves self.old.buckets }
+    {
+        let area = returned_area(&self.shelves, &self.buckets, number);
+        let shelf = shelf_number(&self.buckets, number);
+        let before = self.shelves[shelf];
+        return_item(&mut self.shelves, &mut self.buckets, number);
+        self.blocks.follow(&self.shelves, shelf, &before);
+        area
+    }
+
+    /// Drops the shelves at the end that hold nothing live, and answers how many buckets that puts aside.
+    pub fn drop_idle_end(&mut self) -> u32
+        requires shelves { length self.old.shelves ≤ most_buckets }
+        requires buckets { length self.old.buckets ≤ most_buckets }
+        ensures { returns.dropping_from self.new result
+            ≡ returns.end_dropped (length self.old.shelves) (returns.dropping_from self.old 0) }
+    {
+        drop_idle_end(&mut self.shelves, &mut self.buckets, &mut self.unused)
+    }
+
+    /// Gives the shelves their buckets for a width that is added at a place, where so many are left, and
+    /// answers how many they are. Takes memory as far as too few records were unused. The error comes
+    /// only where there was none, and then nothing has changed.
+    pub fn widen(&mut self, place: u32, added: u32, left: u32) -> Result<u32, AllocError>
+        requires shelves { length self.old.shelves ≤ most_buckets }
+        requires buckets { length self.old.buckets + left ≤ no_link }
+        requires left { left ≤ most_buckets }
+        requires used { most_buckets ≤ length self.old.buckets + left }
+        requires records { growths.UsesUnused place added left self.old }
+        requires narrow { place + added < 2 ^ 16 }
+        ensures ok { OnOk result
+            (self.new
+            ≡ growths.shelves_widened (length self.old.shelves) 0 place added left self.old) }
+        ensures made { IfOk result
+            (λ made. made ≡ left - growths.left_after added left self.old.shelves) }
+        ensures err { OnErr result (self.new ≡ self.old) }
+        ensures some { OnErr result (0 < left - growths.left_after added left self.old.shelves) }
+        ensures more { OnErr result
+            (length self.old.buckets
+            < length
+            (growths.shelves_widened
+            (length self.old.shelves) 0 place added left self.old).buckets) }
+    {
+        let rest = left_after(&self.shelves, added, left);
+        reserve_records(&mut self.buckets, MOST_BUCKETS - rest)?;
+        widen_shelves(
+            &mut self.shelves,
+            &mut self.buckets,
+            &mut self.unused,
+            place,
+            added,
+            left,
+        );
+        self.blocks = Blocks::of(&self.shelves);
+        Ok(left - rest)
+    }
+
+    /// The current column, and the height that it leaves.
+    pub fn end(&self, frame: &Frame) -> Sides
+        requires frame { IsBucketedFrame frame.now }
+        requires short { spec.IsShort frame.now self.now.shelves }
+        ensures { result ≡ spec.end_of frame.now self.now.shelves }
+    {
+        end_of(frame, &self.shelves)
+    }
+}
+
+/// The id of the item that a bucket gives as this one since it was empty: bits 0 to 11 are the bucket's number, bits 12
+/// to 23 which of its items it is, counted from 1, and bits 24 to 31 the bucket's generation.
+fn id_of(number: u32, given: u32, generation: u8) -> AllocId
+    requires number { number < 4096 }
+    requires given { given < 4096 }
+    ensures { result ≡ taking.id_of (record { number = number; generation = generation }) given }
+{
+    AllocId::deserialize(number + given * GIVEN_UNIT + u32::from(generation) * GENERATION_UNIT)
+}
+
+/// What a bucket of a shelf gives next, if it is this wide.
+fn next_item(
+    frame: &Frame,
+    kept: &KeptShelf,
+    bucket: &LinkedBucket,
+    found: &Found,
+    width: u32,
+) -> Allocation
+    requires { spec.CanGiveFrom width found.now kept.now bucket.now }
+    ensures { result ≡ spec.kept_allocation frame.now width found.now kept.now bucket.now }
+{
+    let used = u32::from(kept.shelf.bucket_width) - u32::from(bucket.free_space);
+    Allocation {
+        id: id_of(
+            found.bucket as u32,
+            u32::from(bucket.item_count) + 1,
+            bucket.generation,
+        ),
+        rectangle: rectangle_at(
+            frame,
+            u32::from(bucket.x) + used,
+            u32::from(kept.shelf.y),
+            width,
+            u32::from(kept.shelf.height),
+        ),
+    }
+}
+
+/// The link to the first bucket of the shelf of a number.
+fn first_bucket(shelves: &[KeptShelf], number: usize) -> Link
+    requires { number < length shelves.now }
+    ensures { result ≡ spec.first_bucket_of shelves.now number }
+{
+    shelves[number].shelf.first_bucket
+}
+
+/// The height of the shelf of a number.
+fn height_of(shelves: &[KeptShelf], number: usize) -> u32
+    requires { number < length shelves.now }
+    ensures value { result ≡ spec.height_of shelves.now number }
+    ensures small { result < 2 ^ 16 }
+{
+    u32::from(shelves[number].shelf.height)
+}
+
+/// The first bucket of the shelf of a number.
+fn found_first(shelves: &[KeptShelf], number: usize) -> Found
+    requires within { number < length shelves.now }
+    requires some { IsSome (spec.first_bucket_of shelves.now number) }
+    ensures { spec.found_first number shelves.now ≡ Some result }
+{
+    let first = first_bucket(shelves, number);
+    Found {
+        shelf: number,
+        bucket: first.number().unwrap(),
+    }
+}
+
+/// The current column, and the height that it leaves, by the last shelf.
+fn end_of(frame: &Frame, shelves: &[KeptShelf]) -> Sides
+    requires frame { IsBucketedFrame frame.now }
+    requires short { spec.IsShort frame.now shelves.now }
+    ensures { result ≡ spec.end_of frame.now shelves.now }
+{
+    let Some(last) = shelves.last() else {
+        return Sides {
+            along: 0,
+            across: frame.across_side(),
+        };
+    };
+    Sides {
+        along: u32::from(last.shelf.x) / frame.column_width,
+        across: frame.across_side() - (u32::from(last.shelf.y) + u32::from(last.shelf.height)),
+    }
+}
+
+/// Makes a shelf after the others, with its buckets.
+fn add_shelf(
+    frame: &Frame,
+    shelves: &mut Vec<KeptShelf>,
+    buckets: &mut Vec<LinkedBucket>,
+    unused: &mut Link,
+    blocks: &mut Blocks,
+    new: &NewShelf,
+)
+    requires known { AreKnown blocks.old.each shelves.old.items }
+    requires frame { IsBucketedFrame frame.now }
+    requires new { spec.IsNewShelf frame.now new.now }
+    requires short { spec.IsShort frame.now shelves.old.items }
+    requires shelves { vec_len shelves.old < no_link }
+    requires room { vec_len shelves.old < vec_capacity shelves.old }
+    requires buckets { vec_len buckets.old + new.now.count ≤ no_link }
+    requires bucket_room { length
+        (spec.stored_shelf frame.now new.now
+        (record {
+          shelves = shelves.old.items;
+          buckets = buckets.old.items;
+          unused = unused.old;
+        })).buckets
+        ≤ vec_capacity buckets.old }
+    ensures shelves { shelves.new.items
+        ≡ (spec.stored_shelf frame.now new.now
+        (record {
+          shelves = shelves.old.items;
+          buckets = buckets.old.items;
+          unused = unused.old;
+        })).shelves }
+    ensures buckets { buckets.new.items
+        ≡ (spec.stored_shelf frame.now new.now
+        (record {
+          shelves = shelves.old.items;
+          buckets = buckets.old.items;
+          unused = unused.old;
+        })).buckets }
+    ensures unused { unused.new
+        ≡ (spec.stored_shelf frame.now new.now
+        (record {
+          shelves = shelves.old.items;
+          buckets = buckets.old.items;
+          unused = unused.old;
+        })).unused }
+    ensures shelf_length { vec_len shelves.new ≡ vec_len shelves.old + 1 }
+    ensures shelf_capacity { vec_capacity shelves.old ≤ vec_capacity shelves.new }
+    ensures bucket_length { vec_len buckets.new ≤ vec_len buckets.old + new.now.count }
+    ensures bucket_capacity { vec_capacity buckets.old ≤ vec_capacity buckets.new }
+    ensures known { AreKnown blocks.new.each shelves.new.items }
+{
+    let width = width_of_share(frame, new.count) as u16;
+    let x = (new.column * frame.column_width) as u16;
+    let y = next_across(shelves, x);
+    let row = NewBuckets {
+        shelf: shelves.len() as u16,
+        width,
+        x,
+    };
+    let first_bucket = make_buckets(buckets, unused, Link::none(), &row, new.count);
+    let shelf = LinkedBucketShelf {
+        x,
+        y,
+        height: new.height as u16,
+        bucket_width: width,
+        first_bucket,
+    };
+    shelves
+        .push(KeptShelf {
+            shelf,
+            live_items: 0,
+            widest_room: width,
+        })
+        .unwrap();
+    blocks.add_last(shelves);
+}
+
+/// Takes an item of this width from the bucket of a number.
+fn take_from(buckets: &mut [LinkedBucket], number: usize, width: u32)
+    requires { spec.CanTake number width buckets.old }
+    ensures { buckets.new ≡ changed_by (Some number) (spec.taken_record width) buckets.old }
+{
+    let bucket = &mut buckets[number];
+    bucket.free_space -= width as u16;
+    bucket.refcount += 1;
+    bucket.item_count += 1;
+}
+
+/// The width that the bucket of a number can give to one item.
+fn room_of(buckets: &[LinkedBucket], number: usize) -> u16
+    requires { number < length buckets.now }
+    ensures { (bucket : spec.LinkedBucket) → slice_get buckets.now number ≡ Some bucket
+        → result ≡ record_room bucket }
+{
+    record_room(&buckets[number])
+}
+
+/// The greatest width that a bucket of the shelf of a number can give, as it is kept.
+fn widest_of(shelves: &[KeptShelf], number: usize) -> u16
+    requires { number < length shelves.now }
+    ensures { result ≡ spec.widest_of shelves.now number }
+{
+    shelves[number].widest_room
+}
+
+/// The greatest width that a bucket of a shelf can give, after the one that was found gave an item, and had this
+/// room before. Buckets from the first one on are looked at only where it was the widest, and none of the next
+/// ones has as much room, and then up to one that has.
+fn widest_after(shelves: &[KeptShelf], buckets: &[LinkedBucket], found: &Found, room: u16) -> u16
+    requires number { found.now.shelf < length shelves.now }
+    requires widest { spec.IsWidestKept found.now.shelf found.now.bucket room shelves.now
+        buckets.now }
+    ensures { result
+        ≡ searching.widest_from most_buckets buckets.now
+        (spec.first_bucket_of shelves.now found.now.shelf) }
+{
+    let widest = widest_of(shelves, found.shelf);
+    if room < widest || has_room(widest, buckets, next_of(buckets, found.bucket)) {
+        return widest;
+    }
+    widest_room(buckets, first_bucket(shelves, found.shelf), widest)
+}
+
+/// Counts one more live item in the shelf of a bucket that was found and had this room before, and keeps what the
+/// buckets of the shelf can give now.
+fn give_from(shelves: &mut [KeptShelf], buckets: &[LinkedBucket], found: &Found, room: u16)
+    requires number { found.now.shelf < length shelves.old }
+    requires few { spec.live_items_of shelves.old found.now.shelf + 1 < 2 ^ 32 }
+    requires widest { spec.IsWidestKept found.now.shelf found.now.bucket room shelves.old
+        buckets.now }
+    ensures { shelves.new ≡ spec.shelves_given found.now.shelf shelves.old buckets.now }
+{
+    let widest = widest_after(shelves, buckets, found, room);
+    count_given(shelves, found.shelf, widest);
+}
+
+/// Counts one more live item in a shelf, whose buckets can give so much now.
+fn count_given(shelves: &mut [KeptShelf], number: usize, room: u16)
+    requires number { number < length shelves.old }
+    requires few { spec.live_items_of shelves.old number + 1 < 2 ^ 32 }
+    ensures { shelves.new ≡ changed_by (Some number) (spec.given_from room) shelves.old }
+{
+    let kept = &mut shelves[number];
+    kept.live_items += 1;
+    kept.widest_room = room;
+}
+
+impl Clone for Store {
+    ghost is_clone = { λ store other. other ≡ store };
+
+    fn clone(&self) -> Result<Store, AllocError> {
+        Ok(Store {
+            shelves: self.shelves.clone()?,
+            buckets: self.buckets.clone()?,
+            unused: self.unused,
+            blocks: self.blocks,
+        })
+    }
+}
+
+impl Store {
+    /// What the shelves are saved as.
+    pub fn saved_shelves(&self) -> Result<Vec<BucketShelfRecord>, AllocError>
+        ensures { IfOk result (λ saved.
+            map restoring.linked_shelf saved.items ≡ map shelf_record self.now.shelves) }
+    {
+        saved_shelves(*self.shelves.allocator(), &self.shelves)
+    }
+
+    /// What the buckets are saved as.
+    pub fn saved_buckets(&self) -> Result<Vec<BucketRecord>, AllocError>
+        ensures { IfOk result (λ saved. map restoring.linked_bucket saved.items ≡ self.now.buckets) }
+    {
+        saved_buckets(*self.buckets.allocator(), &self.buckets)
+    }
+
+    /// Where the records begin that are unused.
+    pub fn first_unused(&self) -> Link
+        ensures { result ≡ self.now.unused }
+    {
+        self.unused
+    }
+}

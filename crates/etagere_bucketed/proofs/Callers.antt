@@ -1,9 +1,0 @@
--- For callers: a ledger of what they were given and have not given back stays tied to the atlas through each call, and
--- what is tied is safe; a place that needs no new buckets can be taken; and options without a fault make a frame. A
--- caller's proofs cite this file alone of these.
-pub use Rattle.etagere_bucketed.proofs.Allocating.{allocates-aligned, allocates-large, allocates-tied, no-tags, placed-allocates}
-pub use Rattle.etagere_bucketed.proofs.Ledger.TiedGrown.{grows-tied}
-pub use Rattle.etagere_bucketed.proofs.Ledger.TiedReturned.{tied-returned}
-pub use Rattle.etagere_bucketed.proofs.Ledger.TiedTaken.{tied-fresh}
-pub use Rattle.etagere_bucketed.proofs.Promises.{tied-safe}
-pub use Rattle.etagere_bucketed.proofs.Shelving.NewFrames.{accepted-bucketed}

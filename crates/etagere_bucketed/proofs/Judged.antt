@@ -1,9 +1,0 @@
--- What the passes over a snapshot's records tell of its rules.
-pub mod Assembled
-pub mod Breaches
-pub mod Broken
-pub mod FrameTests
-pub mod JudgedShelves
-pub mod LinksRead
-pub mod RowTests
-pub mod StackTests

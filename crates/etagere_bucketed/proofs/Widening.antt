@@ -1,6 +1,0 @@
--- What a growth does to records: shelves get further buckets in front of their own.
-pub mod Shares
-pub mod WidenedShelf
-pub mod WidenedShelves
-pub mod Grown
-pub mod AtlasGrowths

@@ -1,4 +1,0 @@
-use Rattle.etagere_bucketed.proofs.growing.widen_shelf.Goals as goal
-
-pub returns-clause-capacity : goal.returns-clause-capacity
-returns-clause-capacity c = c.make_buckets-first.ensures.capacity

@@ -1,9 +1,0 @@
-use Rattle.std.proofs.Common.{◌≡◌, drop}
-use Rattle.std.specs.List.{list_all}
-use Rattle.etagere_bucketed.specs.Private.Judging as spec
-use Rattle.etagere_bucketed.proofs.judging.are_unused.Given as goal
-
--- all are where those from here on are
-abbrev pub invariant-loop-number : goal.invariant-loop-number
-invariant-loop-number l =
-    list_all (spec.is_unused l.buckets) (drop l.number-index l.numbers) ≡ list_all (spec.is_unused l.buckets) l.numbers

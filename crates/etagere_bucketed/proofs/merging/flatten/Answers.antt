@@ -1,6 +1,0 @@
-use Rattle.etagere_links.proofs.EditLemmas.{set-changed}
-use Rattle.etagere_bucketed.specs.Private.StoreEdits.{flattened}
-use Rattle.etagere_bucketed.proofs.merging.flatten.Goals as goal
-
-pub returns : goal.returns
-returns c = set-changed (flattened c.args.across) c.args.shelves.now c.args.number c.index-shelves-number.result c.requires

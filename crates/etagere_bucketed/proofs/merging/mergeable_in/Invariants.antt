@@ -1,8 +1,0 @@
-use Rattle.std.proofs.Common.{◌≡◌, drop}
-use Rattle.etagere_bucketed.specs.Private.Searching.{kept_mergeable}
-use Rattle.etagere_bucketed.proofs.merging.mergeable_in.Given as goal
-
--- what is sought from the first shelf of the block on is what is sought from here on
-abbrev pub invariant-loop-first : goal.invariant-loop-first
-invariant-loop-first l =
-    kept_mergeable l.sides l.first (drop l.first l.shelves) ≡ kept_mergeable l.sides l.from (drop l.from l.shelves)

@@ -1,6 +1,0 @@
-use Rattle.etagere_bucketed.proofs.Allocating.{allocates-aligned, allocates-large}
-use Rattle.etagere_bucketed.proofs.model_laws.what_is_given_is_enough.Goals as goal
-
-pub returns : goal.returns
-returns c old size allocation new valid h =
-    (allocates-large old size allocation new valid h, allocates-aligned old size allocation new valid h)

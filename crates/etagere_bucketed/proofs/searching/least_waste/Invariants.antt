@@ -1,8 +1,0 @@
-use Rattle.std.proofs.Common.{◌≡◌, ◌*◌, map, take}
-use Rattle.etagere_base.specs.Least.{first_least}
-use Rattle.etagere_bucketed.specs.Private.Searching.{kept_waste}
-use Rattle.etagere_bucketed.proofs.searching.least_waste.Given as goal
-
--- the best of the blocks so far
-abbrev pub invariant-loop-block : goal.invariant-loop-block
-invariant-loop-block l = l.best ≡ first_least (map (kept_waste l.adds l.sides) (take (l.block * 64) l.shelves))
