@@ -7,7 +7,7 @@ use Rattle.etagere_base.specs.Sides.{swapped_axes}
 use Rattle.etagere_base.specs.declared.frames.Frame.{Frame}
 use Rattle.etagere_base.specs.declared.geometry.Rectangle.{Rectangle}
 use Rattle.etagere_base.specs.declared.ids.Allocation.{Allocation}
-use Rattle.etagere_base.specs.Lists.{Each}
+use Rattle.std.specs.List.{AllByRecursion}
 use Rattle.etagere_base.specs.Places.{rectangle_at}
 use Rattle.etagere_base.specs.Rectangles.{Covers, SharesNone, IsInside, AreApart}
 use Rattle.etagere_base.proofs.EachLemmas.{Each-append}
@@ -117,11 +117,11 @@ SharesNone-swap one other apart x y in_other in_one = apart x y in_one in_other
 
 -- an allocation shares no unit square with any of these
 abbrev pub IsApartFrom : List Allocation → Allocation → Type 0
-IsApartFrom others allocation = Each (λ (other : Allocation). SharesNone allocation.rectangle other.rectangle) others
+IsApartFrom others allocation = AllByRecursion (λ (other : Allocation). SharesNone allocation.rectangle other.rectangle) others
 
 -- of two lists that are apart, none of one touches any of the other
 pub AreApart-append : (xs ys : List Allocation)
-    → AreApart xs → AreApart ys → Each (IsApartFrom ys) xs → AreApart (xs ++ ys)
+    → AreApart xs → AreApart ys → AllByRecursion (IsApartFrom ys) xs → AreApart (xs ++ ys)
 AreApart-append [] ys front back across = back
 AreApart-append (x ∷ xs) ys front back across =
     (Each-append _ xs ys front.0 across.0, AreApart-append xs ys front.1 back across.1)

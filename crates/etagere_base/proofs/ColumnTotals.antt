@@ -1,7 +1,8 @@
 -- A measure added up over one column, and over the columns before one.
 use Rattle.std.proofs.Common.{◌≡◌, ℕ, zero, suc, ◌+◌, ◌*◌, ◌<◌, ◌≤◌, cond, ◌==◌, Some, List, [], ◌∷◌, length, take, ◌≢◌, refl, arith}
 use Rattle.std.specs.Prelude.{nat_lt, slice_get}
-use Rattle.etagere_base.specs.Lists.{Each, column_total, total}
+use Rattle.std.specs.List.{AllByRecursion}
+use Rattle.etagere_base.specs.Lists.{column_total, total}
 use Rattle.etagere_base.proofs.EachLemmas.{Each-all, Each-weaken}
 use Rattle.etagere_base.proofs.Totals.{total-le, total-none, total-ones, total-sum, total-two, total-upto}
 
@@ -19,7 +20,7 @@ module _ {X : Type 0} (column_of measure : X → ℕ) where
   part-other column x h = grind arith
 
   -- elements of other columns add nothing
-  pub column_total-none : (column : ℕ) (xs : List X) → Each (λ (x : X). column_of x ≢ column) xs → column_total column_of measure column xs ≡ 0
+  pub column_total-none : (column : ℕ) (xs : List X) → AllByRecursion (λ (x : X). column_of x ≢ column) xs → column_total column_of measure column xs ≡ 0
   column_total-none column xs others = total-none (part column) xs (Each-weaken _ _ xs (part-other column) others)
 
   -- an element and those before it in its column come to no more than the column

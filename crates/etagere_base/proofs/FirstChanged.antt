@@ -1,16 +1,17 @@
 -- What changing the first element that passes a test keeps of a list.
 use Rattle.std.proofs.Common.{◌≡◌, Bool, true, List, [], ◌∷◌, ◌∙◌}
 use Rattle.std.proofs.lemmas.Bool.{cond_both}
-use Rattle.etagere_base.specs.Lists.{Each, at_first, NoNeighbours}
+use Rattle.std.specs.List.{AllByRecursion}
+use Rattle.etagere_base.specs.Lists.{at_first, NoNeighbours}
 use Rattle.etagere_base.proofs.NoNeighboursLemmas.{NoNeighbours-first}
 
 module _ {X : Type 0} (test : X → Bool) (change : X → X) where
   -- a fact of each element that the change keeps
   pub Each-at_first : (P : X → Type 0) → ((x : X) → test x ≡ true → P x → P (change x))
-      → (xs : List X) → Each P xs → Each P (at_first test change xs)
+      → (xs : List X) → AllByRecursion P xs → AllByRecursion P (at_first test change xs)
   Each-at_first P keeps [] h = tt
   Each-at_first P keeps (x ∷ xs) h =
-      cond_both (test x) (change x ∷ xs) (x ∷ at_first test change xs) (Each P)
+      cond_both (test x) (change x ∷ xs) (x ∷ at_first test change xs) (AllByRecursion P)
       (λ t. (keeps x t h.0, h.1)) (λ _. (h.0, Each-at_first P keeps xs h.1))
 
   module _ (touch : X → X → Bool) (next : (x y : X) → touch (change x) y ≡ touch x y)

@@ -1,9 +1,9 @@
 -- What is found first in a list.
 use Rattle.std.proofs.Common.{◌≡◌, ℕ, ◌+◌, ◌≤◌, Bool, true, false, cond, ◌||◌, ◌==◌, Option, Some, List, [], ◌∷◌, ◌++◌, refl, ap, sym, ◌∙◌, arith}
 use Rattle.std.proofs.lemmas.Bool.{eqb-true}
-use Rattle.std.specs.List.{list_any}
+use Rattle.std.specs.List.{AllByRecursion, list_any}
 use Rattle.std.specs.Prelude.{find, is_some}
-use Rattle.etagere_base.specs.Lists.{Each, times}
+use Rattle.etagere_base.specs.Lists.{times}
 
 -- something is found where an element passes the test
 pub is_some-find : {X : Type 0} (test : X → Bool) (xs : List X) → is_some (find test xs) ≡ list_any test xs
@@ -30,7 +30,7 @@ pub record IsFound {X : Type 0} (test : X → Bool) (xs : List X) (x : X) : Type
   pub front : List X
   pub back : List X
   pub whole : xs ≡ front ++ x ∷ back
-  pub fails : Each (λ (y : X). test y ≡ false) front
+  pub fails : AllByRecursion (λ (y : X). test y ≡ false) front
   pub passes : test x ≡ true
 
 -- what is found is the first that passes

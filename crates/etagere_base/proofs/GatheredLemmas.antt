@@ -1,8 +1,8 @@
 -- Lists of elements that see what stands before them, end to end: of a front and a back, merged, mapped, and facts of each.
 use Rattle.std.proofs.Common.{◌≡◌, ℕ, ◌+◌, Bool, true, List, [], ◌∷◌, ◌++◌, map, refl, ap, ◌∙◌, sym, append_assoc, arith}
 use Rattle.std.proofs.lemmas.List.{append-nil, map-append}
-use Rattle.std.specs.List.{flat_map}
-use Rattle.etagere_base.specs.Lists.{Each, gathered, total}
+use Rattle.std.specs.List.{AllByRecursion, flat_map}
+use Rattle.etagere_base.specs.Lists.{gathered, total}
 use Rattle.etagere_base.specs.Merging.{merged_by}
 use Rattle.etagere_base.proofs.EachLemmas.{Each-append}
 use Rattle.etagere_base.proofs.MergedKeeps.{measure-merged}
@@ -32,8 +32,8 @@ module _ {C X Y : Type 0} (next : C → X → C) (part : C → X → List Y) whe
 
   -- a fact of each part is one of each of them all
   pub Each-gathered : (P : Y → Type 0) (I : C → Type 0) (Q : X → Type 0)
-      → ((before : C) (x : X) → I before → Q x → Each P (part before x) × I (next before x))
-      → (before : C) (xs : List X) → I before → Each Q xs → Each P (gathered next part before xs)
+      → ((before : C) (x : X) → I before → Q x → AllByRecursion P (part before x) × I (next before x))
+      → (before : C) (xs : List X) → I before → AllByRecursion Q xs → AllByRecursion P (gathered next part before xs)
   Each-gathered P I Q each before [] i qs = tt
   Each-gathered P I Q each before (x ∷ xs) i qs =
       let here = each before x i qs.0 in

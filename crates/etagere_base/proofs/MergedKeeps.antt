@@ -2,7 +2,8 @@
 use Rattle.std.proofs.Common.{◌≡◌, Bool, true, false, List, [], ◌∷◌, refl, ◌∙◌}
 use Rattle.std.proofs.lemmas.Bool.{cond_both}
 use Rattle.etagere_base.specs.Merging.{merged_onto, merged_by}
-use Rattle.etagere_base.specs.Lists.{Each, NoNeighbours}
+use Rattle.std.specs.List.{AllByRecursion}
+use Rattle.etagere_base.specs.Lists.{NoNeighbours}
 use Rattle.etagere_base.proofs.NoNeighboursLemmas.{NoNeighbours-first}
 
 module _ {X : Type 0} (touch : X → X → Bool) (combine : X → X → X) where
@@ -23,14 +24,14 @@ module _ {X : Type 0} (touch : X → X → Bool) (combine : X → X → X) where
 
   -- a fact of each element stays one of each merged element, where merging keeps it
   pub Each-merged : (P : X → Type 0) → ((x y : X) → touch x y ≡ true → P x → P y → P (combine x y))
-      → (xs : List X) → Each P xs → Each P (merged_by touch combine xs)
+      → (xs : List X) → AllByRecursion P xs → AllByRecursion P (merged_by touch combine xs)
   Each-merged P keeps [] h = tt
   Each-merged P keeps (x ∷ xs) h = onto x (merged_by touch combine xs) h.0 (Each-merged P keeps xs h.1)
     where
-      onto : (x : X) (xs : List X) → P x → Each P xs → Each P (merged_onto touch combine x xs)
+      onto : (x : X) (xs : List X) → P x → AllByRecursion P xs → AllByRecursion P (merged_onto touch combine x xs)
       onto x [] p h = (p, tt)
       onto x (y ∷ ys) p h =
-          cond_both (touch x y) (combine x y ∷ ys) (x ∷ y ∷ ys) (Each P) (λ t. (keeps x y t p h.0, h.1)) (λ _. (p, h))
+          cond_both (touch x y) (combine x y ∷ ys) (x ∷ y ∷ ys) (AllByRecursion P) (λ t. (keeps x y t p h.0, h.1)) (λ _. (p, h))
 
 module _ {X : Type 0} (touch : X → X → Bool) (combine : X → X → X) (other : X → X → Bool)
     (next : (x y z : X) → touch x y ≡ true → other (combine x y) z ≡ other y z)

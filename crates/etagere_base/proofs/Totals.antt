@@ -1,8 +1,8 @@
 -- A measure of the elements of a list, added up: of a front and a back, with elements replaced, merged, and beside another measure.
 use Rattle.std.proofs.Common.{◌≡◌, ℕ, zero, suc, ◌+◌, ◌*◌, ◌≤◌, Bool, true, Some, List, [], ◌∷◌, ◌++◌, length, take, set, refl, map, arith}
-use Rattle.std.specs.List.{flat_map}
+use Rattle.std.specs.List.{AllByRecursion, flat_map}
 use Rattle.std.specs.Prelude.{slice_get}
-use Rattle.etagere_base.specs.Lists.{Each, at_first, replaced_at, total}
+use Rattle.etagere_base.specs.Lists.{at_first, replaced_at, total}
 use Rattle.etagere_base.specs.Merging.{merged_by, merged_onto}
 use Rattle.etagere_base.specs.MergingAt.{merged_at}
 use Rattle.std.proofs.lemmas.Bool.{cond_both}
@@ -59,12 +59,12 @@ module _ {X : Type 0} (measure : X → ℕ) where
   total-two (suc n) (z ∷ zs) x y h k = omega (arith, total-two n zs x y h k)
 
   -- elements of which each comes to nothing do so together
-  pub total-none : (xs : List X) → Each (λ (x : X). measure x ≡ 0) xs → total measure xs ≡ 0
+  pub total-none : (xs : List X) → AllByRecursion (λ (x : X). measure x ≡ 0) xs → total measure xs ≡ 0
   total-none [] none = refl
   total-none (x ∷ xs) none = omega (arith, none.0, total-none xs none.1)
 
   -- where all come to nothing, each does
-  pub none-total : (xs : List X) → total measure xs ≡ 0 → Each (λ (x : X). measure x ≡ 0) xs
+  pub none-total : (xs : List X) → total measure xs ≡ 0 → AllByRecursion (λ (x : X). measure x ≡ 0) xs
   none-total [] none = tt
   none-total (x ∷ xs) none = (omega arith, none-total xs (omega arith))
 
@@ -114,7 +114,7 @@ module _ {X : Type 0} (measure : X → ℕ) where
     total-merged_at sum (suc n) (x ∷ xs) = omega (arith, total-merged_at sum n xs)
 
 -- where one measure is nowhere above another, nor is its total
-pub total-le : {X : Type 0} (one other : X → ℕ) (xs : List X) → Each (λ (x : X). one x ≤ other x) xs → total one xs ≤ total other xs
+pub total-le : {X : Type 0} (one other : X → ℕ) (xs : List X) → AllByRecursion (λ (x : X). one x ≤ other x) xs → total one xs ≤ total other xs
 total-le one other [] le = omega arith
 total-le one other (x ∷ xs) le = omega (arith, le.0, total-le one other xs le.1)
 
@@ -145,13 +145,13 @@ append-nothing [] ys h = (refl, h)
 append-nothing (x ∷ xs) ys h = absurd (cc)
 
 -- lists that are nothing end to end are so each
-pub nothing-flat_map : {X Y : Type 0} (part : X → List Y) (xs : List X) → flat_map part xs ≡ [] → Each (λ (x : X). part x ≡ []) xs
+pub nothing-flat_map : {X Y : Type 0} (part : X → List Y) (xs : List X) → flat_map part xs ≡ [] → AllByRecursion (λ (x : X). part x ≡ []) xs
 nothing-flat_map part [] h = tt
 nothing-flat_map part (x ∷ xs) h =
     let parts = append-nothing (part x) (flat_map part xs) h in
     (parts.0, nothing-flat_map part xs parts.1)
 
 -- lists that are each nothing are so end to end
-pub flat_map-nothing : {X Y : Type 0} (part : X → List Y) (xs : List X) → Each (λ (x : X). part x ≡ []) xs → flat_map part xs ≡ []
+pub flat_map-nothing : {X Y : Type 0} (part : X → List Y) (xs : List X) → AllByRecursion (λ (x : X). part x ≡ []) xs → flat_map part xs ≡ []
 flat_map-nothing part [] none = refl
 flat_map-nothing part (x ∷ xs) none = rw (none.0, flat_map-nothing part xs none.1) refl

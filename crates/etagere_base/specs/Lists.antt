@@ -38,9 +38,9 @@ NoNeighbours touch (x ∷ []) = Unit {0}
 NoNeighbours touch (x ∷ y ∷ ys) = (touch x y ≡ false) × NoNeighbours touch (y ∷ ys)
 
 -- a fact of each element
-abbrev pub Each : {X : Type 0} → (X → Type 0) → List X → Type 0
-Each P [] = Unit {0}
-Each P (x ∷ xs) = P x × Each P xs
+abbrev pub AllByRecursion : {X : Type 0} → (X → Type 0) → List X → Type 0
+AllByRecursion P [] = Unit {0}
+AllByRecursion P (x ∷ xs) = P x × AllByRecursion P xs
 
 -- the list without a number
 abbrev pub remove_place : ℕ → List ℕ → List ℕ

@@ -8,7 +8,7 @@ use Rattle.etagere_base.specs.declared.geometry.Rectangle.{Rectangle}
 use Rattle.etagere_base.specs.declared.geometry.Size.{Size}
 use Rattle.etagere_base.specs.declared.ids.Allocation.{Allocation}
 use Rattle.etagere_base.specs.Sides.{side, up}
-use Rattle.etagere_base.specs.Lists.{Each}
+use Rattle.std.specs.List.{AllByRecursion}
 
 -- the unit square at these places lies in the rectangle
 pub record Covers (rectangle : Rectangle) (x y : ℤ) : Type 0 where
@@ -54,5 +54,5 @@ pub record IsAligned (frame : Frame) (rectangle : Rectangle) : Type 0 where
 abbrev pub AreApart : List Allocation → Type 0
 AreApart [] = Unit {0}
 AreApart (allocation ∷ others) =
-    Each (λ (other : Allocation). SharesNone allocation.rectangle other.rectangle) others
+    AllByRecursion (λ (other : Allocation). SharesNone allocation.rectangle other.rectangle) others
     × AreApart others

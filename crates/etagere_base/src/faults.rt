@@ -1,7 +1,8 @@
-//! Why a size and options make no atlas, why an id can't be given back, and why a snapshot is none.
+//! Why an atlas can't be made of a size and options, why an id can't be given back, and why a snapshot can't be
+//! restored.
 //!
-//! Definitions: `Faults`, `RestoreFaults`. Numbers and messages are public: a new fault gets a new number, and
-//! `frames` says where in the order it is tested.
+//! Definitions: `Faults`, `RestoreFaults`. Numbers and messages are public: a new fault gets a new number, and is
+//! tested in `frames` in its place in the order.
 
 ghost use Rattle.std.specs.Prelude.{◌≡◌};
 ghost use Rattle.etagere_base.specs.Faults.{options_fault_number};
@@ -48,8 +49,8 @@ impl OptionsFault {
     }
 }
 
-/// Why no atlas can be restored from a snapshot: a rule of snapshots that it breaks. Where it breaks several,
-/// any of them is returned.
+/// Why an atlas can't be restored from a snapshot: a rule that the snapshot breaks. Where it breaks several, any of
+/// them is returned.
 #[derive(Clone, Copy, Debug, PartialEq, Eq, Error)]
 pub enum RestoreFault {
     /// A side, the area, an alignment or the width of a column is out of its range.
@@ -58,8 +59,8 @@ pub enum RestoreFault {
     /// There are too few or too many records of a kind.
     #[error("Counts")]
     Counts,
-    /// A link names no record, a link back is another than the one before, or a record names another shelf
-    /// than the one in whose list it is.
+    /// A link names no record, a link back doesn't lead to the one before, or a record names a shelf other than the one
+    /// in whose list it is.
     #[error("Link")]
     Link,
     /// The shelves don't fill each column, column after column.
@@ -71,7 +72,7 @@ pub enum RestoreFault {
     /// Two free items stand side by side, or two empty shelves of a column.
     #[error("Neighbours")]
     Neighbours,
-    /// The free list of a shelf hasn't each of its free items once.
+    /// A shelf's free list doesn't have each of its free items exactly once.
     #[error("FreeList")]
     FreeList,
     /// A record is in no list or in two, or a list doesn't end.
@@ -109,7 +110,7 @@ impl RestoreFault {
     }
 }
 
-/// Nothing that is allocated carries the id.
+/// Nothing is allocated under the id.
 #[derive(Clone, Copy, Debug, PartialEq, Eq, Error)]
 #[error("UnknownId")]
 pub struct UnknownId;

@@ -1,4 +1,4 @@
-//! What an atlas keeps of its size and options, the first fault of these, and what a size asks of
+//! What an atlas keeps of its size and options, the first fault of these, and what an allocation of a size requires of
 //! the shelves.
 //!
 //! Definitions: `Frames`. A new fault or option is tested in `options_fault` and kept in `Frame`,
@@ -14,7 +14,7 @@ use crate::geometry::Size;
 use crate::options::AllocatorOptions;
 use crate::sides::{Sides, side, swapped_axes, up};
 
-/// The longest side of a shelf atlas, and of a size that is asked of an atlas of either kind, in pixels.
+/// The longest side of a shelf atlas, and of a size that may be asked for in an atlas of either kind, in pixels.
 pub const LONGEST_SIDE: u16 = 65535;
 
 /// No atlas has a larger area, in square pixels.
@@ -99,8 +99,8 @@ pub fn atlas_frame(size: Size, options: &AllocatorOptions) -> Frame
     }
 }
 
-/// What a size asks of the shelves, along and across; none where it is empty, too long or larger than
-/// a column. The alignments are at least 1 and below 2^31.
+/// The sides along and across that an allocation of a size requires; none where the size is empty, too long or larger
+/// than a column. The alignments are at least 1 and below 2^31.
 pub fn asked(frame: &Frame, size: Size) -> Option<Sides>
     requires alignment_width { (1 ≤ frame.now.alignment_width) ×
         (frame.now.alignment_width < 2 ^ 31) }

@@ -1,4 +1,4 @@
-//! Ids, and what an allocation gives its caller.
+//! Ids, and what `allocate` returns.
 //!
 //! Contracts see an id as its number. How numbers are chosen is a matter of each allocator: those of a
 //! shelf atlas have an index and a generation, those of a bucketed atlas a layout of their own.

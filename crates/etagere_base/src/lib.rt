@@ -1,4 +1,4 @@
-//! What a shelf allocator stands on: geometry, options, faults, and the arithmetic of sides.
+//! What both shelf allocators share: geometry, options, faults, and the arithmetic of sides.
 //!
 //! Its definitions and lemmas on lists, merging and rectangles are for every allocator above it. A
 //! clause or definition that changes here is checked again in all of them.

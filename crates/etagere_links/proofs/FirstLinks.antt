@@ -58,4 +58,4 @@ field_at-map field other (x ∷ xs) (suc k) = field_at-map field other xs k
 -- where all these fields are the same, each is
 pub field_at-same : {T X : Type 0} (field : T → X) (other : X) (xs ys : List T) (k : ℕ) → map field ys ≡ map field xs → field_at field other ys k ≡ field_at field other xs k
 field_at-same {T} {X} field other xs ys k same =
-    field_at-map field other ys k ∙ ap (λ fields. option_map_or (λ (x : X). x) (slice_get fields k) other) same ∙ sym (field_at-map field other xs k)
+    field_at-map field other ys k ∙ ap (λ field_edits. option_map_or (λ (x : X). x) (slice_get field_edits k) other) same ∙ sym (field_at-map field other xs k)

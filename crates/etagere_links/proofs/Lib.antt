@@ -10,7 +10,7 @@ pub mod FirstLinks
 mod FirstWrites
 pub mod LinkBits
 pub mod ListEnds
-mod MetPlaces
+mod MetPositions
 pub mod MadeRecords
 pub mod MarkLemmas
 mod NeighbourFrames

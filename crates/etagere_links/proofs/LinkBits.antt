@@ -2,7 +2,8 @@
 use Rattle.std.proofs.Common.{◌≡◌, ℕ, zero, suc, ◌+◌, ◌<◌, ◌≤◌, Bool, true, false, Option, List, [], ◌∷◌, ◌++◌, length, map, take, refl, ap, arith, sym, ◌∙◌}
 use Rattle.std.proofs.lemmas.List.{length-map, take_more, take_all}
 use Rattle.std.specs.Prelude.{nat_lt}
-use Rattle.etagere_base.specs.Lists.{Each, times}
+use Rattle.std.specs.List.{AllByRecursion}
+use Rattle.etagere_base.specs.Lists.{times}
 use Rattle.etagere_links.specs.Edits.{AreFitting, link_at}
 use Rattle.etagere_links.specs.Links.{bits_of, link_of, no_link}
 use Rattle.etagere_links.specs.Walks.{walk}
@@ -40,10 +41,10 @@ fitting-all link xs n past fit k = by_test (nat_lt k n) refl
     by_test false e = link_at-past link xs k (grind arith)
 
 -- what holds of each number that stands in a list holds of each
-Each-times : (P : ℕ → Type 0) (xs : List ℕ) → ((k : ℕ) → 1 ≤ times k xs → P k) → Each P xs
+Each-times : (P : ℕ → Type 0) (xs : List ℕ) → ((k : ℕ) → 1 ≤ times k xs → P k) → AllByRecursion P xs
 Each-times P [] all = tt
 Each-times P (x ∷ xs) all = (all x (omega (arith, times-here x xs)), Each-times P xs (λ k stands. all k (omega (arith, stands))))
 
 -- the numbers that a walk met are below the records
-pub walk-below : (links : List ℕ) (start : ℕ) → length links ≤ no_link → Each (λ (number : ℕ). number < length links) (walk links start).met
+pub walk-below : (links : List ℕ) (start : ℕ) → length links ≤ no_link → AllByRecursion (λ (number : ℕ). number < length links) (walk links start).met
 walk-below links start few = Each-times (λ (number : ℕ). number < length links) (walk links start).met (walk-leads links start few).within

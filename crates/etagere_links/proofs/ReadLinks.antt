@@ -1,9 +1,9 @@
 -- How many links walks have read, walk by walk.
 use Rattle.std.proofs.Common.{◌≡◌, ◌≢◌, ℕ, zero, suc, ◌+◌, ◌<◌, ◌≤◌, Bool, true, false, ◌&&◌, List, [], ◌∷◌, ◌++◌, length, length-append, get_or, refl, ap, sym, arith, append_assoc, append-nil, ◌∙◌}
 use Rattle.std.proofs.lemmas.List.{get_or_past}
-use Rattle.std.specs.List.{list_all}
+use Rattle.std.specs.List.{AllByRecursion, list_all}
 use Rattle.std.specs.Prelude.{◌==◌, nat_lt, if◌then◌else◌}
-use Rattle.etagere_base.specs.Lists.{Each, times}
+use Rattle.etagere_base.specs.Lists.{times}
 use Rattle.etagere_base.proofs.TimesLemmas.{times-append}
 use Rattle.etagere_links.specs.declared.marking.WalkFault.{WalkFault}
 use Rattle.etagere_links.specs.declared.marking.WalkFault.TheVariants.{OutOfRange, Marked, Circular, Memory}
@@ -88,7 +88,7 @@ pub until-next : (count more : ℕ) (before : List ℕ) (walked : Walked) (walks
 until-next count more before walked walks = omega arith
 
 -- the links that are read where the first walks are along lists of their own
-pub until-front : (count more : ℕ) (before : List ℕ) (front back : List Walked) → ((k : ℕ) → times k (before ++ met_by front) ≤ 1) → Each (λ (walked : Walked). walked.end ≡ no_link) front
+pub until-front : (count more : ℕ) (before : List ℕ) (front back : List Walked) → ((k : ℕ) → times k (before ++ met_by front) ≤ 1) → AllByRecursion (λ (walked : Walked). walked.end ≡ no_link) front
     → links_until count more before (front ++ back) ≡ links_in front + links_until count more (before ++ met_by front) back
 until-front count more before [] back once ends = rw append-nil (omega arith)
 until-front count more before (walked ∷ front) back once ends =
@@ -99,13 +99,13 @@ until-front count more before (walked ∷ front) back once ends =
     omega (arith, until-own count more before walked (front ++ back) own, told)
 
 -- the links that are read where all walks are along lists of their own
-pub until-all : (count more : ℕ) (before : List ℕ) (walks : List Walked) → ((k : ℕ) → times k (before ++ met_by walks) ≤ 1) → Each (λ (walked : Walked). walked.end ≡ no_link) walks
+pub until-all : (count more : ℕ) (before : List ℕ) (walks : List Walked) → ((k : ℕ) → times k (before ++ met_by walks) ≤ 1) → AllByRecursion (λ (walked : Walked). walked.end ≡ no_link) walks
     → links_until count more before walks ≡ links_in walks + (if has_each count (before ++ met_by walks) then more else 0)
 until-all count more before walks once ends =
     ap (λ (ws : List Walked). links_until count more before ws) (sym (append-nil walks)) ∙ until-front count more before walks [] once ends
 
 -- the links that are read up to a walk that is refused, whose fault isn't want of memory
-pub until-fault : (count more : ℕ) (before : List ℕ) (front back : List Walked) (walked : Walked) (marks : List Bool) (records : ℕ) (fault : WalkFault) → Each (λ (walked : Walked). walked.end ≡ no_link) front
+pub until-fault : (count more : ℕ) (before : List ℕ) (front back : List Walked) (walked : Walked) (marks : List Bool) (records : ℕ) (fault : WalkFault) → AllByRecursion (λ (walked : Walked). walked.end ≡ no_link) front
     → IsMarkedBy marks (before ++ met_by front) → BreaksOff marks records walked fault → ((k : ℕ) → times k walked.met ≤ 1) → fault ≢ Memory
     → links_until count more before (front ++ walked ∷ back) ≡ links_in front + links_by walked fault
 until-fault count more before front back walked marks records fault ends marked breaks once other =
@@ -124,7 +124,7 @@ until-fault count more before front back walked marks records fault ends marked 
     links-by walked Memory other = absurd (other refl)
 
 -- the links of the walks so far and of the next one are no more than all that are read
-pub until-some : (count more : ℕ) (before : List ℕ) (front back : List Walked) (walked : Walked) (marks : List Bool) → Each (λ (walked : Walked). walked.end ≡ no_link) front
+pub until-some : (count more : ℕ) (before : List ℕ) (front back : List Walked) (walked : Walked) (marks : List Bool) → AllByRecursion (λ (walked : Walked). walked.end ≡ no_link) front
     → IsMarkedBy marks (before ++ met_by front) → links_in front + length walked.met ≤ links_until count more before (front ++ walked ∷ back)
 until-some count more before front back walked marks ends marked =
     omega (

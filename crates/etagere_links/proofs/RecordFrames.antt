@@ -2,7 +2,7 @@
 use Rattle.std.proofs.Common.{◌≡◌, ◌≢◌, ℕ, Option, None, Some, List, ◌∷◌, ◌++◌, length, map, arith, ◌∙◌}
 use Rattle.std.specs.Prelude.{slice_get}
 use Rattle.etagere_links.specs.Chains.{IsChainIn}
-use Rattle.etagere_links.specs.Edits.{changed_by, link_at, unlinked, linked_between, put_aside}
+use Rattle.etagere_links.specs.Edits.{changed_by, link_at, unlinked, linked_between, made_unused}
 use Rattle.etagere_links.specs.Families.{Family, IsUnchanged}
 use Rattle.etagere_base.specs.Lists.{times}
 use Rattle.etagere_links.specs.Lists.{first_or, last_or}
@@ -31,8 +31,8 @@ map-linked_between {T} family f kept records before after at =
     ∙ map-changed_by f (family.with_next after) records (Some at) (kept.next after)
 
 -- what the links of a list are no part of stays when a record becomes unused
-pub map-put_aside : {T X : Type 0} (family : Family T) (f : T → X) → IsUnchanged family f → (records : List T) (top : Option ℕ) (at : ℕ) → map f (put_aside family top at records) ≡ map f records
-map-put_aside family f kept records top at = map-changed_by f (family.with_next top) records (Some at) (kept.next top)
+pub map-made_unused : {T X : Type 0} (family : Family T) (f : T → X) → IsUnchanged family f → (records : List T) (top : Option ℕ) (at : ℕ) → map f (made_unused family top at records) ≡ map f records
+map-made_unused family f kept records top at = map-changed_by f (family.with_next top) records (Some at) (kept.next top)
 
 -- taking out keeps the number of records
 pub length-unlinked : {T : Type 0} (family : Family T) (records : List T) (at : ℕ) → length (unlinked family at records) ≡ length records
@@ -54,8 +54,8 @@ length-linked_between {T} family records before after at =
     ∙ length-changed_by (family.with_next after) records (Some at)
 
 -- making unused keeps the number of records
-pub length-put_aside : {T : Type 0} (family : Family T) (records : List T) (top : Option ℕ) (at : ℕ) → length (put_aside family top at records) ≡ length records
-length-put_aside family records top at = length-changed_by (family.with_next top) records (Some at)
+pub length-made_unused : {T : Type 0} (family : Family T) (records : List T) (top : Option ℕ) (at : ℕ) → length (made_unused family top at records) ≡ length records
+length-made_unused family records top at = length-changed_by (family.with_next top) records (Some at)
 
 -- taking a member out changes only its neighbours
 pub get-unlinked : {T : Type 0} (family : Family T) (records : List T) (first : Option ℕ) (front back : List ℕ) (at k : ℕ) → IsChainIn family records first (front ++ at ∷ back) → times k (front ++ back) ≡ 0 → slice_get (unlinked family at records) k ≡ slice_get records k
@@ -68,9 +68,9 @@ get-unlinked family records first front back at k chain absent =
     ∙ get-changed_by-other (family.with_next (first_or None back)) records (last_or None front) k
     (λ e. omega (arith, absent, last-stands-in front k e, times-append k front back)))
 
--- putting a record aside changes only that record
-pub get-put_aside : {T : Type 0} (family : Family T) (records : List T) (top : Option ℕ) (at k : ℕ) → at ≢ k → slice_get (put_aside family top at records) k ≡ slice_get records k
-get-put_aside family records top at k other = get-changed_by-other (family.with_next top) records (Some at) k (λ e. let same : at ≡ k = cc in other same)
+-- making a record unused changes only that record
+pub get-made_unused : {T : Type 0} (family : Family T) (records : List T) (top : Option ℕ) (at k : ℕ) → at ≢ k → slice_get (made_unused family top at records) k ≡ slice_get records k
+get-made_unused family records top at k other = get-changed_by-other (family.with_next top) records (Some at) k (λ e. let same : at ≡ k = cc in other same)
 
 -- putting a record between two neighbours changes no other
 pub get-linked : {T : Type 0} (family : Family T) (records : List T) (before after : Option ℕ) (at k : ℕ) → at ≢ k → before ≢ Some k → after ≢ Some k → slice_get (linked_between family before after at records) k ≡ slice_get records k

@@ -1,7 +1,7 @@
 -- Lists of records: taking out, putting in, making unused and taking change one list as a list.
 use Rattle.std.proofs.Common.{◌≡◌, ◌≢◌, ℕ, ◌<◌, ◌≤◌, Option, None, Some, List, [], ◌∷◌, ◌++◌, length, refl, arith, subst, append_assoc, ◌∙◌}
 use Rattle.etagere_links.specs.Chains.{Leads, IsChainIn, IsPileIn}
-use Rattle.etagere_links.specs.Edits.{changed_by, link_at, unlinked, first_without, linked_between, put_aside}
+use Rattle.etagere_links.specs.Edits.{changed_by, link_at, unlinked, first_without, linked_between, made_unused}
 use Rattle.etagere_links.specs.Families.{Family, IsFamily}
 use Rattle.etagere_base.specs.Lists.{times}
 use Rattle.etagere_links.specs.Lists.{first_or, last_or}
@@ -110,11 +110,11 @@ linked_between-spells {T} family laws records first front back at here fresh onc
     }
 
 -- the records after one was put onto a pile spell the pile with it on top
-pub put_aside-spells : {T : Type 0} (family : Family T) → IsFamily family → (records : List T) (top : Option ℕ) (xs : List ℕ) (at : ℕ) → at < length records → times at xs ≡ 0 → IsPileIn family records top xs → IsPileIn family (put_aside family top at records) (Some at) (at ∷ xs)
-put_aside-spells family laws records top xs at here fresh pile =
-    let top_ : link_at family.next (put_aside family top at records) at ≡ top = next-changed family laws records (Some at) top at refl here in
-    let rest : Leads (link_at family.next (put_aside family top at records)) top xs None =
-    Leads-frame (link_at family.next records) (link_at family.next (put_aside family top at records)) xs top None
+pub made_unused-spells : {T : Type 0} (family : Family T) → IsFamily family → (records : List T) (top : Option ℕ) (xs : List ℕ) (at : ℕ) → at < length records → times at xs ≡ 0 → IsPileIn family records top xs → IsPileIn family (made_unused family top at records) (Some at) (at ∷ xs)
+made_unused-spells family laws records top xs at here fresh pile =
+    let top_ : link_at family.next (made_unused family top at records) at ≡ top = next-changed family laws records (Some at) top at refl here in
+    let rest : Leads (link_at family.next (made_unused family top at records)) top xs None =
+    Leads-frame (link_at family.next records) (link_at family.next (made_unused family top at records)) xs top None
     (λ k stands. link_at-other family.next (family.with_next top) records (Some at) k (stranger at k xs fresh stands)) pile in
     (refl, rw top_ rest)
 

@@ -44,5 +44,5 @@ linked_between family previous next number records =
     (changed_by (Some number) (family.with_next next) records)))
 
 -- the records after the one of this number was put onto a pile with this top
-abbrev pub put_aside : {T : Type 0} → Family T → Option ℕ → ℕ → List T → List T
-put_aside family top number records = changed_by (Some number) (family.with_next top) records
+abbrev pub made_unused : {T : Type 0} → Family T → Option ℕ → ℕ → List T → List T
+made_unused family top number records = changed_by (Some number) (family.with_next top) records

@@ -2,7 +2,7 @@
 use Rattle.std.specs.Prelude.{◌≡◌, ℕ, ◌<◌, ◌≤◌, Option, None, Some, option_and_then, List, [], ◌∷◌, ◌++◌, length}
 use Rattle.etagere_base.specs.Lists.{times}
 use Rattle.etagere_links.specs.Chains.{IsChainIn, IsPileIn}
-use Rattle.etagere_links.specs.Edits.{first_without, link_at, linked_between, put_aside, unlinked}
+use Rattle.etagere_links.specs.Edits.{first_without, link_at, linked_between, made_unused, unlinked}
 use Rattle.etagere_links.specs.Families.{Family}
 use Rattle.etagere_links.specs.Records.{free_list, item_chain, shelf_chain}
 
@@ -47,11 +47,11 @@ PutsAfter {T} family =
     first (front ++ previous ∷ number ∷ back)
 
 -- a record that becomes unused lies on top of those that were unused before
-abbrev pub PutsAside : {T : Type 0} → Family T → Type 0
-PutsAside {T} family =
+abbrev pub MakesUnused : {T : Type 0} → Family T → Type 0
+MakesUnused {T} family =
     (records : List T) (top : Option ℕ) (numbers : List ℕ) (number : ℕ)
     → IsPileIn family records top numbers → IsOutside records numbers number
-    → IsPileIn family (put_aside family top number records) (Some number) (number ∷ numbers)
+    → IsPileIn family (made_unused family top number records) (Some number) (number ∷ numbers)
 
 -- the record that is taken off what became unused is the one that lies on top, and the others are left
 abbrev pub TakesOffTop : {T : Type 0} → Family T → Type 0
@@ -73,7 +73,7 @@ pub record EditsAList {T : Type 0} (family : Family T) : Type 0 where
   pub takes_out : TakesOut family
   pub puts_in_front : PutsInFront family
   pub puts_after : PutsAfter family
-  pub puts_aside : PutsAside family
+  pub makes_unused : MakesUnused family
   pub takes_off_top : TakesOffTop family
   pub takes_none : TakesNone family
 

@@ -1,2 +1,2 @@
 -- What contracts of private functions cite; no public clause does.
-pub mod Places
+pub mod Positions

@@ -2,7 +2,7 @@
 use Rattle.std.specs.Prelude.{ℕ, Bool, Option, None, Some, option_and_then, List, [], ◌∷◌, ◌++◌, take}
 use Rattle.etagere_links.specs.declared.records.LinkedItem.{LinkedItem}
 use Rattle.etagere_links.specs.declared.records.LinkedShelf.{LinkedShelf}
-use Rattle.etagere_links.specs.Edits.{changed_by, link_at, unlinked, first_without, linked_between, put_aside}
+use Rattle.etagere_links.specs.Edits.{changed_by, link_at, unlinked, first_without, linked_between, made_unused}
 use Rattle.etagere_links.specs.RecordLists.{Records, first_item_of, first_free_of}
 use Rattle.etagere_links.specs.Records.{item_chain, free_list, shelf_chain}
 
@@ -89,10 +89,10 @@ free_inserted_after previous number records =
     }
 
 -- an unused item record
-abbrev pub item_put_aside : ℕ → Records → Records
-item_put_aside number records =
+abbrev pub item_made_unused : ℕ → Records → Records
+item_made_unused number records =
     record records {
-      items = put_aside item_chain records.unused_items number records.items;
+      items = made_unused item_chain records.unused_items number records.items;
       unused_items = Some number;
     }
 
@@ -124,10 +124,10 @@ shelf_inserted_after previous number records =
     }
 
 -- an unused shelf record
-abbrev pub shelf_put_aside : ℕ → Records → Records
-shelf_put_aside number records =
+abbrev pub shelf_made_unused : ℕ → Records → Records
+shelf_made_unused number records =
     record records {
-      shelves = put_aside shelf_chain records.unused_shelves number records.shelves;
+      shelves = made_unused shelf_chain records.unused_shelves number records.shelves;
       unused_shelves = Some number;
     }
 

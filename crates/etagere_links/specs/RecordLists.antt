@@ -1,7 +1,8 @@
 -- The lists of the records of a shelf atlas: by walks, and by the links that spell them.
 use Rattle.std.specs.Prelude.{◌≡◌, ℕ, ◌≤◌, Option, None, List, [], ◌∷◌, ◌++◌, length, map, slice_get, nat_lt, if◌then◌else◌}
 use Rattle.std.specs.Option.{option_map_or}
-use Rattle.etagere_base.specs.Lists.{Each, times}
+use Rattle.std.specs.List.{AllByRecursion}
+use Rattle.etagere_base.specs.Lists.{times}
 use Rattle.etagere_links.specs.declared.records.LinkedItem.{LinkedItem}
 use Rattle.etagere_links.specs.declared.records.LinkedShelf.{LinkedShelf}
 use Rattle.etagere_links.specs.Chains.{IsChainIn, IsPileIn}
@@ -114,7 +115,7 @@ pub record IsLinkedExcept (records : Records) (lists : Lists) (loose_items loose
     : Type 0 where
   pub shelves : IsChainIn shelf_chain records.shelves records.first_shelf
       (shelf_numbers lists.entries)
-  pub entries : Each (IsEntry records) lists.entries
+  pub entries : AllByRecursion (IsEntry records) lists.entries
   pub unused_items : IsPileIn item_chain records.items records.unused_items lists.unused_items
   pub unused_shelves : IsPileIn shelf_chain records.shelves records.unused_shelves
       lists.unused_shelves

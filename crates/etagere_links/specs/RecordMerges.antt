@@ -2,20 +2,20 @@
 use Rattle.std.specs.Prelude.{ℕ, true, false}
 use Rattle.etagere_links.specs.declared.records.LinkedItem.{LinkedItem}
 use Rattle.etagere_links.specs.declared.records.LinkedShelf.{LinkedShelf}
-use Rattle.etagere_links.specs.RecordEdits.{item_unlinked, item_inserted_after, free_unlinked, free_inserted_front, free_inserted_after, item_put_aside, shelf_unlinked, shelf_inserted_after, shelf_put_aside, item_changed, shelf_changed}
+use Rattle.etagere_links.specs.RecordEdits.{item_unlinked, item_inserted_after, free_unlinked, free_inserted_front, free_inserted_after, item_made_unused, shelf_unlinked, shelf_inserted_after, shelf_made_unused, item_changed, shelf_changed}
 use Rattle.etagere_links.specs.RecordLists.{Records}
 
 -- an item takes the place of the free one after it, which becomes unused
 abbrev pub free_absorbed : ℕ → ℕ → ℕ → ℕ → Records → Records
 free_absorbed shelf number next width records =
     item_changed number (λ (item : LinkedItem). record item { width = width })
-    (item_put_aside next (item_unlinked shelf next (free_unlinked shelf next records)))
+    (item_made_unused next (item_unlinked shelf next (free_unlinked shelf next records)))
 
 -- a free item takes the place of the allocated one after it, which becomes unused
 abbrev pub allocated_absorbed : ℕ → ℕ → ℕ → ℕ → Records → Records
 allocated_absorbed shelf number next width records =
     item_changed number (λ (item : LinkedItem). record item { width = width })
-    (item_put_aside next
+    (item_made_unused next
     (item_changed next (λ (item : LinkedItem). record item { allocated = false })
     (item_unlinked shelf next records)))
 
@@ -29,7 +29,7 @@ item_freed shelf number records =
 abbrev pub shelf_absorbed : ℕ → ℕ → ℕ → ℕ → Records → Records
 shelf_absorbed shelf next item height records =
     shelf_changed shelf (λ (here : LinkedShelf). record here { height = height })
-    (shelf_put_aside next (item_put_aside item (shelf_unlinked next records)))
+    (shelf_made_unused next (item_made_unused item (shelf_unlinked next records)))
 
 -- a free item is given whole
 abbrev pub item_given : ℕ → ℕ → Records → Records

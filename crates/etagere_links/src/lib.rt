@@ -2,14 +2,14 @@
 //! changes one list as a list, and nothing else; a step of `store` may change several lists, and fields too.
 //!
 //! `links` has the link, `records` the records of a shelf atlas, and `chained` says which links of a record belong to
-//! which list. `lists` edits a list, `fields` a field by number, and `uses` puts records to use; `store` has all
+//! which list. `lists` edits a list, `field_edits` a field by number, and `uses` puts records to use; `store` has all
 //! records of a shelf atlas, and the steps that are made of these. `walking` and `marking` follow the links of any
 //! records, as a snapshot may have them. Both atlases stand on links and walks, the shelf atlas on all. `model_laws` has
 //! the laws of the definitions.
 #![tactic(auto)]
 
 mod chained;
-mod fields;
+mod field_edits;
 mod links;
 mod lists;
 mod marking;
@@ -22,7 +22,7 @@ mod walking;
 pub use chained::{Chain, FreeList, Linked};
 pub use links::Link;
 pub use lists::{
-    insert_after, insert_front, next_bits, next_of, previous_of, put_aside, take, unlink,
+    insert_after, insert_front, make_unused, next_bits, next_of, previous_of, take, unlink,
 };
 pub use marking::{WalkFault, all_marked, mark_all, unmarked, walk_marking};
 pub use records::{LinkedItem, LinkedShelf};

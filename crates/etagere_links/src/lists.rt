@@ -1,5 +1,5 @@
 //! Lists of records linked by number: inserting and taking out. A link that names no record changes
-//! nothing. What ends in `among` needs the records there that it changes, and tests no range.
+//! nothing. What ends in `present` needs the records there that it changes, and tests no range.
 //!
 //! Definitions: `Edits`, and `Chains` for what they mean. One body serves every list of `Linked`.
 
@@ -178,9 +178,9 @@ pub fn insert_front<List, T: Linked<List>>(records: &mut [T], first: &mut Link, 
 
 /// Puts the record of this number, which stands in no list, onto the pile whose top record `top` names. A
 /// pile is linked through `next` alone.
-pub fn put_aside<List, T: Linked<List>>(records: &mut [T], top: &mut Link, number: usize)
+pub fn make_unused<List, T: Linked<List>>(records: &mut [T], top: &mut Link, number: usize)
     requires { number < no_link }
-    ensures records { records.new ≡ spec.put_aside T.family top.old number records.old }
+    ensures records { records.new ≡ spec.made_unused T.family top.old number records.old }
     ensures top { top.new ≡ Some number }
 {
     let link = Link::to(number);
@@ -188,11 +188,11 @@ pub fn put_aside<List, T: Linked<List>>(records: &mut [T], top: &mut Link, numbe
     *top = link;
 }
 
-/// Puts a record aside as `put_aside` does, where it is there.
-pub fn put_aside_present<List, T: Linked<List>>(records: &mut [T], top: &mut Link, number: usize)
+/// Makes a record unused as `make_unused` does, where it is there.
+pub fn make_unused_present<List, T: Linked<List>>(records: &mut [T], top: &mut Link, number: usize)
     requires here { number < length records.old }
     requires small { number < no_link }
-    ensures records { records.new ≡ spec.put_aside T.family top.old number records.old }
+    ensures records { records.new ≡ spec.made_unused T.family top.old number records.old }
     ensures top { top.new ≡ Some number }
 {
     records[number].set_next(*top);

@@ -3,7 +3,7 @@
 //! Definitions: `Marks`, and `WalkFaults` for what a walk is refused for.
 
 ghost use Rattle.std.specs.Prelude.{◌≡◌, ℕ, ◌+◌, ◌^◌, ◌++◌, ◌<◌, ◌≤◌, false, List, [], IsTrue, IfOk, IfErr, OnOk, length};
-ghost use Rattle.etagere_base.specs.Lists.{Each};
+ghost use Rattle.std.specs.List.{AllByRecursion};
 ghost use Rattle.etagere_links.specs.Links.{no_link};
 ghost use Rattle.etagere_links.specs.Marks.{HasTwice, IsMarkedBy};
 ghost use Rattle.etagere_links.specs.RecordLists.{HasEachOnce};
@@ -90,7 +90,7 @@ pub fn unmarked(alloc: Global, count: usize) -> Result<Vec<bool>, AllocError>
 ///
 /// The time is linear in the number of records to be marked.
 pub fn mark_all(marks: &mut [bool], met: &[u16]) -> bool
-    requires { Each (λ number. number < length marks.old) met.now }
+    requires { AllByRecursion (λ number. number < length marks.old) met.now }
     ensures marked { IsTrue result → (numbers : List ℕ) →
         IsMarkedBy marks.old numbers → IsMarkedBy marks.new (numbers ++ met.now) }
     ensures twice { result ≡ false → (numbers : List ℕ) →

@@ -2,7 +2,7 @@
 //!
 //! Definitions: `RecordLists` for what records are, `RecordEdits`, `RecordMerges`, `RecordUses` and
 //! `RecordMaking` for the steps, `Neighbours` for what those ask that test no range. A step calls `lists`,
-//! `fields` or `uses` for each list or field that it changes.
+//! `field_edits` or `uses` for each list or field that it changes.
 
 ghost use Rattle.std.specs.Prelude.{◌≡◌, ◌+◌, ◌<◌, ◌≤◌, true, [], length, IfOk, IfSome, OnOk, OnErr, if◌then◌else◌};
 ghost use Rattle.etagere_links.specs.Links.{no_link};
@@ -11,7 +11,7 @@ use crate::chained::{Chain, FreeList};
 use crate::links::Link;
 use crate::records::{LinkedItem, LinkedShelf};
 use crate::uses::Rests;
-use crate::{fields, lists, uses};
+use crate::{field_edits, lists, uses};
 use std::alloc::{AllocError, Global};
 use std::marker::Model;
 
@@ -223,9 +223,9 @@ impl Records {
     pub fn unlink_free(&mut self, shelf: usize, number: usize)
         ensures { self.new ≡ edits.free_unlinked shelf number self.old }
     {
-        let mut first = fields::first_free(&self.shelf_records, shelf);
+        let mut first = field_edits::first_free(&self.shelf_records, shelf);
         lists::unlink::<FreeList, LinkedItem>(&mut self.item_records, &mut first, number);
-        fields::set_first_free(&mut self.shelf_records, shelf, first);
+        field_edits::set_first_free(&mut self.shelf_records, shelf, first);
     }
 
     /// Puts an item in front of the free list of its shelf.
@@ -233,9 +233,9 @@ impl Records {
         requires { number < no_link }
         ensures { self.new ≡ edits.free_inserted_front shelf number self.old }
     {
-        let mut first = fields::first_free(&self.shelf_records, shelf);
+        let mut first = field_edits::first_free(&self.shelf_records, shelf);
         lists::insert_front::<FreeList, LinkedItem>(&mut self.item_records, &mut first, number);
-        fields::set_first_free(&mut self.shelf_records, shelf, first);
+        field_edits::set_first_free(&mut self.shelf_records, shelf, first);
     }
 
     /// Puts an item after another one in the free list of its shelf.
@@ -247,12 +247,12 @@ impl Records {
         lists::insert_after::<FreeList, LinkedItem>(&mut self.item_records, previous, number);
     }
 
-    /// Puts the record of an item aside that stands in no list.
-    pub fn put_item_aside(&mut self, number: usize)
+    /// Makes the record of an item unused that stands in no list.
+    pub fn make_item_unused(&mut self, number: usize)
         requires { number < no_link }
-        ensures { self.new ≡ edits.item_put_aside number self.old }
+        ensures { self.new ≡ edits.item_made_unused number self.old }
     {
-        lists::put_aside::<Chain, LinkedItem>(
+        lists::make_unused::<Chain, LinkedItem>(
             &mut self.item_records,
             &mut self.unused_items,
             number,
@@ -275,12 +275,12 @@ impl Records {
         lists::insert_after::<Chain, LinkedShelf>(&mut self.shelf_records, previous, number);
     }
 
-    /// Puts the record of a shelf aside that stands in no list.
-    pub fn put_shelf_aside(&mut self, number: usize)
+    /// Makes the record of a shelf unused that stands in no list.
+    pub fn make_shelf_unused(&mut self, number: usize)
         requires { number < no_link }
-        ensures { self.new ≡ edits.shelf_put_aside number self.old }
+        ensures { self.new ≡ edits.shelf_made_unused number self.old }
     {
-        lists::put_aside::<Chain, LinkedShelf>(
+        lists::make_unused::<Chain, LinkedShelf>(
             &mut self.shelf_records,
             &mut self.unused_shelves,
             number,
@@ -292,7 +292,7 @@ impl Records {
         ensures { self.new
             ≡ edits.item_changed number (λ here. record here { width = width }) self.old }
     {
-        fields::set_width(&mut self.item_records, number, width);
+        field_edits::set_width(&mut self.item_records, number, width);
     }
 
     /// Says whether an item is allocated.
@@ -300,7 +300,7 @@ impl Records {
         ensures { self.new
             ≡ edits.item_changed number (λ here. record here { allocated = allocated }) self.old }
     {
-        fields::set_allocated(&mut self.item_records, number, allocated);
+        field_edits::set_allocated(&mut self.item_records, number, allocated);
     }
 
     /// Changes the width of an item, and says that it is allocated.
@@ -309,21 +309,21 @@ impl Records {
             ≡ edits.item_changed number
             (λ here. record here { width = width; allocated = true }) self.old }
     {
-        fields::set_given(&mut self.item_records, number, width);
+        field_edits::set_given(&mut self.item_records, number, width);
     }
 
     /// Begins the record of an item anew, as that of a free one in no list. Its generation stays.
     pub fn start_item(&mut self, number: usize, x: u16, width: u16, shelf: u16)
         ensures { self.new ≡ edits.item_changed number (making.started x width shelf) self.old }
     {
-        fields::start_item(&mut self.item_records, number, x, width, shelf);
+        field_edits::start_item(&mut self.item_records, number, x, width, shelf);
     }
 
     /// Writes the record of an item anew.
     pub fn write_item(&mut self, number: usize, item: LinkedItem)
         ensures { self.new ≡ edits.item_changed number (λ _. item) self.old }
     {
-        fields::write_item(&mut self.item_records, number, item);
+        field_edits::write_item(&mut self.item_records, number, item);
     }
 
     /// Changes the height of a shelf.
@@ -331,7 +331,7 @@ impl Records {
         ensures { self.new
             ≡ edits.shelf_changed shelf (λ here. record here { height = height }) self.old }
     {
-        fields::set_height(&mut self.shelf_records, shelf, height);
+        field_edits::set_height(&mut self.shelf_records, shelf, height);
     }
 
     /// Says whether a shelf is empty.
@@ -339,14 +339,14 @@ impl Records {
         ensures { self.new
             ≡ edits.shelf_changed shelf (λ here. record here { is_empty = is_empty }) self.old }
     {
-        fields::set_empty(&mut self.shelf_records, shelf, is_empty);
+        field_edits::set_empty(&mut self.shelf_records, shelf, is_empty);
     }
 
     /// Writes the record of a shelf anew.
     pub fn write_shelf(&mut self, number: usize, shelf: LinkedShelf)
         ensures { self.new ≡ edits.shelf_changed number (λ _. shelf) self.old }
     {
-        fields::write_shelf(&mut self.shelf_records, number, shelf);
+        field_edits::write_shelf(&mut self.shelf_records, number, shelf);
     }
 
     /// Gives an item this width, and lets it take the place of the free one after it, which becomes unused. The
@@ -363,8 +363,8 @@ impl Records {
         let items: &mut [LinkedItem] = &mut self.item_records;
         lists::unlink_present::<FreeList, LinkedItem>(items, &mut here.first_unallocated, next);
         lists::unlink_present::<Chain, LinkedItem>(items, &mut here.first_item, next);
-        lists::put_aside_present::<Chain, LinkedItem>(items, &mut self.unused_items, next);
-        fields::set_width_present(items, number, width);
+        lists::make_unused_present::<Chain, LinkedItem>(items, &mut self.unused_items, next);
+        field_edits::set_width_present(items, number, width);
     }
 
     /// Gives a free item this width, and lets it take the place of the allocated one after it, which becomes free
@@ -380,8 +380,8 @@ impl Records {
         let here = &mut self.shelf_records[shelf];
         let items: &mut [LinkedItem] = &mut self.item_records;
         lists::unlink_present::<Chain, LinkedItem>(items, &mut here.first_item, next);
-        fields::free_and_put_aside_present(items, &mut self.unused_items, next);
-        fields::set_width_present(items, number, width);
+        field_edits::free_and_make_unused_present(items, &mut self.unused_items, next);
+        field_edits::set_width_present(items, number, width);
     }
 
     /// Says that an item is free, and puts it in front of the free list of its shelf. The item and the shelf are
@@ -394,7 +394,11 @@ impl Records {
         ensures { self.new ≡ merges.item_freed shelf number self.old }
     {
         let here = &mut self.shelf_records[shelf];
-        fields::free_in_front_present(&mut self.item_records, &mut here.first_unallocated, number);
+        field_edits::free_in_front_present(
+            &mut self.item_records,
+            &mut here.first_unallocated,
+            number,
+        );
     }
 
     /// Gives the whole of a free item of a shelf.

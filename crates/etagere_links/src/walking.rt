@@ -7,7 +7,7 @@ ghost use Rattle.std.specs.Prelude.{◌≡◌, ◌<◌, ◌≤◌, ◌==◌, IfO
 ghost use Rattle.std.specs.List.{list_any};
 ghost use Rattle.etagere_links.specs.Links.{no_link};
 ghost use Rattle.etagere_links.specs.Walks as spec;
-ghost use Rattle.etagere_links.specs.Private.Places.{ArePlaced};
+ghost use Rattle.etagere_links.specs.Private.Positions.{ArePositions};
 
 pub mod walks;
 
@@ -19,7 +19,7 @@ use walks::Walk;
 /// records there are.
 #[derive(Drop)]
 pub struct WalkRoom {
-    places: Vec<u16>,
+    positions: Vec<u16>,
 }
 
 impl Model for WalkRoom {
@@ -27,7 +27,7 @@ impl Model for WalkRoom {
 
     ghost Value = { ℕ };
 
-    ghost view = { λ room. vec_len room.places };
+    ghost view = { λ room. vec_len room.positions };
 }
 
 impl WalkRoom {
@@ -35,8 +35,8 @@ impl WalkRoom {
     pub fn new(alloc: Global, count: usize) -> Result<WalkRoom, AllocError>
         ensures { IfOk result (λ room. room ≡ count) }
     {
-        let places = vec![in alloc; 0u16; count]?;
-        Ok(WalkRoom { places })
+        let positions = vec![in alloc; 0u16; count]?;
+        Ok(WalkRoom { positions })
     }
 
     /// Follows links from `start` on, as `walk` does, where there are no more links than the room is for.
@@ -52,7 +52,7 @@ impl WalkRoom {
         ensures steps { IfOk result (λ walk. walk.steps ≡ vec_len walk.met) }
         ensures bound { IfOk result (λ walk. walk.steps ≤ length links.now) }
     {
-        walk_within(alloc, &mut self.places, links, start)
+        walk_within(alloc, &mut self.positions, links, start)
     }
 }
 
@@ -71,25 +71,25 @@ pub fn walk(alloc: Global, links: &[u16], start: u16) -> Result<Walk, AllocError
     WalkRoom::new(alloc, links.len())?.walk(alloc, links, start)
 }
 
-/// Whether a record was met: the place noted for it is one of those that were met, and has it.
-fn is_met(places: &[u16], met: &[u16], at: u16) -> bool
-    requires within { at < length places.now }
-    requires placed { ArePlaced places.now met.now }
+/// Whether a record was met: the position noted for it is one of those that were met, and has it.
+fn is_met(positions: &[u16], met: &[u16], at: u16) -> bool
+    requires within { at < length positions.now }
+    requires at_positions { ArePositions positions.now met.now }
     ensures { result ≡ list_any (λ number. number == at) met.now }
 {
-    let place = usize::from(places[usize::from(at)]);
-    place < met.len() && met[place] == at
+    let position = usize::from(positions[usize::from(at)]);
+    position < met.len() && met[position] == at
 }
 
-/// Follows links from `start` on as `WalkRoom::walk` does, and notes in `places` where in the walk each record was met.
+/// Follows links from `start` on as `WalkRoom::walk` does, and notes in `positions` where in the walk each record was met.
 fn walk_within(
     alloc: Global,
-    places: &mut [u16],
+    positions: &mut [u16],
     links: &[u16],
     start: u16,
 ) -> Result<Walk, AllocError>
     requires few { length links.now ≤ no_link }
-    requires room { length links.now ≤ length places.old }
+    requires room { length links.now ≤ length positions.old }
     ensures met { IfOk result (λ walk. walk.met.items ≡ (spec.walk links.now start).met) }
     ensures end { IfOk result (λ walk. walk.end ≡ (spec.walk links.now start).end) }
     ensures steps { IfOk result (λ walk. walk.steps ≡ vec_len walk.met) }
@@ -99,10 +99,10 @@ fn walk_within(
     let mut at = start;
     for step in 0..links.len() {
         let number = usize::from(at);
-        if number >= links.len() || is_met(places, &met, at) {
+        if number >= links.len() || is_met(positions, &met, at) {
             break;
         }
-        places[number] = step as u16;
+        positions[number] = step as u16;
         met.push(at)?;
         at = links[number];
     }

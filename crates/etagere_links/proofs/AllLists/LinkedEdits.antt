@@ -2,7 +2,8 @@
 use Rattle.std.proofs.Common.{◌≡◌, ℕ, ◌+◌, List, ◌∷◌, ◌++◌, length, ap, arith, sym, ◌∙◌}
 use Rattle.etagere_base.proofs.EachLemmas.{Each-append, Each-front, Each-back}
 use Rattle.etagere_base.proofs.TimesLemmas.{times-append}
-use Rattle.etagere_base.specs.Lists.{Each, times}
+use Rattle.std.specs.List.{AllByRecursion}
+use Rattle.etagere_base.specs.Lists.{times}
 use Rattle.etagere_links.specs.Edits.{link_at}
 use Rattle.etagere_links.specs.RecordLists.{Records, Entry, Lists, shelf_numbers, item_numbers, IsEntry, IsLinkedExcept}
 use Rattle.etagere_links.specs.Records.{item_chain, shelf_chain}
@@ -48,12 +49,12 @@ entry-edited records new before after entry edited unused_items unused_shelves l
     λ k. omega (arith, times-append k (item_numbers before ++ item_numbers after) unused_items, times-append k (item_numbers before) (item_numbers after)) in
     let other_shelves : (k : ℕ) → times k (shelf_numbers before ++ shelf_numbers after) ≡ times k (shelf_numbers before) + times k (shelf_numbers after) =
     λ k. times-append k (shelf_numbers before) (shelf_numbers after) in
-    let front : Each (IsEntry new) before =
+    let front : AllByRecursion (IsEntry new) before =
     entries-frame records new before
     (λ k stands. edits.items k (omega (arith, others k, stands)))
     (λ k stands. edits.firsts k (omega (arith, other_shelves k, stands)))
     (Each-front (IsEntry records) before (entry ∷ after) linked.entries) in
-    let back : Each (IsEntry new) after =
+    let back : AllByRecursion (IsEntry new) after =
     entries-frame records new after
     (λ k stands. edits.items k (omega (arith, others k, stands)))
     (λ k stands. edits.firsts k (omega (arith, other_shelves k, stands)))

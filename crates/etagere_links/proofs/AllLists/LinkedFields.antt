@@ -3,7 +3,8 @@
 use Rattle.std.proofs.Common.{◌≡◌, ◌≢◌, ℕ, zero, suc, ◌+◌, ◌<◌, ◌≤◌, Bool, true, false, None, Some, List, [], ◌∷◌, ◌++◌, length, length-append, refl, ap, arith, ◌∙◌}
 use Rattle.std.specs.Prelude.{slice_get, nat_lt, ◌==◌, if◌then◌else◌}
 use Rattle.std.specs.Option.{option_map_or}
-use Rattle.etagere_base.specs.Lists.{Each, times}
+use Rattle.std.specs.List.{AllByRecursion}
+use Rattle.etagere_base.specs.Lists.{times}
 use Rattle.etagere_links.specs.declared.records.LinkedItem.{LinkedItem}
 use Rattle.etagere_links.specs.declared.records.LinkedShelf.{LinkedShelf}
 use Rattle.etagere_links.specs.Edits.{changed_by, link_at}
@@ -32,7 +33,7 @@ pub record KeepsShelfLinks (change : LinkedShelf → LinkedShelf) : Type 0 where
   pub first_unallocated : (shelf : LinkedShelf) → (change shelf).first_unallocated ≡ shelf.first_unallocated
 
 -- the lists of shelves where the links of items are the same everywhere
-entries-same : (records : Records) (number : ℕ) (change : LinkedItem → LinkedItem) → KeepsItemLinks change → (entries : List Entry) → Each (IsEntry records) entries → Each (IsEntry (item_changed number change records)) entries
+entries-same : (records : Records) (number : ℕ) (change : LinkedItem → LinkedItem) → KeepsItemLinks change → (entries : List Entry) → AllByRecursion (IsEntry records) entries → AllByRecursion (IsEntry (item_changed number change records)) entries
 entries-same records number change keeps [] are = tt
 entries-same records number change keeps (entry ∷ entries) are =
     let items : List LinkedItem = records.items in

@@ -2,7 +2,8 @@
 use Rattle.std.proofs.Common.{◌≡◌, ℕ, ◌+◌, ◌≤◌, Option, None, List, [], ◌∷◌, ◌++◌, refl, ap, arith}
 use Rattle.std.specs.Prelude.{slice_get, option_and_then}
 use Rattle.etagere_base.proofs.TimesLemmas.{times-append}
-use Rattle.etagere_base.specs.Lists.{Each, times}
+use Rattle.std.specs.List.{AllByRecursion}
+use Rattle.etagere_base.specs.Lists.{times}
 use Rattle.etagere_links.specs.Chains.{IsPileIn, IsChainIn}
 use Rattle.etagere_links.specs.declared.records.LinkedShelf.{LinkedShelf}
 use Rattle.etagere_links.specs.Edits.{link_at}
@@ -43,7 +44,7 @@ SameFirsts shelves new numbers =
     (k : ℕ) → 1 ≤ times k numbers → (first_item_of new k ≡ first_item_of shelves k) × (first_free_of new k ≡ first_free_of shelves k)
 
 -- shelves whose item records are the same have the lists that they had
-pub entries-frame : (records new : Records) (entries : List Entry) → SameAt records.items new.items (item_numbers entries) → SameFirsts records.shelves new.shelves (shelf_numbers entries) → Each (IsEntry records) entries → Each (IsEntry new) entries
+pub entries-frame : (records new : Records) (entries : List Entry) → SameAt records.items new.items (item_numbers entries) → SameFirsts records.shelves new.shelves (shelf_numbers entries) → AllByRecursion (IsEntry records) entries → AllByRecursion (IsEntry new) entries
 entries-frame records new [] same firsts are = tt
 entries-frame records new (entry ∷ entries) same firsts are =
     let first = firsts entry.number (omega (arith, times-here entry.number (shelf_numbers entries))) in

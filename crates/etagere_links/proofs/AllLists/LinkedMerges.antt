@@ -5,13 +5,13 @@ use Rattle.etagere_base.proofs.TimesLemmas.{times-append}
 use Rattle.etagere_base.specs.Lists.{times}
 use Rattle.etagere_links.specs.declared.records.LinkedItem.{LinkedItem}
 use Rattle.etagere_links.specs.declared.records.LinkedShelf.{LinkedShelf}
-use Rattle.etagere_links.specs.RecordEdits.{item_unlinked, item_inserted_after, free_unlinked, free_inserted_after, item_put_aside, shelf_unlinked, shelf_put_aside, item_changed}
+use Rattle.etagere_links.specs.RecordEdits.{item_unlinked, item_inserted_after, free_unlinked, free_inserted_after, item_made_unused, shelf_unlinked, shelf_made_unused, item_changed}
 use Rattle.etagere_links.specs.RecordLists.{Records, Entry, IsEntry, IsLinkedExcept}
 use Rattle.etagere_links.specs.RecordMerges.{free_absorbed, allocated_absorbed, item_freed, shelf_absorbed, item_given, front_given}
 use Rattle.etagere_links.proofs.AllLists.LinkedFields.{KeepsItemLinks, KeepsShelfLinks, item_changed-linked, shelf_changed-linked}
 use Rattle.etagere_links.proofs.AllLists.LinkedItems.{IsApart, linked-apart, item_unlinked-linked, item_inserted_after-linked, free_unlinked-linked, free_inserted_front-linked, free_inserted_after-linked}
 use Rattle.etagere_links.proofs.AllLists.LinkedShelves.{shelf_unlinked-linked}
-use Rattle.etagere_links.proofs.AllLists.LinkedUnused.{lists_of, item_put_aside-linked, shelf_put_aside-linked}
+use Rattle.etagere_links.proofs.AllLists.LinkedUnused.{lists_of, item_made_unused-linked, shelf_made_unused-linked}
 use Rattle.etagere_links.proofs.ListEnds.{times-here}
 
 -- the lists of a shelf
@@ -47,7 +47,7 @@ free_absorbed-linked records before after shelf number next width front back fre
     linked-apart records before after (entry_of shelf items (free_front ++ next ∷ free_back)) unused_items unused_shelves loose loose_shelves linked in
     let one : Records = free_unlinked shelf next records in
     let two : Records = item_unlinked shelf next one in
-    let three : Records = item_put_aside next two in
+    let three : Records = item_made_unused next two in
     let unlinked : IsLinkedExcept one (lists_of (before ++ entry_of shelf items free ∷ after) unused_items unused_shelves) loose loose_shelves =
     free_unlinked-linked records before after shelf next items free_front free_back unused_items unused_shelves loose loose_shelves linked in
     let regrouped : (zs : List ℕ) → (front ++ number ∷ []) ++ zs ≡ front ++ number ∷ zs = λ zs. append_assoc front (number ∷ []) zs in
@@ -58,14 +58,14 @@ free_absorbed-linked records before after shelf number next width front back fre
     let out : IsLinkedExcept two (lists_of (before ++ entry_of shelf (front ++ number ∷ back) free ∷ after) unused_items unused_shelves) (next ∷ loose) loose_shelves =
     subst (λ (zs : List ℕ). IsLinkedExcept two (lists_of (before ++ entry_of shelf zs free ∷ after) unused_items unused_shelves) (next ∷ loose) loose_shelves) (regrouped back) taken_out in
     item_changed-linked three number (λ (item : LinkedItem). record item { width = width }) (before ++ entry_of shelf (front ++ number ∷ back) free ∷ after) (next ∷ unused_items) unused_shelves loose loose_shelves (keeps-width width)
-    (item_put_aside-linked two (before ++ entry_of shelf (front ++ number ∷ back) free ∷ after) next unused_items unused_shelves loose loose_shelves out)
+    (item_made_unused-linked two (before ++ entry_of shelf (front ++ number ∷ back) free ∷ after) next unused_items unused_shelves loose loose_shelves out)
 
 -- a free item took the place of the allocated one after it
 pub allocated_absorbed-linked : (records : Records) (before after : List Entry) (shelf number next width : ℕ) (front back free unused_items unused_shelves loose loose_shelves : List ℕ) → times next free ≡ 0 → IsLinkedExcept records (lists_of (before ++ entry_of shelf (front ++ number ∷ next ∷ back) free ∷ after) unused_items unused_shelves) loose loose_shelves → IsLinkedExcept (allocated_absorbed shelf number next width records) (lists_of (before ++ entry_of shelf (front ++ number ∷ back) free ∷ after) (next ∷ unused_items) unused_shelves) loose loose_shelves
 allocated_absorbed-linked records before after shelf number next width front back free unused_items unused_shelves loose loose_shelves absent linked =
     let one : Records = item_unlinked shelf next records in
     let two : Records = item_changed next (λ (item : LinkedItem). record item { allocated = false }) one in
-    let three : Records = item_put_aside next two in
+    let three : Records = item_made_unused next two in
     let entries : List Entry = before ++ entry_of shelf (front ++ number ∷ back) free ∷ after in
     let regrouped : (zs : List ℕ) → (front ++ number ∷ []) ++ zs ≡ front ++ number ∷ zs = λ zs. append_assoc front (number ∷ []) zs in
     let taken_out : IsLinkedExcept one (lists_of (before ++ entry_of shelf ((front ++ number ∷ []) ++ back) free ∷ after) unused_items unused_shelves) (next ∷ loose) loose_shelves =
@@ -76,7 +76,7 @@ allocated_absorbed-linked records before after shelf number next width front bac
     let unmarked : IsLinkedExcept two (lists_of entries unused_items unused_shelves) (next ∷ loose) loose_shelves =
     item_changed-linked one next (λ (item : LinkedItem). record item { allocated = false }) entries unused_items unused_shelves (next ∷ loose) loose_shelves (keeps-allocated false) out in
     item_changed-linked three number (λ (item : LinkedItem). record item { width = width }) entries (next ∷ unused_items) unused_shelves loose loose_shelves (keeps-width width)
-    (item_put_aside-linked two entries next unused_items unused_shelves loose loose_shelves unmarked)
+    (item_made_unused-linked two entries next unused_items unused_shelves loose loose_shelves unmarked)
 
 -- an allocated item became free
 pub item_freed-linked : (records : Records) (before after : List Entry) (shelf number : ℕ) (front back free unused_items unused_shelves loose loose_shelves : List ℕ) → times number free ≡ 0 → IsLinkedExcept records (lists_of (before ++ entry_of shelf (front ++ number ∷ back) free ∷ after) unused_items unused_shelves) loose loose_shelves → IsLinkedExcept (item_freed shelf number records) (lists_of (before ++ entry_of shelf (front ++ number ∷ back) (number ∷ free) ∷ after) unused_items unused_shelves) loose loose_shelves
@@ -92,8 +92,8 @@ pub shelf_absorbed-linked : (records : Records) (before after : List Entry) (ent
 shelf_absorbed-linked records before after entry next item height free unused_items unused_shelves loose loose_shelves linked =
     let gone : Entry = entry_of next (item ∷ []) free in
     let one : Records = shelf_unlinked next records in
-    let two : Records = item_put_aside item one in
-    let three : Records = shelf_put_aside next two in
+    let two : Records = item_made_unused item one in
+    let three : Records = shelf_made_unused next two in
     let regrouped : (zs : List Entry) → (before ++ entry ∷ []) ++ zs ≡ before ++ entry ∷ zs = λ zs. append_assoc before (entry ∷ []) zs in
     let taken_out : IsLinkedExcept one (lists_of ((before ++ entry ∷ []) ++ after) unused_items unused_shelves) (item ∷ loose) (next ∷ loose_shelves) =
     shelf_unlinked-linked records (before ++ entry ∷ []) after gone unused_items unused_shelves loose loose_shelves
@@ -101,8 +101,8 @@ shelf_absorbed-linked records before after entry next item height free unused_it
     let out : IsLinkedExcept one (lists_of (before ++ entry ∷ after) unused_items unused_shelves) (item ∷ loose) (next ∷ loose_shelves) =
     subst (λ (es : List Entry). IsLinkedExcept one (lists_of es unused_items unused_shelves) (item ∷ loose) (next ∷ loose_shelves)) (regrouped after) taken_out in
     shelf_changed-linked three entry.number (λ (here : LinkedShelf). record here { height = height }) (before ++ entry ∷ after) (item ∷ unused_items) (next ∷ unused_shelves) loose loose_shelves (keeps-height height)
-    (shelf_put_aside-linked two (before ++ entry ∷ after) next (item ∷ unused_items) unused_shelves loose loose_shelves
-    (item_put_aside-linked one (before ++ entry ∷ after) item unused_items unused_shelves loose (next ∷ loose_shelves) out))
+    (shelf_made_unused-linked two (before ++ entry ∷ after) next (item ∷ unused_items) unused_shelves loose loose_shelves
+    (item_made_unused-linked one (before ++ entry ∷ after) item unused_items unused_shelves loose (next ∷ loose_shelves) out))
 
 -- a free item was given whole
 pub item_given-linked : (records : Records) (before after : List Entry) (shelf number : ℕ) (items free_front free_back unused_items unused_shelves loose loose_shelves : List ℕ) → IsLinkedExcept records (lists_of (before ++ entry_of shelf items (free_front ++ number ∷ free_back) ∷ after) unused_items unused_shelves) loose loose_shelves → IsLinkedExcept (item_given shelf number records) (lists_of (before ++ entry_of shelf items (free_front ++ free_back) ∷ after) unused_items unused_shelves) loose loose_shelves

@@ -2,7 +2,8 @@
 use Rattle.std.proofs.Common.{◌≡◌, ℕ, ◌+◌, ◌≤◌, Option, None, Some, List, [], ◌∷◌, ◌++◌, length, refl, subst, arith, sym, ◌∙◌}
 use Rattle.etagere_base.proofs.EachLemmas.{Each-append, Each-front, Each-back}
 use Rattle.etagere_base.proofs.TimesLemmas.{times-append}
-use Rattle.etagere_base.specs.Lists.{Each, times}
+use Rattle.std.specs.List.{AllByRecursion}
+use Rattle.etagere_base.specs.Lists.{times}
 use Rattle.etagere_links.specs.declared.records.LinkedShelf.{LinkedShelf}
 use Rattle.etagere_links.specs.Chains.{IsChainIn}
 use Rattle.etagere_links.specs.Edits.{link_at, unlinked, first_without, linked_between}
@@ -56,7 +57,7 @@ shelf_unlinked-linked records before after entry unused_items unused_shelves loo
     unlinked-spells shelf_chain shelf_chain-laws shelves records.first_shelf front back number part.once part.within chain in
     let parts : (k : ℕ) → times k (front ++ back) + times k (number ∷ []) ≡ times k (front ++ number ∷ back) =
     λ k. omega (arith, times-append k front back, times-append k front (number ∷ back)) in
-    let frame : (es : List Entry) → Each (IsEntry records) es → Each (IsEntry (shelf_unlinked number records)) es =
+    let frame : (es : List Entry) → AllByRecursion (IsEntry records) es → AllByRecursion (IsEntry (shelf_unlinked number records)) es =
     λ es are. entries-frame records (shelf_unlinked number records) es (λ k stands. refl)
     (λ k stands. (
       field_at-same (λ (x : LinkedShelf). x.first_item) None shelves new k (map-unlinked shelf_chain (λ (x : LinkedShelf). x.first_item) shelves-keep_items shelves number),
@@ -105,7 +106,7 @@ shelf_inserted_after-linked records before after entry added unused_items unused
     λ k. omega (arith, three-count old unused_shelves (number ∷ loose_shelves) k, (once-part (length shelves) all k (times k all) once (omega arith)).0) in
     let spelled : IsChainIn shelf_chain new records.first_shelf more =
     inserted_after-spells shelf_chain shelf_chain-laws shelves records.first_shelf front back previous number free.within free.no_used part.once part.within chain in
-    let frame : (es : List Entry) → Each (IsEntry records) es → Each (IsEntry (shelf_inserted_after previous number records)) es =
+    let frame : (es : List Entry) → AllByRecursion (IsEntry records) es → AllByRecursion (IsEntry (shelf_inserted_after previous number records)) es =
     λ es are. entries-frame records (shelf_inserted_after previous number records) es (λ k stands. refl)
     (λ k stands. (
       field_at-same (λ (x : LinkedShelf). x.first_item) None shelves new k (map-linked_between shelf_chain (λ (x : LinkedShelf). x.first_item) shelves-keep_items shelves (Some previous) next number),

@@ -4,8 +4,8 @@ use Rattle.etagere_base.proofs.TimesLemmas.{times-append}
 use Rattle.etagere_base.specs.Lists.{times}
 use Rattle.etagere_links.specs.declared.records.LinkedItem.{LinkedItem}
 use Rattle.etagere_links.specs.declared.records.LinkedShelf.{LinkedShelf}
-use Rattle.etagere_links.specs.Edits.{put_aside}
-use Rattle.etagere_links.specs.RecordEdits.{item_put_aside, item_taken, shelf_put_aside, shelf_taken}
+use Rattle.etagere_links.specs.Edits.{made_unused}
+use Rattle.etagere_links.specs.RecordEdits.{item_made_unused, item_taken, shelf_made_unused, shelf_taken}
 use Rattle.etagere_links.specs.RecordLists.{Records, Entry, Lists, shelf_numbers, item_numbers, HasEachOnce, IsLinkedExcept}
 use Rattle.etagere_links.specs.Records.{item_chain, shelf_chain}
 use Rattle.etagere_links.proofs.Families.{item_chain-laws, shelf_chain-laws}
@@ -13,8 +13,8 @@ use Rattle.etagere_links.proofs.FirstLinks.{field_at-kept}
 use Rattle.etagere_links.proofs.AllLists.LinkedFrames.{chain-frame, entries-frame}
 use Rattle.etagere_links.proofs.AllLists.LinkedWalks.{once-part}
 use Rattle.etagere_links.proofs.ListEnds.{times-here}
-use Rattle.etagere_links.proofs.RecordFrames.{length-put_aside, get-put_aside}
-use Rattle.etagere_links.proofs.RecordLists.{put_aside-spells}
+use Rattle.etagere_links.proofs.RecordFrames.{length-made_unused, get-made_unused}
+use Rattle.etagere_links.proofs.RecordLists.{made_unused-spells}
 
 -- lists of shelves, and of what became unused
 abbrev pub lists_of : List Entry → List ℕ → List ℕ → Lists
@@ -48,21 +48,21 @@ differs : (n k : ℕ) (xs : List ℕ) → times n xs ≡ 0 → 1 ≤ times k xs 
 differs n k xs absent stands e = let again : 1 ≤ times n xs = rw e stands in omega (arith, absent)
 
 -- an item record in no list became unused
-pub item_put_aside-linked : (records : Records) (entries : List Entry) (number : ℕ) (unused_items unused_shelves loose loose_shelves : List ℕ) → IsLinkedExcept records (lists_of entries unused_items unused_shelves) (number ∷ loose) loose_shelves → IsLinkedExcept (item_put_aside number records) (lists_of entries (number ∷ unused_items) unused_shelves) loose loose_shelves
-item_put_aside-linked records entries number unused_items unused_shelves loose loose_shelves linked =
+pub item_made_unused-linked : (records : Records) (entries : List Entry) (number : ℕ) (unused_items unused_shelves loose loose_shelves : List ℕ) → IsLinkedExcept records (lists_of entries unused_items unused_shelves) (number ∷ loose) loose_shelves → IsLinkedExcept (item_made_unused number records) (lists_of entries (number ∷ unused_items) unused_shelves) loose loose_shelves
+item_made_unused-linked records entries number unused_items unused_shelves loose loose_shelves linked =
     let items : List LinkedItem = records.items in
-    let new : List LinkedItem = put_aside item_chain records.unused_items number items in
+    let new : List LinkedItem = made_unused item_chain records.unused_items number items in
     let used : List ℕ = item_numbers entries in
     let is : IsLoose (length items) used unused_items number = loose-of (length items) used unused_items loose number linked.items_once in
     record {
       shelves = linked.shelves;
-      entries = entries-frame records (item_put_aside number records) entries
-          (λ k stands. get-put_aside item_chain items records.unused_items number k (differs number k used is.no_used stands))
+      entries = entries-frame records (item_made_unused number records) entries
+          (λ k stands. get-made_unused item_chain items records.unused_items number k (differs number k used is.no_used stands))
           (λ k stands. (refl, refl)) linked.entries;
-      unused_items = put_aside-spells item_chain item_chain-laws items records.unused_items unused_items number is.within is.no_unused linked.unused_items;
+      unused_items = made_unused-spells item_chain item_chain-laws items records.unused_items unused_items number is.within is.no_unused linked.unused_items;
       unused_shelves = linked.unused_shelves;
       shelves_once = linked.shelves_once;
-      items_once = λ k. rw (length-put_aside item_chain items records.unused_items number) (moved k ∙ linked.items_once k);
+      items_once = λ k. rw (length-made_unused item_chain items records.unused_items number) (moved k ∙ linked.items_once k);
     }
   where
     moved : (k : ℕ) → times k (item_numbers entries ++ (number ∷ unused_items) ++ loose) ≡ times k (item_numbers entries ++ unused_items ++ number ∷ loose)
@@ -82,24 +82,24 @@ item_taken-linked records entries number unused_items unused_shelves loose loose
     }
 
 -- a shelf record in no list became unused
-pub shelf_put_aside-linked : (records : Records) (entries : List Entry) (number : ℕ) (unused_items unused_shelves loose loose_shelves : List ℕ) → IsLinkedExcept records (lists_of entries unused_items unused_shelves) loose (number ∷ loose_shelves) → IsLinkedExcept (shelf_put_aside number records) (lists_of entries unused_items (number ∷ unused_shelves)) loose loose_shelves
-shelf_put_aside-linked records entries number unused_items unused_shelves loose loose_shelves linked =
+pub shelf_made_unused-linked : (records : Records) (entries : List Entry) (number : ℕ) (unused_items unused_shelves loose loose_shelves : List ℕ) → IsLinkedExcept records (lists_of entries unused_items unused_shelves) loose (number ∷ loose_shelves) → IsLinkedExcept (shelf_made_unused number records) (lists_of entries unused_items (number ∷ unused_shelves)) loose loose_shelves
+shelf_made_unused-linked records entries number unused_items unused_shelves loose loose_shelves linked =
     let shelves : List LinkedShelf = records.shelves in
-    let new : List LinkedShelf = put_aside shelf_chain records.unused_shelves number shelves in
+    let new : List LinkedShelf = made_unused shelf_chain records.unused_shelves number shelves in
     let used : List ℕ = shelf_numbers entries in
     let is : IsLoose (length shelves) used unused_shelves number = loose-of (length shelves) used unused_shelves loose_shelves number linked.shelves_once in
     record {
       shelves = chain-frame shelf_chain shelves new records.first_shelf used
-          (λ k stands. get-put_aside shelf_chain shelves records.unused_shelves number k (differs number k used is.no_used stands)) linked.shelves;
-      entries = entries-frame records (shelf_put_aside number records) entries (λ k stands. refl)
+          (λ k stands. get-made_unused shelf_chain shelves records.unused_shelves number k (differs number k used is.no_used stands)) linked.shelves;
+      entries = entries-frame records (shelf_made_unused number records) entries (λ k stands. refl)
           (λ k stands. (
             field_at-kept (λ (x : LinkedShelf). x.first_item) None (shelf_chain.with_next records.unused_shelves) shelves number k (λ x. refl),
             field_at-kept (λ (x : LinkedShelf). x.first_unallocated) None (shelf_chain.with_next records.unused_shelves) shelves number k (λ x. refl),
           ))
           linked.entries;
       unused_items = linked.unused_items;
-      unused_shelves = put_aside-spells shelf_chain shelf_chain-laws shelves records.unused_shelves unused_shelves number is.within is.no_unused linked.unused_shelves;
-      shelves_once = λ k. rw (length-put_aside shelf_chain shelves records.unused_shelves number) (moved k ∙ linked.shelves_once k);
+      unused_shelves = made_unused-spells shelf_chain shelf_chain-laws shelves records.unused_shelves unused_shelves number is.within is.no_unused linked.unused_shelves;
+      shelves_once = λ k. rw (length-made_unused shelf_chain shelves records.unused_shelves number) (moved k ∙ linked.shelves_once k);
       items_once = linked.items_once;
     }
   where

@@ -4,7 +4,8 @@ use Rattle.std.proofs.Common.{◌≡◌, ℕ, zero, suc, ◌+◌, ◌<◌, ◌�
 use Rattle.std.proofs.lemmas.List.{length-map}
 use Rattle.std.specs.Prelude.{nat_lt, slice_index}
 use Rattle.etagere_base.proofs.TimesLemmas.{times-append}
-use Rattle.etagere_base.specs.Lists.{Each, times}
+use Rattle.std.specs.List.{AllByRecursion}
+use Rattle.etagere_base.specs.Lists.{times}
 use Rattle.etagere_links.specs.Chains.{IsPile, Leads}
 use Rattle.etagere_links.specs.Edits.{AreFitting, link_at}
 use Rattle.etagere_links.specs.Links.{no_link, bits_of, link_of}
@@ -59,7 +60,7 @@ entry-walked records entry walks =
     ∙ ap (λ (w : Walked). record { number = entry.number; items = entry.items; free_list = w.met }) walks.free_list
 
 -- the walks of each shelf's lists
-pub entries-walks : (records : Records) (all : List ℕ) → length records.items ≤ no_link → HasEachOnce (length records.items) all → (entries : List Entry) → ((k : ℕ) → times k (item_numbers entries) ≤ times k all) → Each (IsEntry records) entries → Each (HasWalks records) entries
+pub entries-walks : (records : Records) (all : List ℕ) → length records.items ≤ no_link → HasEachOnce (length records.items) all → (entries : List Entry) → ((k : ℕ) → times k (item_numbers entries) ≤ times k all) → AllByRecursion (IsEntry records) entries → AllByRecursion (HasWalks records) entries
 entries-walks records all few each [] less are = tt
 entries-walks records all few each (entry ∷ entries) less are =
     let count : (k : ℕ) → times k (item_numbers (entry ∷ entries)) ≡ times k entry.items + times k (item_numbers entries) =
@@ -74,7 +75,7 @@ entries-walks records all few each (entry ∷ entries) less are =
     )
 
 -- the entries are those that walks meet
-pub entries-walked : (records : Records) (entries : List Entry) → Each (HasWalks records) entries → map (walked_entry records) (shelf_numbers entries) ≡ entries
+pub entries-walked : (records : Records) (entries : List Entry) → AllByRecursion (HasWalks records) entries → map (walked_entry records) (shelf_numbers entries) ≡ entries
 entries-walked records [] walks = refl
 entries-walked records (entry ∷ entries) walks =
     ap (λ (e : Entry). e ∷ map (walked_entry records) (shelf_numbers entries)) (entry-walked records entry walks.0)
@@ -83,7 +84,7 @@ entries-walked records (entry ∷ entries) walks =
 -- what the walks through linked records are
 pub record AreWalks (records : Records) (lists : Lists) : Type 0 where
   pub shelves : shelf_walk records ≡ record { met = shelf_numbers lists.entries; end = no_link }
-  pub entries : Each (HasWalks records) lists.entries
+  pub entries : AllByRecursion (HasWalks records) lists.entries
   pub unused_items : unused_item_walk records ≡ record { met = lists.unused_items; end = no_link }
   pub unused_shelves : unused_shelf_walk records ≡ record { met = lists.unused_shelves; end = no_link }
 

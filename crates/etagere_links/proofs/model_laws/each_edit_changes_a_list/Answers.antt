@@ -7,7 +7,7 @@ use Rattle.etagere_links.specs.Laws.{EditsAList}
 use Rattle.etagere_links.specs.Lists.{first_or, last_or}
 use Rattle.etagere_links.proofs.Chains.{Leads-start, next-is, previous-is}
 use Rattle.etagere_links.proofs.Families.{free_list-laws, item_chain-laws, shelf_chain-laws}
-use Rattle.etagere_links.proofs.RecordLists.{inserted_after-spells, inserted_front-spells, put_aside-spells, unlinked-spells, without-first}
+use Rattle.etagere_links.proofs.RecordLists.{inserted_after-spells, inserted_front-spells, made_unused-spells, unlinked-spells, without-first}
 use Rattle.etagere_links.proofs.model_laws.each_edit_changes_a_list.Goals as goal
 
 -- the link to the first of a list, where one was taken out
@@ -31,8 +31,8 @@ edits family laws =
           inserted_front-spells family laws records first numbers number outside.there outside.absent listed.once listed.there listed.spelled;
       puts_after = λ records first front back previous number listed outside.
           inserted_after-spells family laws records first front back previous number outside.there outside.absent listed.once listed.there listed.spelled;
-      puts_aside = λ records top numbers number spelled outside.
-          put_aside-spells family laws records top numbers number outside.there outside.absent spelled;
+      makes_unused = λ records top numbers number spelled outside.
+          made_unused-spells family laws records top numbers number outside.there outside.absent spelled;
       takes_off_top = λ records top number numbers spelled.
           (spelled.0, subst (λ (from : Option ℕ). IsPileIn family records (option_and_then (link_at family.next records) from) numbers) (sym spelled.0) spelled.1);
       takes_none = λ records top spelled.

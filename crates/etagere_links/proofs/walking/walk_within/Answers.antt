@@ -1,7 +1,7 @@
 use Rattle.std.proofs.Common.{◌≡◌, ◌<◌, false, suc, ◌+◌, ◌-◌, length, arith, refl, ap, subst, sym, ◌∙◌}
-use Rattle.etagere_links.specs.Private.Places.{ArePlaced}
+use Rattle.etagere_links.specs.Private.Positions.{ArePositions}
 use Rattle.etagere_links.specs.Walks.{is_end, walk}
-use Rattle.etagere_links.proofs.MetPlaces.{placed-more, placed-none}
+use Rattle.etagere_links.proofs.MetPositions.{at_positions-more, at_positions-none}
 use Rattle.etagere_links.proofs.WalkSteps.{has, walked_from-step, end-past, end-marked, end-other, walked-end, walked-out}
 use Rattle.etagere_links.proofs.walking.walk_within.Goals as goal
 use Rattle.etagere_links.proofs.walking.walk_within.Goals.{else-loop-step-test, then-loop-step-test+then-number-links, then-number-links-via-then-number-links, then-number-links-via-else-number-links+then-is_met}
@@ -10,7 +10,7 @@ pub loop-step-init : goal.loop-step-init
 loop-step-init c = record {
   rest = let whole : length c.args.links.now - 0 ≡ length c.args.links.now = omega arith in rw (whole, c.new-met.ensures.items) refl;
   count = c.new-met.ensures.len;
-  placed = subst (ArePlaced c.args.places.now) (sym c.new-met.ensures.items) (placed-none c.args.places.now);
+  at_positions = subst (ArePositions c.args.positions.now) (sym c.new-met.ensures.items) (at_positions-none c.args.positions.now);
 }
 
 pub loop-step-preserved : goal.loop-step-preserved
@@ -27,7 +27,7 @@ loop-step-preserved c =
     record {
       rest = rw (c.in_ok-push.ensures.items, same) (sym (walked_from-step _ _ _ _ _ goes less) ∙ kept.rest);
       count = omega (arith, c.in_ok-push.ensures.len, kept.count);
-      placed = rw (c.in_ok-push.ensures.items, same) (placed-more c.loop-step.places met at c.loop-step.step (omega (arith, within, c.requires.room, c.loop-step.auto.places)) (omega (arith, kept.count)) (sym met_before ∙ c.if-is_met.false) kept.placed);
+      at_positions = rw (c.in_ok-push.ensures.items, same) (at_positions-more c.loop-step.positions met at c.loop-step.step (omega (arith, within, c.requires.room, c.loop-step.auto.positions)) (omega (arith, kept.count)) (sym met_before ∙ c.if-is_met.false) kept.at_positions);
     }
 
 -- where the loop is left, what was met and the link at hand are those of the walk

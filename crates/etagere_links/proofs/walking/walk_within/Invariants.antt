@@ -1,5 +1,5 @@
 use Rattle.std.proofs.Common.{◌≡◌, ◌-◌, length, vec_len}
-use Rattle.etagere_links.specs.Private.Places.{ArePlaced}
+use Rattle.etagere_links.specs.Private.Positions.{ArePositions}
 use Rattle.etagere_links.specs.Walks.{walk, walked_from}
 use Rattle.etagere_links.proofs.walking.walk_within.Given as goal
 
@@ -7,5 +7,5 @@ abbrev pub invariant-loop-step : goal.invariant-loop-step
 invariant-loop-step l = record {
   rest : walked_from (length l.links - l.step) l.links l.met.items l.at ≡ walk l.links l.start;
   count : vec_len l.met ≡ l.step;
-  placed : ArePlaced l.places l.met.items;
+  at_positions : ArePositions l.positions l.met.items;
 }

@@ -18,8 +18,8 @@ returns c =
     let old : Records = record { shelves = shelves; items = items; first_shelf = c.self.inside.first; unused_items = c.self.inside.unused_items; unused_shelves = c.self.inside.unused_shelves } in
     let done : Records = allocated_absorbed c.args.shelf c.args.number next c.args.width old in
     let long : length c.set_width_present.new.items ≡ c.self.inside.item_records.len =
-    c.set_width_present.auto.items ∙ c.free_and_put_aside_present.auto.items ∙ c.unlink_present.auto.records ∙ c.deref_mut-items.ensures.len in
-    rw (with_items_is c.self.inside.item_records c.set_width_present.new.items long, c.set_width_present.ensures, c.free_and_put_aside_present.ensures.items, c.free_and_put_aside_present.ensures.top, c.unlink_present.ensures.records, c.unlink_present.ensures.first, c.deref_mut-items.ensures.value, sym c.self.view_is)
+    c.set_width_present.auto.items ∙ c.free_and_make_unused_present.auto.items ∙ c.unlink_present.auto.records ∙ c.deref_mut-items.ensures.len in
+    rw (with_items_is c.self.inside.item_records c.set_width_present.new.items long, c.set_width_present.ensures, c.free_and_make_unused_present.ensures.items, c.free_and_make_unused_present.ensures.top, c.unlink_present.ensures.records, c.unlink_present.ensures.first, c.deref_mut-items.ensures.value, sym c.self.view_is)
     (ap (λ (written : List LinkedShelf). record done { shelves = written })
     (first_item-written shelves c.args.shelf
     (λ (first : Option ℕ). first_without (link_at item_chain.previous items next) (link_at item_chain.next items next) first)

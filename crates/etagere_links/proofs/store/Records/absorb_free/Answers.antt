@@ -25,8 +25,8 @@ returns c =
     let one : List LinkedItem = unlinked free_list next items in
     let done : Records = free_absorbed c.args.shelf c.args.number next c.args.width old in
     let long : length c.set_width_present.new.items ≡ c.self.inside.item_records.len =
-    c.set_width_present.auto.items ∙ c.put_aside_present.auto.records ∙ c.unlink_present-2.auto.records ∙ c.unlink_present.auto.records ∙ c.deref_mut-items.ensures.len in
-    rw (with_items_is c.self.inside.item_records c.set_width_present.new.items long, c.set_width_present.ensures, c.put_aside_present.ensures.records, c.put_aside_present.ensures.top, c.unlink_present-2.ensures.records, c.unlink_present-2.ensures.first, c.unlink_present.ensures.records, c.unlink_present.ensures.first, c.deref_mut-items.ensures.value, sym c.self.view_is)
+    c.set_width_present.auto.items ∙ c.make_unused_present.auto.records ∙ c.unlink_present-2.auto.records ∙ c.unlink_present.auto.records ∙ c.deref_mut-items.ensures.len in
+    rw (with_items_is c.self.inside.item_records c.set_width_present.new.items long, c.set_width_present.ensures, c.make_unused_present.ensures.records, c.make_unused_present.ensures.top, c.unlink_present-2.ensures.records, c.unlink_present-2.ensures.first, c.unlink_present.ensures.records, c.unlink_present.ensures.first, c.deref_mut-items.ensures.value, sym c.self.view_is)
     (ap (λ (written : List LinkedShelf). record done { shelves = written })
     (firsts-written shelves c.args.shelf
     (λ (first : Option ℕ). first_without (link_at item_chain.previous one next) (link_at item_chain.next one next) first)
