@@ -23,7 +23,7 @@ fn sized(options: &AllocatorOptions, along: i32, across: i32) -> Size {
 }
 
 /// An atlas of two columns after several sizes, of which some were returned. Shelves and items were
-/// split and merged, so that records of both kinds were put aside.
+/// split and merged, so that records of both kinds are unused.
 pub fn worn(alloc: Global, options: &AllocatorOptions) -> Result<AtlasAllocator> {
     let size = sized(options, 60, 60);
     let mut atlas = AtlasAllocator::with_options(alloc, size, options)?;

@@ -73,13 +73,13 @@ fn column_of(snapshot: &AtlasSnapshot, shelf: &ShelfRecord) -> i64 {
 /// The heights in a column of the first shelves of the chain, of as many as are counted, added up.
 fn heights(snapshot: &AtlasSnapshot, chain: &[usize], column: i64, counted: usize) -> Result<i64> {
     let mut sum = 0;
-    let mut place = 0;
+    let mut position = 0;
     for number in chain {
         let shelf = shelf_of(snapshot, *number)?;
-        if place < counted && column_of(snapshot, shelf) == column {
+        if position < counted && column_of(snapshot, shelf) == column {
             sum = i64::wrapping_add(sum, i64::from(shelf.height));
         }
-        place = usize::wrapping_add(place, 1);
+        position = usize::wrapping_add(position, 1);
     }
     Ok(sum)
 }
@@ -91,18 +91,18 @@ fn shelves_hold(snapshot: &AtlasSnapshot, walks: &Walks) -> Result<bool> {
     let chain = walks.shelves.met.as_slice();
     let mut holds = true;
     let mut before = -1;
-    let mut place = 0;
+    let mut position = 0;
     for number in chain {
         let shelf = shelf_of(snapshot, *number)?;
         let column = column_of(snapshot, shelf);
         let opens = column == i64::wrapping_add(before, 1);
-        let below = heights(snapshot, chain, column, place)?;
-        holds = holds && (opens || (column == before && place > 0));
+        let below = heights(snapshot, chain, column, position)?;
+        holds = holds && (opens || (column == before && position > 0));
         holds = holds && i64::from(shelf.x) == column.wrapping_mul(shelf_width);
         holds = holds && i64::from(shelf.y) == below && shelf.height >= 1;
         holds = holds && heights(snapshot, chain, column, chain.len())? == across;
         before = column;
-        place = usize::wrapping_add(place, 1);
+        position = usize::wrapping_add(position, 1);
     }
     Ok(holds && i64::wrapping_add(before, 1) == columns)
 }

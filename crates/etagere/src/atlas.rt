@@ -1,4 +1,4 @@
-//! The public calls of an atlas. Each is thin: it asks, and then changes the records by one call.
+//! The public calls of an atlas. Each is thin: it looks up what it needs, and then changes the records by one call.
 //!
 //! Definitions: `Atlas` for what the clauses say, `State` for what they see, `Consistent` for what the
 //! fields keep. The clauses stay as they are: callers prove by them. Fields may change, with `state_in`
@@ -22,7 +22,7 @@ ghost use Rattle.shelf_model.specs.Listing.{RiseFrom, listed};
 ghost use Rattle.shelf_model.specs.Places as places;
 ghost use Rattle.shelf_model.specs.Places.{allocations, is_allocated};
 ghost use Rattle.etagere_base.specs.Rectangles.{IsLarge};
-ghost use Rattle.shelf_heights.specs.Private.ByHeight.{AreRanked};
+ghost use Rattle.shelf_heights.specs.Private.ByHeight.{AreByHeight};
 ghost use Rattle.shelf_records.specs.Private.Kept.{AreKept};
 ghost use Rattle.shelf_model.specs.Returning.{returned};
 ghost use Rattle.shelf_records.specs.Snapshots.{IsBroken, snapshot_records, state_spelled};
@@ -38,15 +38,15 @@ use etagere_base::{
     Rectangle, RestoreFault, Size, UnknownId, atlas_frame, options_fault, side,
 };
 use etagere_links::Records;
-use shelf_heights::ranked::ShelvesByHeight;
+use shelf_heights::by_height::ShelvesByHeight;
 use shelf_model::faults::AtlasGrowFault;
 use shelf_records::snapshots::{AtlasSnapshot, snapshot_of};
 use shelf_restoring::loaded_atlas::LoadedAtlas;
 use shelf_store::choosing::{MOST_ITEMS, fits_when_empty, placement_of};
 use shelf_store::drawing::{send_document, send_part, send_picture};
 use shelf_store::growing::counting::needed_for;
-use shelf_store::growing::framing::{grown_frame, size_fault};
 use shelf_store::growing::grow_shelves;
+use shelf_store::growing::grown_frames::{grown_frame, size_fault};
 use shelf_store::looking::{index_of, number_of, recorded_area, recorded_shelf, rectangle_of};
 use shelf_store::returning::return_item;
 use shelf_store::starting::{fresh_by_height, fresh_records, reset_by_height, reset_records};
@@ -71,7 +71,7 @@ use std::marker::Model;
 pub struct AtlasAllocator {
     frame: Frame,
     records: Records,
-    ranked: ShelvesByHeight,
+    by_height: ShelvesByHeight,
     items_in_use: u32,
     allocated_space: u32,
 }
@@ -91,8 +91,8 @@ impl Model for AtlasAllocator {
 impl AtlasAllocator {
     /// An empty atlas of this size in pixels, with the default options.
     ///
-    /// Returns the first fault; `Memory` only where there is no other and no memory. Takes
-    /// memory for the records of one shelf and its item, and for the shelf's place by height. Takes constant time.
+    /// Returns the first fault; `Memory` only where there is no other and no memory. Takes memory for the records of
+    /// one shelf and its item, and for the shelf's entry in the list by height. Takes constant time.
     pub fn new(alloc: Global, size: Size) -> Result<AtlasAllocator, OptionsFault>
         ensures ok { IfOk result
             (λ atlas. atlas ≡ fresh (frames.atlas_frame size default_options)) }
@@ -109,9 +109,8 @@ impl AtlasAllocator {
 
     /// An empty atlas of this size in pixels.
     ///
-    /// Returns the first fault; `Memory` only where there is no other and no memory. Takes
-    /// memory for the records of a shelf and its item in each column, and for the shelf's place by height. Goes
-    /// through the columns.
+    /// Returns the first fault; `Memory` only where there is no other and no memory. Takes memory for the records of a
+    /// shelf and its item in each column, and for the shelf's entry in the list by height. Goes through the columns.
     pub fn with_options(
         alloc: Global,
         size: Size,
@@ -133,25 +132,25 @@ impl AtlasAllocator {
         let Ok(records) = fresh_records(alloc, &frame) else {
             return Err(OptionsFault::Memory);
         };
-        let Ok(ranked) = fresh_by_height(alloc, &frame) else {
+        let Ok(by_height) = fresh_by_height(alloc, &frame) else {
             return Err(OptionsFault::Memory);
         };
         Ok(AtlasAllocator {
             frame,
             records,
-            ranked,
+            by_height,
             items_in_use: frame.columns,
             allocated_space: 0,
         })
     }
 
-    /// Makes an atlas from a snapshot, whoever wrote it: where that keeps every rule, the atlas is the one for which
-    /// it stands.
+    /// Makes an atlas from a snapshot, whoever wrote it. Where the snapshot keeps every rule, the atlas is in the state
+    /// for which it stands.
     ///
-    /// Returns a fault whose rule is broken; `Memory` only where there was no memory. The snapshot is used up either
-    /// way. Its records are made anew, so for a while there is memory for them twice. Takes some more for each record
-    /// while it runs, and for a place by height for each shelf record, used or not. The time is linear in the number of
-    /// records, but for a sort of the shelves in use.
+    /// Returns a rule that the snapshot breaks; `Memory` only where there was no memory. The snapshot is consumed
+    /// either way. Its records are made anew, so for a while there is memory for them twice. Takes some more for each
+    /// record while it runs, and for an entry in the list by height for each shelf record, used or not. The time is
+    /// linear in the number of records, but for a sort of the shelves in use.
     pub fn restore(alloc: Global, snapshot: AtlasSnapshot) -> Result<AtlasAllocator, RestoreFault>
         ensures ok { IfOk result (λ atlas. StandsFor (snapshot_records snapshot) atlas) }
         ensures fault { IfErr result (IsBroken (snapshot_records snapshot)) }
@@ -164,12 +163,12 @@ impl AtlasAllocator {
     /// The atlas of a snapshot that keeps all rules, with these shelves and so many items in use.
     pub(crate) fn of_judged(
         atlas: LoadedAtlas,
-        ranked: ShelvesByHeight,
+        by_height: ShelvesByHeight,
         items_in_use: u32,
     ) -> AtlasAllocator
         requires kept { AreKept atlas.frame atlas.records }
-        requires ranked { AreRanked atlas.frame atlas.records ranked.items }
-        requires room { length atlas.records.shelves ≤ ranked.capacity }
+        requires by_height { AreByHeight atlas.frame atlas.records by_height.items }
+        requires room { length atlas.records.shelves ≤ by_height.capacity }
         requires space { atlas.allocated_space ≡ pos (space.space_in (state_spelled atlas).shelves) }
         requires items { items_in_use ≡ state.items_in_use (state_spelled atlas).shelves }
         ensures state { result ≡ state_spelled atlas }
@@ -179,13 +178,13 @@ impl AtlasAllocator {
         AtlasAllocator {
             frame: atlas.frame,
             records: atlas.records,
-            ranked,
+            by_height,
             items_in_use,
             allocated_space,
         }
     }
 
-    /// The size of the atlas in pixels, as it was made or has grown. Takes constant time.
+    /// The present size of the atlas in pixels. Takes constant time.
     pub fn size(&self) -> Size
         ensures promises { KeepsPromises self.now }
         ensures size { result
@@ -199,12 +198,12 @@ impl AtlasAllocator {
 
     /// Gives a rectangle that is at least as large as the size in pixels, or none where there is no place.
     ///
-    /// `Err` comes only where the place is to be split, too few records are unused for that, and there was no memory.
-    /// Nothing changes after an `Err` or none. Memory is taken only for records that are made: of items, and of a shelf
-    /// with its place by height. A split for which there are unused records takes none, nor does a size that needs no
-    /// split. Finds by binary search where the shelves begin that are tall enough, and goes through them by height, in
-    /// each that may have an item wide enough through its free list up to the first one that is. Where a shelf is
-    /// split, those that are taller move in their list.
+    /// `Err` comes only where the item or shelf must be split, too few records are unused for that, and there was no
+    /// memory. After an `Err` or none nothing has changed. Memory is taken only for records that are made: of items,
+    /// and of a shelf with its entry in the list by height. A split for which there are unused records takes none, nor
+    /// does a size that needs no split. Finds the first shelf that is tall enough by binary search, and goes on by
+    /// height; of each shelf that may have an item wide enough it searches the free list up to the first that is. Where
+    /// a shelf is split, the taller ones move in the list by height.
     pub fn allocate(&mut self, size: Size) -> Result<Option<Allocation>, AllocError>
         ensures placed { IfOk result
             (λ answer. IfSome answer (λ allocation. Allocates self.old size allocation self.new)) }
@@ -230,7 +229,7 @@ impl AtlasAllocator {
         let found = placement_of(
             &self.frame,
             &self.records,
-            &mut self.ranked,
+            &mut self.by_height,
             self.items_in_use,
             size,
         );
@@ -241,7 +240,7 @@ impl AtlasAllocator {
         let column_width = self.frame.column_width as u16;
         let id = take_placement(
             &mut self.records,
-            &mut self.ranked,
+            &mut self.by_height,
             &placement,
             column_width,
         )?;
@@ -250,7 +249,7 @@ impl AtlasAllocator {
         Ok(Some(Allocation { id, rectangle }))
     }
 
-    /// Whether the atlas would have a place for the size, in pixels, if it were empty, as it was made or has grown.
+    /// Whether the atlas, with its present size and columns, would have a place for a size in pixels if it were empty.
     ///
     /// Takes no memory, and constant time.
     pub fn fits_when_empty(&self, size: Size) -> bool
@@ -262,8 +261,8 @@ impl AtlasAllocator {
     /// Takes back the rectangle that is allocated under an id, and merges what is free with its neighbours.
     ///
     /// `Err` comes exactly where nothing is allocated under the id; then nothing changes. Takes no memory. It looks at
-    /// the record of the id, and at those beside it and its shelf, whose place by height it finds at once or by binary
-    /// search. Where shelves merge, those that are taller move in their list.
+    /// the record of the id, and at those beside it and its shelf, whose entry in the list by height it finds at once
+    /// or by binary search. Where shelves merge, the taller ones move in that list.
     pub fn deallocate(&mut self, id: AllocId) -> Result<(), UnknownId>
         ensures ok { OnOk result (self.new ≡ returned self.old id) }
         ensures unknown { IsErr result ↔ (is_allocated self.old id ≡ false) }
@@ -281,7 +280,7 @@ impl AtlasAllocator {
         let shelf = recorded_shelf(&self.records, number);
         let area = recorded_area(&self.records, shelf, number);
         self.allocated_space -= area;
-        self.items_in_use -= return_item(&mut self.records, &mut self.ranked, shelf, number);
+        self.items_in_use -= return_item(&mut self.records, &mut self.by_height, shelf, number);
         Ok(())
     }
 
@@ -334,9 +333,9 @@ impl AtlasAllocator {
     ///
     /// Returns the first fault; `Memory` only where there is no other, the growth needs records and there was no
     /// memory. Nothing changes after a fault. Takes memory for the records that it needs as far as too few are unused,
-    /// and for the places by height of shelf records that are made. Where no column becomes wider or taller and none is
-    /// added, it takes constant time. Else it goes through all shelves, for wider columns through all items too, and
-    /// then sorts the shelves.
+    /// and for the entries in the list by height of shelf records that are made. Where no column becomes wider or
+    /// taller and none is added, it takes constant time. Else it goes through all shelves, for wider columns through
+    /// all items too, and then sorts the shelves.
     pub fn grow(&mut self, size: Size) -> Result<(), AtlasGrowFault>
         ensures ok { OnOk result (self.new ≡ atlas_grown self.old size) }
         ensures fault { IfSome (grow_fault self.old size) (λ fault. result ≡ Err fault) }
@@ -357,7 +356,7 @@ impl AtlasAllocator {
         }
         let done = grow_shelves(
             &mut self.records,
-            &mut self.ranked,
+            &mut self.by_height,
             &self.frame,
             &grown,
             needed,
@@ -379,7 +378,7 @@ impl AtlasAllocator {
         ensures promises { KeepsPromises self.new }
     {
         reset_records(&self.frame, &mut self.records);
-        reset_by_height(&self.frame, &mut self.ranked);
+        reset_by_height(&self.frame, &mut self.by_height);
         self.items_in_use = self.frame.columns;
         self.allocated_space = 0;
     }
@@ -453,15 +452,15 @@ impl Clone for AtlasAllocator {
 
     /// An atlas that equals this one, its ids and its later answers too, and shares nothing with it.
     ///
-    /// The error comes only where there was no memory. Takes memory for all records, and for the places of shelves by
+    /// The error comes only where there was no memory. Takes memory for all records, and for the list of shelves by
     /// height, and goes through them.
     fn clone(&self) -> Result<AtlasAllocator, AllocError> {
         let records = self.records.clone()?;
-        let ranked = self.ranked.copied(records.shelves().len())?;
+        let by_height = self.by_height.copied(records.shelves().len())?;
         Ok(AtlasAllocator {
             frame: self.frame,
             records,
-            ranked,
+            by_height,
             items_in_use: self.items_in_use,
             allocated_space: self.allocated_space,
         })

@@ -1,5 +1,5 @@
-//! What the laws of restoring are stated of: the counted form of `restore`, the walks by which it follows links, and
-//! saving and restoring as one; all of both atlases. Public, and not meant for users.
+//! What the laws of restoring are stated about: the form of `restore` that counts its steps, the walks by which it
+//! follows links, and saving and restoring in one call; each for both atlases. Public, but not meant for users.
 
 ghost use Rattle.std.specs.Prelude.{◌≡◌, IfErr, IfOk};
 ghost use Rattle.etagere_base.specs.declared.faults.RestoreFault.TheVariants as faults;
@@ -15,7 +15,7 @@ pub use etagere_bucketed::laws::{
 pub use etagere_links::{Walk, walk};
 use std::alloc::Global;
 
-/// Records stand for one state at most, and those of which a rule is broken for none. It is a law, and does nothing.
+/// Records stand for one state at most, and those that break a rule for none. It is a law, and does nothing.
 pub fn records_stand_for_one_state()
     ensures one { StandsForOne }
     ensures none { BrokenStandsForNone }
@@ -25,8 +25,8 @@ pub fn records_stand_for_one_state()
 /// users.
 ///
 /// The error is `Memory`, and comes only where there was no memory. Takes memory for all records, some for each record
-/// while it runs, and for a place by height for each shelf record, used or not. The time is linear in the number of
-/// records, but for a sort of the shelves in use.
+/// while it runs, and for an entry in the list by height for each shelf record, used or not. The time is linear in the
+/// number of records, but for a sort of the shelves in use.
 pub fn saved_and_restored(
     alloc: Global,
     atlas: &AtlasAllocator,

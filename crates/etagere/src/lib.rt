@@ -1,9 +1,9 @@
 //! A texture atlas allocator: rectangles are placed on shelves and given back in any order.
 //!
-//! The calls stand in `atlas`, those that count the steps of a restoring in `laws`, and the iterator in `listing`. The
+//! The calls are in `atlas`, the form of `restore` that counts its steps in `laws`, and the iterator in `listing`. The
 //! layers below are crates of their own, not meant for users: `shelf_model` has the model and its laws, `shelf_records`
-//! what records spell and are saved as, `shelf_heights` the shelves by height, `shelf_store` what calls do to records, and
-//! `shelf_restoring` how a snapshot is judged. The bucketed atlas of `etagere_bucketed` is re-exported.
+//! what records spell and are saved as, `shelf_heights` the shelves by height, `shelf_store` what calls do to records,
+//! and `shelf_restoring` how a snapshot is judged. The bucketed atlas of `etagere_bucketed` is re-exported.
 #![tactic(auto)]
 
 mod atlas;

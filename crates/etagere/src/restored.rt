@@ -1,4 +1,4 @@
-//! Judging all rules of a snapshot, and making the atlas for which it stands.
+//! Judging all rules of a snapshot, and making the atlas that it describes.
 //!
 //! Definitions: `Snapshots`, and `StandsFor` for the rules. Steps are linear in the number of records, and so is the
 //! time, but for a sort of the shelves in use.
@@ -7,7 +7,7 @@ ghost use Rattle.std.specs.Prelude.{◌≡◌, ◌+◌, ◌*◌, ◌<◌, ◌≤
 ghost use Rattle.etagere_base.specs.Frames.{HasAllColumns, IsFrame, longest_side};
 ghost use Rattle.etagere_links.specs.RecordLists.{item_numbers, shelf_numbers, shelf_walk};
 ghost use Rattle.shelf_model.specs.Atlas.{KeepsPromises};
-ghost use Rattle.shelf_heights.specs.Private.ByHeight.{AreRanked};
+ghost use Rattle.shelf_heights.specs.Private.ByHeight.{AreByHeight};
 ghost use Rattle.shelf_records.specs.Private.Kept.{AreKept};
 ghost use Rattle.shelf_restoring.specs.RestoringSteps.{IsFollowed, StopsAfter, links_followed, links_of_all};
 ghost use Rattle.shelf_records.specs.Snapshots.{IsBroken, snapshot_records, state_spelled};
@@ -17,13 +17,13 @@ ghost use Rattle.shelf_model.specs.State.{items_in_use};
 use crate::atlas::AtlasAllocator;
 use etagere_base::{Frame, RestoreFault};
 use etagere_links::Records;
-use shelf_heights::ranked::ShelvesByHeight;
+use shelf_heights::by_height::ShelvesByHeight;
 use shelf_records::snapshots::AtlasSnapshot;
 use shelf_restoring::judging::WalkedShelf;
 use shelf_restoring::loaded_atlas::LoadedAtlas;
 use shelf_restoring::rules::judge_rules;
 use shelf_restoring::walking::walk_records;
-use shelf_store::starting::newly_ranked;
+use shelf_store::starting::newly_bounded;
 use std::alloc::{AllocError, Global};
 
 /// How many items these shelves have.
@@ -38,8 +38,8 @@ fn count_items(shelves: &[WalkedShelf]) -> u32
     count
 }
 
-/// The shelves in use of records, ranked, where walks have met these.
-fn ranked_shelves(
+/// The shelves in use, by height, where walks have met them.
+fn shelves_by_height(
     alloc: Global,
     frame: &Frame,
     records: &Records,
@@ -47,15 +47,15 @@ fn ranked_shelves(
 ) -> Result<ShelvesByHeight, AllocError>
     requires kept { AreKept frame.now records.now }
     requires met { shelf_numbers shelves.now ≡ (shelf_walk records.now).met }
-    ensures ranked { IfOk result (λ ranked. AreRanked frame.now records.now ranked.items) }
-    ensures room { IfOk result (λ ranked. length records.now.shelves ≤ ranked.capacity) }
+    ensures by_height { IfOk result (λ by_height. AreByHeight frame.now records.now by_height.items) }
+    ensures room { IfOk result (λ by_height. length records.now.shelves ≤ by_height.capacity) }
 {
-    let mut ranked = ShelvesByHeight::with_room(alloc, records.shelves().len())?;
+    let mut by_height = ShelvesByHeight::with_room(alloc, records.shelves().len())?;
     for shelf in shelves {
-        ranked.push(newly_ranked(frame, usize::from(shelf.number)));
+        by_height.push(newly_bounded(frame, usize::from(shelf.number)));
     }
-    ranked.sort(records.shelves());
-    Ok(ranked)
+    by_height.sort(records.shelves());
+    Ok(by_height)
 }
 
 /// Follows all links of an atlas and judges its rules; returns the shelves in use that walks have met.
@@ -96,12 +96,12 @@ fn judge_atlas(
     Ok(walked.shelves)
 }
 
-/// Makes an atlas from a snapshot, as `AtlasAllocator::restore` does, and counts the links that it follows. It is
-/// what the laws of restoring are stated of, and not meant for users.
+/// Makes an atlas from a snapshot, as `AtlasAllocator::restore` does, and counts the links that it follows. The laws of
+/// restoring are stated about it; it is not meant for users.
 ///
-/// Returns a fault whose rule is broken; `Memory` only where there was no memory. The snapshot is used up either way.
-/// The records are made anew, so for a while there is memory for them twice. Takes some more for each record while it
-/// runs, and for a place by height for each shelf record, used or not.
+/// Returns a rule that the snapshot breaks; `Memory` only where there was no memory. The snapshot is consumed either
+/// way. The records are made anew, so for a while there is memory for them twice. Takes some more for each record while
+/// it runs, and for an entry in the list by height for each shelf record, used or not.
 ///
 /// `steps` becomes the number of links that were followed, whether the snapshot is accepted or refused: at most four
 /// times the number of its records, and after `Ok` at least as many as shelves and items are in use.
@@ -123,8 +123,8 @@ pub fn restore_atlas(
     *steps = 0;
     let atlas = LoadedAtlas::of_snapshot(alloc, snapshot)?;
     let shelves = judge_atlas(alloc, &atlas, steps)?;
-    let Ok(ranked) = ranked_shelves(alloc, &atlas.frame, &atlas.records, &shelves) else {
+    let Ok(by_height) = shelves_by_height(alloc, &atlas.frame, &atlas.records, &shelves) else {
         return Err(RestoreFault::Memory);
     };
-    Ok(AtlasAllocator::of_judged(atlas, ranked, count_items(&shelves)))
+    Ok(AtlasAllocator::of_judged(atlas, by_height, count_items(&shelves)))
 }

@@ -3,7 +3,8 @@
 //! Definitions: `ByHeight`. Each shelf has beside it a width that none of its free items passes, so a search
 //! passes over a shelf by one comparison.
 
-ghost use Rattle.std.specs.Prelude.{◌≡◌, ◌+◌, ◌*◌, ◌<◌, ◌≤◌, ◌^◌, OnErr, OnOk, length, nat_lt};
+ghost use Rattle.std.specs.Prelude.{◌≡◌, ◌+◌, ◌*◌, ◌<◌, ◌≤◌, ◌^◌, OnErr, OnOk, drop, length, nat_lt, remove, take};
+ghost use Rattle.std.specs.List.{AllByRecursion};
 ghost use Rattle.etagere_base.specs.Lists.{times};
 ghost use Rattle.etagere_links.specs.Links.{no_link};
 ghost use Rattle.etagere_links.specs.Records.{shelf_chain};
@@ -11,7 +12,7 @@ ghost use Rattle.etagere_links.specs.RecordUses.{missing};
 ghost use Rattle.shelf_heights.specs.Private.ByHeight as spec;
 ghost use Rattle.shelf_heights.specs.Private.ByHeight.{AreInOrder, IsStart};
 
-use crate::ranked::{RankedShelf, ShelvesByHeight};
+use crate::by_height::{BoundedShelf, ShelvesByHeight};
 use etagere_links::{LinkedShelf, Records};
 use std::alloc::AllocError;
 
@@ -23,18 +24,18 @@ pub struct Start {
 }
 
 /// A shelf of this number, below 65535, with this bound.
-pub fn ranked_shelf(shelf: usize, widest: u16) -> RankedShelf
+pub fn bounded(shelf: usize, widest: u16) -> BoundedShelf
     requires { shelf < no_link }
     ensures { result ≡ record { widest = widest; shelf = shelf } }
 {
-    RankedShelf {
+    BoundedShelf {
         widest,
         shelf: shelf as u16,
     }
 }
 
 /// Where a shelf begins, as one number: by column, and then across.
-pub fn place_number(along: u16, across: u16) -> u32
+pub fn chain_order(along: u16, across: u16) -> u32
     ensures { result ≡ along * 65536 + across }
 {
     u32::from(along) * 65536 + u32::from(across)
@@ -53,7 +54,7 @@ pub fn order_of(shelves: &[LinkedShelf], shelf: usize) -> u64
     ensures { result ≡ spec.order_of shelves.now shelf }
 {
     let record = &shelves[shelf];
-    order_at(u32::from(record.height), place_number(record.x, record.y))
+    order_at(u32::from(record.height), chain_order(record.x, record.y))
 }
 
 /// Whether a shelf comes before this height and place: the place decides only where the heights are equal.
@@ -63,7 +64,7 @@ fn comes_before(shelves: &[LinkedShelf], shelf: usize, height: u32, place: u32) 
 {
     let record = &shelves[shelf];
     let own = u32::from(record.height);
-    let here = place_number(record.x, record.y);
+    let here = chain_order(record.x, record.y);
     if own == height {
         here < place
     } else {
@@ -85,24 +86,24 @@ pub fn order_or_zero(shelves: &[LinkedShelf], shelf: usize) -> u64
 /// Where the shelves begin that don't come before this height and place, by binary search.
 pub fn first_from(
     shelves: &[LinkedShelf],
-    ranked: &ShelvesByHeight,
+    by_height: &ShelvesByHeight,
     height: u32,
     place: u32,
 ) -> Start
-    requires { AreInOrder shelves.now ranked.now.items }
-    ensures start { IsStart shelves.now ranked.now.items (spec.order_at height place) result.index
+    requires { AreInOrder shelves.now by_height.now.items }
+    ensures start { IsStart shelves.now by_height.now.items (spec.order_at height place) result.index
         result.probes }
-    ensures few { length ranked.now.items < 2 ^ 64 }
+    ensures few { length by_height.now.items < 2 ^ 64 }
 {
     let mut start = Start {
         index: 0,
         probes: 0,
     };
-    let mut end = ranked.len();
+    let mut end = by_height.len();
     while start.index < end {
         let middle = start.index + (end - start.index) / 2;
         start.probes += 1;
-        if comes_before(shelves, ranked.shelf(middle), height, place) {
+        if comes_before(shelves, by_height.shelf(middle), height, place) {
             start.index = middle + 1;
         } else {
             end = middle;
@@ -112,110 +113,178 @@ pub fn first_from(
 }
 
 /// Where the shelves begin that don't come before this one.
-fn start_of(shelves: &[LinkedShelf], ranked: &ShelvesByHeight, shelf: usize) -> Start
-    requires order { AreInOrder shelves.now ranked.now.items }
+fn start_of(shelves: &[LinkedShelf], by_height: &ShelvesByHeight, shelf: usize) -> Start
+    requires order { AreInOrder shelves.now by_height.now.items }
     requires within { shelf < length shelves.now }
-    ensures { IsStart shelves.now ranked.now.items (spec.order_of shelves.now shelf) result.index
+    ensures { IsStart shelves.now by_height.now.items (spec.order_of shelves.now shelf) result.index
         result.probes }
 {
     let record = &shelves[shelf];
-    let place = place_number(record.x, record.y);
-    first_from(shelves, ranked, u32::from(record.height), place)
+    let place = chain_order(record.x, record.y);
+    first_from(shelves, by_height, u32::from(record.height), place)
+}
+
+/// Where the shelves begin that don't come before this one, among all but the one at a position.
+fn start_beside(
+    shelves: &[LinkedShelf],
+    by_height: &ShelvesByHeight,
+    shelf: usize,
+    left_out: usize,
+) -> usize
+    requires order { AreInOrder shelves.now (remove by_height.now.items left_out) }
+    requires left_out { left_out < length by_height.now.items }
+    requires within { shelf < length shelves.now }
+    ensures within { result ≤ length (remove by_height.now.items left_out) }
+    ensures before { AllByRecursion (λ one. spec.order_of shelves.now one.shelf < spec.order_of shelves.now shelf)
+        (take result (remove by_height.now.items left_out)) }
+    ensures after { AllByRecursion (λ one. spec.order_of shelves.now shelf ≤ spec.order_of shelves.now one.shelf)
+        (drop result (remove by_height.now.items left_out)) }
+{
+    let order = order_of(shelves, shelf);
+    let mut from = 0;
+    let mut end = by_height.len() - 1;
+    while from < end {
+        let middle = from + (end - from) / 2;
+        if order_of(shelves, shelf_beside(by_height, left_out, middle)) < order {
+            from = middle + 1;
+        } else {
+            end = middle;
+        }
+    }
+    from
+}
+
+/// The number of the shelf at a position among all but the one at another.
+fn shelf_beside(by_height: &ShelvesByHeight, left_out: usize, index: usize) -> usize
+    requires left_out { left_out < length by_height.now.items }
+    requires index { index < length (remove by_height.now.items left_out) }
+    requires few { length by_height.now.items < 2 ^ 64 }
+    ensures { result ≡ (spec.bounded_at (remove by_height.now.items left_out) index).shelf }
+{
+    if index < left_out {
+        by_height.shelf(index)
+    } else {
+        by_height.shelf(index + 1)
+    }
 }
 
 /// Where a shelf stands: where it did last time if it still does, else by binary search.
-fn position_of(shelves: &[LinkedShelf], ranked: &mut ShelvesByHeight, shelf: usize) -> usize
-    requires order { AreInOrder shelves.now ranked.old.items }
-    requires stands { 1 ≤ times shelf (spec.ranked_numbers ranked.old.items) }
-    ensures within { result < length ranked.old.items }
-    ensures shelf { (spec.ranked_at ranked.old.items result).shelf ≡ shelf }
-    ensures same { ranked.new ≡ ranked.old }
+pub fn position_of(shelves: &[LinkedShelf], by_height: &mut ShelvesByHeight, shelf: usize) -> usize
+    requires order { AreInOrder shelves.now by_height.old.items }
+    requires stands { 1 ≤ times shelf (spec.numbers_by_height by_height.old.items) }
+    ensures within { result < length by_height.old.items }
+    ensures shelf { (spec.bounded_at by_height.old.items result).shelf ≡ shelf }
+    ensures same { by_height.new ≡ by_height.old }
 {
-    if let Some(index) = ranked.kept_position(shelf) {
+    if let Some(index) = by_height.kept_position(shelf) {
         return index;
     }
-    position_by_halves(shelves, ranked, shelf)
+    position_by_halves(shelves, by_height, shelf)
 }
 
 /// Where a shelf stands, found by binary search; the position is kept. Never inlined, so that `position_of` is small
 /// enough to be.
 #[inline(never)]
-fn position_by_halves(shelves: &[LinkedShelf], ranked: &mut ShelvesByHeight, shelf: usize) -> usize
-    requires order { AreInOrder shelves.now ranked.old.items }
-    requires stands { 1 ≤ times shelf (spec.ranked_numbers ranked.old.items) }
-    ensures within { result < length ranked.old.items }
-    ensures shelf { (spec.ranked_at ranked.old.items result).shelf ≡ shelf }
-    ensures same { ranked.new ≡ ranked.old }
+fn position_by_halves(
+    shelves: &[LinkedShelf],
+    by_height: &mut ShelvesByHeight,
+    shelf: usize,
+) -> usize
+    requires order { AreInOrder shelves.now by_height.old.items }
+    requires stands { 1 ≤ times shelf (spec.numbers_by_height by_height.old.items) }
+    ensures within { result < length by_height.old.items }
+    ensures shelf { (spec.bounded_at by_height.old.items result).shelf ≡ shelf }
+    ensures same { by_height.new ≡ by_height.old }
 {
-    let index = start_of(shelves, ranked, shelf).index;
-    ranked.keep_position(shelf, index);
+    let index = start_of(shelves, by_height, shelf).index;
+    by_height.keep_position(shelf, index);
     index
 }
 
 /// Takes a shelf out, and gives its bound.
-pub fn take_out(shelves: &[LinkedShelf], ranked: &mut ShelvesByHeight, shelf: usize) -> u16
-    requires order { AreInOrder shelves.now ranked.old.items }
-    requires stands { 1 ≤ times shelf (spec.ranked_numbers ranked.old.items) }
-    ensures ranked { ranked.new.items ≡ spec.taken_out shelf ranked.old.items }
-    ensures bound { result ≡ spec.bound_of shelf ranked.old.items }
-    ensures capacity { ranked.new.capacity ≡ ranked.old.capacity }
-    ensures len { length ranked.new.items + 1 ≡ length ranked.old.items }
-    ensures room { length ranked.new.items < ranked.new.capacity }
+pub fn take_out(shelves: &[LinkedShelf], by_height: &mut ShelvesByHeight, shelf: usize) -> u16
+    requires order { AreInOrder shelves.now by_height.old.items }
+    requires stands { 1 ≤ times shelf (spec.numbers_by_height by_height.old.items) }
+    ensures by_height { by_height.new.items ≡ spec.taken_out shelf by_height.old.items }
+    ensures bound { result ≡ spec.bound_of shelf by_height.old.items }
+    ensures capacity { by_height.new.capacity ≡ by_height.old.capacity }
+    ensures len { length by_height.new.items + 1 ≡ length by_height.old.items }
+    ensures room { length by_height.new.items < by_height.new.capacity }
 {
-    let index = position_of(shelves, ranked, shelf);
-    ranked.remove(index).widest
+    let index = position_of(shelves, by_height, shelf);
+    by_height.remove(index).widest
 }
 
 /// Puts a shelf in where it stands in the order, for which there is room.
-pub fn put_in(shelves: &[LinkedShelf], ranked: &mut ShelvesByHeight, one: RankedShelf)
-    requires order { AreInOrder shelves.now ranked.old.items }
+pub fn put_in(shelves: &[LinkedShelf], by_height: &mut ShelvesByHeight, one: BoundedShelf)
+    requires order { AreInOrder shelves.now by_height.old.items }
     requires within { one.shelf < length shelves.now }
-    requires room { length ranked.old.items < ranked.old.capacity }
-    ensures ranked { ranked.new.items ≡ spec.put_in shelves.now one ranked.old.items }
-    ensures capacity { ranked.old.capacity ≤ ranked.new.capacity }
-    ensures len { length ranked.new.items ≡ length ranked.old.items + 1 }
+    requires room { length by_height.old.items < by_height.old.capacity }
+    ensures by_height { by_height.new.items ≡ spec.put_in shelves.now one by_height.old.items }
+    ensures capacity { by_height.old.capacity ≤ by_height.new.capacity }
+    ensures len { length by_height.new.items ≡ length by_height.old.items + 1 }
 {
     let shelf = usize::from(one.shelf);
-    let index = start_of(shelves, ranked, shelf).index;
-    ranked.insert(index, one);
-    ranked.keep_position(shelf, index);
+    let index = start_of(shelves, by_height, shelf).index;
+    by_height.insert(index, one);
+    by_height.keep_position(shelf, index);
+}
+
+/// Moves the shelf at this position to where it stands in the order by the records as they are now, in which its height
+/// may have changed.
+pub fn settle(shelves: &[LinkedShelf], by_height: &mut ShelvesByHeight, shelf: usize, index: usize)
+    requires index { index < length by_height.old.items }
+    requires shelf { (spec.bounded_at by_height.old.items index).shelf ≡ shelf }
+    requires once { times shelf (spec.numbers_by_height by_height.old.items) ≤ 1 }
+    requires order { AreInOrder shelves.now (spec.taken_out shelf by_height.old.items) }
+    requires within { shelf < length shelves.now }
+    ensures by_height { by_height.new.items
+        ≡ spec.put_in shelves.now
+        (record { widest = spec.bound_of shelf by_height.old.items; shelf = shelf })
+        (spec.taken_out shelf by_height.old.items) }
+    ensures capacity { by_height.new.capacity ≡ by_height.old.capacity }
+    ensures len { length by_height.new.items ≡ length by_height.old.items }
+{
+    let to = start_beside(shelves, by_height, shelf, index);
+    by_height.shift(index, to);
+    by_height.keep_position(shelf, to);
 }
 
 /// Makes room for the shelves of so many records, of which those that are missing are to be made: an
 /// unused one has its room. The error comes only where some are missing and there was no memory.
-pub fn reserve_ranks(
+pub fn reserve_by_height(
     records: &Records,
-    ranked: &mut ShelvesByHeight,
+    by_height: &mut ShelvesByHeight,
     wanted: u32,
 ) -> Result<(), AllocError>
-    requires { length records.now.shelves ≤ ranked.old.capacity }
-    ensures items { ranked.new.items ≡ ranked.old.items }
+    requires { length records.now.shelves ≤ by_height.old.capacity }
+    ensures items { by_height.new.items ≡ by_height.old.items }
     ensures room { OnOk result
         (length records.now.shelves
         + missing shelf_chain wanted records.now.unused_shelves records.now.shelves
-        ≤ ranked.new.capacity) }
-    ensures capacity { ranked.old.capacity ≤ ranked.new.capacity }
+        ≤ by_height.new.capacity) }
+    ensures capacity { by_height.old.capacity ≤ by_height.new.capacity }
     ensures short { OnErr result
         (0 < missing shelf_chain wanted records.now.unused_shelves records.now.shelves) }
 {
     let missing = records.missing_shelves(wanted as usize);
     if missing > 0 {
-        ranked.reserve(records.shelves().len() + missing)?;
+        by_height.reserve(records.shelves().len() + missing)?;
     }
     Ok(())
 }
 
 /// Raises the bound of a shelf to this width, where it is less.
-pub fn raise(shelves: &[LinkedShelf], ranked: &mut ShelvesByHeight, shelf: usize, width: u16)
-    requires order { AreInOrder shelves.now ranked.old.items }
-    requires stands { 1 ≤ times shelf (spec.ranked_numbers ranked.old.items) }
-    ensures ranked { ranked.new.items ≡ spec.raised shelf width ranked.old.items }
-    ensures capacity { ranked.old.capacity ≤ ranked.new.capacity }
+pub fn raise(shelves: &[LinkedShelf], by_height: &mut ShelvesByHeight, shelf: usize, width: u16)
+    requires order { AreInOrder shelves.now by_height.old.items }
+    requires stands { 1 ≤ times shelf (spec.numbers_by_height by_height.old.items) }
+    ensures by_height { by_height.new.items ≡ spec.raised shelf width by_height.old.items }
+    ensures capacity { by_height.old.capacity ≤ by_height.new.capacity }
 {
-    let index = position_of(shelves, ranked, shelf);
-    let mut one = ranked.get(index);
+    let index = position_of(shelves, by_height, shelf);
+    let mut one = by_height.get(index);
     if one.widest < width {
         one.widest = width;
-        ranked.set(index, one);
+        by_height.set(index, one);
     }
 }

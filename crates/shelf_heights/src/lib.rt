@@ -1,7 +1,7 @@
 //! The shelves in use by height: a list that is searched for a fit and changed as shelves come and go.
 //!
-//! Definitions: `Ranked` for the list with its blocks, `ByHeight` for its order.
+//! Definitions: `ListFields` for the list with its blocks, `ByHeight` for its order.
 #![tactic(auto)]
 
+pub mod by_height;
 pub mod heights;
-pub mod ranked;

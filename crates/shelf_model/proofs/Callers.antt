@@ -3,7 +3,7 @@
 -- file alone of these.
 use Rattle.std.proofs.Common.{◌≡◌, ℕ, ◌+◌, ◌^◌, ◌<◌, ◌≤◌, Bool, true, false, cond, ◌||◌, ◌==◌, not, Option, Some, List, [], ◌∷◌, ◌++◌, length, map, filter, refl, ap, sym, ◌∙◌, subst, arith}
 use Rattle.std.specs.Prelude.{None, is_some, option_map}
-use Rattle.std.specs.List.{find, list_any}
+use Rattle.std.specs.List.{AllByRecursion, find, list_any}
 use Rattle.std.proofs.lemmas.Bool.{or_parts}
 use Rattle.std.proofs.lemmas.Bool.Decides.{nat_tests}
 use Rattle.std.proofs.lemmas.List.{length-map, map-append}
@@ -12,7 +12,7 @@ use Rattle.etagere_base.specs.declared.geometry.Size.{Size}
 use Rattle.etagere_base.specs.declared.ids.Allocation.{Allocation}
 use Rattle.etagere_base.specs.declared.options.AllocatorOptions.{AllocatorOptions}
 use Rattle.etagere_base.specs.Frames.{IsAccepted, atlas_frame, longest_side}
-use Rattle.etagere_base.specs.Lists.{Each, times}
+use Rattle.etagere_base.specs.Lists.{times}
 use Rattle.etagere_base.specs.Rectangles.{AreApart, SharesNone}
 use Rattle.etagere_base.specs.Sides.{side}
 use Rattle.etagere_base.proofs.AcceptedFrames.{accepted-frame}
@@ -24,7 +24,7 @@ pub use Rattle.shelf_model.proofs.Taken.Allocated.{Allocated}
 pub use Rattle.shelf_model.proofs.Taken.FreeNumber.{CanAllocate, placed-can_allocate}
 pub use Rattle.shelf_model.proofs.Places.FreshLemmas.{fresh-allocated}
 pub use Rattle.shelf_model.proofs.Returned.ReturnedAllocated.{returned-allocated}
-use Rattle.shelf_model.proofs.Grown.GrownFrames.{frame-grows, growth-fits}
+use Rattle.shelf_model.proofs.Grown.GrownFrames.{frame-grows, grow-fits}
 use Rattle.shelf_model.proofs.Grown.GrownValid.{grown-allocated, grown-valid}
 use Rattle.shelf_model.proofs.Places.FreshLemmas.{fresh-valid}
 pub use Rattle.shelf_model.proofs.Promises.{promises}
@@ -59,7 +59,7 @@ found_here P true x y o found here later = subst P (cc) here
 found_here P false x y o found here later = later found
 
 -- what is found has a fact of each
-Each-find : {X : Type 0} (P : X → Type 0) (test : X → Bool) (xs : List X) (y : X) → Each P xs → find test xs ≡ Some y → P y
+Each-find : {X : Type 0} (P : X → Type 0) (test : X → Bool) (xs : List X) (y : X) → AllByRecursion P xs → find test xs ≡ Some y → P y
 Each-find P test [] y ps found = absurd (cc)
 Each-find P test (x ∷ xs) y ps found =
     found_here P (test x) x y (find test xs) found ps.0 (Each-find P test xs y ps.1)
@@ -139,7 +139,7 @@ times-without_id id gone (a ∷ all) =
 
 -- an id that is nowhere is no allocation's
 Each-times : (id : ℕ) (all : List Allocation) → times id (ids_of all) ≡ 0
-    → Each (λ (a : Allocation). (a.id == id) ≡ false) all
+    → AllByRecursion (λ (a : Allocation). (a.id == id) ≡ false) all
 Each-times id [] none = tt
 Each-times id (a ∷ all) none = let h = nowhere (a.id == id) (times id (ids_of all)) none in (h.0, Each-times id all h.1)
   where
@@ -188,18 +188,18 @@ found-without_id gone all known found differs =
 
 -- a fact of each, and of one more
 Each-added : (P : Allocation → Type 0) (old new : List Allocation) (added : Allocation)
-    → Adds old added new → Each P old → P added → Each P new
+    → Adds old added new → AllByRecursion P old → P added → AllByRecursion P new
 Each-added P old new added adds each here =
-    let parts = subst (Each P) adds.before each in
-    subst (Each P) (sym adds.after)
+    let parts = subst (AllByRecursion P) adds.before each in
+    subst (AllByRecursion P) (sym adds.after)
     (Each-append P adds.front (added ∷ adds.back) (Each-front P adds.front adds.back parts)
     (here, Each-back P adds.front adds.back parts))
 
 -- a fact of each, but for one
 Each-removed : (P : Allocation → Type 0) (old new : List Allocation) (added : Allocation)
-    → Adds old added new → Each P new → Each P old
+    → Adds old added new → AllByRecursion P new → AllByRecursion P old
 Each-removed P old new added adds each =
-    subst (Each P) (sym adds.before) (Each-remove_place P adds.front added adds.back (subst (Each P) adds.after each))
+    subst (AllByRecursion P) (sym adds.before) (Each-remove_place P adds.front added adds.back (subst (AllByRecursion P) adds.after each))
 
 -- what is allocated under an id is allocated
 pub found-allocated : (state : AtlasState) (allocation : Allocation)
@@ -263,7 +263,7 @@ tied-returned kept shorter old new gone tied adds once after =
     (alone gone.id (times gone.id (ids_of shorter)) (times gone.id (ids_of kept))
     (times-added gone.id shorter kept gone adds) (tied.counted gone.id) (once gone.id)) in
     record {
-      found = subst (λ (l : List Allocation). Each (IsFound l) shorter) (sym after)
+      found = subst (λ (l : List Allocation). AllByRecursion (IsFound l) shorter) (sym after)
           (Each-weaken _ (IsFound (without_id gone.id old)) shorter
           (λ a known. found-without_id gone.id old a known.0 known.1)
           (Each-both (IsFound old) (λ (a : Allocation). (a.id == gone.id) ≡ false) shorter
@@ -276,7 +276,7 @@ tied-returned kept shorter old new gone tied adds once after =
     }
 
 -- a fact of each that is allocated is one of each that is kept
-pub tied-each : (P : Allocation → Type 0) (kept all : List Allocation) → AreTied kept all → Each P all → Each P kept
+pub tied-each : (P : Allocation → Type 0) (kept all : List Allocation) → AreTied kept all → AllByRecursion P all → AllByRecursion P kept
 tied-each P kept all tied each =
     Each-weaken (IsFound all) P kept (λ a found. Each-find P (has_id a.id) all a each found) tied.found
 
@@ -294,7 +294,7 @@ apart_here : (s t : Allocation → Bool) (p q : Bool) (one two here : Allocation
     → (p ≡ true → q ≡ true → ⊥)
     → cond p (Some here) (find s others) ≡ Some one
     → cond q (Some here) (find t others) ≡ Some two
-    → Each (λ (other : Allocation). SharesNone here.rectangle other.rectangle) others
+    → AllByRecursion (λ (other : Allocation). SharesNone here.rectangle other.rectangle) others
     → (find s others ≡ Some one → find t others ≡ Some two → SharesNone one.rectangle two.rectangle)
     → SharesNone one.rectangle two.rectangle
 apart_here s t true true one two here others never first second apart later = absurd (never refl refl)
@@ -329,7 +329,7 @@ first_once n m once = grind (arith, nat_tests)
 
 -- what is found under ids that differ lies apart
 found_all-apart : (all kept : List Allocation)
-    → AreApart all → Each (IsFound all) kept → ((id : ℕ) → times id (ids_of kept) ≤ 1) → AreApart kept
+    → AreApart all → AllByRecursion (IsFound all) kept → ((id : ℕ) → times id (ids_of kept) ≤ 1) → AreApart kept
 found_all-apart all [] apart found once = tt
 found_all-apart all (one ∷ kept) apart found once = (
   Each-weaken _ (λ (other : Allocation). SharesNone one.rectangle other.rectangle) kept
@@ -385,17 +385,17 @@ promises-cleared state valid = promises (fresh state.frame) (fresh-valid state.f
 -- a growth without a fault changes nothing that is allocated
 pub allocated-grown : (state : AtlasState) (size : Size) → IsValid state → grow_fault state size ≡ None
     → allocations (atlas_grown state size) ≡ allocations state
-allocated-grown state size valid fits = grown-allocated state size valid (growth-fits state size fits)
+allocated-grown state size valid fits = grown-allocated state size valid (grow-fits state size fits)
 
 -- it keeps the promises
 pub promises-grown : (state : AtlasState) (size : Size) → IsValid state → grow_fault state size ≡ None
     → KeepsPromises (atlas_grown state size)
 promises-grown state size valid fits =
-    promises (atlas_grown state size) (grown-valid state size valid (growth-fits state size fits))
+    promises (atlas_grown state size) (grown-valid state size valid (grow-fits state size fits))
 
 -- and loses no column
 pub columns-grown : (state : AtlasState) (size : Size) → IsValid state → grow_fault state size ≡ None
     → state.frame.columns ≤ (grown_frame state.frame size).columns
 columns-grown state size valid fits =
-    let grows = frame-grows state.frame size valid.frame (growth-fits state size fits).sizes in
+    let grows = frame-grows state.frame size valid.frame (grow-fits state size fits).sizes in
     omega (arith, grows.columns)

@@ -4,9 +4,10 @@ use Rattle.etagere_base.specs.declared.geometry.Size.{Size}
 use Rattle.etagere_base.specs.declared.ids.Allocation.{Allocation}
 use Rattle.shelf_model.specs.Bounds.{record_bound}
 use Rattle.shelf_model.specs.Choice.{Placement, placement_of, rectangle_of_placement, splits}
-use Rattle.shelf_model.specs.Fresh.{fresh, without_records}
+use Rattle.shelf_model.specs.Fresh.{fresh, without_peak_items}
 use Rattle.shelf_model.specs.Layout.{layout}
-use Rattle.etagere_base.specs.Lists.{Each, times}
+use Rattle.std.specs.List.{AllByRecursion}
+use Rattle.etagere_base.specs.Lists.{times}
 use Rattle.shelf_model.specs.Places.{allocated_numbers, allocations, is_allocated, record_number}
 use Rattle.etagere_base.specs.Rectangles.{AreApart, IsAligned, IsInside}
 use Rattle.shelf_model.specs.State.{AtlasState, items_in_use}
@@ -28,7 +29,7 @@ pub record NeedsSplit (state : AtlasState) (size : Size) : Type 0 where
   pub placement : Placement
   pub placed : placement_of state size ≡ Some placement
   pub split : 0 < splits placement
-  pub short : placement.splits_shelf ≡ false → state.records ≤ items_in_use state.shelves
+  pub short : placement.splits_shelf ≡ false → state.peak_items ≤ items_in_use state.shelves
 
 -- what is allocated after is what was allocated before and one more
 pub record Adds (old : List Allocation) (allocation : Allocation) (new : List Allocation)
@@ -58,13 +59,13 @@ pub record KeepsPromises (state : AtlasState) : Type 0 where
   pub valid : IsValid state
   pub ids : (id : ℕ) → times id (map (λ allocation. allocation.id) (allocations state)) ≤ 1
   pub numbers : (number : ℕ) → times number (allocated_numbers state) ≤ 1
-  pub below : Each (λ (allocation : Allocation). record_number allocation.id < state.records)
+  pub below : AllByRecursion (λ (allocation : Allocation). record_number allocation.id < state.peak_items)
       (allocations state)
-  pub inside : Each (λ (allocation : Allocation). IsInside state.frame allocation.rectangle)
+  pub inside : AllByRecursion (λ (allocation : Allocation). IsInside state.frame allocation.rectangle)
       (allocations state)
-  pub aligned : Each (λ (allocation : Allocation). IsAligned state.frame allocation.rectangle)
+  pub aligned : AllByRecursion (λ (allocation : Allocation). IsAligned state.frame allocation.rectangle)
       (allocations state)
   pub apart : AreApart (allocations state)
   pub few : items_in_use state.shelves
       ≤ record_bound (length (allocations state)) state.frame.columns
-  pub empty : allocations state ≡ [] → without_records state ≡ without_records (fresh state.frame)
+  pub empty : allocations state ≡ [] → without_peak_items state ≡ without_peak_items (fresh state.frame)

@@ -13,8 +13,8 @@ empty_columns frame column (suc n) =
 -- a new atlas
 abbrev pub fresh : Frame → AtlasState
 fresh frame =
-    record { frame = frame; shelves = empty_columns frame 0 frame.columns; records = frame.columns }
+    record { frame = frame; shelves = empty_columns frame 0 frame.columns; peak_items = frame.columns }
 
--- a state but for its count of records
-abbrev pub without_records : AtlasState → AtlasState
-without_records state = record { frame = state.frame; shelves = state.shelves; records = 0 }
+-- a state but for its peak of items
+abbrev pub without_peak_items : AtlasState → AtlasState
+without_peak_items state = record { frame = state.frame; shelves = state.shelves; peak_items = 0 }

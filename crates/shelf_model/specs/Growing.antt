@@ -139,7 +139,7 @@ extended state size =
           heightened frame (added_height state.frame size)
           (widened state.frame (added_width state.frame size) state.shelves)
           ++ empty_columns frame state.frame.columns (added_columns state.frame size);
-      records = state.records;
+      peak_items = state.peak_items;
     }
 
 -- the state after a growth: what is added is merged with what is free before it
@@ -149,5 +149,5 @@ atlas_grown state size =
     record {
       frame = grown_frame state.frame size;
       shelves = shelves;
-      records = max state.records (items_in_use shelves);
+      peak_items = max state.peak_items (items_in_use shelves);
     }

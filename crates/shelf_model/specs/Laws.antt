@@ -9,7 +9,8 @@ use Rattle.shelf_model.specs.Growing.{atlas_grown, grow_fault, records_needed}
 use Rattle.shelf_model.specs.Merging.{both_empty, both_free, merged, merged_items, merged_shelves}
 use Rattle.shelf_model.specs.Layout.{layout}
 use Rattle.etagere_base.specs.Least.{Found, IsFirstLeast, first_least}
-use Rattle.etagere_base.specs.Lists.{Each, NoNeighbours}
+use Rattle.std.specs.List.{AllByRecursion}
+use Rattle.etagere_base.specs.Lists.{NoNeighbours}
 use Rattle.shelf_model.specs.Places.{allocations, allocations_after, allocations_along, column_place, is_allocated}
 use Rattle.shelf_model.specs.Returning.{returned}
 use Rattle.shelf_model.specs.Space.{allocated_space}
@@ -66,7 +67,7 @@ pub record IsFirstWide (frame : Frame) (width place : ℕ) (shelf : Shelf) : Typ
   pub front : List ℕ
   pub back : List ℕ
   pub list : shelf.free_list ≡ front ++ place ∷ back
-  pub narrow : Each (λ (other : ℕ). width_at (column_place frame shelf) shelf.items other < width)
+  pub narrow : AllByRecursion (λ (other : ℕ). width_at (column_place frame shelf) shelf.items other < width)
       front
   pub wide : width ≤ width_at (column_place frame shelf) shelf.items place
 
@@ -115,7 +116,7 @@ MergesOnce =
 abbrev pub MergesAll : Type 0
 MergesAll =
     (state : AtlasState)
-    → Each (λ (shelf : Shelf). NoNeighbours both_free shelf.items) (merged state).shelves
+    → AllByRecursion (λ (shelf : Shelf). NoNeighbours both_free shelf.items) (merged state).shelves
     × NoNeighbours both_empty (merged state).shelves
 
 -- merging changes no allocated rectangle
@@ -130,14 +131,14 @@ MergingKeepsAllocated =
     × ((state : AtlasState) → allocations (merged state) ≡ allocations state)
 
 -- a growth without a fault keeps the allocated space
-abbrev pub GrowthKeepsSpace : Type 0
-GrowthKeepsSpace =
+abbrev pub GrowKeepsSpace : Type 0
+GrowKeepsSpace =
     (state : AtlasState) (size : Size) → IsValid state → grow_fault state size ≡ None
     → allocated_space (atlas_grown state size) ≡ allocated_space state
 
 -- a growth without a fault puts as many further items to use as it needs records
-abbrev pub GrowthUses : Type 0
-GrowthUses =
+abbrev pub GrowUses : Type 0
+GrowUses =
     (state : AtlasState) (size : Size) → IsValid state → grow_fault state size ≡ None
     → items_in_use (atlas_grown state size).shelves
     ≡ items_in_use state.shelves + records_needed state size

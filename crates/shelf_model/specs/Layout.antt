@@ -10,4 +10,4 @@ without_free_list shelf =
 -- a state but for its free lists and its count of records
 abbrev pub layout : AtlasState → AtlasState
 layout state =
-    record { frame = state.frame; shelves = map without_free_list state.shelves; records = 0 }
+    record { frame = state.frame; shelves = map without_free_list state.shelves; peak_items = 0 }

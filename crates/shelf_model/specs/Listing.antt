@@ -12,7 +12,7 @@ allocations_at state number =
 
 -- everything that is allocated, by rising record numbers
 abbrev pub listed : AtlasState → List Allocation
-listed state = flat_map (allocations_at state) (range_with_len 0 state.records)
+listed state = flat_map (allocations_at state) (range_with_len 0 state.peak_items)
 
 -- numbers rise, from this one on
 abbrev pub RiseFrom : ℕ → List ℕ → Type 0

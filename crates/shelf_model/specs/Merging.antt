@@ -46,5 +46,5 @@ merged state =
     record {
       frame = state.frame;
       shelves = merged_shelves (map merged_shelf state.shelves);
-      records = state.records;
+      peak_items = state.peak_items;
     }

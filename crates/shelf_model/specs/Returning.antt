@@ -70,5 +70,5 @@ returned state id =
     (record {
       frame = state.frame;
       shelves = map (freed_in state.frame id) state.shelves;
-      records = state.records;
+      peak_items = state.peak_items;
     })

@@ -21,7 +21,7 @@ pub record Shelf : Type 0 where
 pub record AtlasState : Type 0 where
   pub frame : Frame
   pub shelves : List Shelf
-  pub records : ℕ
+  pub peak_items : ℕ
 
 abbrev pub is_free : Item → Bool
 is_free item = is_none item.id

@@ -46,5 +46,5 @@ taken state placement id =
     record {
       frame = state.frame;
       shelves = shelves;
-      records = max state.records (items_in_use shelves);
+      peak_items = max state.peak_items (items_in_use shelves);
     }

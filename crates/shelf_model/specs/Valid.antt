@@ -5,7 +5,8 @@ use Rattle.etagere_base.specs.declared.ids.Allocation.{Allocation}
 use Rattle.etagere_base.specs.Frames.{HasAllColumns, IsFrame, across_side, alignment_along, longest_side}
 use Rattle.shelf_model.specs.Choice.{most_items}
 use Rattle.shelf_model.specs.Merging.{both_free, both_empty}
-use Rattle.etagere_base.specs.Lists.{Each, NoNeighbours, times}
+use Rattle.std.specs.List.{AllByRecursion}
+use Rattle.etagere_base.specs.Lists.{NoNeighbours, times}
 use Rattle.shelf_model.specs.Places.{allocations, allocated_numbers, column_place, column_height, free_places, record_number}
 use Rattle.shelf_model.specs.State.{Item, Shelf, AtlasState, total_width, items_in_use}
 
@@ -19,7 +20,7 @@ pub record IsItem (frame : Frame) (item : Item) : Type 0 where
 pub record IsShelf (frame : Frame) (shelf : Shelf) : Type 0 where
   pub column : shelf.column < frame.columns
   pub height : 1 ≤ shelf.height
-  pub items : Each (IsItem frame) shelf.items
+  pub items : AllByRecursion (IsItem frame) shelf.items
   pub width : total_width shelf.items ≡ frame.column_width
   pub apart : NoNeighbours both_free shelf.items
   pub free_list : (place : ℕ) → times place shelf.free_list
@@ -35,12 +36,12 @@ is_out_of_order shelf next = nat_lt next.column shelf.column
 pub record IsValid (state : AtlasState) : Type 0 where
   pub frame : IsFrame longest_side state.frame
   pub columns : HasAllColumns state.frame
-  pub shelves : Each (IsShelf state.frame) state.shelves
+  pub shelves : AllByRecursion (IsShelf state.frame) state.shelves
   pub ordered : NoNeighbours is_out_of_order state.shelves
   pub heights : (column : ℕ) → column < state.frame.columns
       → column_height column state.shelves ≡ across_side state.frame
   pub apart : NoNeighbours both_empty state.shelves
   pub numbers : (number : ℕ) → times number (allocated_numbers state) ≤ 1
-  pub below : Each (λ (allocation : Allocation). record_number allocation.id < state.records)
+  pub below : AllByRecursion (λ (allocation : Allocation). record_number allocation.id < state.peak_items)
       (allocations state)
-  pub records : (items_in_use state.shelves ≤ state.records) × (state.records ≤ most_items)
+  pub peak_items : (items_in_use state.shelves ≤ state.peak_items) × (state.peak_items ≤ most_items)

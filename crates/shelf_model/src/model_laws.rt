@@ -3,7 +3,7 @@
 //! Definitions: `Laws`. A law stands here where no clause of a call states it, and in `laws` if other crates are to
 //! cite it. The functions have no callers: they make the check prove the laws.
 
-ghost use Rattle.shelf_model.specs.Laws.{ChoosesAny, ChoosesByRule, FindsAny, FindsFirstLeast, GrowthKeepsSpace, GrowthUses, MergesAll, MergesOnce, MergingKeepsAllocated, ReturnRestores};
+ghost use Rattle.shelf_model.specs.Laws.{ChoosesAny, ChoosesByRule, FindsAny, FindsFirstLeast, GrowKeepsSpace, GrowUses, MergesAll, MergesOnce, MergingKeepsAllocated, ReturnRestores};
 
 /// The shelf that is chosen is the first of least rank, and there is one wherever any fits.
 pub fn the_first_least_is_chosen()
@@ -34,6 +34,6 @@ pub fn a_return_restores_the_layout()
 
 /// A growth keeps the allocated space, and puts just the items to use for which it needs records.
 pub fn a_growth_keeps_the_allocated_space()
-    ensures space { GrowthKeepsSpace }
-    ensures uses { GrowthUses }
+    ensures space { GrowKeepsSpace }
+    ensures uses { GrowUses }
 {}

@@ -18,8 +18,8 @@ abbrev pub is_allocated_at : List LinkedItem → ℕ → Bool
 is_allocated_at items number = field_at (λ (item : LinkedItem). item.allocated) false items number
 
 -- where the item of this number begins
-abbrev pub place_of : List LinkedItem → ℕ → ℕ
-place_of items number = field_at (λ (item : LinkedItem). item.x) 0 items number
+abbrev pub item_place_of : List LinkedItem → ℕ → ℕ
+item_place_of items number = field_at (λ (item : LinkedItem). item.x) 0 items number
 
 -- the shelf that the item of this number names
 abbrev pub shelf_of : List LinkedItem → ℕ → ℕ
@@ -65,7 +65,7 @@ spelled_shelf atlas entry =
       column = along_of atlas.records.shelves entry.number / atlas.frame.column_width;
       height = height_of atlas.records.shelves entry.number;
       items = map (item_at atlas.records.items) entry.items;
-      free_list = map (place_of atlas.records.items) entry.free_list;
+      free_list = map (item_place_of atlas.records.items) entry.free_list;
     }
 
 -- the state that these lists of records spell
@@ -74,7 +74,7 @@ spelled_state atlas entries =
     record {
       frame = atlas.frame;
       shelves = map (spelled_shelf atlas) entries;
-      records = length atlas.records.items;
+      peak_items = length atlas.records.items;
     }
 
 -- the lists of each shelf that walks meet

@@ -4,7 +4,7 @@ use Rattle.etagere_base.specs.declared.faults.RestoreFault.{RestoreFault}
 use Rattle.etagere_base.specs.declared.faults.RestoreFault.TheVariants.{Frame, Counts, Link, Shelves, Runs, Neighbours, FreeList, Sharing, Unused, Space, Memory}
 use Rattle.etagere_base.specs.declared.frames.Frame as frames
 use Rattle.etagere_base.specs.Frames.{IsFrame, longest_side}
-use Rattle.etagere_base.specs.Lists.{Each}
+use Rattle.std.specs.List.{AllByRecursion}
 use Rattle.etagere_base.specs.Sides.{side, swapped_axes}
 use Rattle.etagere_links.specs.declared.records.LinkedItem.{LinkedItem}
 use Rattle.etagere_links.specs.declared.records.LinkedShelf.{LinkedShelf}
@@ -89,12 +89,12 @@ Keeps atlas Frame = IsFrame longest_side atlas.frame
 Keeps atlas Counts = HasCounts atlas
 Keeps atlas Link = HasLinks atlas
 Keeps atlas Shelves = HasShelves atlas (state_spelled atlas)
-Keeps atlas Runs = Each (HasItems atlas) (walked_entries atlas)
+Keeps atlas Runs = AllByRecursion (HasItems atlas) (walked_entries atlas)
 Keeps atlas Neighbours = HasNeighbours (state_spelled atlas)
-Keeps atlas FreeList = Each (HasFreeList atlas) (walked_entries atlas)
+Keeps atlas FreeList = AllByRecursion (HasFreeList atlas) (walked_entries atlas)
 Keeps atlas Sharing = IsShared atlas
 Keeps atlas Unused =
-    Each (λ item. is_allocated_at atlas.records.items item ≡ false) (unused_item_walk atlas.records).met
+    AllByRecursion (λ item. is_allocated_at atlas.records.items item ≡ false) (unused_item_walk atlas.records).met
 Keeps atlas Space = atlas.allocated_space ≡ pos (space_in (state_spelled atlas).shelves)
 Keeps atlas Memory = Unit {0}
 

@@ -1,7 +1,8 @@
 -- When the records of an atlas stand for a state: the rules that a snapshot has to keep.
 use Rattle.std.specs.Prelude.{◌≡◌, ℕ, ◌+◌, ◌/◌, ◌%◌, ◌<◌, ◌≤◌, pos, false, ◌||◌, None, List, [], ◌∷◌, ◌++◌, IsTrue, length, filter, not, nat_lt, ◌==◌, if◌then◌else◌}
 use Rattle.etagere_base.specs.Frames.{HasAllColumns, IsFrame, across_side, longest_side}
-use Rattle.etagere_base.specs.Lists.{Each, NoNeighbours, times}
+use Rattle.std.specs.List.{AllByRecursion}
+use Rattle.etagere_base.specs.Lists.{NoNeighbours, times}
 use Rattle.etagere_links.specs.declared.records.LinkedItem.{LinkedItem}
 use Rattle.etagere_links.specs.declared.records.LinkedShelf.{LinkedShelf}
 use Rattle.etagere_links.specs.Chains.{LeadsBack}
@@ -10,7 +11,7 @@ use Rattle.etagere_links.specs.Links.{no_link}
 use Rattle.etagere_links.specs.RecordLists.{Entry, HasEachOnce, item_numbers, shelf_walk, unused_shelf_walk, unused_item_walk, item_walk, free_walk}
 use Rattle.etagere_links.specs.Records.{item_chain, free_list, shelf_chain}
 use Rattle.etagere_links.specs.Walks.{Walked}
-use Rattle.shelf_records.specs.AtlasRecords.{AtlasRecords, is_allocated_at, place_of, shelf_of, along_of, across_of, height_of, is_empty_at, item_at, spelled_shelf, spelled_state, walked_entries}
+use Rattle.shelf_records.specs.AtlasRecords.{AtlasRecords, is_allocated_at, item_place_of, shelf_of, along_of, across_of, height_of, is_empty_at, item_at, spelled_shelf, spelled_state, walked_entries}
 use Rattle.shelf_model.specs.Merging.{both_free, both_empty}
 use Rattle.shelf_model.specs.Places.{column_height}
 use Rattle.shelf_model.specs.Space.{space_in}
@@ -31,7 +32,7 @@ pub record HasItemLinks (atlas : AtlasRecords) (entry : Entry) : Type 0 where
   pub items : StopsInRange (length atlas.records.items) (item_walk atlas.records entry.number)
   pub free_list : StopsInRange (length atlas.records.items) (free_walk atlas.records entry.number)
   pub back : LeadsBack (link_at item_chain.previous atlas.records.items) None entry.items
-  pub owners : Each (λ item. shelf_of atlas.records.items item ≡ entry.number) entry.items
+  pub owners : AllByRecursion (λ item. shelf_of atlas.records.items item ≡ entry.number) entry.items
 
 -- no walk stops out of range, and the shelves link back to the one before
 pub record HasLinks (atlas : AtlasRecords) : Type 0 where
@@ -40,7 +41,7 @@ pub record HasLinks (atlas : AtlasRecords) : Type 0 where
   pub unused_items : StopsInRange (length atlas.records.items) (unused_item_walk atlas.records)
   pub back : LeadsBack (link_at shelf_chain.previous atlas.records.shelves) None
       (shelf_walk atlas.records).met
-  pub each_shelf : Each (HasItemLinks atlas) (walked_entries atlas)
+  pub each_shelf : AllByRecursion (HasItemLinks atlas) (walked_entries atlas)
 
 -- the heights of the shelves of these numbers that stand in a column, added up
 abbrev pub height_before : List LinkedShelf → ℕ → ℕ → List ℕ → ℕ
@@ -59,15 +60,15 @@ AreStacked shelves column_width before (number ∷ numbers) =
 
 -- the shelves fill each column, column after column; each record says where its shelf begins
 pub record HasShelves (atlas : AtlasRecords) (state : AtlasState) : Type 0 where
-  pub columns : Each (λ (shelf : Shelf). shelf.column < state.frame.columns) state.shelves
+  pub columns : AllByRecursion (λ (shelf : Shelf). shelf.column < state.frame.columns) state.shelves
   pub ordered : NoNeighbours is_out_of_order state.shelves
   pub along :
-      Each
+      AllByRecursion
       (λ (entry : Entry). along_of atlas.records.shelves entry.number % atlas.frame.column_width ≡ 0)
       (walked_entries atlas)
   pub across : AreStacked atlas.records.shelves atlas.frame.column_width []
       (shelf_walk atlas.records).met
-  pub heights : Each (λ (shelf : Shelf). 1 ≤ shelf.height) state.shelves
+  pub heights : AllByRecursion (λ (shelf : Shelf). 1 ≤ shelf.height) state.shelves
   pub filled : (column : ℕ) → column < state.frame.columns
       → column_height column state.shelves ≡ across_side state.frame
 
@@ -75,18 +76,18 @@ pub record HasShelves (atlas : AtlasRecords) (state : AtlasState) : Type 0 where
 abbrev pub LieFrom : List LinkedItem → ℕ → List ℕ → Type 0
 LieFrom items here [] = Unit {0}
 LieFrom items here (number ∷ numbers) =
-    (place_of items number ≡ here) × LieFrom items (here + (item_at items number).width) numbers
+    (item_place_of items number ≡ here) × LieFrom items (here + (item_at items number).width) numbers
 
 -- the items of a shelf fill its column, and its record says whether it is empty
 pub record HasItems (atlas : AtlasRecords) (entry : Entry) : Type 0 where
   pub places : LieFrom atlas.records.items (along_of atlas.records.shelves entry.number) entry.items
-  pub items : Each (IsItem atlas.frame) (spelled_shelf atlas entry).items
+  pub items : AllByRecursion (IsItem atlas.frame) (spelled_shelf atlas entry).items
   pub width : total_width (spelled_shelf atlas entry).items ≡ atlas.frame.column_width
   pub is_empty : is_empty_at atlas.records.shelves entry.number ≡ is_empty (spelled_shelf atlas entry)
 
 -- no two free items stand side by side, and no two empty shelves of a column
 pub record HasNeighbours (state : AtlasState) : Type 0 where
-  pub items : Each (λ (shelf : Shelf). NoNeighbours both_free shelf.items) state.shelves
+  pub items : AllByRecursion (λ (shelf : Shelf). NoNeighbours both_free shelf.items) state.shelves
   pub shelves : NoNeighbours both_empty state.shelves
 
 -- the free list of a shelf has each of its free items once, links back, and ends at none
@@ -105,7 +106,7 @@ pub record IsShared (atlas : AtlasRecords) : Type 0 where
       (item_numbers (walked_entries atlas) ++ (unused_item_walk atlas.records).met)
   pub shelf_end : (shelf_walk atlas.records).end ≡ no_link
   pub unused_shelf_end : (unused_shelf_walk atlas.records).end ≡ no_link
-  pub item_ends : Each (λ (entry : Entry). (item_walk atlas.records entry.number).end ≡ no_link)
+  pub item_ends : AllByRecursion (λ (entry : Entry). (item_walk atlas.records entry.number).end ≡ no_link)
       (walked_entries atlas)
   pub unused_item_end : (unused_item_walk atlas.records).end ≡ no_link
 
@@ -117,10 +118,10 @@ pub record StandsFor (atlas : AtlasRecords) (state : AtlasState) : Type 0 where
   pub counts : HasCounts atlas
   pub links : HasLinks atlas
   pub shelves : HasShelves atlas state
-  pub items : Each (HasItems atlas) (walked_entries atlas)
+  pub items : AllByRecursion (HasItems atlas) (walked_entries atlas)
   pub neighbours : HasNeighbours state
-  pub free_lists : Each (HasFreeList atlas) (walked_entries atlas)
+  pub free_lists : AllByRecursion (HasFreeList atlas) (walked_entries atlas)
   pub sharing : IsShared atlas
-  pub unused : Each (λ item. is_allocated_at atlas.records.items item ≡ false)
+  pub unused : AllByRecursion (λ item. is_allocated_at atlas.records.items item ≡ false)
       (unused_item_walk atlas.records).met
   pub space : atlas.allocated_space ≡ pos (space_in state.shelves)

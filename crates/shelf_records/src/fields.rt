@@ -19,7 +19,7 @@ pub fn is_allocated(items: &[LinkedItem], number: usize) -> bool
 
 /// Where the item of this number begins along.
 pub fn place(items: &[LinkedItem], number: usize) -> u16
-    ensures { result ≡ spec.place_of items.now number }
+    ensures { result ≡ spec.item_place_of items.now number }
 {
     if number < items.len() {
         items[number].x

@@ -3,7 +3,7 @@
 //! Definitions: `Restoring`.
 
 ghost use Rattle.std.specs.Prelude.{◌≡◌, ◌+◌, ◌*◌, ◌^◌, ◌<◌, ◌≤◌, ◌++◌, ℕ, [], IfOk, IfErr, OnOk, length, map};
-ghost use Rattle.etagere_base.specs.Lists.{Each};
+ghost use Rattle.std.specs.List.{AllByRecursion};
 ghost use Rattle.etagere_links.specs.Edits.{AreFitting};
 ghost use Rattle.etagere_links.specs.Links.{no_link, bits_of};
 ghost use Rattle.etagere_links.specs.LinksRead.{links_in, links_until};
@@ -123,7 +123,7 @@ fn walk_chains(
     requires steps { steps.old < 2 ^ 31 }
     ensures room { room.new ≡ room.old }
     ensures ok { IfOk result (λ shelves. shelves.items ≡ map (chain_entry atlas.now.records) numbers.now) }
-    ensures chains { OnOk result (Each (HasChain atlas.now.records) numbers.now) }
+    ensures chains { OnOk result (AllByRecursion (HasChain atlas.now.records) numbers.now) }
     ensures marked { IfOk result (λ shelves.
         IsMarkedBy marks.new ((unused_item_walk atlas.now.records).met ++ item_numbers shelves.items)) }
     ensures fault { IfErr result (IsBroken atlas.now) }

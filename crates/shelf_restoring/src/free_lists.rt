@@ -3,7 +3,7 @@
 //! Definitions: `Restoring`.
 
 ghost use Rattle.std.specs.Prelude.{◌≡◌, ◌+◌, ◌*◌, ◌^◌, ◌<◌, ◌≤◌, ◌++◌, [], IfOk, IfErr, OnOk, length, map};
-ghost use Rattle.etagere_base.specs.Lists.{Each};
+ghost use Rattle.std.specs.List.{AllByRecursion};
 ghost use Rattle.etagere_links.specs.Edits.{AreFitting};
 ghost use Rattle.etagere_links.specs.Links.{no_link, bits_of};
 ghost use Rattle.etagere_links.specs.LinksRead.{links_in, links_until};
@@ -38,7 +38,7 @@ pub fn walk_free_lists(
         (item_numbers (walked_entries atlas.now) ++ (unused_item_walk atlas.now.records).met) }
     requires steps { steps.old < 2 ^ 31 }
     ensures ok { IfOk result (λ entries. entries.items ≡ walked_entries atlas.now) }
-    ensures free { OnOk result (Each (HasFree atlas.now.records) (shelf_walk atlas.now.records).met) }
+    ensures free { OnOk result (AllByRecursion (HasFree atlas.now.records) (shelf_walk atlas.now.records).met) }
     ensures fit { OnOk result (AreFitting free_list.next atlas.now.records.items) }
     ensures fault { IfErr result (IsBroken atlas.now) }
     ensures all { OnOk result (steps.new ≡ steps.old + links_in (free_walks atlas.now.records)) }
@@ -83,7 +83,7 @@ fn with_free_lists(
         (item_numbers (walked_entries atlas.now) ++ (unused_item_walk atlas.now.records).met) }
     requires steps { steps.old < 2 ^ 31 }
     ensures ok { IfOk result (λ entries. entries.items ≡ walked_entries atlas.now) }
-    ensures free { OnOk result (Each (HasFree atlas.now.records) (shelf_walk atlas.now.records).met) }
+    ensures free { OnOk result (AllByRecursion (HasFree atlas.now.records) (shelf_walk atlas.now.records).met) }
     ensures fault { IfErr result (IsBroken atlas.now) }
     ensures all { OnOk result (steps.new ≡ steps.old + links_in (free_walks atlas.now.records)) }
     ensures own { OnOk result

@@ -9,7 +9,7 @@ ghost use Rattle.shelf_records.specs.Snapshots as spec;
 ghost use Rattle.shelf_records.specs.Snapshots.{IsBroken, snapshot_records};
 ghost use Rattle.shelf_records.specs.StandsFor.{HasCounts};
 
-use crate::judging::framing::{has_counts, is_frame};
+use crate::judging::frame_ranges::{has_counts, is_frame};
 use crate::loaded_atlas::LoadedAtlas;
 use etagere_base::{Frame, RestoreFault, Sides, side, swapped_axes};
 use etagere_links::{Link, Records};

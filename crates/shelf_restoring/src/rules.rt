@@ -4,7 +4,8 @@
 
 ghost use Rattle.std.specs.Prelude.{ℕ, ◌++◌, ◌≤◌, IfErr, OnOk, length};
 ghost use Rattle.etagere_base.specs.Frames.{IsFrame, longest_side};
-ghost use Rattle.etagere_base.specs.Lists.{Each, times};
+ghost use Rattle.std.specs.List.{AllByRecursion};
+ghost use Rattle.etagere_base.specs.Lists.{times};
 ghost use Rattle.etagere_links.specs.Links.{no_link};
 ghost use Rattle.etagere_links.specs.RecordLists.{Entry, HasEachOnce, item_numbers, shelf_numbers};
 ghost use Rattle.shelf_restoring.specs.Private.Rules.{BreaksRule, KeepsRules};
@@ -33,13 +34,13 @@ pub fn judge_rules(
 ) -> Result<(), RestoreFault>
     requires frame { IsFrame longest_side frame.now }
     requires few { length walked.now.shelves.items ≤ no_link }
-    requires short { Each
+    requires short { AllByRecursion
         (λ (entry : Entry). length entry.items ≤ no_link)
         walked.now.shelves.items }
     requires shelves { (number : ℕ) → times number (shelf_numbers walked.now.shelves.items) ≤ 1 }
     requires items { HasEachOnce (length items.now)
         (item_numbers walked.now.shelves.items ++ walked.now.unused.items) }
-    requires once { Each
+    requires once { AllByRecursion
         (λ (entry : Entry). (item : ℕ) → times item entry.free_list ≤ 1)
         walked.now.shelves.items }
     ensures ok { OnOk result (KeepsRules frame.now shelves.now items.now
@@ -56,7 +57,7 @@ pub fn judge_rules(
     if !has_free_lists {
         return Err(RestoreFault::FreeList);
     }
-    if !has_shelves(frame, shelves, items, &walked.shelves) {
+    if !has_shelves(frame, shelves, &walked.shelves) {
         return Err(RestoreFault::Shelves);
     }
     if !have_items(frame, shelves, items, &walked.shelves) {
@@ -68,7 +69,7 @@ pub fn judge_rules(
     if !none_allocated(items, &walked.unused) {
         return Err(RestoreFault::Unused);
     }
-    if !is_space(frame, shelves, items, &walked.shelves, allocated_space) {
+    if !is_space(shelves, items, &walked.shelves, allocated_space) {
         return Err(RestoreFault::Space);
     }
     Ok(())

@@ -4,6 +4,6 @@ pub mod FreshRecords
 pub mod ItemReturned
 pub mod Opening
 pub mod PlacementTaken
-pub mod RankedReturned
+pub mod ReturnedByHeight
 pub mod RecordsGrown
 pub mod Searching

@@ -15,7 +15,7 @@ ghost use Rattle.shelf_model.specs.Choice as choice;
 ghost use Rattle.shelf_model.specs.Choice.{bad_fit_rank};
 ghost use Rattle.shelf_model.specs.Fresh.{fresh};
 ghost use Rattle.shelf_heights.specs.Private.ByHeight as heights;
-ghost use Rattle.shelf_heights.specs.Private.ByHeight.{AreInOrder, AreRanked, ranked_at, ranked_numbers};
+ghost use Rattle.shelf_heights.specs.Private.ByHeight.{AreInOrder, AreByHeight, bounded_at, numbers_by_height};
 ghost use Rattle.shelf_records.specs.Private.Kept.{AreKept, state_of};
 ghost use Rattle.shelf_store.specs.Private.Opening as opening;
 ghost use Rattle.shelf_store.specs.Private.Opening.{ArePlaced, AreSearchable, AreTall, AreWhole, IsBehind, IsEarliest, IsSearchable, earlier_position, looked_into};
@@ -25,8 +25,8 @@ ghost use Rattle.shelf_model.specs.State as state;
 
 use etagere_base::{Frame, Sides, Size, asked, step};
 use etagere_links::{LinkedShelf, Records};
-use shelf_heights::heights::{first_from, place_number};
-use shelf_heights::ranked::{RankedShelf, ShelvesByHeight};
+use shelf_heights::by_height::{BoundedShelf, ShelvesByHeight};
+use shelf_heights::heights::{chain_order, first_from};
 use shelf_model::placements::Placement;
 
 /// An atlas has no more items than this.
@@ -67,22 +67,22 @@ enum Searched {
 pub fn placement_of(
     frame: &Frame,
     records: &Records,
-    ranked: &mut ShelvesByHeight,
+    by_height: &mut ShelvesByHeight,
     items_in_use: u32,
     size: Size,
 ) -> Option<Placement>
     requires kept { AreKept frame.now records.now }
-    requires ranked { AreRanked frame.now records.now ranked.old.items }
+    requires by_height { AreByHeight frame.now records.now by_height.old.items }
     requires counted { items_in_use
         ≡ state.items_in_use (state_of frame.now records.now).shelves }
     ensures none { result ≡ None
         → choice.placement_of (state_of frame.now records.now) size ≡ None }
     ensures some { IfSome result (Finds frame.now records.now size) }
-    ensures ranked { AreRanked frame.now records.now ranked.new.items }
-    ensures capacity { ranked.old.capacity ≤ ranked.new.capacity }
+    ensures by_height { AreByHeight frame.now records.now by_height.new.items }
+    ensures capacity { by_height.old.capacity ≤ by_height.new.capacity }
 {
     let sides = asked(frame, size)?;
-    let placement = chosen(frame, records, ranked, sides)?;
+    let placement = chosen(frame, records, by_height, sides)?;
     if items_in_use + placement.splits() <= MOST_ITEMS {
         Some(placement)
     } else {
@@ -108,19 +108,19 @@ pub fn fits_when_empty(frame: &Frame, size: Size) -> bool
 fn chosen(
     frame: &Frame,
     records: &Records,
-    ranked: &mut ShelvesByHeight,
+    by_height: &mut ShelvesByHeight,
     sides: Sides,
 ) -> Option<Placement>
     requires kept { AreKept frame.now records.now }
-    requires ranked { AreRanked frame.now records.now ranked.old.items }
+    requires by_height { AreByHeight frame.now records.now by_height.old.items }
     requires short { (sides.along ≤ longest_side) × (sides.across ≤ longest_side) }
     requires wide { 1 ≤ sides.along }
     ensures value { result ≡ searching.chosen_at frame.now records.now sides }
-    ensures ranked { AreRanked frame.now records.now ranked.new.items }
-    ensures capacity { ranked.old.capacity ≤ ranked.new.capacity }
+    ensures by_height { AreByHeight frame.now records.now by_height.new.items }
+    ensures capacity { by_height.old.capacity ≤ by_height.new.capacity }
 {
     let height = shelf_height(frame, sides.across);
-    let candidate = best_candidate(records, ranked, frame.column_width, sides.along, height)?;
+    let candidate = best_candidate(records, by_height, frame.column_width, sides.along, height)?;
     Some(placement_at(records, sides.along, height, candidate))
 }
 
@@ -142,28 +142,35 @@ fn shelf_height(frame: &Frame, height: u32) -> u32
 /// The first good fit by height; where there is none, the fit in the first place.
 fn best_candidate(
     records: &Records,
-    ranked: &mut ShelvesByHeight,
+    by_height: &mut ShelvesByHeight,
     column_width: u32,
     width: u32,
     height: u32,
 ) -> Option<Candidate>
     requires linked { IsLinked records.now (walked_lists records.now) }
-    requires order { AreInOrder records.now.shelves ranked.old.items }
-    requires ranked { AreSearchable records.now ranked.old.items }
+    requires order { AreInOrder records.now.shelves by_height.old.items }
+    requires by_height { AreSearchable records.now by_height.old.items }
     requires whole { AreWhole records.now column_width }
     requires column { (1 ≤ column_width) × (column_width ≤ longest_side) }
     requires wide { 1 ≤ width }
     requires short { height ≤ longest_side }
     ensures value { result
-        ≡ searching.first_by_height records.now width height (ranked_numbers ranked.old.items) }
-    ensures numbers { ranked_numbers ranked.new.items ≡ ranked_numbers ranked.old.items }
-    ensures ranked { AreSearchable records.now ranked.new.items }
-    ensures capacity { ranked.old.capacity ≤ ranked.new.capacity }
+        ≡ searching.first_by_height records.now width height (numbers_by_height by_height.old.items) }
+    ensures numbers { numbers_by_height by_height.new.items ≡ numbers_by_height by_height.old.items }
+    ensures by_height { AreSearchable records.now by_height.new.items }
+    ensures capacity { by_height.old.capacity ≤ by_height.new.capacity }
 {
-    let start = first_from(records.shelves(), ranked, height, 0).index;
-    match first_good(records, ranked, start, width, height) {
+    let start = first_from(records.shelves(), by_height, height, 0).index;
+    match first_good(records, by_height, start, width, height) {
         FirstGood::Found(candidate) => Some(candidate),
-        FirstGood::Rest(rest) => first_of_rest(records, ranked, rest, column_width, width, height),
+        FirstGood::Rest(rest) => first_of_rest(
+            records,
+            by_height,
+            rest,
+            column_width,
+            width,
+            height,
+        ),
     }
 }
 
@@ -171,34 +178,34 @@ fn best_candidate(
 /// the fit in the first place.
 fn first_of_rest(
     records: &Records,
-    ranked: &mut ShelvesByHeight,
+    by_height: &mut ShelvesByHeight,
     rest: usize,
     column_width: u32,
     width: u32,
     height: u32,
 ) -> Option<Candidate>
     requires linked { IsLinked records.now (walked_lists records.now) }
-    requires order { AreInOrder records.now.shelves ranked.old.items }
-    requires rest { rest ≤ length ranked.old.items }
-    requires few { length ranked.old.items < 2 ^ 64 }
-    requires ranked { AreSearchable records.now ranked.old.items }
+    requires order { AreInOrder records.now.shelves by_height.old.items }
+    requires rest { rest ≤ length by_height.old.items }
+    requires few { length by_height.old.items < 2 ^ 64 }
+    requires by_height { AreSearchable records.now by_height.old.items }
     requires whole { AreWhole records.now column_width }
     requires column { (1 ≤ column_width) × (column_width ≤ longest_side) }
-    requires tall { AreTooTall records.now.shelves height (drop rest (ranked_numbers ranked.old.items)) }
+    requires tall { AreTooTall records.now.shelves height (drop rest (numbers_by_height by_height.old.items)) }
     requires wide { 1 ≤ width }
     requires short { height ≤ longest_side }
     ensures value { result
         ≡ searching.first_by_height records.now width height
-        (drop rest (ranked_numbers ranked.old.items)) }
-    ensures numbers { ranked_numbers ranked.new.items ≡ ranked_numbers ranked.old.items }
-    ensures ranked { AreSearchable records.now ranked.new.items }
-    ensures capacity { ranked.old.capacity ≤ ranked.new.capacity }
+        (drop rest (numbers_by_height by_height.old.items)) }
+    ensures numbers { numbers_by_height by_height.new.items ≡ numbers_by_height by_height.old.items }
+    ensures by_height { AreSearchable records.now by_height.new.items }
+    ensures capacity { by_height.old.capacity ≤ by_height.new.capacity }
 {
-    let empty = first_empty(records, ranked, rest, column_width, width, height);
+    let empty = first_empty(records, by_height, rest, column_width, width, height);
     if empty.is_some() {
         return empty;
     }
-    first_placed(records, ranked, rest, width, height)
+    first_placed(records, by_height, rest, width, height)
 }
 
 /// The first good fit from this position on, where all shelves are tall enough. Where there is none before the first shelf
@@ -206,64 +213,64 @@ fn first_of_rest(
 /// shelf before it has a free item that is wide enough: their bounds were too small, or their free lists were searched.
 fn first_good(
     records: &Records,
-    ranked: &mut ShelvesByHeight,
+    by_height: &mut ShelvesByHeight,
     start: usize,
     width: u32,
     height: u32,
 ) -> FirstGood
     requires linked { IsLinked records.now (walked_lists records.now) }
-    requires order { AreInOrder records.now.shelves ranked.old.items }
-    requires start { start ≤ length ranked.old.items }
-    requires few { length ranked.old.items < 2 ^ 64 }
-    requires ranked { AreSearchable records.now ranked.old.items }
-    requires tall { AreTall records.now.shelves height (drop start (ranked_numbers ranked.old.items)) }
+    requires order { AreInOrder records.now.shelves by_height.old.items }
+    requires start { start ≤ length by_height.old.items }
+    requires few { length by_height.old.items < 2 ^ 64 }
+    requires by_height { AreSearchable records.now by_height.old.items }
+    requires tall { AreTall records.now.shelves height (drop start (numbers_by_height by_height.old.items)) }
     requires short { height ≤ longest_side }
-    ensures value { IsFirstGood records.now width height start (ranked_numbers ranked.old.items) result }
-    ensures numbers { ranked_numbers ranked.new.items ≡ ranked_numbers ranked.old.items }
-    ensures ranked { AreSearchable records.now ranked.new.items }
-    ensures capacity { ranked.old.capacity ≤ ranked.new.capacity }
+    ensures value { IsFirstGood records.now width height start (numbers_by_height by_height.old.items) result }
+    ensures numbers { numbers_by_height by_height.new.items ≡ numbers_by_height by_height.old.items }
+    ensures by_height { AreSearchable records.now by_height.new.items }
+    ensures capacity { by_height.old.capacity ≤ by_height.new.capacity }
 {
     let mut from = start;
-    while let Some(index) = ranked.first_as_wide(from, width) {
-        if !is_good(records, height, ranked.shelf(index)) {
+    while let Some(index) = by_height.first_as_wide(from, width) {
+        if !is_good(records, height, by_height.shelf(index)) {
             return FirstGood::Rest(index);
         }
-        if let Some(candidate) = fit_at(records, ranked, index, width, height) {
+        if let Some(candidate) = fit_at(records, by_height, index, width, height) {
             return FirstGood::Found(candidate);
         }
         from = index + 1;
     }
-    FirstGood::Rest(ranked.len())
+    FirstGood::Rest(by_height.len())
 }
 
 /// The first empty shelf from this position on that is wide enough, where each other one is too tall for a good fit. An
 /// empty shelf has one item, as wide as the column, so its bound is at least that; where another's is, it falls.
 fn first_empty(
     records: &Records,
-    ranked: &mut ShelvesByHeight,
+    by_height: &mut ShelvesByHeight,
     start: usize,
     column_width: u32,
     width: u32,
     height: u32,
 ) -> Option<Candidate>
     requires linked { IsLinked records.now (walked_lists records.now) }
-    requires start { start ≤ length ranked.old.items }
-    requires few { length ranked.old.items < 2 ^ 64 }
-    requires ranked { AreSearchable records.now ranked.old.items }
+    requires start { start ≤ length by_height.old.items }
+    requires few { length by_height.old.items < 2 ^ 64 }
+    requires by_height { AreSearchable records.now by_height.old.items }
     requires whole { AreWhole records.now column_width }
     requires column { (1 ≤ column_width) × (column_width ≤ longest_side) }
-    requires tall { AreTooTall records.now.shelves height (drop start (ranked_numbers ranked.old.items)) }
+    requires tall { AreTooTall records.now.shelves height (drop start (numbers_by_height by_height.old.items)) }
     requires short { height ≤ longest_side }
     ensures value { result
         ≡ searching.first_offer (searching.good_offer records.now width height)
-        (drop start (ranked_numbers ranked.old.items)) }
-    ensures numbers { ranked_numbers ranked.new.items ≡ ranked_numbers ranked.old.items }
-    ensures ranked { AreSearchable records.now ranked.new.items }
-    ensures capacity { ranked.old.capacity ≤ ranked.new.capacity }
+        (drop start (numbers_by_height by_height.old.items)) }
+    ensures numbers { numbers_by_height by_height.new.items ≡ numbers_by_height by_height.old.items }
+    ensures by_height { AreSearchable records.now by_height.new.items }
+    ensures capacity { by_height.old.capacity ≤ by_height.new.capacity }
 {
     let mut from = start;
-    while let Some(index) = ranked.first_as_wide(from, column_width) {
-        let found = empty_at(records, ranked, index, column_width, width, height);
+    while let Some(index) = by_height.first_as_wide(from, column_width) {
+        let found = empty_at(records, by_height, index, column_width, width, height);
         if found.is_some() {
             return found;
         }
@@ -275,32 +282,32 @@ fn first_empty(
 /// What the shelf at this position offers where it is empty. Where it isn't, its bound falls below the width of a column.
 fn empty_at(
     records: &Records,
-    ranked: &mut ShelvesByHeight,
+    by_height: &mut ShelvesByHeight,
     index: usize,
     column_width: u32,
     width: u32,
     height: u32,
 ) -> Option<Candidate>
     requires linked { IsLinked records.now (walked_lists records.now) }
-    requires index { index < length ranked.old.items }
-    requires ranked { AreSearchable records.now ranked.old.items }
+    requires index { index < length by_height.old.items }
+    requires by_height { AreSearchable records.now by_height.old.items }
     requires whole { AreWhole records.now column_width }
     requires column { (1 ≤ column_width) × (column_width ≤ longest_side) }
     requires tall { height + height / 2 + 1
-        ≤ height_of records.now.shelves (ranked_at ranked.old.items index).shelf }
+        ≤ height_of records.now.shelves (bounded_at by_height.old.items index).shelf }
     requires short { height ≤ longest_side }
     ensures value { result
-        ≡ searching.good_offer records.now width height (ranked_at ranked.old.items index).shelf }
-    ensures numbers { ranked_numbers ranked.new.items ≡ ranked_numbers ranked.old.items }
-    ensures ranked { AreSearchable records.now ranked.new.items }
-    ensures capacity { ranked.old.capacity ≤ ranked.new.capacity }
+        ≡ searching.good_offer records.now width height (bounded_at by_height.old.items index).shelf }
+    ensures numbers { numbers_by_height by_height.new.items ≡ numbers_by_height by_height.old.items }
+    ensures by_height { AreSearchable records.now by_height.new.items }
+    ensures capacity { by_height.old.capacity ≤ by_height.new.capacity }
 {
-    if is_empty(records, ranked.shelf(index)) {
-        return fit_at(records, ranked, index, width, height);
+    if is_empty(records, by_height.shelf(index)) {
+        return fit_at(records, by_height, index, width, height);
     }
-    let mut one = ranked.get(index);
+    let mut one = by_height.get(index);
     one.widest = (column_width - 1) as u16;
-    ranked.set(index, one);
+    by_height.set(index, one);
     None
 }
 
@@ -308,28 +315,28 @@ fn empty_at(
 /// the first place is gone through, and only where none of its items fits, and its bound falls, the next one's.
 fn first_placed(
     records: &Records,
-    ranked: &mut ShelvesByHeight,
+    by_height: &mut ShelvesByHeight,
     start: usize,
     width: u32,
     height: u32,
 ) -> Option<Candidate>
     requires linked { IsLinked records.now (walked_lists records.now) }
-    requires order { AreInOrder records.now.shelves ranked.old.items }
-    requires start { start ≤ length ranked.old.items }
-    requires few { length ranked.old.items < 2 ^ 64 }
-    requires ranked { AreSearchable records.now ranked.old.items }
-    requires tall { AreTall records.now.shelves height (drop start (ranked_numbers ranked.old.items)) }
+    requires order { AreInOrder records.now.shelves by_height.old.items }
+    requires start { start ≤ length by_height.old.items }
+    requires few { length by_height.old.items < 2 ^ 64 }
+    requires by_height { AreSearchable records.now by_height.old.items }
+    requires tall { AreTall records.now.shelves height (drop start (numbers_by_height by_height.old.items)) }
     requires wide { 1 ≤ width }
     requires short { height ≤ longest_side }
     ensures value { result
         ≡ searching.earliest records.now.shelves
-        (map (searching.offered records.now width height) (drop start (ranked_numbers ranked.old.items))) }
-    ensures numbers { ranked_numbers ranked.new.items ≡ ranked_numbers ranked.old.items }
-    ensures ranked { AreSearchable records.now ranked.new.items }
-    ensures capacity { ranked.old.capacity ≤ ranked.new.capacity }
+        (map (searching.offered records.now width height) (drop start (numbers_by_height by_height.old.items))) }
+    ensures numbers { numbers_by_height by_height.new.items ≡ numbers_by_height by_height.old.items }
+    ensures by_height { AreSearchable records.now by_height.new.items }
+    ensures capacity { by_height.old.capacity ≤ by_height.new.capacity }
 {
-    while let Some(index) = earliest_wide(records.shelves(), ranked, start, width) {
-        let found = fit_at(records, ranked, index, width, height);
+    while let Some(index) = earliest_wide(records.shelves(), by_height, start, width) {
+        let found = fit_at(records, by_height, index, width, height);
         if found.is_some() {
             return found;
         }
@@ -341,23 +348,23 @@ fn first_placed(
 /// stand in the order of their places, so only the first such one of each height is looked at.
 fn earliest_wide(
     shelves: &[LinkedShelf],
-    ranked: &mut ShelvesByHeight,
+    by_height: &mut ShelvesByHeight,
     start: usize,
     width: u32,
 ) -> Option<usize>
-    requires order { AreInOrder shelves.now ranked.old.items }
-    requires places { ArePlaced shelves.now ranked.old.items }
-    requires few { length ranked.old.items < 2 ^ 64 }
-    requires start { start ≤ length ranked.old.items }
-    ensures value { IsEarliest shelves.now ranked.old.items start (length ranked.old.items) width result }
-    ensures items { ranked.new.items ≡ ranked.old.items }
-    ensures capacity { ranked.old.capacity ≤ ranked.new.capacity }
+    requires order { AreInOrder shelves.now by_height.old.items }
+    requires places { ArePlaced shelves.now by_height.old.items }
+    requires few { length by_height.old.items < 2 ^ 64 }
+    requires start { start ≤ length by_height.old.items }
+    ensures value { IsEarliest shelves.now by_height.old.items start (length by_height.old.items) width result }
+    ensures items { by_height.new.items ≡ by_height.old.items }
+    ensures capacity { by_height.old.capacity ≤ by_height.new.capacity }
 {
     let mut first = None;
     let mut from = start;
-    while let Some(index) = ranked.first_as_wide(from, width) {
-        first = Some(earlier(shelves, ranked, first, index));
-        from = behind_height(shelves, ranked, index);
+    while let Some(index) = by_height.first_as_wide(from, width) {
+        first = Some(earlier(shelves, by_height, first, index));
+        from = behind_height(shelves, by_height, index);
     }
     first
 }
@@ -365,54 +372,56 @@ fn earliest_wide(
 /// Of two positions the one whose shelf has the earlier place.
 fn earlier(
     shelves: &[LinkedShelf],
-    ranked: &ShelvesByHeight,
+    by_height: &ShelvesByHeight,
     one: Option<usize>,
     other: usize,
 ) -> usize
-    requires order { AreInOrder shelves.now ranked.now.items }
-    requires one { IfSome one (λ index. index < length ranked.now.items) }
-    requires other { other < length ranked.now.items }
-    ensures { result ≡ earlier_position shelves.now ranked.now.items one other }
+    requires order { AreInOrder shelves.now by_height.now.items }
+    requires one { IfSome one (λ index. index < length by_height.now.items) }
+    requires other { other < length by_height.now.items }
+    ensures { result ≡ earlier_position shelves.now by_height.now.items one other }
 {
     match one {
-        Some(one) if place_at(shelves, ranked, one) < place_at(shelves, ranked, other) => one,
+        Some(one)
+            if chain_order_at(shelves, by_height, one)
+                < chain_order_at(shelves, by_height, other) => one,
         _ => other,
     }
 }
 
 /// Where the shelf at this position begins, as one number.
-fn place_at(shelves: &[LinkedShelf], ranked: &ShelvesByHeight, index: usize) -> u32
-    requires order { AreInOrder shelves.now ranked.now.items }
-    requires index { index < length ranked.now.items }
-    ensures { result ≡ opening.place_at shelves.now ranked.now.items index }
+fn chain_order_at(shelves: &[LinkedShelf], by_height: &ShelvesByHeight, index: usize) -> u32
+    requires order { AreInOrder shelves.now by_height.now.items }
+    requires index { index < length by_height.now.items }
+    ensures { result ≡ opening.chain_order_at shelves.now by_height.now.items index }
 {
-    place_of(shelves, ranked.shelf(index))
+    chain_order_of(shelves, by_height.shelf(index))
 }
 
 /// A position behind this one, up to which all shelves have its height, and so a later place. Where the next shelf has its
 /// height, it is that behind all shelves of it.
-fn behind_height(shelves: &[LinkedShelf], ranked: &ShelvesByHeight, index: usize) -> usize
-    requires order { AreInOrder shelves.now ranked.now.items }
-    requires places { ArePlaced shelves.now ranked.now.items }
-    requires few { length ranked.now.items < 2 ^ 64 }
-    requires index { index < length ranked.now.items }
-    ensures { IsBehind shelves.now ranked.now.items index result }
+fn behind_height(shelves: &[LinkedShelf], by_height: &ShelvesByHeight, index: usize) -> usize
+    requires order { AreInOrder shelves.now by_height.now.items }
+    requires places { ArePlaced shelves.now by_height.now.items }
+    requires few { length by_height.now.items < 2 ^ 64 }
+    requires index { index < length by_height.now.items }
+    ensures { IsBehind shelves.now by_height.now.items index result }
 {
-    let height = own_height(shelves, ranked.shelf(index));
+    let height = own_height(shelves, by_height.shelf(index));
     let next = index + 1;
-    if next == ranked.len() || own_height(shelves, ranked.shelf(next)) != height {
+    if next == by_height.len() || own_height(shelves, by_height.shelf(next)) != height {
         return next;
     }
-    first_from(shelves, ranked, height + 1, 0).index
+    first_from(shelves, by_height, height + 1, 0).index
 }
 
 /// Where a shelf begins, as one number.
-fn place_of(shelves: &[LinkedShelf], shelf: usize) -> u32
+fn chain_order_of(shelves: &[LinkedShelf], shelf: usize) -> u32
     requires { shelf < length shelves.now }
-    ensures { result ≡ heights.place_number shelves.now shelf }
+    ensures { result ≡ heights.chain_order shelves.now shelf }
 {
     let record = &shelves[shelf];
-    place_number(record.x, record.y)
+    chain_order(record.x, record.y)
 }
 
 /// How tall a shelf is.
@@ -444,44 +453,44 @@ fn is_good(records: &Records, height: u32, shelf: usize) -> bool
 /// What the shelf at this position offers, which is tall enough.
 fn fit_at(
     records: &Records,
-    ranked: &mut ShelvesByHeight,
+    by_height: &mut ShelvesByHeight,
     index: usize,
     width: u32,
     height: u32,
 ) -> Option<Candidate>
     requires linked { IsLinked records.now (walked_lists records.now) }
-    requires index { index < length ranked.old.items }
-    requires ranked { AreSearchable records.now ranked.old.items }
-    requires tall { height ≤ height_of records.now.shelves (ranked_at ranked.old.items index).shelf }
+    requires index { index < length by_height.old.items }
+    requires by_height { AreSearchable records.now by_height.old.items }
+    requires tall { height ≤ height_of records.now.shelves (bounded_at by_height.old.items index).shelf }
     requires short { height ≤ longest_side }
     ensures value { result
-        ≡ searching.offered records.now width height (ranked_at ranked.old.items index).shelf }
-    ensures items { ranked.new.items
-        ≡ set ranked.old.items index
-        (looked_into records.now width (ranked_at ranked.old.items index)) }
-    ensures numbers { ranked_numbers ranked.new.items ≡ ranked_numbers ranked.old.items }
-    ensures ranked { AreSearchable records.now ranked.new.items }
-    ensures capacity { ranked.old.capacity ≤ ranked.new.capacity }
+        ≡ searching.offered records.now width height (bounded_at by_height.old.items index).shelf }
+    ensures items { by_height.new.items
+        ≡ set by_height.old.items index
+        (looked_into records.now width (bounded_at by_height.old.items index)) }
+    ensures numbers { numbers_by_height by_height.new.items ≡ numbers_by_height by_height.old.items }
+    ensures by_height { AreSearchable records.now by_height.new.items }
+    ensures capacity { by_height.old.capacity ≤ by_height.new.capacity }
 {
-    let mut one = ranked.get(index);
+    let mut one = by_height.get(index);
     let found = fit(records, &mut one, width, height);
-    ranked.set(index, one);
+    by_height.set(index, one);
     found
 }
 
 /// What a shelf offers that is tall enough.
-fn fit(records: &Records, ranked: &mut RankedShelf, width: u32, height: u32) -> Option<Candidate>
+fn fit(records: &Records, bounded: &mut BoundedShelf, width: u32, height: u32) -> Option<Candidate>
     requires linked { IsLinked records.now (walked_lists records.now) }
-    requires ranked { IsSearchable records.now ranked.old }
-    requires tall { height ≤ height_of records.now.shelves ranked.old.shelf }
+    requires bounded { IsSearchable records.now bounded.old }
+    requires tall { height ≤ height_of records.now.shelves bounded.old.shelf }
     requires short { height ≤ longest_side }
-    ensures value { result ≡ searching.offered records.now width height ranked.old.shelf }
-    ensures new { ranked.new ≡ looked_into records.now width ranked.old }
-    ensures shelf { ranked.new.shelf ≡ ranked.old.shelf }
-    ensures ranked { IsSearchable records.now ranked.new }
+    ensures value { result ≡ searching.offered records.now width height bounded.old.shelf }
+    ensures new { bounded.new ≡ looked_into records.now width bounded.old }
+    ensures shelf { bounded.new.shelf ≡ bounded.old.shelf }
+    ensures bounded { IsSearchable records.now bounded.new }
 {
-    let item = fitting_item(records, ranked, width)?;
-    let shelf = usize::from(ranked.shelf);
+    let item = fitting_item(records, bounded, width)?;
+    let shelf = usize::from(bounded.shelf);
     Some(Candidate {
         shelf,
         item,
@@ -491,18 +500,18 @@ fn fit(records: &Records, ranked: &mut RankedShelf, width: u32, height: u32) -> 
 
 /// The first item of a shelf's free list that is wide enough; where there is none, the shelf's bound falls to
 /// the width of the widest.
-fn fitting_item(records: &Records, ranked: &mut RankedShelf, width: u32) -> Option<usize>
+fn fitting_item(records: &Records, bounded: &mut BoundedShelf, width: u32) -> Option<usize>
     requires linked { IsLinked records.now (walked_lists records.now) }
-    requires ranked { IsSearchable records.now ranked.old }
-    ensures value { result ≡ searching.first_wide records.now width ranked.old.shelf }
-    ensures new { ranked.new ≡ looked_into records.now width ranked.old }
-    ensures shelf { ranked.new.shelf ≡ ranked.old.shelf }
-    ensures ranked { IsSearchable records.now ranked.new }
+    requires bounded { IsSearchable records.now bounded.old }
+    ensures value { result ≡ searching.first_wide records.now width bounded.old.shelf }
+    ensures new { bounded.new ≡ looked_into records.now width bounded.old }
+    ensures shelf { bounded.new.shelf ≡ bounded.old.shelf }
+    ensures bounded { IsSearchable records.now bounded.new }
 {
-    match search_free_list(records, width, usize::from(ranked.shelf)) {
+    match search_free_list(records, width, usize::from(bounded.shelf)) {
         Searched::Found(item) => Some(item),
         Searched::Widest(widest) => {
-            ranked.widest = widest;
+            bounded.widest = widest;
             None
         }
     }

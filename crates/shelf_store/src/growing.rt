@@ -5,14 +5,14 @@
 ghost use Rattle.std.specs.Prelude.{◌≡◌, ◌+◌, ◌<◌, ◌≤◌, ◌||◌, nat_lt, IfOk, OnOk, OnErr, length};
 ghost use Rattle.etagere_base.specs.Frames as frames;
 ghost use Rattle.etagere_base.specs.Frames.{IsFrame, longest_side};
-ghost use Rattle.shelf_heights.specs.Private.ByHeight.{AreRanked};
+ghost use Rattle.shelf_heights.specs.Private.ByHeight.{AreByHeight};
 ghost use Rattle.shelf_records.specs.Private.Kept.{AreKept};
 ghost use Rattle.shelf_store.specs.Private.RecordsGrown as spec;
 ghost use Rattle.shelf_store.specs.Private.RecordsGrown.{CanGrow};
 
 pub mod appending;
 pub mod counting;
-pub mod framing;
+pub mod grown_frames;
 pub mod heightening;
 pub mod inserting;
 pub mod widening;
@@ -20,11 +20,11 @@ pub mod widening;
 use crate::growing::appending::append_columns;
 use crate::growing::heightening::heighten_columns;
 use crate::growing::widening::widen_shelves;
-use crate::starting::rank_shelves;
+use crate::starting::sort_shelves;
 use etagere_base::Frame;
 use etagere_links::Records;
-use shelf_heights::heights::reserve_ranks;
-use shelf_heights::ranked::ShelvesByHeight;
+use shelf_heights::by_height::ShelvesByHeight;
+use shelf_heights::heights::reserve_by_height;
 use std::alloc::AllocError;
 
 /// How many records a growth needs: of items, and of shelves.
@@ -45,7 +45,7 @@ pub struct Made {
 /// comes only where some are needed, changes nothing.
 pub fn grow_shelves(
     records: &mut Records,
-    ranked: &mut ShelvesByHeight,
+    by_height: &mut ShelvesByHeight,
     frame: &Frame,
     grown: &Frame,
     needed: Needed,
@@ -55,20 +55,20 @@ pub fn grow_shelves(
     requires needed { needed ≡ spec.needed_of frame.now grown.now records.old }
     requires grows { CanGrow frame.now grown.now needed records.old }
     requires kept { AreKept grown.now (spec.records_grown frame.now grown.now needed records.old).records }
-    requires ranked { AreRanked frame.now records.old ranked.old.items }
-    requires room { length records.old.shelves ≤ ranked.old.capacity }
+    requires by_height { AreByHeight frame.now records.old by_height.old.items }
+    requires room { length records.old.shelves ≤ by_height.old.capacity }
     ensures ok { OnOk result
         (records.new ≡ (spec.records_grown frame.now grown.now needed records.old).records) }
-    ensures ranked { OnOk result (AreRanked grown.now records.new ranked.new.items) }
+    ensures by_height { OnOk result (AreByHeight grown.now records.new by_height.new.items) }
     ensures err { OnErr result (records.new ≡ records.old) }
-    ensures same { OnErr result (ranked.new.items ≡ ranked.old.items) }
-    ensures room { length records.new.shelves ≤ ranked.new.capacity }
+    ensures same { OnErr result (by_height.new.items ≡ by_height.old.items) }
+    ensures room { length records.new.shelves ≤ by_height.new.capacity }
     ensures some { OnErr result (0 < needed.items) }
 {
-    reserve_ranks(records, ranked, needed.shelves)?;
+    reserve_by_height(records, by_height, needed.shelves)?;
     grow_records(records, frame, grown, needed)?;
     if is_extended(frame, grown) {
-        rank_shelves(grown, records, ranked);
+        sort_shelves(grown, records, by_height);
     }
     Ok(())
 }

@@ -1,6 +1,6 @@
 //! Gives an item back: frees it, and merges it and its shelf with what is free beside them.
 //!
-//! Definitions: `ItemReturned`, and `RankedReturned` for the shelves by height. What merges keeps the record of the
+//! Definitions: `ItemReturned`, and `ReturnedByHeight` for the shelves by height. What merges keeps the record of the
 //! earlier place. It looks only at the neighbours of the item and of its shelf, and takes no memory: both have to
 //! stay so.
 
@@ -9,51 +9,51 @@ ghost use Rattle.shelf_records.specs.AtlasRecords as spec;
 ghost use Rattle.shelf_records.specs.AtlasRecords.{shelf_of};
 ghost use Rattle.shelf_store.specs.Private.ItemReturned as returned;
 ghost use Rattle.shelf_store.specs.Private.ItemReturned.{CanMergeItem, CanMergeShelves, CanReturn, FreeNextIsThere, HeightsFit, AreThere, WidthsFit};
-ghost use Rattle.shelf_store.specs.Private.RankedReturned as ranks;
-ghost use Rattle.shelf_store.specs.Private.RankedReturned.{CanMergeNamedRank, CanMergeRank, CanMergeRanks, CanReturnRanked};
+ghost use Rattle.shelf_store.specs.Private.ReturnedByHeight as lists;
+ghost use Rattle.shelf_store.specs.Private.ReturnedByHeight.{CanMergeNamedByHeight, CanMergeByHeight, CanMergeAllByHeight, CanReturnByHeight};
 ghost use Rattle.etagere_links.specs.Links.{no_link};
 ghost use Rattle.etagere_links.specs.Neighbours.{NamesOneOf};
 
 use etagere_links::{Chain, Link, LinkedItem, LinkedShelf, Records, next_of, previous_of};
-use shelf_heights::heights::{put_in, raise, ranked_shelf, take_out};
-use shelf_heights::ranked::ShelvesByHeight;
+use shelf_heights::by_height::ShelvesByHeight;
+use shelf_heights::heights::{position_of, raise, settle, take_out};
 use shelf_records::fields;
 
 /// The item that remains where one was freed, and how many item records became unused.
 #[derive(Drop)]
 struct Merged {
     item: usize,
-    put_aside: u32,
+    made_unused: u32,
 }
 
 /// Frees the item of this number, which is allocated in this shelf, merges what is free with its neighbours, and
 /// answers how many item records became unused.
 pub fn return_item(
     records: &mut Records,
-    ranked: &mut ShelvesByHeight,
+    by_height: &mut ShelvesByHeight,
     shelf: usize,
     number: usize,
 ) -> u32
     requires shelf { shelf ≡ shelf_of records.old.items number }
     requires number { number < no_link }
     requires fits { CanReturn number records.old }
-    requires ranked { CanReturnRanked (shelf_of records.old.items number) number records.old
-        ranked.old.items }
+    requires by_height { CanReturnByHeight (shelf_of records.old.items number) number records.old
+        by_height.old.items }
     ensures records { records.new ≡ returned.item_returned number records.old }
-    ensures ranked { ranked.new.items
-        ≡ ranks.ranked_returned number records.old ranked.old.items }
-    ensures put_aside { result ≡ returned.put_aside_by number records.old }
+    ensures by_height { by_height.new.items
+        ≡ lists.returned_by_height number records.old by_height.old.items }
+    ensures made_unused { result ≡ returned.unused_by number records.old }
     ensures few { result < 5 }
-    ensures capacity { ranked.old.capacity ≤ ranked.new.capacity }
+    ensures capacity { by_height.old.capacity ≤ by_height.new.capacity }
 {
     let merged = merge_item(records, shelf, number);
     let width = width_of(records.items(), merged.item);
-    raise(records.shelves(), ranked, shelf, width);
+    raise(records.shelves(), by_height, shelf, width);
     if is_alone(records.items(), merged.item) {
         records.set_empty(shelf, true);
-        merged.put_aside + merge_shelves(records, ranked, shelf)
+        merged.made_unused + merge_shelves(records, by_height, shelf)
     } else {
-        merged.put_aside
+        merged.made_unused
     }
 }
 
@@ -79,16 +79,16 @@ fn merge_item(records: &mut Records, shelf: usize, number: usize) -> Merged
     requires number { number < no_link }
     requires fits { CanMergeItem shelf number records.old }
     ensures records { records.new ≡ (returned.item_merged shelf number records.old).records }
-    ensures put_aside { result.put_aside
-        ≡ (returned.item_merged shelf number records.old).put_aside }
+    ensures made_unused { result.made_unused
+        ≡ (returned.item_merged shelf number records.old).made_unused }
     ensures item { result.item ≡ returned.remaining_in shelf number records.old }
-    ensures few { result.put_aside < 3 }
+    ensures few { result.made_unused < 3 }
 {
     let one = absorb_next(records, shelf, number);
     let merged = free_after(records, shelf, number);
     Merged {
         item: merged.item,
-        put_aside: one + merged.put_aside,
+        made_unused: one + merged.made_unused,
     }
 }
 
@@ -113,9 +113,9 @@ fn absorb_next(records: &mut Records, shelf: usize, number: usize) -> u32
     ensures records { records.new
         ≡ (returned.next_absorbed shelf number (returned.free_next records.old.items number)
         records.old).records }
-    ensures put_aside { result
+    ensures made_unused { result
         ≡ (returned.next_absorbed shelf number (returned.free_next records.old.items number)
-        records.old).put_aside }
+        records.old).made_unused }
     ensures few { result < 2 }
 {
     let item = &records.items()[number];
@@ -136,76 +136,76 @@ fn free_after(records: &mut Records, shelf: usize, number: usize) -> Merged
     ensures records { records.new
         ≡ (returned.freed_after shelf number (returned.free_previous records.old.items number)
         records.old).records }
-    ensures put_aside { result.put_aside
+    ensures made_unused { result.made_unused
         ≡ (returned.freed_after shelf number (returned.free_previous records.old.items number)
-        records.old).put_aside }
+        records.old).made_unused }
     ensures item { result.item
         ≡ returned.remaining_item number (returned.free_previous records.old.items number) }
-    ensures few { result.put_aside < 2 }
+    ensures few { result.made_unused < 2 }
 {
     let item = &records.items()[number];
     let Some(previous) = free_named(records.items(), item.prev) else {
         records.free_item(shelf, number);
         return Merged {
             item: number,
-            put_aside: 0,
+            made_unused: 0,
         };
     };
     let width = records.items()[previous].width + item.width;
     records.absorb_allocated(shelf, previous, number, width);
     Merged {
         item: previous,
-        put_aside: 1,
+        made_unused: 1,
     }
 }
 
 /// Merges a shelf with its neighbours, where it and they are empty and stand in one column.
-fn merge_shelves(records: &mut Records, ranked: &mut ShelvesByHeight, shelf: usize) -> u32
+fn merge_shelves(records: &mut Records, by_height: &mut ShelvesByHeight, shelf: usize) -> u32
     requires fits { CanMergeShelves shelf records.old }
-    requires ranked { CanMergeRanks shelf records.old ranked.old.items }
+    requires by_height { CanMergeAllByHeight shelf records.old by_height.old.items }
     ensures records { records.new ≡ (returned.shelves_merged shelf records.old).records }
-    ensures ranked { ranked.new.items
-        ≡ ranks.ranks_merged shelf records.old ranked.old.items }
-    ensures put_aside { result ≡ (returned.shelves_merged shelf records.old).put_aside }
+    ensures by_height { by_height.new.items
+        ≡ lists.shelves_merged_by_height shelf records.old by_height.old.items }
+    ensures made_unused { result ≡ (returned.shelves_merged shelf records.old).made_unused }
     ensures few { result < 3 }
-    ensures capacity { ranked.old.capacity ≤ ranked.new.capacity }
+    ensures capacity { by_height.old.capacity ≤ by_height.new.capacity }
 {
-    let one = merge_shelf(records, ranked, shelf);
+    let one = merge_shelf(records, by_height, shelf);
     let previous = previous_of::<Chain, LinkedShelf>(records.shelves(), shelf);
-    one + merge_named_shelf(records, ranked, previous)
+    one + merge_named_shelf(records, by_height, previous)
 }
 
 /// Merges the shelf that a link names with the next one, where both are empty and stand in one column.
-fn merge_named_shelf(records: &mut Records, ranked: &mut ShelvesByHeight, link: Link) -> u32
+fn merge_named_shelf(records: &mut Records, by_height: &mut ShelvesByHeight, link: Link) -> u32
     requires fits { (n : ℕ) → link ≡ Some n → HeightsFit n records.old.shelves }
-    requires ranked { CanMergeNamedRank link records.old ranked.old.items }
+    requires by_height { CanMergeNamedByHeight link records.old by_height.old.items }
     ensures records { records.new ≡ (returned.named_shelf_merged link records.old).records }
-    ensures ranked { ranked.new.items
-        ≡ ranks.named_rank_merged link records.old ranked.old.items }
-    ensures put_aside { result ≡ (returned.named_shelf_merged link records.old).put_aside }
+    ensures by_height { by_height.new.items
+        ≡ lists.named_shelf_merged_by_height link records.old by_height.old.items }
+    ensures made_unused { result ≡ (returned.named_shelf_merged link records.old).made_unused }
     ensures few { result < 2 }
-    ensures capacity { ranked.old.capacity ≤ ranked.new.capacity }
+    ensures capacity { by_height.old.capacity ≤ by_height.new.capacity }
 {
     match link.number() {
         None => 0,
-        Some(shelf) => merge_shelf(records, ranked, shelf),
+        Some(shelf) => merge_shelf(records, by_height, shelf),
     }
 }
 
 /// Merges a shelf with the next one, where both are empty and stand in one column.
-fn merge_shelf(records: &mut Records, ranked: &mut ShelvesByHeight, shelf: usize) -> u32
+fn merge_shelf(records: &mut Records, by_height: &mut ShelvesByHeight, shelf: usize) -> u32
     requires fits { HeightsFit shelf records.old.shelves }
-    requires ranked { CanMergeRank shelf records.old ranked.old.items }
+    requires by_height { CanMergeByHeight shelf records.old by_height.old.items }
     ensures records { records.new ≡ (returned.shelf_merged shelf records.old).records }
-    ensures ranked { ranked.new.items
-        ≡ ranks.rank_merged shelf records.old ranked.old.items }
-    ensures put_aside { result ≡ (returned.shelf_merged shelf records.old).put_aside }
+    ensures by_height { by_height.new.items
+        ≡ lists.shelf_merged_by_height shelf records.old by_height.old.items }
+    ensures made_unused { result ≡ (returned.shelf_merged shelf records.old).made_unused }
     ensures few { result < 2 }
-    ensures capacity { ranked.old.capacity ≤ ranked.new.capacity }
+    ensures capacity { by_height.old.capacity ≤ by_height.new.capacity }
 {
     match empty_next(records.shelves(), shelf) {
         None => 0,
-        Some(next) => absorb_shelf(records, ranked, shelf, next),
+        Some(next) => absorb_shelf(records, by_height, shelf, next),
     }
 }
 
@@ -214,32 +214,32 @@ fn merge_shelf(records: &mut Records, ranked: &mut ShelvesByHeight, shelf: usize
 #[inline(never)]
 fn absorb_shelf(
     records: &mut Records,
-    ranked: &mut ShelvesByHeight,
+    by_height: &mut ShelvesByHeight,
     shelf: usize,
     next: usize,
 ) -> u32
     requires next { returned.empty_next records.old.shelves shelf ≡ Some next }
     requires small { next < no_link }
     requires fits { HeightsFit shelf records.old.shelves }
-    requires ranked { CanMergeRank shelf records.old ranked.old.items }
+    requires by_height { CanMergeByHeight shelf records.old by_height.old.items }
     ensures records { records.new ≡ (returned.shelf_merged shelf records.old).records }
-    ensures ranked { ranked.new.items
-        ≡ ranks.rank_merged shelf records.old ranked.old.items }
-    ensures put_aside { result ≡ (returned.shelf_merged shelf records.old).put_aside }
+    ensures by_height { by_height.new.items
+        ≡ lists.shelf_merged_by_height shelf records.old by_height.old.items }
+    ensures made_unused { result ≡ (returned.shelf_merged shelf records.old).made_unused }
     ensures few { result < 2 }
-    ensures capacity { ranked.old.capacity ≤ ranked.new.capacity }
+    ensures capacity { by_height.old.capacity ≤ by_height.new.capacity }
 {
     let Some(item) = fields::first_item(records.shelves(), next) else {
         return 0;
     };
     let height = fields::height(records.shelves(), shelf) + fields::height(records.shelves(), next);
-    take_out(records.shelves(), ranked, next);
-    let widest = take_out(records.shelves(), ranked, shelf);
+    take_out(records.shelves(), by_height, next);
+    let index = position_of(records.shelves(), by_height, shelf);
     records.unlink_shelf(next);
-    records.put_item_aside(item);
-    records.put_shelf_aside(next);
+    records.make_item_unused(item);
+    records.make_shelf_unused(next);
     records.set_height(shelf, height);
-    put_in(records.shelves(), ranked, ranked_shelf(shelf, widest));
+    settle(records.shelves(), by_height, shelf, index);
     1
 }
 

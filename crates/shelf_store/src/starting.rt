@@ -1,22 +1,22 @@
-//! The records of a new atlas, and of one that was cleared, with their shelves ranked; and the shelves of records
-//! that have grown, ranked.
+//! The records of a new atlas, and of one that was cleared, with their shelves by height; and the shelves of records
+//! that have grown, by height.
 //!
 //! Definitions: `FreshRecords`, and `ByHeight` for the shelves. A clear uses the memory of the records that are
-//! there, of which there is a shelf and an item for each column at least, and that of the ranked shelves.
+//! there, of which there is a shelf and an item for each column at least, and that of the shelves by height.
 
 ghost use Rattle.std.specs.Prelude.{◌≡◌, ◌+◌, ◌<◌, ◌≤◌, [], IfOk, length, map, max};
 ghost use Rattle.etagere_base.specs.Frames.{HasAllColumns, IsFrame, longest_side};
 ghost use Rattle.etagere_links.specs.Links.{no_link};
 ghost use Rattle.etagere_links.specs.RecordLists.{shelf_walk};
 ghost use Rattle.shelf_heights.specs.Private.ByHeight as heights;
-ghost use Rattle.shelf_heights.specs.Private.ByHeight.{AreRanked};
+ghost use Rattle.shelf_heights.specs.Private.ByHeight.{AreByHeight};
 ghost use Rattle.shelf_store.specs.Private.FreshRecords as spec;
 ghost use Rattle.shelf_records.specs.Private.Kept.{AreKept};
 
 use etagere_base::Frame;
 use etagere_links::{Chain, Link, LinkedItem, LinkedShelf, Records, next_of};
-use shelf_heights::heights::ranked_shelf;
-use shelf_heights::ranked::{RankedShelf, ShelvesByHeight};
+use shelf_heights::by_height::{BoundedShelf, ShelvesByHeight};
+use shelf_heights::heights::bounded;
 use std::alloc::{AllocError, Global};
 
 /// The generation of a record that was just made.
@@ -36,84 +36,84 @@ pub fn fresh_records(alloc: Global, frame: &Frame) -> Result<Records, AllocError
     Ok(Records::of_lists(shelves, items, Link::to(0), Link::none(), Link::none()))
 }
 
-/// The ranked shelves of a new atlas.
+/// The shelves by height of a new atlas.
 pub fn fresh_by_height(alloc: Global, frame: &Frame) -> Result<ShelvesByHeight, AllocError>
     requires frame { IsFrame longest_side frame.now }
     requires columns { HasAllColumns frame.now }
-    ensures ranked { IfOk result
-        (λ ranked. AreRanked frame.now (spec.fresh_records frame.now) ranked.items) }
-    ensures room { IfOk result (λ ranked. frame.now.columns ≤ ranked.capacity) }
+    ensures by_height { IfOk result
+        (λ by_height. AreByHeight frame.now (spec.fresh_records frame.now) by_height.items) }
+    ensures room { IfOk result (λ by_height. frame.now.columns ≤ by_height.capacity) }
 {
-    let mut ranked = ShelvesByHeight::with_room(alloc, frame.columns as usize)?;
-    rank_columns(frame, &mut ranked);
-    Ok(ranked)
+    let mut by_height = ShelvesByHeight::with_room(alloc, frame.columns as usize)?;
+    push_columns(frame, &mut by_height);
+    Ok(by_height)
 }
 
-/// Makes the ranked shelves those of a new atlas, in the memory that they have.
-pub fn reset_by_height(frame: &Frame, ranked: &mut ShelvesByHeight)
+/// Makes the shelves by height those of a new atlas, in the memory that they have.
+pub fn reset_by_height(frame: &Frame, by_height: &mut ShelvesByHeight)
     requires frame { IsFrame longest_side frame.now }
     requires columns { HasAllColumns frame.now }
-    requires many { frame.now.columns ≤ length ranked.old.items }
-    ensures ranked { AreRanked frame.now (spec.fresh_records frame.now) ranked.new.items }
-    ensures capacity { ranked.old.capacity ≤ ranked.new.capacity }
+    requires many { frame.now.columns ≤ length by_height.old.items }
+    ensures by_height { AreByHeight frame.now (spec.fresh_records frame.now) by_height.new.items }
+    ensures capacity { by_height.old.capacity ≤ by_height.new.capacity }
 {
-    ranked.clear();
-    rank_columns(frame, ranked);
+    by_height.clear();
+    push_columns(frame, by_height);
 }
 
-/// Ranks the shelf of each column of a new atlas in an empty list, for which there is room.
-fn rank_columns(frame: &Frame, ranked: &mut ShelvesByHeight)
+/// Puts the shelf of each column of a new atlas into an empty list by height, for which there is room.
+fn push_columns(frame: &Frame, by_height: &mut ShelvesByHeight)
     requires frame { IsFrame longest_side frame.now }
     requires columns { HasAllColumns frame.now }
-    requires empty { ranked.old.items ≡ [] }
-    requires room { frame.now.columns ≤ ranked.old.capacity }
-    ensures ranked { AreRanked frame.now (spec.fresh_records frame.now) ranked.new.items }
-    ensures capacity { ranked.old.capacity ≤ ranked.new.capacity }
+    requires empty { by_height.old.items ≡ [] }
+    requires room { frame.now.columns ≤ by_height.old.capacity }
+    ensures by_height { AreByHeight frame.now (spec.fresh_records frame.now) by_height.new.items }
+    ensures capacity { by_height.old.capacity ≤ by_height.new.capacity }
 {
     for column in 0..frame.columns {
-        ranked.push(newly_ranked(frame, column as usize));
+        by_height.push(newly_bounded(frame, column as usize));
     }
 }
 
-/// Ranks the shelves in use of records, in the memory that the list has.
-pub fn rank_shelves(frame: &Frame, records: &Records, ranked: &mut ShelvesByHeight)
+/// Makes the list that of the shelves in use of records by height, in the memory that the list has.
+pub fn sort_shelves(frame: &Frame, records: &Records, by_height: &mut ShelvesByHeight)
     requires kept { AreKept frame.now records.now }
     requires room { length (shelf_walk records.now).met
-        ≤ max (length ranked.old.items) ranked.old.capacity }
-    ensures ranked { AreRanked frame.now records.now ranked.new.items }
-    ensures capacity { ranked.old.capacity ≤ ranked.new.capacity }
+        ≤ max (length by_height.old.items) by_height.old.capacity }
+    ensures by_height { AreByHeight frame.now records.now by_height.new.items }
+    ensures capacity { by_height.old.capacity ≤ by_height.new.capacity }
 {
-    collect_shelves(frame, records, ranked);
-    ranked.sort(records.shelves());
+    collect_shelves(frame, records, by_height);
+    by_height.sort(records.shelves());
 }
 
-/// Makes the list that of the shelves in use by their chain, newly ranked, in the memory that it has.
-fn collect_shelves(frame: &Frame, records: &Records, ranked: &mut ShelvesByHeight)
+/// Makes the list that of the shelves in use by their chain, new by height, in the memory that it has.
+fn collect_shelves(frame: &Frame, records: &Records, by_height: &mut ShelvesByHeight)
     requires kept { AreKept frame.now records.now }
     requires room { length (shelf_walk records.now).met
-        ≤ max (length ranked.old.items) ranked.old.capacity }
-    ensures ranked { ranked.new.items
-        ≡ map (heights.newly_ranked frame.now) (shelf_walk records.now).met }
-    ensures capacity { ranked.old.capacity ≤ ranked.new.capacity }
+        ≤ max (length by_height.old.items) by_height.old.capacity }
+    ensures by_height { by_height.new.items
+        ≡ map (heights.newly_bounded frame.now) (shelf_walk records.now).met }
+    ensures capacity { by_height.old.capacity ≤ by_height.new.capacity }
 {
-    ranked.clear();
+    by_height.clear();
     let mut at = records.first_shelf().number();
     for _step in 0..records.shelves().len() {
         let Some(shelf) = at else {
             break;
         };
-        ranked.push(newly_ranked(frame, shelf));
+        by_height.push(newly_bounded(frame, shelf));
         at = next_of::<Chain, LinkedShelf>(records.shelves(), shelf).number();
     }
 }
 
 /// A shelf of this number, with the width of its column for a bound.
-pub fn newly_ranked(frame: &Frame, shelf: usize) -> RankedShelf
+pub fn newly_bounded(frame: &Frame, shelf: usize) -> BoundedShelf
     requires frame { IsFrame longest_side frame.now }
     requires shelf { shelf < no_link }
-    ensures { result ≡ heights.newly_ranked frame.now shelf }
+    ensures { result ≡ heights.newly_bounded frame.now shelf }
 {
-    ranked_shelf(shelf, frame.column_width as u16)
+    bounded(shelf, frame.column_width as u16)
 }
 
 /// Makes the records those of a new atlas, in the memory that they have.

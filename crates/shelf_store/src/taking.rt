@@ -9,12 +9,12 @@ ghost use Rattle.etagere_links.specs.Links.{no_link};
 ghost use Rattle.etagere_links.specs.RecordUses.{rests_missing};
 ghost use Rattle.shelf_model.specs.Choice.{splits};
 ghost use Rattle.shelf_store.specs.Private.PlacementTaken as spec;
-ghost use Rattle.shelf_store.specs.Private.PlacementTaken.{CanRank, CanTakeFrom, HasSpare, IsItemSplittable, IsRestRankable, IsShelfRankable, IsShelfSplittable, placement_taken, ranked_taken};
+ghost use Rattle.shelf_store.specs.Private.PlacementTaken.{CanTakeByHeight, CanTakeFrom, HasSpare, IsItemSplittable, CanPutRestIn, CanPutShelfIn, IsShelfSplittable, placement_taken, taken_by_height};
 
 use etagere_base::{AllocId, INDEX_MODULUS};
 use etagere_links::{Link, LinkedItem, LinkedShelf, Records};
-use shelf_heights::heights::{put_in, ranked_shelf, reserve_ranks, take_out};
-use shelf_heights::ranked::ShelvesByHeight;
+use shelf_heights::by_height::ShelvesByHeight;
+use shelf_heights::heights::{bounded, position_of, put_in, reserve_by_height, settle};
 use shelf_model::placements::Placement;
 use std::alloc::AllocError;
 
@@ -22,34 +22,34 @@ use std::alloc::AllocError;
 /// `Err`, which comes only where something is split and records are missing for that, changes nothing.
 pub fn take_placement(
     records: &mut Records,
-    ranked: &mut ShelvesByHeight,
+    by_height: &mut ShelvesByHeight,
     found: &Placement,
     column_width: u16,
 ) -> Result<AllocId, AllocError>
     requires takes { CanTakeFrom column_width found.now records.old }
-    requires ranks { CanRank column_width found.now records.old ranked.old.items }
-    requires room { length records.old.shelves ≤ ranked.old.capacity }
-    requires spare { HasSpare records.old ranked.old.items }
+    requires by_height { CanTakeByHeight column_width found.now records.old by_height.old.items }
+    requires room { length records.old.shelves ≤ by_height.old.capacity }
+    requires spare { HasSpare records.old by_height.old.items }
     ensures ok { OnOk result (records.new ≡ placement_taken column_width found.now records.old) }
     ensures id { IfOk result (λ id. id ≡ spec.id_of records.old.items found.now.item) }
     ensures err { OnErr result (records.new ≡ records.old) }
-    ensures ranked { OnOk result
-        (ranked.new.items
-        ≡ ranked_taken column_width found.now records.old ranked.old.items) }
-    ensures ranked_err { OnErr result (ranked.new.items ≡ ranked.old.items) }
-    ensures room { length records.new.shelves ≤ ranked.new.capacity }
+    ensures by_height { OnOk result
+        (by_height.new.items
+        ≡ taken_by_height column_width found.now records.old by_height.old.items) }
+    ensures by_height_err { OnErr result (by_height.new.items ≡ by_height.old.items) }
+    ensures room { length records.new.shelves ≤ by_height.new.capacity }
     ensures split { OnErr result (0 < splits found.now) }
     ensures short { OnErr result
         (0 < rests_missing found.now.splits_shelf found.now.splits_item records.old) }
 {
     let id = id_of(records.items(), found.item);
     if found.splits_shelf {
-        reserve_ranks(records, ranked, 1)?;
+        reserve_by_height(records, by_height, 1)?;
     }
     let rests = records.use_rests(found.splits_shelf, found.splits_item)?;
     make_shelf_rest(
         records,
-        ranked,
+        by_height,
         found,
         column_width,
         rests.shelf,
@@ -63,7 +63,7 @@ pub fn take_placement(
 /// Splits the shelf of a placement, where these are the numbers of the records of the rest and of its item.
 fn make_shelf_rest(
     records: &mut Records,
-    ranked: &mut ShelvesByHeight,
+    by_height: &mut ShelvesByHeight,
     found: &Placement,
     column_width: u16,
     shelf: Option<usize>,
@@ -72,14 +72,14 @@ fn make_shelf_rest(
     requires splittable { IsShelfSplittable found.now records.old }
     requires shelf { IfSome shelf (λ number. number < no_link) }
     requires item { IfSome item (λ number. number < no_link) }
-    requires ranks { IsRestRankable column_width found.now shelf item records.old ranked.old.items }
-    requires room { IfSome shelf (λ number. length ranked.old.items < ranked.old.capacity) }
-    ensures capacity { ranked.old.capacity ≤ ranked.new.capacity }
+    requires by_height { CanPutRestIn column_width found.now shelf item records.old by_height.old.items }
+    requires room { IfSome shelf (λ number. length by_height.old.items < by_height.old.capacity) }
+    ensures capacity { by_height.old.capacity ≤ by_height.new.capacity }
     ensures records { records.new
         ≡ spec.with_shelf_rest column_width found.now shelf item records.old }
-    ensures ranked { ranked.new.items
-        ≡ spec.with_rest_ranked column_width found.now.shelf shelf item records.new.shelves
-        ranked.old.items }
+    ensures by_height { by_height.new.items
+        ≡ spec.with_rest_by_height column_width found.now.shelf shelf item records.new.shelves
+        by_height.old.items }
 {
     let Some(shelf) = shelf else {
         return;
@@ -87,14 +87,14 @@ fn make_shelf_rest(
     let Some(item) = item else {
         return;
     };
-    split_shelf(records, ranked, found, column_width, shelf, item);
+    split_shelf(records, by_height, found, column_width, shelf, item);
 }
 
 /// Splits the shelf of a placement, where these are the numbers of the records of the rest and of its item. The list
-/// of ranked shelves has room for one more.
+/// of shelves by height has room for one more.
 fn split_shelf(
     records: &mut Records,
-    ranked: &mut ShelvesByHeight,
+    by_height: &mut ShelvesByHeight,
     found: &Placement,
     column_width: u16,
     shelf: usize,
@@ -103,26 +103,26 @@ fn split_shelf(
     requires splittable { IsShelfSplittable found.now records.old }
     requires shelf { shelf < no_link }
     requires item { item < no_link }
-    requires ranks { IsShelfRankable found.now.shelf shelf records.old.shelves
+    requires by_height { CanPutShelfIn found.now.shelf shelf records.old.shelves
         (spec.with_shelf_rest column_width found.now (Some shelf) (Some item) records.old).shelves
-        ranked.old.items }
-    requires room { length ranked.old.items < ranked.old.capacity }
-    ensures capacity { ranked.old.capacity ≤ ranked.new.capacity }
+        by_height.old.items }
+    requires room { length by_height.old.items < by_height.old.capacity }
+    ensures capacity { by_height.old.capacity ≤ by_height.new.capacity }
     ensures records { records.new
         ≡ spec.with_shelf_rest column_width found.now (Some shelf) (Some item) records.old }
-    ensures ranked { ranked.new.items
-        ≡ spec.with_rest_ranked column_width found.now.shelf (Some shelf) (Some item)
-        records.new.shelves ranked.old.items }
+    ensures by_height { by_height.new.items
+        ≡ spec.with_rest_by_height column_width found.now.shelf (Some shelf) (Some item)
+        records.new.shelves by_height.old.items }
 {
-    let widest = take_out(records.shelves(), ranked, found.shelf);
-    let whole = shelf_record(records.shelves(), found.shelf);
+    let index = position_of(records.shelves(), by_height, found.shelf);
+    let whole = records.shelves()[found.shelf];
     let height = found.height as u16;
     let rest = rest_shelf(&whole, height, item);
     let generation = item_record(records.items(), item).generation;
     let free = free_item(whole.x, column_width, shelf as u16, generation);
     records.split_shelf(found.shelf, height, shelf, rest, item, free);
-    put_in(records.shelves(), ranked, ranked_shelf(found.shelf, widest));
-    put_in(records.shelves(), ranked, ranked_shelf(shelf, column_width));
+    settle(records.shelves(), by_height, found.shelf, index);
+    put_in(records.shelves(), by_height, bounded(shelf, column_width));
 }
 
 /// Gives the item of a placement: its front, where this is the number of the rest's record, else all of it.
@@ -170,14 +170,6 @@ fn item_record(items: &[LinkedItem], number: usize) -> LinkedItem
     } else {
         free_item(0, 0, 0, 1)
     }
-}
-
-/// The record of the shelf of this number.
-fn shelf_record(shelves: &[LinkedShelf], number: usize) -> LinkedShelf
-    requires { number < length shelves.now }
-    ensures { result ≡ spec.shelf_record shelves.now number }
-{
-    shelves[number]
 }
 
 /// The record of a free item in no list.

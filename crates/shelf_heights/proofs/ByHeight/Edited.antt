@@ -1,9 +1,10 @@
--- What the list of ranked shelves keeps when a shelf is taken out of it, put in or its bound raised.
+-- What the list of shelves by height keeps when a shelf is taken out of it, put in or its bound raised.
 use Rattle.std.proofs.Common.{◌≡◌, ◌≢◌, ℕ, zero, suc, ◌+◌, ◌<◌, ◌≤◌, Bool, true, false, cond, List, [], ◌∷◌, ◌++◌, length, map, refl, ap, arith, sym, subst}
 use Rattle.std.specs.Prelude.{not, nat_lt, ◌==◌}
 use Rattle.etagere_base.proofs.EachLemmas.{Each-filter, Each-weaken}
 use Rattle.etagere_base.proofs.TimesLemmas.{times-append}
-use Rattle.etagere_base.specs.Lists.{Each, remove_place, times}
+use Rattle.std.specs.List.{AllByRecursion}
+use Rattle.etagere_base.specs.Lists.{remove_place, times}
 use Rattle.etagere_links.proofs.ListEnds.{times-here, times-other}
 use Rattle.shelf_model.specs.Listing.{RiseFrom}
 use Rattle.shelf_records.proofs.Recorded.Members.{Each-member}
@@ -11,81 +12,81 @@ use Rattle.shelf_records.proofs.Spelled.RecordValues.{map-agrees}
 use Rattle.etagere_base.specs.declared.frames.Frame.{Frame}
 use Rattle.etagere_links.specs.declared.records.LinkedShelf.{LinkedShelf}
 use Rattle.etagere_links.specs.RecordLists.{Records, shelf_numbers, walked_lists}
-use Rattle.shelf_heights.specs.Private.ByHeight.{AreInOrder, AreRanked, bound_of, order_of, put_in, raised, ranked_numbers, taken_out}
+use Rattle.shelf_heights.specs.Private.ByHeight.{AreInOrder, AreByHeight, bound_of, order_of, put_in, raised, numbers_by_height, taken_out}
 use Rattle.shelf_records.specs.Private.Kept.{AreKept}
-use Rattle.shelf_heights.specs.declared.ranked.RankedShelf.{RankedShelf}
+use Rattle.shelf_heights.specs.declared.by_height.BoundedShelf.{BoundedShelf}
 
 -- the shelf of a number, with this bound
-abbrev pub ranked_as : ℕ → ℕ → RankedShelf
-ranked_as shelf widest = record { widest = widest; shelf = shelf }
+abbrev pub bounded_as : ℕ → ℕ → BoundedShelf
+bounded_as shelf widest = record { widest = widest; shelf = shelf }
 
 -- the numbers once a shelf was taken out
-pub numbers-taken_out : (shelf : ℕ) (ranked : List RankedShelf)
-    → ranked_numbers (taken_out shelf ranked) ≡ remove_place shelf (ranked_numbers ranked)
+pub numbers-taken_out : (shelf : ℕ) (by_height : List BoundedShelf)
+    → numbers_by_height (taken_out shelf by_height) ≡ remove_place shelf (numbers_by_height by_height)
 numbers-taken_out shelf [] = refl
 numbers-taken_out shelf (one ∷ others) = by_test (one.shelf == shelf) (numbers-taken_out shelf others)
   where
-    by_test : (b : Bool) → ranked_numbers (taken_out shelf others) ≡ remove_place shelf (ranked_numbers others)
-        → ranked_numbers (cond (not b) (one ∷ taken_out shelf others) (taken_out shelf others))
-        ≡ cond (not b) (one.shelf ∷ remove_place shelf (ranked_numbers others)) (remove_place shelf (ranked_numbers others))
+    by_test : (b : Bool) → numbers_by_height (taken_out shelf others) ≡ remove_place shelf (numbers_by_height others)
+        → numbers_by_height (cond (not b) (one ∷ taken_out shelf others) (taken_out shelf others))
+        ≡ cond (not b) (one.shelf ∷ remove_place shelf (numbers_by_height others)) (remove_place shelf (numbers_by_height others))
     by_test true rest = rest
     by_test false rest = ap (λ (ns : List ℕ). one.shelf ∷ ns) rest
 
 -- how often a number stands there once a shelf was put in
-pub times-put_in : (k : ℕ) (shelves : List LinkedShelf) (one : RankedShelf) (ranked : List RankedShelf)
-    → times k (ranked_numbers (put_in shelves one ranked)) ≡ times k (one.shelf ∷ ranked_numbers ranked)
+pub times-put_in : (k : ℕ) (shelves : List LinkedShelf) (one : BoundedShelf) (by_height : List BoundedShelf)
+    → times k (numbers_by_height (put_in shelves one by_height)) ≡ times k (one.shelf ∷ numbers_by_height by_height)
 times-put_in k shelves one [] = refl
 times-put_in k shelves one (other ∷ others) = by_test (nat_lt (order_of shelves other.shelf) (order_of shelves one.shelf)) (times-put_in k shelves one others)
   where
-    by_test : (b : Bool) → times k (ranked_numbers (put_in shelves one others)) ≡ times k (one.shelf ∷ ranked_numbers others)
-        → times k (ranked_numbers (cond b (other ∷ put_in shelves one others) (one ∷ other ∷ others))) ≡ times k (one.shelf ∷ other.shelf ∷ ranked_numbers others)
+    by_test : (b : Bool) → times k (numbers_by_height (put_in shelves one others)) ≡ times k (one.shelf ∷ numbers_by_height others)
+        → times k (numbers_by_height (cond b (other ∷ put_in shelves one others) (one ∷ other ∷ others))) ≡ times k (one.shelf ∷ other.shelf ∷ numbers_by_height others)
     by_test true rest = omega (arith, rest)
     by_test false rest = refl
 
 -- the numbers stay when a bound is raised
-pub numbers-raised : (shelf width : ℕ) (ranked : List RankedShelf)
-    → ranked_numbers (raised shelf width ranked) ≡ ranked_numbers ranked
+pub numbers-raised : (shelf width : ℕ) (by_height : List BoundedShelf)
+    → numbers_by_height (raised shelf width by_height) ≡ numbers_by_height by_height
 numbers-raised shelf width [] = refl
 numbers-raised shelf width (one ∷ others) = by_tests (one.shelf == shelf) (nat_lt one.widest width) (numbers-raised shelf width others)
   where
-    by_tests : (b c : Bool) → ranked_numbers (raised shelf width others) ≡ ranked_numbers others
-        → ranked_numbers (cond b (cond c (record one { widest = width }) one) one ∷ raised shelf width others) ≡ one.shelf ∷ ranked_numbers others
+    by_tests : (b c : Bool) → numbers_by_height (raised shelf width others) ≡ numbers_by_height others
+        → numbers_by_height (cond b (cond c (record one { widest = width }) one) one ∷ raised shelf width others) ≡ one.shelf ∷ numbers_by_height others
     by_tests true true rest = ap (λ (ns : List ℕ). one.shelf ∷ ns) rest
     by_tests true false rest = ap (λ (ns : List ℕ). one.shelf ∷ ns) rest
     by_tests false c rest = ap (λ (ns : List ℕ). one.shelf ∷ ns) rest
 
 -- what holds of each shelf holds of the others, with another number, once it was taken out
-pub Each-taken_out : (P Q : RankedShelf → Type 0) (shelf : ℕ) (ranked : List RankedShelf)
-    → ((one : RankedShelf) → one.shelf ≢ shelf → P one → Q one)
-    → Each P ranked → Each Q (taken_out shelf ranked)
+pub Each-taken_out : (P Q : BoundedShelf → Type 0) (shelf : ℕ) (by_height : List BoundedShelf)
+    → ((one : BoundedShelf) → one.shelf ≢ shelf → P one → Q one)
+    → AllByRecursion P by_height → AllByRecursion Q (taken_out shelf by_height)
 Each-taken_out P Q shelf [] weaken each = tt
 Each-taken_out P Q shelf (one ∷ others) weaken each = by_test (one.shelf == shelf) refl (Each-taken_out P Q shelf others weaken each.1)
   where
-    by_test : (b : Bool) → (one.shelf == shelf) ≡ b → Each Q (taken_out shelf others) → Each Q (cond (not b) (one ∷ taken_out shelf others) (taken_out shelf others))
+    by_test : (b : Bool) → (one.shelf == shelf) ≡ b → AllByRecursion Q (taken_out shelf others) → AllByRecursion Q (cond (not b) (one ∷ taken_out shelf others) (taken_out shelf others))
     by_test true e rest = rest
     by_test false e rest = let other : one.shelf ≢ shelf = grind arith in (weaken one other each.0, rest)
 
 -- what holds of each shelf and of the one that is put in
-pub Each-put_in : (P : RankedShelf → Type 0) (shelves : List LinkedShelf) (one : RankedShelf) (ranked : List RankedShelf)
-    → P one → Each P ranked → Each P (put_in shelves one ranked)
+pub Each-put_in : (P : BoundedShelf → Type 0) (shelves : List LinkedShelf) (one : BoundedShelf) (by_height : List BoundedShelf)
+    → P one → AllByRecursion P by_height → AllByRecursion P (put_in shelves one by_height)
 Each-put_in P shelves one [] own each = (own, tt)
 Each-put_in P shelves one (other ∷ others) own each = by_test (nat_lt (order_of shelves other.shelf) (order_of shelves one.shelf)) (Each-put_in P shelves one others own each.1)
   where
-    by_test : (b : Bool) → Each P (put_in shelves one others) → Each P (cond b (other ∷ put_in shelves one others) (one ∷ other ∷ others))
+    by_test : (b : Bool) → AllByRecursion P (put_in shelves one others) → AllByRecursion P (cond b (other ∷ put_in shelves one others) (one ∷ other ∷ others))
     by_test true rest = (each.0, rest)
     by_test false rest = (own, each)
 
 -- what holds of each shelf once the bound of one was raised
-pub Each-raised : (P Q : RankedShelf → Type 0) (shelf width : ℕ) (ranked : List RankedShelf)
-    → ((one : RankedShelf) → one.shelf ≢ shelf → P one → Q one)
-    → ((one : RankedShelf) → one.shelf ≡ shelf → P one → (widest : ℕ) → one.widest ≤ widest → width ≤ widest → Q (ranked_as one.shelf widest))
-    → Each P ranked → Each Q (raised shelf width ranked)
+pub Each-raised : (P Q : BoundedShelf → Type 0) (shelf width : ℕ) (by_height : List BoundedShelf)
+    → ((one : BoundedShelf) → one.shelf ≢ shelf → P one → Q one)
+    → ((one : BoundedShelf) → one.shelf ≡ shelf → P one → (widest : ℕ) → one.widest ≤ widest → width ≤ widest → Q (bounded_as one.shelf widest))
+    → AllByRecursion P by_height → AllByRecursion Q (raised shelf width by_height)
 Each-raised P Q shelf width [] others own each = tt
 Each-raised P Q shelf width (one ∷ more) others own each =
     by_tests (one.shelf == shelf) (nat_lt one.widest width) refl refl (Each-raised P Q shelf width more others own each.1)
   where
-    by_tests : (b c : Bool) → (one.shelf == shelf) ≡ b → nat_lt one.widest width ≡ c → Each Q (raised shelf width more)
-        → Each Q (cond b (cond c (record one { widest = width }) one) one ∷ raised shelf width more)
+    by_tests : (b c : Bool) → (one.shelf == shelf) ≡ b → nat_lt one.widest width ≡ c → AllByRecursion Q (raised shelf width more)
+        → AllByRecursion Q (cond b (cond c (record one { widest = width }) one) one ∷ raised shelf width more)
     by_tests true true e less rest =
         let same : one.shelf ≡ shelf = grind arith in
         (own one same each.0 width (grind arith) (omega arith), rest)
@@ -95,20 +96,20 @@ Each-raised P Q shelf width (one ∷ more) others own each =
     by_tests false c e less rest = let other : one.shelf ≢ shelf = grind arith in (others one other each.0, rest)
 
 -- what holds of each shelf holds of one that stands there, with its bound
-pub bound_of-each : (P : RankedShelf → Type 0) (shelf : ℕ) (ranked : List RankedShelf)
-    → 1 ≤ times shelf (ranked_numbers ranked) → Each P ranked → P (ranked_as shelf (bound_of shelf ranked))
+pub bound_of-each : (P : BoundedShelf → Type 0) (shelf : ℕ) (by_height : List BoundedShelf)
+    → 1 ≤ times shelf (numbers_by_height by_height) → AllByRecursion P by_height → P (bounded_as shelf (bound_of shelf by_height))
 bound_of-each P shelf [] stands each = absurd (omega (arith, stands))
 bound_of-each P shelf (one ∷ others) stands each = by_test (one.shelf == shelf) refl (λ later. bound_of-each P shelf others later each.1)
   where
-    by_test : (b : Bool) → (one.shelf == shelf) ≡ b → (1 ≤ times shelf (ranked_numbers others) → P (ranked_as shelf (bound_of shelf others)))
-        → P (ranked_as shelf (cond b one.widest (bound_of shelf others)))
-    by_test true e later = let same : one.shelf ≡ shelf = grind arith in subst (λ (n : ℕ). P (ranked_as n one.widest)) same each.0
+    by_test : (b : Bool) → (one.shelf == shelf) ≡ b → (1 ≤ times shelf (numbers_by_height others) → P (bounded_as shelf (bound_of shelf others)))
+        → P (bounded_as shelf (cond b one.widest (bound_of shelf others)))
+    by_test true e later = let same : one.shelf ≡ shelf = grind arith in subst (λ (n : ℕ). P (bounded_as n one.widest)) same each.0
     by_test false e later =
         let other : one.shelf ≢ shelf = grind arith in
-        later (omega (arith, stands, times-other shelf one.shelf (ranked_numbers others) other))
+        later (omega (arith, stands, times-other shelf one.shelf (numbers_by_height others) other))
 
 -- what holds of each number that stands in a list holds of each
-pub Each-times : (P : ℕ → Type 0) (ns : List ℕ) → ((k : ℕ) → 1 ≤ times k ns → P k) → Each P ns
+pub Each-times : (P : ℕ → Type 0) (ns : List ℕ) → ((k : ℕ) → 1 ≤ times k ns → P k) → AllByRecursion P ns
 Each-times P [] all = tt
 Each-times P (n ∷ ns) all = (all n (omega (arith, times-here n ns)), Each-times P ns (λ k stands. all k (omega (arith, stands))))
 
@@ -149,20 +150,20 @@ rise-once value k from (n ∷ ns) rise = by_test (n == k) refl (rise-once value 
         omega (arith, rest, times-other k n ns other)
 
 -- the others rise once a shelf was taken out
-rise-taken_out : (shelves : List LinkedShelf) (shelf from : ℕ) (ranked : List RankedShelf) → RiseFrom from (map (order_of shelves) (ranked_numbers ranked))
-    → RiseFrom from (map (order_of shelves) (ranked_numbers (taken_out shelf ranked)))
+rise-taken_out : (shelves : List LinkedShelf) (shelf from : ℕ) (by_height : List BoundedShelf) → RiseFrom from (map (order_of shelves) (numbers_by_height by_height))
+    → RiseFrom from (map (order_of shelves) (numbers_by_height (taken_out shelf by_height)))
 rise-taken_out shelves shelf from [] rise = tt
 rise-taken_out shelves shelf from (one ∷ others) rise = by_test (one.shelf == shelf) (rise-taken_out shelves shelf (order_of shelves one.shelf + 1) others rise.1)
   where
-    by_test : (b : Bool) → RiseFrom (order_of shelves one.shelf + 1) (map (order_of shelves) (ranked_numbers (taken_out shelf others)))
-        → RiseFrom from (map (order_of shelves) (ranked_numbers (cond (not b) (one ∷ taken_out shelf others) (taken_out shelf others))))
-    by_test true rest = rise-lower from (order_of shelves one.shelf + 1) (map (order_of shelves) (ranked_numbers (taken_out shelf others))) (omega (arith, rise.0)) rest
+    by_test : (b : Bool) → RiseFrom (order_of shelves one.shelf + 1) (map (order_of shelves) (numbers_by_height (taken_out shelf others)))
+        → RiseFrom from (map (order_of shelves) (numbers_by_height (cond (not b) (one ∷ taken_out shelf others) (taken_out shelf others))))
+    by_test true rest = rise-lower from (order_of shelves one.shelf + 1) (map (order_of shelves) (numbers_by_height (taken_out shelf others))) (omega (arith, rise.0)) rest
     by_test false rest = (rise.0, rest)
 
 -- all rise once one was put in that none of the others shares a place with
-rise-put_in : (shelves : List LinkedShelf) (one : RankedShelf) (from : ℕ) (ranked : List RankedShelf) → from ≤ order_of shelves one.shelf
-    → ((k : ℕ) → 1 ≤ times k (ranked_numbers ranked) → order_of shelves k ≢ order_of shelves one.shelf)
-    → RiseFrom from (map (order_of shelves) (ranked_numbers ranked)) → RiseFrom from (map (order_of shelves) (ranked_numbers (put_in shelves one ranked)))
+rise-put_in : (shelves : List LinkedShelf) (one : BoundedShelf) (from : ℕ) (by_height : List BoundedShelf) → from ≤ order_of shelves one.shelf
+    → ((k : ℕ) → 1 ≤ times k (numbers_by_height by_height) → order_of shelves k ≢ order_of shelves one.shelf)
+    → RiseFrom from (map (order_of shelves) (numbers_by_height by_height)) → RiseFrom from (map (order_of shelves) (numbers_by_height (put_in shelves one by_height)))
 rise-put_in shelves one from [] low apart rise = (low, tt)
 rise-put_in shelves one from (other ∷ others) low apart rise =
     by_test (nat_lt (order_of shelves other.shelf) (order_of shelves one.shelf)) refl
@@ -172,11 +173,11 @@ rise-put_in shelves one from (other ∷ others) low apart rise =
     later_than a b e differ = let over : b ≤ a = grind arith in omega (arith, over, differ)
 
     by_test : (b : Bool) → nat_lt (order_of shelves other.shelf) (order_of shelves one.shelf) ≡ b
-        → (order_of shelves other.shelf + 1 ≤ order_of shelves one.shelf → RiseFrom (order_of shelves other.shelf + 1) (map (order_of shelves) (ranked_numbers (put_in shelves one others))))
-        → RiseFrom from (map (order_of shelves) (ranked_numbers (cond b (other ∷ put_in shelves one others) (one ∷ other ∷ others))))
+        → (order_of shelves other.shelf + 1 ≤ order_of shelves one.shelf → RiseFrom (order_of shelves other.shelf + 1) (map (order_of shelves) (numbers_by_height (put_in shelves one others))))
+        → RiseFrom from (map (order_of shelves) (numbers_by_height (cond b (other ∷ put_in shelves one others) (one ∷ other ∷ others))))
     by_test true e later = (rise.0, later (grind arith))
     by_test false e later =
-        let differ : order_of shelves other.shelf ≢ order_of shelves one.shelf = apart other.shelf (omega (arith, times-here other.shelf (ranked_numbers others))) in
+        let differ : order_of shelves other.shelf ≢ order_of shelves one.shelf = apart other.shelf (omega (arith, times-here other.shelf (numbers_by_height others))) in
         let above : order_of shelves one.shelf + 1 ≤ order_of shelves other.shelf = later_than (order_of shelves other.shelf) (order_of shelves one.shelf) e differ in
         (low, (above, rise.1))
 
@@ -188,60 +189,60 @@ once_below k count stands = by_test (nat_lt k count) refl stands
     by_test true e some = grind arith
     by_test false e some = absurd (omega (arith, some))
 
--- ranked shelves of kept records stand in their order
-pub ranked-in_order : (frame : Frame) (records : Records) (ranked : List RankedShelf)
-    → AreKept frame records → AreRanked frame records ranked → AreInOrder records.shelves ranked
-ranked-in_order frame records ranked kept are =
+-- shelves by height of kept records stand in their order
+pub by_height-in_order : (frame : Frame) (records : Records) (by_height : List BoundedShelf)
+    → AreKept frame records → AreByHeight frame records by_height → AreInOrder records.shelves by_height
+by_height-in_order frame records by_height kept are =
     record {
-      within = Each-times (λ k. k < length records.shelves) (ranked_numbers ranked) (λ k stands. once_below k (length records.shelves) (omega (arith, stands, are.once k, kept.linked.shelves_once k, times-append k (shelf_numbers (walked_lists records).entries ++ (walked_lists records).unused_shelves) [], times-append k (shelf_numbers (walked_lists records).entries) (walked_lists records).unused_shelves)));
+      within = Each-times (λ k. k < length records.shelves) (numbers_by_height by_height) (λ k stands. once_below k (length records.shelves) (omega (arith, stands, are.once k, kept.linked.shelves_once k, times-append k (shelf_numbers (walked_lists records).entries ++ (walked_lists records).unused_shelves) [], times-append k (shelf_numbers (walked_lists records).entries) (walked_lists records).unused_shelves)));
       rising = are.rising;
     }
 
 -- in their order each number stands once at most
-pub in_order-once : (shelves : List LinkedShelf) (ranked : List RankedShelf) (k : ℕ)
-    → AreInOrder shelves ranked → times k (ranked_numbers ranked) ≤ 1
-in_order-once shelves ranked k order = rise-once (order_of shelves) k 0 (ranked_numbers ranked) order.rising
+pub in_order-once : (shelves : List LinkedShelf) (by_height : List BoundedShelf) (k : ℕ)
+    → AreInOrder shelves by_height → times k (numbers_by_height by_height) ≤ 1
+in_order-once shelves by_height k order = rise-once (order_of shelves) k 0 (numbers_by_height by_height) order.rising
 
 -- they stand in their order by other records that give each of them the same place in it
-pub in_order-kept : (shelves new : List LinkedShelf) (ranked : List RankedShelf)
+pub in_order-kept : (shelves new : List LinkedShelf) (by_height : List BoundedShelf)
     → length shelves ≤ length new
-    → ((k : ℕ) → 1 ≤ times k (ranked_numbers ranked) → order_of new k ≡ order_of shelves k)
-    → AreInOrder shelves ranked → AreInOrder new ranked
-in_order-kept shelves new ranked longer same order =
+    → ((k : ℕ) → 1 ≤ times k (numbers_by_height by_height) → order_of new k ≡ order_of shelves k)
+    → AreInOrder shelves by_height → AreInOrder new by_height
+in_order-kept shelves new by_height longer same order =
     record {
-      within = Each-weaken (λ k. k < length shelves) (λ k. k < length new) (ranked_numbers ranked) (λ k below. omega (arith, below, longer)) order.within;
-      rising = subst (RiseFrom 0) (sym (map-agrees (order_of new) (order_of shelves) (ranked_numbers ranked) same)) order.rising;
+      within = Each-weaken (λ k. k < length shelves) (λ k. k < length new) (numbers_by_height by_height) (λ k below. omega (arith, below, longer)) order.within;
+      rising = subst (RiseFrom 0) (sym (map-agrees (order_of new) (order_of shelves) (numbers_by_height by_height) same)) order.rising;
     }
 
 -- the others stand in their order once a shelf was taken out
-pub in_order-taken_out : (shelves : List LinkedShelf) (shelf : ℕ) (ranked : List RankedShelf)
-    → AreInOrder shelves ranked → AreInOrder shelves (taken_out shelf ranked)
-in_order-taken_out shelves shelf ranked order =
+pub in_order-taken_out : (shelves : List LinkedShelf) (shelf : ℕ) (by_height : List BoundedShelf)
+    → AreInOrder shelves by_height → AreInOrder shelves (taken_out shelf by_height)
+in_order-taken_out shelves shelf by_height order =
     record {
-      within = subst (Each (λ k. k < length shelves)) (sym (numbers-taken_out shelf ranked)) (Each-filter (λ k. k < length shelves) (λ m. not (m == shelf)) (ranked_numbers ranked) order.within);
-      rising = rise-taken_out shelves shelf 0 ranked order.rising;
+      within = subst (AllByRecursion (λ k. k < length shelves)) (sym (numbers-taken_out shelf by_height)) (Each-filter (λ k. k < length shelves) (λ m. not (m == shelf)) (numbers_by_height by_height) order.within);
+      rising = rise-taken_out shelves shelf 0 by_height order.rising;
     }
 
 -- all stand in their order once one was put in that none of the others shares a place in it with
-pub in_order-put_in : (shelves : List LinkedShelf) (one : RankedShelf) (ranked : List RankedShelf)
+pub in_order-put_in : (shelves : List LinkedShelf) (one : BoundedShelf) (by_height : List BoundedShelf)
     → one.shelf < length shelves
-    → ((k : ℕ) → 1 ≤ times k (ranked_numbers ranked) → order_of shelves k ≢ order_of shelves one.shelf)
-    → AreInOrder shelves ranked → AreInOrder shelves (put_in shelves one ranked)
-in_order-put_in shelves one ranked within apart order =
+    → ((k : ℕ) → 1 ≤ times k (numbers_by_height by_height) → order_of shelves k ≢ order_of shelves one.shelf)
+    → AreInOrder shelves by_height → AreInOrder shelves (put_in shelves one by_height)
+in_order-put_in shelves one by_height within apart order =
     record {
-      within = Each-times (λ k. k < length shelves) (ranked_numbers (put_in shelves one ranked))
-          (λ k stands. put_below k (omega (arith, stands, times-put_in k shelves one ranked)));
-      rising = rise-put_in shelves one 0 ranked (omega arith) apart order.rising;
+      within = Each-times (λ k. k < length shelves) (numbers_by_height (put_in shelves one by_height))
+          (λ k stands. put_below k (omega (arith, stands, times-put_in k shelves one by_height)));
+      rising = rise-put_in shelves one 0 by_height (omega arith) apart order.rising;
     }
   where
-    put_below : (k : ℕ) → 1 ≤ times k (one.shelf ∷ ranked_numbers ranked) → k < length shelves
-    put_below k stands = Each-member (λ n. n < length shelves) (one.shelf ∷ ranked_numbers ranked) k (within, order.within) stands
+    put_below : (k : ℕ) → 1 ≤ times k (one.shelf ∷ numbers_by_height by_height) → k < length shelves
+    put_below k stands = Each-member (λ n. n < length shelves) (one.shelf ∷ numbers_by_height by_height) k (within, order.within) stands
 
 -- they stand in their order once the bound of one was raised
-pub in_order-raised : (shelves : List LinkedShelf) (shelf width : ℕ) (ranked : List RankedShelf)
-    → AreInOrder shelves ranked → AreInOrder shelves (raised shelf width ranked)
-in_order-raised shelves shelf width ranked order =
+pub in_order-raised : (shelves : List LinkedShelf) (shelf width : ℕ) (by_height : List BoundedShelf)
+    → AreInOrder shelves by_height → AreInOrder shelves (raised shelf width by_height)
+in_order-raised shelves shelf width by_height order =
     record {
-      within = subst (Each (λ k. k < length shelves)) (sym (numbers-raised shelf width ranked)) order.within;
-      rising = subst (λ (ns : List ℕ). RiseFrom 0 (map (order_of shelves) ns)) (sym (numbers-raised shelf width ranked)) order.rising;
+      within = subst (AllByRecursion (λ k. k < length shelves)) (sym (numbers-raised shelf width by_height)) order.within;
+      rising = subst (λ (ns : List ℕ). RiseFrom 0 (map (order_of shelves) ns)) (sym (numbers-raised shelf width by_height)) order.rising;
     }

@@ -2,15 +2,15 @@
 use Rattle.std.proofs.Common.{◌≡◌, ℕ, zero, suc, ◌<◌, ◌≤◌, Option, None, Some, List, [], ◌∷◌, ◌++◌, drop, get_or, length, map, set, take, refl, ap, arith, sym, subst, ◌∙◌}
 use Rattle.std.proofs.lemmas.List.{drop-map, length-map, take-map}
 use Rattle.std.specs.Prelude.{◌*◌, insert, remove, vec_capacity}
-use Rattle.etagere_base.specs.Lists.{Each}
-use Rattle.shelf_heights.specs.Private.ByHeight.{IsFirstAsWide, ranked_at, ranked_numbers}
-use Rattle.shelf_heights.specs.Private.Ranked.{IsCovered, IsFirstWide, RankedList, list_in, paired}
-use Rattle.shelf_heights.specs.declared.ranked.RankedShelf.{RankedShelf}
-use Rattle.shelf_heights.specs.declared.ranked.ShelvesByHeight.TheInside.{Inside}
+use Rattle.std.specs.List.{AllByRecursion}
+use Rattle.shelf_heights.specs.Private.ByHeight.{IsFirstAsWide, bounded_at, numbers_by_height}
+use Rattle.shelf_heights.specs.Private.ListFields.{IsCovered, IsFirstWide, ListByHeight, list_in, paired}
+use Rattle.shelf_heights.specs.declared.by_height.BoundedShelf.{BoundedShelf}
+use Rattle.shelf_heights.specs.declared.by_height.ShelvesByHeight.TheInside.{Inside}
 use Rattle.shelf_records.proofs.Spelled.Witnesses.{Each-unmap}
 
 -- a shelf of this number and bound
-abbrev pub shelf_of : ℕ → ℕ → RankedShelf
+abbrev pub shelf_of : ℕ → ℕ → BoundedShelf
 shelf_of number bound = record { widest = bound; shelf = number }
 
 -- there are as many as numbers
@@ -20,20 +20,20 @@ length-paired (n ∷ ns) [] same = absurd (omega (arith, same))
 length-paired (n ∷ ns) (b ∷ bs) same = ap suc (length-paired ns bs (omega (arith, same)))
 
 -- their numbers
-pub numbers-paired : (numbers bounds : List ℕ) → length numbers ≡ length bounds → ranked_numbers (paired numbers bounds) ≡ numbers
+pub numbers-paired : (numbers bounds : List ℕ) → length numbers ≡ length bounds → numbers_by_height (paired numbers bounds) ≡ numbers
 numbers-paired [] bounds same = refl
 numbers-paired (n ∷ ns) [] same = absurd (omega (arith, same))
 numbers-paired (n ∷ ns) (b ∷ bs) same = ap (λ (l : List ℕ). n ∷ l) (numbers-paired ns bs (omega (arith, same)))
 
 -- and their bounds
-pub bounds-paired : (numbers bounds : List ℕ) → length numbers ≡ length bounds → map (λ (one : RankedShelf). one.widest) (paired numbers bounds) ≡ bounds
+pub bounds-paired : (numbers bounds : List ℕ) → length numbers ≡ length bounds → map (λ (one : BoundedShelf). one.widest) (paired numbers bounds) ≡ bounds
 bounds-paired [] [] same = refl
 bounds-paired [] (b ∷ bs) same = absurd (omega (arith, same))
 bounds-paired (n ∷ ns) [] same = absurd (omega (arith, same))
 bounds-paired (n ∷ ns) (b ∷ bs) same = ap (λ (l : List ℕ). b ∷ l) (bounds-paired ns bs (omega (arith, same)))
 
 -- the one at a position
-pub paired-at : (numbers bounds : List ℕ) (index k l : ℕ) (other : RankedShelf) → length numbers ≡ length bounds → index < length numbers
+pub paired-at : (numbers bounds : List ℕ) (index k l : ℕ) (other : BoundedShelf) → length numbers ≡ length bounds → index < length numbers
     → get_or (paired numbers bounds) index other ≡ shelf_of (get_or numbers index k) (get_or bounds index l)
 paired-at [] bounds index k l other same within = absurd (omega (arith, within))
 paired-at (n ∷ ns) [] index k l other same within = absurd (omega (arith, same))
@@ -41,7 +41,7 @@ paired-at (n ∷ ns) (b ∷ bs) zero k l other same within = refl
 paired-at (n ∷ ns) (b ∷ bs) (suc index) k l other same within = paired-at ns bs index k l other (omega (arith, same)) (omega (arith, within))
 
 -- one is put in
-pub paired-insert : (numbers bounds : List ℕ) (index : ℕ) (one : RankedShelf) → length numbers ≡ length bounds → index ≤ length numbers
+pub paired-insert : (numbers bounds : List ℕ) (index : ℕ) (one : BoundedShelf) → length numbers ≡ length bounds → index ≤ length numbers
     → paired (insert numbers index one.shelf) (insert bounds index one.widest) ≡ insert (paired numbers bounds) index one
 paired-insert [] [] zero one same within = refl
 paired-insert [] [] (suc index) one same within = absurd (omega (arith, within))
@@ -49,7 +49,7 @@ paired-insert [] (b ∷ bs) index one same within = absurd (omega (arith, same))
 paired-insert (n ∷ ns) [] index one same within = absurd (omega (arith, same))
 paired-insert (n ∷ ns) (b ∷ bs) zero one same within = refl
 paired-insert (n ∷ ns) (b ∷ bs) (suc index) one same within =
-    ap (λ (l : List RankedShelf). shelf_of n b ∷ l) (paired-insert ns bs index one (omega (arith, same)) (omega (arith, within)))
+    ap (λ (l : List BoundedShelf). shelf_of n b ∷ l) (paired-insert ns bs index one (omega (arith, same)) (omega (arith, within)))
 
 -- one is taken out
 pub paired-remove : (numbers bounds : List ℕ) (index : ℕ) → length numbers ≡ length bounds → index < length numbers
@@ -58,42 +58,42 @@ paired-remove [] bounds index same within = absurd (omega (arith, within))
 paired-remove (n ∷ ns) [] index same within = absurd (omega (arith, same))
 paired-remove (n ∷ ns) (b ∷ bs) zero same within = refl
 paired-remove (n ∷ ns) (b ∷ bs) (suc index) same within =
-    ap (λ (l : List RankedShelf). shelf_of n b ∷ l) (paired-remove ns bs index (omega (arith, same)) (omega (arith, within)))
+    ap (λ (l : List BoundedShelf). shelf_of n b ∷ l) (paired-remove ns bs index (omega (arith, same)) (omega (arith, within)))
 
 -- one gets another bound
-pub paired-set : (numbers bounds : List ℕ) (index : ℕ) (one : RankedShelf) → length numbers ≡ length bounds → index < length numbers → one.shelf ≡ (ranked_at (paired numbers bounds) index).shelf
+pub paired-set : (numbers bounds : List ℕ) (index : ℕ) (one : BoundedShelf) → length numbers ≡ length bounds → index < length numbers → one.shelf ≡ (bounded_at (paired numbers bounds) index).shelf
     → paired numbers (set bounds index one.widest) ≡ set (paired numbers bounds) index one
 paired-set [] bounds index one same within is = absurd (omega (arith, within))
 paired-set (n ∷ ns) [] index one same within is = absurd (omega (arith, same))
 paired-set (n ∷ ns) (b ∷ bs) zero one same within is = ap (λ (k : ℕ). shelf_of k one.widest ∷ paired ns bs) (sym is)
 paired-set (n ∷ ns) (b ∷ bs) (suc index) one same within is =
-    ap (λ (l : List RankedShelf). shelf_of n b ∷ l) (paired-set ns bs index one (omega (arith, same)) (omega (arith, within)) is)
+    ap (λ (l : List BoundedShelf). shelf_of n b ∷ l) (paired-set ns bs index one (omega (arith, same)) (omega (arith, within)) is)
 
 -- one put in at the end
-pub insert-end : (ranked : List RankedShelf) (one : RankedShelf) → insert ranked (length ranked) one ≡ ranked ++ one ∷ []
+pub insert-end : (by_height : List BoundedShelf) (one : BoundedShelf) → insert by_height (length by_height) one ≡ by_height ++ one ∷ []
 insert-end [] one = refl
-insert-end (other ∷ others) one = ap (λ (l : List RankedShelf). other ∷ l) (insert-end others one)
+insert-end (other ∷ others) one = ap (λ (l : List BoundedShelf). other ∷ l) (insert-end others one)
 
 -- what a list stands for has as many shelves as there are numbers
-pub count-of : (list : Inside) (ranked : RankedList) → IsCovered list → list_in list ≡ ranked → length ranked.items ≡ length list.numbers.items
-count-of list ranked covered is =
-    subst (λ (value : RankedList). length value.items ≡ length list.numbers.items) is (length-paired list.numbers.items list.bounds.items covered.equal)
+pub count-of : (list : Inside) (by_height : ListByHeight) → IsCovered list → list_in list ≡ by_height → length by_height.items ≡ length list.numbers.items
+count-of list by_height covered is =
+    subst (λ (value : ListByHeight). length value.items ≡ length list.numbers.items) is (length-paired list.numbers.items list.bounds.items covered.equal)
 
 -- the shelf at a position of it
-pub read-of : (list : Inside) (ranked : RankedList) (index k l : ℕ) (other : RankedShelf) → IsCovered list → list_in list ≡ ranked → index < length ranked.items
-    → get_or ranked.items index other ≡ shelf_of (get_or list.numbers.items index k) (get_or list.bounds.items index l)
-read-of list ranked index k l other covered is within =
-    subst (λ (value : RankedList). get_or value.items index other ≡ shelf_of (get_or list.numbers.items index k) (get_or list.bounds.items index l)) is
-    (paired-at list.numbers.items list.bounds.items index k l other covered.equal (omega (arith, within, count-of list ranked covered is)))
+pub read-of : (list : Inside) (by_height : ListByHeight) (index k l : ℕ) (other : BoundedShelf) → IsCovered list → list_in list ≡ by_height → index < length by_height.items
+    → get_or by_height.items index other ≡ shelf_of (get_or list.numbers.items index k) (get_or list.bounds.items index l)
+read-of list by_height index k l other covered is within =
+    subst (λ (value : ListByHeight). get_or value.items index other ≡ shelf_of (get_or list.numbers.items index k) (get_or list.bounds.items index l)) is
+    (paired-at list.numbers.items list.bounds.items index k l other covered.equal (omega (arith, within, count-of list by_height covered is)))
 
 -- its numbers and its bounds
-pub numbers-of : (list : Inside) (ranked : RankedList) → IsCovered list → list_in list ≡ ranked → ranked_numbers ranked.items ≡ list.numbers.items
-numbers-of list ranked covered is =
-    subst (λ (value : RankedList). ranked_numbers value.items ≡ list.numbers.items) is (numbers-paired list.numbers.items list.bounds.items covered.equal)
+pub numbers-of : (list : Inside) (by_height : ListByHeight) → IsCovered list → list_in list ≡ by_height → numbers_by_height by_height.items ≡ list.numbers.items
+numbers-of list by_height covered is =
+    subst (λ (value : ListByHeight). numbers_by_height value.items ≡ list.numbers.items) is (numbers-paired list.numbers.items list.bounds.items covered.equal)
 
-pub bounds-of : (list : Inside) (ranked : RankedList) → IsCovered list → list_in list ≡ ranked → map (λ (one : RankedShelf). one.widest) ranked.items ≡ list.bounds.items
-bounds-of list ranked covered is =
-    subst (λ (value : RankedList). map (λ (one : RankedShelf). one.widest) value.items ≡ list.bounds.items) is (bounds-paired list.numbers.items list.bounds.items covered.equal)
+pub bounds-of : (list : Inside) (by_height : ListByHeight) → IsCovered list → list_in list ≡ by_height → map (λ (one : BoundedShelf). one.widest) by_height.items ≡ list.bounds.items
+bounds-of list by_height covered is =
+    subst (λ (value : ListByHeight). map (λ (one : BoundedShelf). one.widest) value.items ≡ list.bounds.items) is (bounds-paired list.numbers.items list.bounds.items covered.equal)
 
 -- room for one more is room in each of its lists
 pub record HasRoom (list : Inside) : Type 0 where
@@ -101,10 +101,10 @@ pub record HasRoom (list : Inside) : Type 0 where
   pub bounds : length list.bounds.items < vec_capacity list.bounds
   pub blocks : length list.bounds.items < 64 * length list.widest.items
 
-pub room-of : (list : Inside) (ranked : RankedList) → IsCovered list → list_in list ≡ ranked → length ranked.items < ranked.capacity → HasRoom list
-room-of list ranked covered is room =
-    let count = count-of list ranked covered is in
-    let capacity = ap (λ (value : RankedList). value.capacity) is in
+pub room-of : (list : Inside) (by_height : ListByHeight) → IsCovered list → list_in list ≡ by_height → length by_height.items < by_height.capacity → HasRoom list
+room-of list by_height covered is room =
+    let count = count-of list by_height covered is in
+    let capacity = ap (λ (value : ListByHeight). value.capacity) is in
     record {
       numbers = omega (arith, room, count, capacity);
       bounds = omega (arith, room, count, capacity, covered.equal);
@@ -126,17 +126,17 @@ written-back (y ∷ old) (x ∷ new) (suc len) same is =
     ap (λ (l : List ℕ). x ∷ l) (written-back old new len (omega (arith, same)) (omega (arith, is)))
 
 -- the first of the bounds is the first of the shelves
-pub wide-shelves : (from width : ℕ) (ranked : List RankedShelf) (result : Option ℕ) → IsFirstWide from width (map (λ (one : RankedShelf). one.widest) ranked) result → IsFirstAsWide from width ranked result
-wide-shelves from width ranked None low =
-    Each-unmap (λ bound. bound < width) (λ (one : RankedShelf). one.widest) (drop from ranked)
-    (subst (Each (λ bound. bound < width)) (drop-map (λ (one : RankedShelf). one.widest) from ranked) low)
-wide-shelves from width ranked (Some index) first = (
+pub wide-shelves : (from width : ℕ) (by_height : List BoundedShelf) (result : Option ℕ) → IsFirstWide from width (map (λ (one : BoundedShelf). one.widest) by_height) result → IsFirstAsWide from width by_height result
+wide-shelves from width by_height None low =
+    Each-unmap (λ bound. bound < width) (λ (one : BoundedShelf). one.widest) (drop from by_height)
+    (subst (AllByRecursion (λ bound. bound < width)) (drop-map (λ (one : BoundedShelf). one.widest) from by_height) low)
+wide-shelves from width by_height (Some index) first = (
   first.0,
-  omega (arith, first.1, length-map ranked (λ (one : RankedShelf). one.widest)),
-  Each-unmap (λ bound. bound < width) (λ (one : RankedShelf). one.widest) (drop from (take index ranked))
-      (subst (Each (λ bound. bound < width))
-      (ap (drop from) (take-map (λ (one : RankedShelf). one.widest) index ranked) ∙ drop-map (λ (one : RankedShelf). one.widest) from (take index ranked)) first.2),
-  Each-unmap (λ bound. width ≤ bound) (λ (one : RankedShelf). one.widest) (take 1 (drop index ranked))
-      (subst (Each (λ bound. width ≤ bound))
-      (ap (take 1) (drop-map (λ (one : RankedShelf). one.widest) index ranked) ∙ take-map (λ (one : RankedShelf). one.widest) 1 (drop index ranked)) first.3),
+  omega (arith, first.1, length-map by_height (λ (one : BoundedShelf). one.widest)),
+  Each-unmap (λ bound. bound < width) (λ (one : BoundedShelf). one.widest) (drop from (take index by_height))
+      (subst (AllByRecursion (λ bound. bound < width))
+      (ap (drop from) (take-map (λ (one : BoundedShelf). one.widest) index by_height) ∙ drop-map (λ (one : BoundedShelf). one.widest) from (take index by_height)) first.2),
+  Each-unmap (λ bound. width ≤ bound) (λ (one : BoundedShelf). one.widest) (take 1 (drop index by_height))
+      (subst (AllByRecursion (λ bound. width ≤ bound))
+      (ap (take 1) (drop-map (λ (one : BoundedShelf). one.widest) index by_height) ∙ take-map (λ (one : BoundedShelf). one.widest) 1 (drop index by_height)) first.3),
 )

@@ -1,10 +1,10 @@
 -- Stretches that a search passed, joined.
 use Rattle.std.proofs.Common.{ℕ, zero, suc, ◌≤◌, List, [], ◌∷◌, drop, take, arith}
-use Rattle.etagere_base.specs.Lists.{Each}
+use Rattle.std.specs.List.{AllByRecursion}
 
 -- what holds of each up to a position, and from there up to another, holds of each up to that
 pub joined : {X : Type 0} (P : X → Type 0) (xs : List X) (from middle end : ℕ) → from ≤ middle → middle ≤ end
-    → Each P (drop from (take middle xs)) → Each P (drop middle (take end xs)) → Each P (drop from (take end xs))
+    → AllByRecursion P (drop from (take middle xs)) → AllByRecursion P (drop middle (take end xs)) → AllByRecursion P (drop from (take end xs))
 joined P xs zero zero end one other front back = back
 joined P xs (suc from) zero end one other front back = absurd (omega arith)
 joined P xs from (suc middle) zero one other front back = absurd (omega arith)

@@ -1,15 +1,16 @@
--- Where a shelf stands in the list of ranked shelves, as halving finds it, and what an edit there makes of the list.
+-- Where a shelf stands in the list of shelves by height, as halving finds it, and what an edit there makes of the list.
 use Rattle.std.proofs.Common.{◌≡◌, ◌≢◌, ℕ, zero, suc, ◌+◌, ◌<◌, ◌≤◌, Bool, true, false, List, [], ◌∷◌, length, map, get_or, set, take, drop, refl, ap, arith, sym, subst}
 use Rattle.std.proofs.Math.Nat.{pow-suc}
 use Rattle.std.specs.Prelude.{insert, nat_lt, remove, ◌*◌, ◌^◌, ◌==◌}
-use Rattle.etagere_base.specs.Lists.{Each, times}
+use Rattle.std.specs.List.{AllByRecursion}
+use Rattle.etagere_base.specs.Lists.{times}
 use Rattle.etagere_links.proofs.ListEnds.{times-other}
 use Rattle.etagere_links.specs.declared.records.LinkedShelf.{LinkedShelf}
 use Rattle.shelf_model.specs.Listing.{RiseFrom}
-use Rattle.shelf_heights.specs.Private.ByHeight.{AreInOrder, IsStart, bound_of, order_of, put_in, raised, ranked_at, ranked_numbers, taken_out}
-use Rattle.shelf_heights.specs.declared.ranked.RankedShelf.{RankedShelf}
+use Rattle.shelf_heights.specs.Private.ByHeight.{AreInOrder, IsStart, bound_of, order_of, put_in, raised, bounded_at, numbers_by_height, taken_out}
+use Rattle.shelf_heights.specs.declared.by_height.BoundedShelf.{BoundedShelf}
 use Rattle.shelf_records.proofs.Recorded.Members.{Each-member}
-use Rattle.shelf_heights.proofs.ByHeight.Edited.{ranked_as, rise-above}
+use Rattle.shelf_heights.proofs.ByHeight.Edited.{bounded_as, rise-above}
 
 -- so many shelves are left after halvings, where a count of digits was enough for all
 pub record HasDigits (size probes digits : ℕ) : Type 0 where
@@ -28,30 +29,30 @@ digits-halved size less probes digits half some has = by_left has.left has.sum h
         record { left = left; sum = omega (arith, sum); small = omega (arith, small, half, double) }
 
 -- the order of a shelf that is read is no lower than where those rise from
-pub rise-read : (shelves : List LinkedShelf) (from n : ℕ) (ranked : List RankedShelf) (other : RankedShelf) → n < length ranked
-    → RiseFrom from (map (order_of shelves) (ranked_numbers ranked)) → from ≤ order_of shelves (get_or ranked n other).shelf
+pub rise-read : (shelves : List LinkedShelf) (from n : ℕ) (by_height : List BoundedShelf) (other : BoundedShelf) → n < length by_height
+    → RiseFrom from (map (order_of shelves) (numbers_by_height by_height)) → from ≤ order_of shelves (get_or by_height n other).shelf
 rise-read shelves from n [] other within rise = absurd (omega arith)
 rise-read shelves from zero (one ∷ others) other within rise = rise.0
 rise-read shelves from (suc n) (one ∷ others) other within rise =
     omega (arith, rise.0, rise-read shelves (order_of shelves one.shelf + 1) n others other (omega arith) rise.1)
 
 -- what holds of each number holds of that of a shelf that is read
-pub read-number : (P : ℕ → Type 0) (n : ℕ) (ranked : List RankedShelf) (other : RankedShelf) → n < length ranked → Each P (ranked_numbers ranked) → P (get_or ranked n other).shelf
+pub read-number : (P : ℕ → Type 0) (n : ℕ) (by_height : List BoundedShelf) (other : BoundedShelf) → n < length by_height → AllByRecursion P (numbers_by_height by_height) → P (get_or by_height n other).shelf
 read-number P n [] other within each = absurd (omega arith)
 read-number P zero (one ∷ others) other within each = each.0
 read-number P (suc n) (one ∷ others) other within each = read-number P n others other (omega arith) each.1
 
 -- none of those that rise is below where they rise from
-rise-each : (shelves : List LinkedShelf) (low from : ℕ) (ranked : List RankedShelf) → low ≤ from → RiseFrom from (map (order_of shelves) (ranked_numbers ranked))
-    → Each (λ (one : RankedShelf). low ≤ order_of shelves one.shelf) ranked
+rise-each : (shelves : List LinkedShelf) (low from : ℕ) (by_height : List BoundedShelf) → low ≤ from → RiseFrom from (map (order_of shelves) (numbers_by_height by_height))
+    → AllByRecursion (λ (one : BoundedShelf). low ≤ order_of shelves one.shelf) by_height
 rise-each shelves low from [] less rise = tt
 rise-each shelves low from (one ∷ others) less rise =
     (omega (arith, less, rise.0), rise-each shelves low (order_of shelves one.shelf + 1) others (omega (arith, less, rise.0)) rise.1)
 
 -- where a shelf that is read comes before an order, so do those before it
-pub before-probed : (shelves : List LinkedShelf) (from order n : ℕ) (ranked : List RankedShelf) (other : RankedShelf) → n < length ranked
-    → RiseFrom from (map (order_of shelves) (ranked_numbers ranked)) → order_of shelves (get_or ranked n other).shelf < order
-    → Each (λ (one : RankedShelf). order_of shelves one.shelf < order) (take (suc n) ranked)
+pub before-probed : (shelves : List LinkedShelf) (from order n : ℕ) (by_height : List BoundedShelf) (other : BoundedShelf) → n < length by_height
+    → RiseFrom from (map (order_of shelves) (numbers_by_height by_height)) → order_of shelves (get_or by_height n other).shelf < order
+    → AllByRecursion (λ (one : BoundedShelf). order_of shelves one.shelf < order) (take (suc n) by_height)
 before-probed shelves from order n [] other within rise before = tt
 before-probed shelves from order zero (one ∷ others) other within rise before = (before, tt)
 before-probed shelves from order (suc n) (one ∷ others) other within rise before = (
@@ -60,9 +61,9 @@ before-probed shelves from order (suc n) (one ∷ others) other within rise befo
 )
 
 -- where it doesn't, neither do those after it
-pub after-probed : (shelves : List LinkedShelf) (from order n : ℕ) (ranked : List RankedShelf) (other : RankedShelf) → n < length ranked
-    → RiseFrom from (map (order_of shelves) (ranked_numbers ranked)) → order ≤ order_of shelves (get_or ranked n other).shelf
-    → Each (λ (one : RankedShelf). order ≤ order_of shelves one.shelf) (drop n ranked)
+pub after-probed : (shelves : List LinkedShelf) (from order n : ℕ) (by_height : List BoundedShelf) (other : BoundedShelf) → n < length by_height
+    → RiseFrom from (map (order_of shelves) (numbers_by_height by_height)) → order ≤ order_of shelves (get_or by_height n other).shelf
+    → AllByRecursion (λ (one : BoundedShelf). order ≤ order_of shelves one.shelf) (drop n by_height)
 after-probed shelves from order n [] other within rise after = absurd (omega arith)
 after-probed shelves from order zero (one ∷ others) other within rise after =
     (after, rise-each shelves order (order_of shelves one.shelf + 1) others (omega (arith, after)) rise.1)
@@ -70,7 +71,7 @@ after-probed shelves from order (suc n) (one ∷ others) other within rise after
     after-probed shelves (order_of shelves one.shelf + 1) order n others other (omega arith) rise.1 after
 
 -- none is taken out where it doesn't stand
-absent-taken_out : (shelf : ℕ) (ranked : List RankedShelf) → times shelf (ranked_numbers ranked) ≡ 0 → taken_out shelf ranked ≡ ranked
+absent-taken_out : (shelf : ℕ) (by_height : List BoundedShelf) → times shelf (numbers_by_height by_height) ≡ 0 → taken_out shelf by_height ≡ by_height
 absent-taken_out shelf [] none = refl
 absent-taken_out shelf (one ∷ others) none =
     let other : (one.shelf == shelf) ≡ false = grind arith in
@@ -78,7 +79,7 @@ absent-taken_out shelf (one ∷ others) none =
     rw (other, rest) refl
 
 -- no bound is raised where it doesn't stand
-absent-raised : (shelf width : ℕ) (ranked : List RankedShelf) → times shelf (ranked_numbers ranked) ≡ 0 → raised shelf width ranked ≡ ranked
+absent-raised : (shelf width : ℕ) (by_height : List BoundedShelf) → times shelf (numbers_by_height by_height) ≡ 0 → raised shelf width by_height ≡ by_height
 absent-raised shelf width [] none = refl
 absent-raised shelf width (one ∷ others) none =
     let other : (one.shelf == shelf) ≡ false = grind arith in
@@ -86,76 +87,76 @@ absent-raised shelf width (one ∷ others) none =
     rw (other, rest) refl
 
 -- a shelf stands at this index, and what edits of it there make of the list
-pub record StandsAt (shelf index : ℕ) (ranked : List RankedShelf) : Type 0 where
-  pub within : index < length ranked
-  pub read : (other : RankedShelf) → get_or ranked index other ≡ ranked_as shelf (bound_of shelf ranked)
-  pub taken : remove ranked index ≡ taken_out shelf ranked
-  pub higher : (width : ℕ) → nat_lt (bound_of shelf ranked) width ≡ true → set ranked index (ranked_as shelf width) ≡ raised shelf width ranked
-  pub same : (width : ℕ) → nat_lt (bound_of shelf ranked) width ≡ false → raised shelf width ranked ≡ ranked
+pub record StandsAt (shelf index : ℕ) (by_height : List BoundedShelf) : Type 0 where
+  pub within : index < length by_height
+  pub read : (other : BoundedShelf) → get_or by_height index other ≡ bounded_as shelf (bound_of shelf by_height)
+  pub taken : remove by_height index ≡ taken_out shelf by_height
+  pub higher : (width : ℕ) → nat_lt (bound_of shelf by_height) width ≡ true → set by_height index (bounded_as shelf width) ≡ raised shelf width by_height
+  pub same : (width : ℕ) → nat_lt (bound_of shelf by_height) width ≡ false → raised shelf width by_height ≡ by_height
 
 -- the first shelf stands there, and no other of its number
-stands-first : (shelf : ℕ) (one : RankedShelf) (others : List RankedShelf) → one.shelf ≡ shelf → times shelf (ranked_numbers others) ≡ 0 → StandsAt shelf 0 (one ∷ others)
+stands-first : (shelf : ℕ) (one : BoundedShelf) (others : List BoundedShelf) → one.shelf ≡ shelf → times shelf (numbers_by_height others) ≡ 0 → StandsAt shelf 0 (one ∷ others)
 stands-first shelf one others own none =
     let is : (one.shelf == shelf) ≡ true = grind arith in
     record {
       within = omega arith;
-      read = λ other. rw is (ap (λ (n : ℕ). ranked_as n one.widest) own);
+      read = λ other. rw is (ap (λ (n : ℕ). bounded_as n one.widest) own);
       taken = rw is (sym (absent-taken_out shelf others none));
       higher = λ width less.
           let low : nat_lt one.widest width ≡ true = rw is at less in
-          rw (is, low, absent-raised shelf width others none) (ap (λ (n : ℕ). ranked_as n width ∷ others) (sym own));
+          rw (is, low, absent-raised shelf width others none) (ap (λ (n : ℕ). bounded_as n width ∷ others) (sym own));
       same = λ width less.
           let high : nat_lt one.widest width ≡ false = rw is at less in
           rw (is, high, absent-raised shelf width others none) refl;
     }
 
 -- a shelf stands one further behind another
-stands-behind : (shelf index : ℕ) (one : RankedShelf) (others : List RankedShelf) → one.shelf ≢ shelf → StandsAt shelf index others → StandsAt shelf (suc index) (one ∷ others)
+stands-behind : (shelf index : ℕ) (one : BoundedShelf) (others : List BoundedShelf) → one.shelf ≢ shelf → StandsAt shelf index others → StandsAt shelf (suc index) (one ∷ others)
 stands-behind shelf index one others other at =
     let is : (one.shelf == shelf) ≡ false = grind arith in
     record {
       within = omega (arith, at.within);
       read = λ default. rw is (at.read default);
-      taken = rw is (ap (λ (l : List RankedShelf). one ∷ l) at.taken);
-      higher = λ width less. rw is (ap (λ (l : List RankedShelf). one ∷ l) (at.higher width (rw is at less)));
-      same = λ width less. rw is (ap (λ (l : List RankedShelf). one ∷ l) (at.same width (rw is at less)));
+      taken = rw is (ap (λ (l : List BoundedShelf). one ∷ l) at.taken);
+      higher = λ width less. rw is (ap (λ (l : List BoundedShelf). one ∷ l) (at.higher width (rw is at less)));
+      same = λ width less. rw is (ap (λ (l : List BoundedShelf). one ∷ l) (at.same width (rw is at less)));
     }
 
 -- a shelf stands where those begin that don't come before its order
-pub stands-at : (shelves : List LinkedShelf) (shelf from index : ℕ) (ranked : List RankedShelf)
-    → Each (λ (one : RankedShelf). order_of shelves one.shelf < order_of shelves shelf) (take index ranked)
-    → Each (λ (one : RankedShelf). order_of shelves shelf ≤ order_of shelves one.shelf) (drop index ranked)
-    → RiseFrom from (map (order_of shelves) (ranked_numbers ranked)) → 1 ≤ times shelf (ranked_numbers ranked) → StandsAt shelf index ranked
+pub stands-at : (shelves : List LinkedShelf) (shelf from index : ℕ) (by_height : List BoundedShelf)
+    → AllByRecursion (λ (one : BoundedShelf). order_of shelves one.shelf < order_of shelves shelf) (take index by_height)
+    → AllByRecursion (λ (one : BoundedShelf). order_of shelves shelf ≤ order_of shelves one.shelf) (drop index by_height)
+    → RiseFrom from (map (order_of shelves) (numbers_by_height by_height)) → 1 ≤ times shelf (numbers_by_height by_height) → StandsAt shelf index by_height
 stands-at shelves shelf from index [] before after rise stands = absurd (omega (arith, stands))
 stands-at shelves shelf from zero (one ∷ others) before after rise stands = by_test (one.shelf == shelf) refl
   where
-    above : 1 ≤ times shelf (ranked_numbers others) → order_of shelves one.shelf + 1 ≤ order_of shelves shelf
-    above later = rise-above (order_of shelves) shelf (order_of shelves one.shelf + 1) (ranked_numbers others) rise.1 later
+    above : 1 ≤ times shelf (numbers_by_height others) → order_of shelves one.shelf + 1 ≤ order_of shelves shelf
+    above later = rise-above (order_of shelves) shelf (order_of shelves one.shelf + 1) (numbers_by_height others) rise.1 later
 
-    none : (n : ℕ) → times shelf (ranked_numbers others) ≡ n → times shelf (ranked_numbers others) ≡ 0
+    none : (n : ℕ) → times shelf (numbers_by_height others) ≡ n → times shelf (numbers_by_height others) ≡ 0
     none zero e = e
     none (suc n) e = absurd (omega (arith, after.0, above (omega (arith, e))))
 
     by_test : (b : Bool) → (one.shelf == shelf) ≡ b → StandsAt shelf 0 (one ∷ others)
     by_test true e =
         let own : one.shelf ≡ shelf = grind arith in
-        stands-first shelf one others own (none (times shelf (ranked_numbers others)) refl)
+        stands-first shelf one others own (none (times shelf (numbers_by_height others)) refl)
     by_test false e =
         let other : one.shelf ≢ shelf = grind arith in
-        absurd (omega (arith, after.0, above (omega (arith, stands, times-other shelf one.shelf (ranked_numbers others) other))))
+        absurd (omega (arith, after.0, above (omega (arith, stands, times-other shelf one.shelf (numbers_by_height others) other))))
 stands-at shelves shelf from (suc index) (one ∷ others) before after rise stands =
     let other : one.shelf ≢ shelf = λ e. apart e before.0 in
     stands-behind shelf index one others other
-    (stands-at shelves shelf (order_of shelves one.shelf + 1) index others before.1 after rise.1 (omega (arith, stands, times-other shelf one.shelf (ranked_numbers others) other)))
+    (stands-at shelves shelf (order_of shelves one.shelf + 1) index others before.1 after rise.1 (omega (arith, stands, times-other shelf one.shelf (numbers_by_height others) other)))
   where
     apart : one.shelf ≡ shelf → order_of shelves one.shelf < order_of shelves shelf → ⊥
     apart e less = omega (arith, less, ap (order_of shelves) e)
 
 -- a shelf is put in where those begin that don't come before its order
-pub put_in-at : (shelves : List LinkedShelf) (one : RankedShelf) (index : ℕ) (ranked : List RankedShelf) → index ≤ length ranked
-    → Each (λ (other : RankedShelf). order_of shelves other.shelf < order_of shelves one.shelf) (take index ranked)
-    → Each (λ (other : RankedShelf). order_of shelves one.shelf ≤ order_of shelves other.shelf) (drop index ranked)
-    → insert ranked index one ≡ put_in shelves one ranked
+pub put_in-at : (shelves : List LinkedShelf) (one : BoundedShelf) (index : ℕ) (by_height : List BoundedShelf) → index ≤ length by_height
+    → AllByRecursion (λ (other : BoundedShelf). order_of shelves other.shelf < order_of shelves one.shelf) (take index by_height)
+    → AllByRecursion (λ (other : BoundedShelf). order_of shelves one.shelf ≤ order_of shelves other.shelf) (drop index by_height)
+    → insert by_height index one ≡ put_in shelves one by_height
 put_in-at shelves one zero [] within before after = refl
 put_in-at shelves one (suc index) [] within before after = absurd (omega arith)
 put_in-at shelves one zero (other ∷ others) within before after =
@@ -164,42 +165,42 @@ put_in-at shelves one zero (other ∷ others) within before after =
 put_in-at shelves one (suc index) (other ∷ others) within before after =
     let is : nat_lt (order_of shelves other.shelf) (order_of shelves one.shelf) ≡ true = grind (arith, before.0) in
     let rest : insert others index one ≡ put_in shelves one others = put_in-at shelves one index others (omega arith) before.1 after in
-    rw is (ap (λ (l : List RankedShelf). other ∷ l) rest)
+    rw is (ap (λ (l : List BoundedShelf). other ∷ l) rest)
 
 -- a shelf stands where its order was found to begin
-pub stands-found : (shelves : List LinkedShelf) (shelf index probes : ℕ) (ranked : List RankedShelf)
-    → AreInOrder shelves ranked → 1 ≤ times shelf (ranked_numbers ranked) → IsStart shelves ranked (order_of shelves shelf) index probes → StandsAt shelf index ranked
-stands-found shelves shelf index probes ranked in_order stands start = stands-at shelves shelf 0 index ranked start.before start.after in_order.rising stands
+pub stands-found : (shelves : List LinkedShelf) (shelf index probes : ℕ) (by_height : List BoundedShelf)
+    → AreInOrder shelves by_height → 1 ≤ times shelf (numbers_by_height by_height) → IsStart shelves by_height (order_of shelves shelf) index probes → StandsAt shelf index by_height
+stands-found shelves shelf index probes by_height in_order stands start = stands-at shelves shelf 0 index by_height start.before start.after in_order.rising stands
 
 -- one that stands there has a record
-pub stands-within : (shelves : List LinkedShelf) (shelf : ℕ) (ranked : List RankedShelf) → AreInOrder shelves ranked → 1 ≤ times shelf (ranked_numbers ranked) → shelf < length shelves
-stands-within shelves shelf ranked in_order stands = Each-member (λ k. k < length shelves) (ranked_numbers ranked) shelf in_order.within stands
+pub stands-within : (shelves : List LinkedShelf) (shelf : ℕ) (by_height : List BoundedShelf) → AreInOrder shelves by_height → 1 ≤ times shelf (numbers_by_height by_height) → shelf < length shelves
+stands-within shelves shelf by_height in_order stands = Each-member (λ k. k < length shelves) (numbers_by_height by_height) shelf in_order.within stands
 
 -- one is put in where its order was found to begin
-pub put_in-found : (shelves : List LinkedShelf) (number index probes : ℕ) (one : RankedShelf) (ranked : List RankedShelf) → number ≡ one.shelf
-    → IsStart shelves ranked (order_of shelves number) index probes → insert ranked index one ≡ put_in shelves one ranked
-put_in-found shelves number index probes one ranked is start =
-    let from : IsStart shelves ranked (order_of shelves one.shelf) index probes = subst (λ n. IsStart shelves ranked (order_of shelves n) index probes) is start in
-    put_in-at shelves one index ranked from.within from.before from.after
+pub put_in-found : (shelves : List LinkedShelf) (number index probes : ℕ) (one : BoundedShelf) (by_height : List BoundedShelf) → number ≡ one.shelf
+    → IsStart shelves by_height (order_of shelves number) index probes → insert by_height index one ≡ put_in shelves one by_height
+put_in-found shelves number index probes one by_height is start =
+    let from : IsStart shelves by_height (order_of shelves one.shelf) index probes = subst (λ n. IsStart shelves by_height (order_of shelves n) index probes) is start in
+    put_in-at shelves one index by_height from.within from.before from.after
 
 -- a shelf that is read stands there
-times-read : (shelf index : ℕ) (ranked : List RankedShelf) → index < length ranked → (ranked_at ranked index).shelf ≡ shelf → 1 ≤ times shelf (ranked_numbers ranked)
+times-read : (shelf index : ℕ) (by_height : List BoundedShelf) → index < length by_height → (bounded_at by_height index).shelf ≡ shelf → 1 ≤ times shelf (numbers_by_height by_height)
 times-read shelf index [] within is = absurd (omega (arith, within))
 times-read shelf zero (one ∷ others) within is = grind arith
 times-read shelf (suc index) (one ∷ others) within is =
-    let later : 1 ≤ times shelf (ranked_numbers others) = times-read shelf index others (omega (arith, within)) is in
+    let later : 1 ≤ times shelf (numbers_by_height others) = times-read shelf index others (omega (arith, within)) is in
     grind (arith, later)
 
 -- a shelf that stands once stands where it is read
-pub stands-there : (shelf index : ℕ) (ranked : List RankedShelf) → times shelf (ranked_numbers ranked) ≤ 1 → index < length ranked → (ranked_at ranked index).shelf ≡ shelf → StandsAt shelf index ranked
+pub stands-there : (shelf index : ℕ) (by_height : List BoundedShelf) → times shelf (numbers_by_height by_height) ≤ 1 → index < length by_height → (bounded_at by_height index).shelf ≡ shelf → StandsAt shelf index by_height
 stands-there shelf index [] once within is = absurd (omega (arith, within))
 stands-there shelf zero (one ∷ others) once within is =
-    let none : times shelf (ranked_numbers others) ≡ 0 = grind arith in
+    let none : times shelf (numbers_by_height others) ≡ 0 = grind arith in
     stands-first shelf one others is none
 stands-there shelf (suc index) (one ∷ others) once within is =
-    let later : 1 ≤ times shelf (ranked_numbers others) = times-read shelf index others (omega (arith, within)) is in
+    let later : 1 ≤ times shelf (numbers_by_height others) = times-read shelf index others (omega (arith, within)) is in
     stands-behind shelf index one others (other later)
-    (stands-there shelf index others (omega (arith, once, times-other shelf one.shelf (ranked_numbers others) (other later))) (omega (arith, within)) is)
+    (stands-there shelf index others (omega (arith, once, times-other shelf one.shelf (numbers_by_height others) (other later))) (omega (arith, within)) is)
   where
-    other : 1 ≤ times shelf (ranked_numbers others) → one.shelf ≢ shelf
+    other : 1 ≤ times shelf (numbers_by_height others) → one.shelf ≢ shelf
     other later same = absurd (grind (arith, later))

@@ -3,17 +3,17 @@ use Rattle.std.proofs.Common.{◌≡◌, ◌≢◌, ℕ, zero, suc, ◌+◌, ◌
 use Rattle.std.proofs.lemmas.Bool.Decides.{nat_tests}
 use Rattle.std.proofs.lemmas.List.{drop-take, get_or_past}
 use Rattle.std.proofs.lemmas.List.Edits.{get_or-insert_above, get_or-insert_at, get_or-insert_below, get_or-remove_above, get_or-remove_below}
-use Rattle.etagere_base.specs.Lists.{Each}
-use Rattle.shelf_heights.specs.Private.Ranked.{AreCovered, AreRaised, IsFirstWide}
+use Rattle.std.specs.List.{AllByRecursion}
+use Rattle.shelf_heights.specs.Private.ListFields.{AreCovered, AreRaised, IsFirstWide}
 use Rattle.shelf_heights.proofs.ByHeight.PassedBounds.{joined}
 
 -- what holds at each position holds of each
-pub each-read : (P : ℕ → Type 0) (xs : List ℕ) → ((k : ℕ) → k < length xs → P (get_or xs k 0)) → Each P xs
+pub each-read : (P : ℕ → Type 0) (xs : List ℕ) → ((k : ℕ) → k < length xs → P (get_or xs k 0)) → AllByRecursion P xs
 each-read P [] read = tt
 each-read P (x ∷ xs) read = (read 0 (omega arith), each-read P xs (λ k less. read (suc k) (omega (arith, less))))
 
 -- what holds at each position between two holds of each between them
-pub stretch-read : (P : ℕ → Type 0) (xs : List ℕ) (from end : ℕ) → ((k : ℕ) → from ≤ k → k < end → k < length xs → P (get_or xs k 0)) → Each P (drop from (take end xs))
+pub stretch-read : (P : ℕ → Type 0) (xs : List ℕ) (from end : ℕ) → ((k : ℕ) → from ≤ k → k < end → k < length xs → P (get_or xs k 0)) → AllByRecursion P (drop from (take end xs))
 stretch-read P xs zero zero read = tt
 stretch-read P xs (suc from) zero read = tt
 stretch-read P [] zero (suc end) read = tt
@@ -26,7 +26,7 @@ stretch-read P (x ∷ xs) (suc from) (suc end) read =
     stretch-read P xs from end (λ k after before within. read (suc k) (omega (arith, after)) (omega (arith, before)) (omega (arith, within)))
 
 -- what holds of each between two positions holds at each position between them
-pub stretch-at : (P : ℕ → Type 0) (xs : List ℕ) (from end k : ℕ) → from ≤ k → k < end → k < length xs → Each P (drop from (take end xs)) → P (get_or xs k 0)
+pub stretch-at : (P : ℕ → Type 0) (xs : List ℕ) (from end k : ℕ) → from ≤ k → k < end → k < length xs → AllByRecursion P (drop from (take end xs)) → P (get_or xs k 0)
 stretch-at P xs from zero k after before within each = absurd (omega (arith, before))
 stretch-at P [] from (suc end) k after before within each = absurd (omega (arith, within))
 stretch-at P (x ∷ xs) zero (suc end) zero after before within each = each.0
@@ -37,11 +37,11 @@ stretch-at P (x ∷ xs) (suc from) (suc end) (suc k) after before within each =
     stretch-at P xs from end k (omega (arith, after)) (omega (arith, before)) (omega (arith, within)) each
 
 -- what holds of each of so many from a position on holds at each of their positions
-pub slice-at : (P : ℕ → Type 0) (xs : List ℕ) (from size k : ℕ) → from ≤ k → k < from + size → k < length xs → Each P (take size (drop from xs)) → P (get_or xs k 0)
-slice-at P xs from size k after before within each = stretch-at P xs from (from + size) k after before within (subst (Each P) (sym (drop-take from size xs)) each)
+pub slice-at : (P : ℕ → Type 0) (xs : List ℕ) (from size k : ℕ) → from ≤ k → k < from + size → k < length xs → AllByRecursion P (take size (drop from xs)) → P (get_or xs k 0)
+slice-at P xs from size k after before within each = stretch-at P xs from (from + size) k after before within (subst (AllByRecursion P) (sym (drop-take from size xs)) each)
 
 -- what holds at a position holds of each that is taken there
-here-read : (P : ℕ → Type 0) (xs : List ℕ) (index : ℕ) → (index < length xs → P (get_or xs index 0)) → Each P (take 1 (drop index xs))
+here-read : (P : ℕ → Type 0) (xs : List ℕ) (index : ℕ) → (index < length xs → P (get_or xs index 0)) → AllByRecursion P (take 1 (drop index xs))
 here-read P [] zero read = tt
 here-read P [] (suc index) read = tt
 here-read P (x ∷ xs) zero read = (read (omega arith), tt)
@@ -79,7 +79,7 @@ low-joined from at end width bounds front back k after before within = by_order 
     by_order false e = back k (grind (arith, nat_tests)) before within
 
 -- a stretch where none is found is low
-pub none-found : (at end width : ℕ) (bounds : List ℕ) (found : Option ℕ) → is_some found ≡ false → (found ≡ None → Each (λ bound. bound < width) (drop at (take end bounds)))
+pub none-found : (at end width : ℕ) (bounds : List ℕ) (found : Option ℕ) → is_some found ≡ false → (found ≡ None → AllByRecursion (λ bound. bound < width) (drop at (take end bounds)))
     → (k : ℕ) → at ≤ k → k < end → k < length bounds → get_or bounds k 0 < width
 none-found at end width bounds None none low k after before within = stretch-at (λ bound. bound < width) bounds at end k after before within (low refl)
 none-found at end width bounds (Some index) none low k after before within = absurd (cc)
@@ -92,7 +92,7 @@ covered-at widest bounds block k covered after before =
 
 -- a block whose widest is found anew is covered as the others are
 pub block-covered : (widest bounds : List ℕ) (block value size : ℕ) → AreCovered widest bounds → block < length widest
-    → ((k : ℕ) → k < length bounds → k < (block + 1) * 64 → k < block * 64 + size) → Each (λ bound. bound ≤ value) (take size (drop (block * 64) bounds))
+    → ((k : ℕ) → k < length bounds → k < (block + 1) * 64 → k < block * 64 + size) → AllByRecursion (λ bound. bound ≤ value) (take size (drop (block * 64) bounds))
     → AreCovered (set widest block value) bounds
 block-covered widest bounds block value size covered within inside low other place less =
     by_block (nat_eq other block) refl (nat_lt (other * 64 + place) (length bounds)) refl
@@ -191,7 +191,7 @@ remove-covered old new bounds index within covered raised moved block place less
         omega (arith, get_or-remove_above bounds index 0 (block * 64 + place) after within, get_or_past bounds ((block * 64 + place) + 1) 0 (omega (arith, outside, outer)))
 
 -- where the widest of blocks are low, so are the bounds in them
-pub blocks-low : (widest bounds : List ℕ) (at blocks width : ℕ) → AreCovered widest bounds → blocks ≤ length widest → Each (λ bound. bound < width) (drop (at / 64) (take blocks widest))
+pub blocks-low : (widest bounds : List ℕ) (at blocks width : ℕ) → AreCovered widest bounds → blocks ≤ length widest → AllByRecursion (λ bound. bound < width) (drop (at / 64) (take blocks widest))
     → (k : ℕ) → at ≤ k → k < blocks * 64 → get_or bounds k 0 < width
 blocks-low widest bounds at blocks width covered few low k after before =
     omega (

@@ -4,9 +4,10 @@ use Rattle.std.proofs.lemmas.Bool.{true≢false, cases_lt}
 use Rattle.std.specs.Prelude.{nat_lt}
 use Rattle.etagere_base.specs.Frames.{across_side}
 use Rattle.etagere_base.specs.declared.frames.Frame.{Frame}
-use Rattle.shelf_model.specs.Fresh.{empty_columns, fresh, without_records}
+use Rattle.shelf_model.specs.Fresh.{empty_columns, fresh, without_peak_items}
 use Rattle.shelf_model.specs.Merging.{both_free, both_empty}
-use Rattle.etagere_base.specs.Lists.{Each, times, NoNeighbours}
+use Rattle.std.specs.List.{AllByRecursion}
+use Rattle.etagere_base.specs.Lists.{times, NoNeighbours}
 use Rattle.shelf_model.specs.Places.{column_place, column_height, free_places, allocations}
 use Rattle.shelf_model.specs.State.{Item, Shelf, AtlasState, empty_shelf, is_empty, total_width}
 use Rattle.shelf_model.specs.Valid.{IsShelf, IsValid, is_out_of_order}
@@ -48,19 +49,19 @@ emptied frame shelf wide valid none =
     λ i. record { column = shelf.column; height = shelf.height; items = items_are i; free_list = free_list_is i }
 
 -- what stands behind a column stands behind each one before that
-all_after : (a b : ℕ) (shelves : List Shelf) → a ≤ b → Each (λ (s : Shelf). b < s.column) shelves → Each (λ (s : Shelf). a < s.column) shelves
+all_after : (a b : ℕ) (shelves : List Shelf) → a ≤ b → AllByRecursion (λ (s : Shelf). b < s.column) shelves → AllByRecursion (λ (s : Shelf). a < s.column) shelves
 all_after a b shelves le later = Each-weaken (λ (s : Shelf). b < s.column) _ shelves (λ (s : Shelf) (h : b < s.column). omega arith) later
 
 -- what stands behind a column stands in others
-all_others : (column : ℕ) (shelves : List Shelf) → Each (λ (s : Shelf). column < s.column) shelves → Each (λ (s : Shelf). s.column ≢ column) shelves
+all_others : (column : ℕ) (shelves : List Shelf) → AllByRecursion (λ (s : Shelf). column < s.column) shelves → AllByRecursion (λ (s : Shelf). s.column ≢ column) shelves
 all_others column shelves later = Each-weaken (λ (s : Shelf). column < s.column) _ shelves (λ (s : Shelf) (h : column < s.column) e. omega arith) later
 
 -- shelves stand within columns
 abbrev AreWithin : ℕ → ℕ → List Shelf → Type 0
-AreWithin column end shelves = Each (λ (s : Shelf). (column ≤ s.column) × (s.column < end)) shelves
+AreWithin column end shelves = AllByRecursion (λ (s : Shelf). (column ≤ s.column) × (s.column < end)) shelves
 
 -- shelves behind the first column stand within the others
-narrowed : (column n : ℕ) (shelves : List Shelf) → Each (λ (s : Shelf). column < s.column) shelves
+narrowed : (column n : ℕ) (shelves : List Shelf) → AllByRecursion (λ (s : Shelf). column < s.column) shelves
     → AreWithin column (column + suc n) shelves → AreWithin (suc column) (suc column + n) shelves
 narrowed column n shelves later within =
     Each-weaken (λ (s : Shelf). (column < s.column) × ((column ≤ s.column) × (s.column < column + suc n))) _ shelves
@@ -68,7 +69,7 @@ narrowed column n shelves later within =
     (Each-both _ _ shelves later within)
 
 -- each shelf stands in one of the columns
-all_within : (frame : Frame) (shelves : List Shelf) → Each (IsShelf frame) shelves → AreWithin 0 (0 + frame.columns) shelves
+all_within : (frame : Frame) (shelves : List Shelf) → AllByRecursion (IsShelf frame) shelves → AreWithin 0 (0 + frame.columns) shelves
 all_within frame shelves valid = Each-weaken (IsShelf frame) _ shelves (λ (s : Shelf) (v : IsShelf frame s). (omega arith, omega (arith, v.column))) valid
 
 -- two empty shelves in order, not in one column, rise
@@ -81,21 +82,21 @@ module _ (frame : Frame) where
   IsEmptied shelf = shelf ≡ empty_shelf frame shelf.column shelf.height
 
   -- shelves that nothing holds are empty ones
-  all_emptied : 1 ≤ frame.column_width → (shelves : List Shelf) → Each (IsShelf frame) shelves → ids shelves ≡ [] → Each IsEmptied shelves
+  all_emptied : 1 ≤ frame.column_width → (shelves : List Shelf) → AllByRecursion (IsShelf frame) shelves → ids shelves ≡ [] → AllByRecursion IsEmptied shelves
   all_emptied wide shelves valid none =
       Each-weaken _ IsEmptied shelves (λ (shelf : Shelf) (h : IsShelf frame shelf × (item_ids shelf.items ≡ [])). emptied frame shelf wide h.0 h.1)
       (Each-both (IsShelf frame) (λ (shelf : Shelf). item_ids shelf.items ≡ []) shelves valid (nothing-flat_map (λ shelf. item_ids shelf.items) shelves none))
 
   -- empty shelves that are none side by side stand in columns that rise
-  all_rise : (x : Shelf) (shelves : List Shelf) → Each IsEmptied (x ∷ shelves) → NoNeighbours is_out_of_order (x ∷ shelves) → NoNeighbours both_empty (x ∷ shelves)
-      → Each (λ (s : Shelf). x.column < s.column) shelves
+  all_rise : (x : Shelf) (shelves : List Shelf) → AllByRecursion IsEmptied (x ∷ shelves) → NoNeighbours is_out_of_order (x ∷ shelves) → NoNeighbours both_empty (x ∷ shelves)
+      → AllByRecursion (λ (s : Shelf). x.column < s.column) shelves
   all_rise x [] empty ordered apart = tt
   all_rise x (y ∷ ys) empty ordered apart =
       let first = rise x.column y.column (is_empty x) (is_empty y) ordered.0 apart.0 (ap is_empty empty.0) (ap is_empty empty.1.0) in
       (first, all_after x.column y.column ys (omega arith) (all_rise y ys empty.1 ordered.1 apart.1))
 
   -- the first shelf stands in the first column
-  first_column : (column : ℕ) (shelf : Shelf) (shelves : List Shelf) → Each (λ (s : Shelf). shelf.column < s.column) shelves
+  first_column : (column : ℕ) (shelf : Shelf) (shelves : List Shelf) → AllByRecursion (λ (s : Shelf). shelf.column < s.column) shelves
       → column ≤ shelf.column → column_height column (shelf ∷ shelves) ≡ across_side frame → 1 ≤ across_side frame → shelf.column ≡ column
   first_column column shelf shelves later le height tall =
       ⊎_elim
@@ -106,7 +107,7 @@ module _ (frame : Frame) where
       (cases_lt column shelf.column)
 
   -- one empty shelf a column, each of the full height
-  all_columns : (column n : ℕ) (shelves : List Shelf) → Each IsEmptied shelves → NoNeighbours is_out_of_order shelves → NoNeighbours both_empty shelves
+  all_columns : (column n : ℕ) (shelves : List Shelf) → AllByRecursion IsEmptied shelves → NoNeighbours is_out_of_order shelves → NoNeighbours both_empty shelves
       → AreWithin column (column + n) shelves
       → ((c : ℕ) → column ≤ c → c < column + n → column_height c shelves ≡ across_side frame) → 1 ≤ across_side frame
       → shelves ≡ empty_columns frame column n
@@ -128,10 +129,10 @@ module _ (frame : Frame) where
       λ i. first i ∷ rest i
 
 -- an atlas that holds nothing is a new one but for its count of records
-pub nothing_allocated-fresh : (state : AtlasState) → IsValid state → allocations state ≡ [] → without_records state ≡ without_records (fresh state.frame)
+pub nothing_allocated-fresh : (state : AtlasState) → IsValid state → allocations state ≡ [] → without_peak_items state ≡ without_peak_items (fresh state.frame)
 nothing_allocated-fresh state valid nothing =
     let none : ids state.shelves ≡ [] = sym (ids-allocations_after state.frame [] state.shelves) ∙ ap (map id_of) nothing in
     let empty = all_emptied state.frame valid.frame.column_width state.shelves valid.shelves none in
     let shelves = all_columns state.frame 0 state.frame.columns state.shelves empty valid.ordered valid.apart
     (all_within state.frame state.shelves valid.shelves) (λ c l h. valid.heights c (omega arith)) (across-positive 65535 state.frame valid.frame) in
-    λ i. record { frame = state.frame; shelves = shelves i; records = 0 }
+    λ i. record { frame = state.frame; shelves = shelves i; peak_items = 0 }

@@ -17,7 +17,7 @@ width_of (item ∷ items) (suc n) = width_of items n
 
 -- the state of shelves in a frame, but for its records
 abbrev pub state_of : Frame → List Shelf → AtlasState
-state_of frame shelves = record { frame = frame; shelves = shelves; records = 0 }
+state_of frame shelves = record { frame = frame; shelves = shelves; peak_items = 0 }
 
 -- the rectangle that is allocated under an id in a shelf at a place across
 abbrev pub allocated_rectangle : Frame → ℕ → ℕ → Shelf → Option Rectangle
@@ -44,5 +44,5 @@ returned_near state id =
     record {
       frame = state.frame;
       shelves = merged_shelves (at_first (is_allocated_in id) (returned_shelf state.frame id) state.shelves);
-      records = state.records;
+      peak_items = state.peak_items;
     }

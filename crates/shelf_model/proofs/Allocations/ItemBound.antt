@@ -3,7 +3,8 @@ use Rattle.std.proofs.Common.{◌≡◌, ℕ, ◌+◌, ◌-◌, ◌*◌, ◌<◌
 use Rattle.std.specs.Prelude.{is_none}
 use Rattle.std.proofs.lemmas.List.{length-append, length-map}
 use Rattle.etagere_base.specs.declared.frames.Frame.{Frame}
-use Rattle.etagere_base.specs.Lists.{Each, NoNeighbours, total}
+use Rattle.std.specs.List.{AllByRecursion}
+use Rattle.etagere_base.specs.Lists.{NoNeighbours, total}
 use Rattle.etagere_base.proofs.EachLemmas.{Each-weaken}
 use Rattle.shelf_model.specs.Bounds.{record_bound}
 use Rattle.shelf_model.specs.Merging.{both_empty, both_free}
@@ -103,7 +104,7 @@ shelf-few frame shelf valid = omega (arith, items-few shelf.items valid.apart, f
 
 -- shelves have at most twice as many items as they have allocated, and one each; those that aren't empty have
 -- an allocated one
-shelves-few : (frame : Frame) → 1 ≤ frame.column_width → (shelves : List Shelf) → Each (IsShelf frame) shelves
+shelves-few : (frame : Frame) → 1 ≤ frame.column_width → (shelves : List Shelf) → AllByRecursion (IsShelf frame) shelves
     → (items_in_use shelves ≤ 2 * total allocated_count shelves + (total empty_count shelves + total full_count shelves))
     × (total full_count shelves ≤ total allocated_count shelves)
 shelves-few frame wide [] each = (omega arith, omega arith)
@@ -112,7 +113,7 @@ shelves-few frame wide (shelf ∷ shelves) each =
     (omega (arith, later.0, shelf-few frame shelf each.0), omega (arith, later.1, full-allocated frame wide shelf each.0))
 
 -- each column has at most one empty shelf more than full ones
-empty-few : (columns : ℕ) (shelves : List Shelf) (shelf : Shelf) → Each (λ (s : Shelf). s.column < columns) (shelf ∷ shelves)
+empty-few : (columns : ℕ) (shelves : List Shelf) (shelf : Shelf) → AllByRecursion (λ (s : Shelf). s.column < columns) (shelf ∷ shelves)
     → NoNeighbours is_out_of_order (shelf ∷ shelves) → NoNeighbours both_empty (shelf ∷ shelves)
     → total empty_count (shelf ∷ shelves) + full_count shelf ≤ total full_count (shelf ∷ shelves) + (columns - shelf.column)
 empty-few columns [] shelf within ordered apart = by_test (is_empty shelf)
@@ -144,7 +145,7 @@ empty-few columns (next ∷ shelves) shelf within ordered apart =
     by_tests false c same is apart later = omega (arith, later, not_before, within.0)
 
 -- all columns have at most one empty shelf each more than full ones
-empties-few : (columns : ℕ) (shelves : List Shelf) → Each (λ (s : Shelf). s.column < columns) shelves
+empties-few : (columns : ℕ) (shelves : List Shelf) → AllByRecursion (λ (s : Shelf). s.column < columns) shelves
     → NoNeighbours is_out_of_order shelves → NoNeighbours both_empty shelves
     → total empty_count shelves ≤ total full_count shelves + columns
 empties-few columns [] within ordered apart = omega arith

@@ -2,9 +2,9 @@
 use Rattle.std.proofs.Common.{◌≡◌, ◌≢◌, ℕ, zero, suc, ◌+◌, ◌<◌, ◌≤◌, Bool, true, false, cond, ◌==◌, Some, List, [], ◌∷◌, ◌++◌, map, filter, refl, ap, arith, sym, ◌∙◌, subst, append_assoc, inl, inr, ◌⊎◌}
 use Rattle.std.proofs.lemmas.Bool.{eq-eqb, eqb-true, ne_eqb}
 use Rattle.std.proofs.lemmas.List.{map-append}
-use Rattle.std.specs.List.{flat_map, range_with_len}
+use Rattle.std.specs.List.{AllByRecursion, flat_map, range_with_len}
 use Rattle.std.specs.Prelude.{find}
-use Rattle.etagere_base.specs.Lists.{Each, times}
+use Rattle.etagere_base.specs.Lists.{times}
 use Rattle.etagere_base.specs.declared.ids.Allocation.{Allocation}
 use Rattle.etagere_base.proofs.EachLemmas.{Each-append, Each-filter}
 use Rattle.etagere_base.proofs.TimesLemmas.{hit, times-append}
@@ -92,7 +92,7 @@ by_numbers-none from zero = refl
 by_numbers-none from (suc count) = by_numbers-none (from + 1) count
 
 -- each id stands in the listing as often as among all
-listed-count : (id : ℕ) (all : List Allocation) (count : ℕ) → Each (λ (a : Allocation). record_number a.id < count) all → id_times id (by_numbers all 0 count) ≡ id_times id all
+listed-count : (id : ℕ) (all : List Allocation) (count : ℕ) → AllByRecursion (λ (a : Allocation). record_number a.id < count) all → id_times id (by_numbers all 0 count) ≡ id_times id all
 listed-count id [] count below = ap (id_times id) (by_numbers-none 0 count)
 listed-count id (a ∷ all) count below =
     let within : record_number a.id < 0 + count = omega (arith, below.0) in
@@ -112,17 +112,17 @@ find-once (y ∷ front) a back once = by_test (y.id == a.id) refl (λ less. find
     by_test false e later = later (omega (arith, once))
 
 -- each of allocations whose ids stand once is found by its id
-found-each : (front back : List Allocation) → ((id : ℕ) → id_times id (front ++ back) ≤ 1) → Each (IsFound (front ++ back)) back
+found-each : (front back : List Allocation) → ((id : ℕ) → id_times id (front ++ back) ≤ 1) → AllByRecursion (IsFound (front ++ back)) back
 found-each front [] once = tt
 found-each front (a ∷ back) once =
     let moved : (front ++ a ∷ []) ++ back ≡ front ++ a ∷ back = append_assoc front (a ∷ []) back in (
       find-once front a back (once a.id),
-      subst (λ (l : List Allocation). Each (IsFound l) back) moved
+      subst (λ (l : List Allocation). AllByRecursion (IsFound l) back) moved
           (found-each (front ++ a ∷ []) back (λ id. subst (λ (l : List Allocation). id_times id l ≤ 1) (sym moved) (once id))),
     )
 
 -- a fact of each allocation is one of each that is listed
-Each-by_numbers : (P : Allocation → Type 0) (all : List Allocation) (from count : ℕ) → Each P all → Each P (by_numbers all from count)
+Each-by_numbers : (P : Allocation → Type 0) (all : List Allocation) (from count : ℕ) → AllByRecursion P all → AllByRecursion P (by_numbers all from count)
 Each-by_numbers P all from zero each = tt
 Each-by_numbers P all from (suc count) each =
     Each-append P (at_number all from) (by_numbers all (from + 1) count)
@@ -132,8 +132,8 @@ Each-by_numbers P all from (suc count) each =
 pub listed-tied : (state : AtlasState) → IsValid state → AreTied (listed state) (allocations state)
 listed-tied state valid =
     record {
-      found = Each-by_numbers (IsFound (allocations state)) (allocations state) 0 state.records (found-each [] (allocations state) (ids-once state valid));
-      counted = λ id. sym (listed-count id (allocations state) state.records valid.below);
+      found = Each-by_numbers (IsFound (allocations state)) (allocations state) 0 state.peak_items (found-each [] (allocations state) (ids-once state valid));
+      counted = λ id. sym (listed-count id (allocations state) state.peak_items valid.below);
     }
 
 -- none of allocations has a record number that does not stand among theirs
@@ -184,4 +184,4 @@ by_numbers-rise all from (suc count) once =
 
 -- in a valid state the record numbers of the listing rise
 pub listed-rise : (state : AtlasState) → IsValid state → RiseFrom 0 (numbers_of (listed state))
-listed-rise state valid = by_numbers-rise (allocations state) 0 state.records valid.numbers
+listed-rise state valid = by_numbers-rise (allocations state) 0 state.peak_items valid.numbers

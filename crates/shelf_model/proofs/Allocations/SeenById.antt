@@ -2,11 +2,10 @@
 use Rattle.std.proofs.Common.{◌≡◌, ◌≢◌, ℕ, ◌==◌, Bool, true, false, cond, Option, Some, List, [], ◌∷◌, ◌++◌, refl, ap, sym, subst, ◌∙◌, eq-eqb}
 use Rattle.std.proofs.lemmas.Bool.{eqb-true}
 use Rattle.std.proofs.lemmas.List.Elements.{filter-append}
-use Rattle.std.specs.List.{find}
+use Rattle.std.specs.List.{AllByRecursion, find}
 use Rattle.std.specs.Prelude.{None, is_some, not, option_map}
 use Rattle.etagere_base.specs.declared.geometry.Rectangle.{Rectangle}
 use Rattle.etagere_base.specs.declared.ids.Allocation.{Allocation}
-use Rattle.etagere_base.specs.Lists.{Each}
 use Rattle.etagere_base.specs.Rectangles.{AreApart, SharesNone}
 use Rattle.etagere_base.proofs.EachLemmas.{Each-middle, Each-weaken}
 use Rattle.shelf_model.specs.Atlas.{Adds, without_id}
@@ -38,7 +37,7 @@ keeps-rectangles old allocation new adds fresh id rectangle h = by_test (allocat
 
 -- a fact of each rectangle is one of that of an id
 each-rectangle : (P : Rectangle → Type 0) (id : ℕ) (all : List Allocation) (rectangle : Rectangle)
-    → Each (λ (a : Allocation). P a.rectangle) all → found_rectangle id all ≡ Some rectangle → P rectangle
+    → AllByRecursion (λ (a : Allocation). P a.rectangle) all → found_rectangle id all ≡ Some rectangle → P rectangle
 each-rectangle P id [] rectangle each h = absurd (cc)
 each-rectangle P id (a ∷ all) rectangle each h = by_test (a.id == id) h (each-rectangle P id all rectangle each.1)
   where
@@ -50,7 +49,7 @@ each-rectangle P id (a ∷ all) rectangle each h = by_test (a.id == id) h (each-
 -- of allocations that lie apart one shares nothing with any other
 apart-middle : (front : List Allocation) (allocation : Allocation) (back : List Allocation)
     → AreApart (front ++ allocation ∷ back)
-    → Each (λ (other : Allocation). SharesNone other.rectangle allocation.rectangle) (front ++ back)
+    → AllByRecursion (λ (other : Allocation). SharesNone other.rectangle allocation.rectangle) (front ++ back)
 apart-middle [] allocation back apart =
     Each-weaken (λ (other : Allocation). SharesNone allocation.rectangle other.rectangle)
     (λ (other : Allocation). SharesNone other.rectangle allocation.rectangle) back
@@ -63,7 +62,7 @@ pub added-clear : (old : AtlasState) (allocation : Allocation) (new : AtlasState
     → Adds (allocations old) allocation (allocations new) → AreApart (allocations new) → IsClear old allocation.rectangle
 added-clear old allocation new adds apart id other h =
     each-rectangle (λ (r : Rectangle). SharesNone r allocation.rectangle) id (allocations old) other
-    (subst (Each (λ (a : Allocation). SharesNone a.rectangle allocation.rectangle)) (sym adds.before)
+    (subst (AllByRecursion (λ (a : Allocation). SharesNone a.rectangle allocation.rectangle)) (sym adds.before)
     (apart-middle adds.front allocation adds.back (subst AreApart adds.after apart))) h
 
 -- none is found under an id that was taken away

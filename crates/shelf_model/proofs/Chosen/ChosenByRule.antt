@@ -10,7 +10,8 @@ use Rattle.etagere_base.specs.declared.sides.Sides.{Sides}
 use Rattle.shelf_model.specs.Choice.{Placement, bad_fit_rank, chosen, fitting_place, is_good_fit, placement_in, rank, shelf_height, width_at}
 use Rattle.shelf_model.specs.Laws.{FitsShelf, IsByRule, is_before, rank_by_rule}
 use Rattle.etagere_base.specs.Least.{Found, first_least}
-use Rattle.etagere_base.specs.Lists.{Each, times}
+use Rattle.std.specs.List.{AllByRecursion}
+use Rattle.etagere_base.specs.Lists.{times}
 use Rattle.shelf_model.specs.Places.{column_height, column_place}
 use Rattle.shelf_model.specs.Returning.{is_free_at, place_at}
 use Rattle.shelf_model.specs.State.{Item, Shelf, AtlasState}
@@ -27,7 +28,7 @@ use Rattle.shelf_model.proofs.Chosen.Placed.{chosen-parts, found-rank, map-parts
 use Rattle.shelf_model.proofs.Taken.TakenItems.{free_at}
 
 -- the width at the place of the item of a number is that item's
-width_at-place : (here n : ℕ) (items : List Item) (item : Item) → Each (λ (r : Item). 1 ≤ r.width) items → slice_get items n ≡ Some item
+width_at-place : (here n : ℕ) (items : List Item) (item : Item) → AllByRecursion (λ (r : Item). 1 ≤ r.width) items → slice_get items n ≡ Some item
     → width_at here items (place_at here items n) ≡ item.width
 width_at-place here n [] item wide at = absurd (cc)
 width_at-place here zero (x ∷ items) item wide at =

@@ -68,12 +68,12 @@ fresh_splits frame sides =
     + (if nat_lt (sides.along + 8) frame.column_width then 1 else 0)
 
 -- the place in the first of some empty columns
-chosen-empty : (frame : Frame) (sides : Sides) (n records : ℕ)
+chosen-empty : (frame : Frame) (sides : Sides) (n peak_items : ℕ)
     → sides.along ≤ frame.column_width → sides.across ≤ across_side frame
     → (placement : Placement)
-    × (chosen (record { frame = frame; shelves = empty_columns frame 0 (suc n); records = records }) sides ≡ Some placement)
+    × (chosen (record { frame = frame; shelves = empty_columns frame 0 (suc n); peak_items = peak_items }) sides ≡ Some placement)
     × (splits placement ≡ fresh_splits frame sides)
-chosen-empty frame sides n records narrow short =
+chosen-empty frame sides n peak_items narrow short =
     let height = shelf_height frame sides.across in
     let shelf = empty_shelf frame 0 (across_side frame) in (
       placement_in frame 0 0 sides.along height shelf (0 * frame.column_width),
@@ -87,7 +87,7 @@ chosen-empty frame sides n records narrow short =
 -- a new atlas has a place for what is asked, where there are records enough for its splits
 fits-columns : (frame : Frame) (size : Size) (sides : Sides) (columns : ℕ) → 1 ≤ columns → asked frame size ≡ Some sides
     → sides.along ≤ frame.column_width → sides.across ≤ across_side frame
-    → is_some (placement_of (record { frame = frame; shelves = empty_columns frame 0 columns; records = columns }) size)
+    → is_some (placement_of (record { frame = frame; shelves = empty_columns frame 0 columns; peak_items = columns }) size)
     ≡ nat_le (columns + fresh_splits frame sides) 65535
 fits-columns frame size sides zero some asks narrow short = absurd (omega arith)
 fits-columns frame size sides (suc n) some asks narrow short =

@@ -4,7 +4,8 @@ use Rattle.std.proofs.lemmas.List.{append-nil}
 use Rattle.etagere_base.specs.declared.frames.Frame.{Frame}
 use Rattle.etagere_base.specs.declared.geometry.Size.{Size}
 use Rattle.etagere_base.specs.declared.ids.Allocation.{Allocation}
-use Rattle.etagere_base.specs.Lists.{Each, NoNeighbours}
+use Rattle.std.specs.List.{AllByRecursion}
+use Rattle.etagere_base.specs.Lists.{NoNeighbours}
 use Rattle.etagere_base.proofs.NoNeighboursLemmas.{NoNeighbours-tail}
 use Rattle.shelf_model.specs.Fresh.{empty_columns}
 use Rattle.shelf_model.specs.Growing.{ends_column, grown_frame, heightened, widened, widened_shelf, with_ends}
@@ -36,7 +37,7 @@ module _ (frame : Frame) (before : List Shelf) (shelf : Shelf) where
 -- empty shelves at the ends of columns allocate nothing, and no shelf comes after one in its column
 ends-allocated : (frame : Frame) (height from : ℕ) (before other shelves : List Shelf)
     → ((column : ℕ) → from ≤ column → column_height column before ≡ column_height column other)
-    → Each (λ (s : Shelf). from ≤ s.column) shelves → NoNeighbours is_out_of_order shelves
+    → AllByRecursion (λ (s : Shelf). from ≤ s.column) shelves → NoNeighbours is_out_of_order shelves
     → allocations_after frame before (with_ends frame height shelves) ≡ allocations_after frame other shelves
 ends-allocated frame height from before other [] same columns ordered = refl
 ends-allocated frame height from before other (shelf ∷ shelves) same columns ordered =
@@ -62,7 +63,7 @@ ends-allocated frame height from before other (shelf ∷ shelves) same columns o
 
     by_test : (b : Bool) → ends_column shelf shelves ≡ b
         → ((from : ℕ) (before other : List Shelf) → ((column : ℕ) → from ≤ column → column_height column before ≡ column_height column other)
-        → Each (λ (s : Shelf). from ≤ s.column) shelves
+        → AllByRecursion (λ (s : Shelf). from ≤ s.column) shelves
         → allocations_after frame before (with_ends frame height shelves) ≡ allocations_after frame other shelves)
         → allocations_after frame (before ++ shelf ∷ []) (cond b (end_shelf frame height shelf ∷ []) [] ++ with_ends frame height shelves)
         ≡ allocations_after frame (other ++ shelf ∷ []) shelves
@@ -88,7 +89,7 @@ widths-allocated frame grown width before other (shelf ∷ shelves) same =
 
 -- a frame of the same direction, in which columns begin where they did, changes no allocated rectangle
 frames-allocated : (frame : Frame) (size : Size) (before shelves : List Shelf)
-    → Each (λ (s : Shelf). column_place (grown_frame frame size) s ≡ column_place frame s) shelves
+    → AllByRecursion (λ (s : Shelf). column_place (grown_frame frame size) s ≡ column_place frame s) shelves
     → allocations_after (grown_frame frame size) before shelves ≡ allocations_after frame before shelves
 frames-allocated frame size before [] same = refl
 frames-allocated frame size before (shelf ∷ shelves) same =
@@ -97,7 +98,7 @@ frames-allocated frame size before (shelf ∷ shelves) same =
 
 -- what is allocated where a width and a height are added, in a grown frame
 pub added-allocated : (frame : Frame) (size : Size) (width height columns : ℕ) (shelves : List Shelf)
-    → Each (λ (s : Shelf). column_place (grown_frame frame size) s ≡ column_place frame s) shelves → NoNeighbours is_out_of_order shelves
+    → AllByRecursion (λ (s : Shelf). column_place (grown_frame frame size) s ≡ column_place frame s) shelves → NoNeighbours is_out_of_order shelves
     → NoNeighbours is_out_of_order (widened frame width shelves)
     → allocations_after (grown_frame frame size) []
     (heightened (grown_frame frame size) height (widened frame width shelves) ++ empty_columns (grown_frame frame size) frame.columns columns)
@@ -112,7 +113,7 @@ added-allocated frame size width height columns shelves same ordered widened_ord
     ∙ by_width (width == 0)
     ∙ frames-allocated frame size [] shelves same
   where
-    all : (shelves : List Shelf) → Each (λ (s : Shelf). 0 ≤ s.column) shelves
+    all : (shelves : List Shelf) → AllByRecursion (λ (s : Shelf). 0 ≤ s.column) shelves
     all [] = tt
     all (s ∷ shelves) = (omega arith, all shelves)
 

@@ -66,8 +66,8 @@ size-fits frame size h =
     record { width = range.0; height = range.1; wider = sides.0; taller = sides.1; area = omega (arith, area) }
 
 -- a growth without a fault
-pub growth-fits : (state : AtlasState) (size : Size) → grow_fault state size ≡ None → Fits state size
-growth-fits state size h =
+pub grow-fits : (state : AtlasState) (size : Size) → grow_fault state size ≡ None → Fits state size
+grow-fits state size h =
     let none = both-none (items_in_use state.shelves + records_needed state size) (size_fault state.frame size) h in
     record { sizes = size-fits state.frame size none.0; records = none.1 }
 

@@ -4,7 +4,8 @@ use Rattle.std.proofs.lemmas.Bool.{cond_both, cond-false}
 use Rattle.std.specs.Prelude.{not}
 use Rattle.etagere_base.specs.declared.frames.Frame.{Frame}
 use Rattle.etagere_base.specs.Frames.{alignment_along}
-use Rattle.etagere_base.specs.Lists.{Each, NoNeighbours, times}
+use Rattle.std.specs.List.{AllByRecursion}
+use Rattle.etagere_base.specs.Lists.{NoNeighbours, times}
 use Rattle.etagere_base.specs.Merging.{merged_onto}
 use Rattle.etagere_base.proofs.AlignedPlaces.{sum_aligned}
 use Rattle.etagere_base.proofs.EachLemmas.{Each-weaken}
@@ -135,10 +136,10 @@ starts-wider_end place here width (item ∷ next ∷ items) =
 
 -- each is as an item must be
 each-wider_end : (frame : Frame) (width : ℕ) (items : List Item) → 1 ≤ width → width % alignment_along frame ≡ 0
-    → Each (IsItem frame) items → Each (IsItem frame) (wider_end width items)
+    → AllByRecursion (IsItem frame) items → AllByRecursion (IsItem frame) (wider_end width items)
 each-wider_end frame width [] some even each = (record { width = some; aligned = even }, tt)
 each-wider_end frame width (item ∷ []) some even each =
-    cond_both (is_free item) (free_item (item.width + width) ∷ []) (item ∷ free_item width ∷ []) (Each (IsItem frame))
+    cond_both (is_free item) (free_item (item.width + width) ∷ []) (item ∷ free_item width ∷ []) (AllByRecursion (IsItem frame))
     (λ _. (
       record { width = omega (arith, some); aligned = sum_aligned item.width width (alignment_along frame) each.0.aligned even },
       tt,

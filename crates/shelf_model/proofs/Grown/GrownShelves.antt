@@ -4,7 +4,8 @@ use Rattle.std.proofs.Common.{◌≡◌, ◌≢◌, ℕ, suc, ◌+◌, ◌≤◌
 use Rattle.std.proofs.lemmas.Bool.{cond-false, cond-true, eqb-true}
 use Rattle.std.specs.Prelude.{not, nat_lt}
 use Rattle.etagere_base.specs.declared.frames.Frame.{Frame}
-use Rattle.etagere_base.specs.Lists.{Each, NoNeighbours}
+use Rattle.std.specs.List.{AllByRecursion}
+use Rattle.etagere_base.specs.Lists.{NoNeighbours}
 use Rattle.etagere_base.specs.Merging.{merged_onto}
 use Rattle.etagere_base.proofs.EachLemmas.{Each-weaken}
 use Rattle.etagere_base.proofs.NoNeighboursLemmas.{NoNeighbours-tail}
@@ -40,7 +41,7 @@ Heads P (shelf ∷ shelves) = P shelf
 
 -- two lists end to end of which no neighbours touch, where the first one of the back touches none of the front
 pub NoNeighbours-joined : (touch : Shelf → Shelf → Bool) (shelves new : List Shelf) → NoNeighbours touch shelves → NoNeighbours touch new
-    → Each (λ (shelf : Shelf). Heads (λ next. touch shelf next ≡ false) new) shelves → NoNeighbours touch (shelves ++ new)
+    → AllByRecursion (λ (shelf : Shelf). Heads (λ next. touch shelf next ≡ false) new) shelves → NoNeighbours touch (shelves ++ new)
 NoNeighbours-joined touch [] new apart others first = others
 NoNeighbours-joined touch (shelf ∷ []) new apart others first = joined new first.0 others
   where
@@ -74,7 +75,7 @@ module _ (frame : Frame) (height : ℕ) (new : List Shelf) where
 
   -- merging shelves of which no empty ones are neighbours, with an empty one at the end of each column, and these after them
   pub merged-ends : (shelves : List Shelf) → NoNeighbours both_empty shelves
-      → merged_shelves new ≡ new → Each (λ (shelf : Shelf). Heads (λ next. (shelf.column == next.column) ≡ false) new) shelves
+      → merged_shelves new ≡ new → AllByRecursion (λ (shelf : Shelf). Heads (λ next. (shelf.column == next.column) ≡ false) new) shelves
       → merged_shelves (with_ends frame height shelves ++ new) ≡ taller_ends frame height shelves ++ new
   merged-ends [] apart merged others = merged
   merged-ends (shelf ∷ shelves) apart merged others =
@@ -126,7 +127,7 @@ module _ (frame : Frame) (height : ℕ) (new : List Shelf) where
 module _ (frame : Frame) (height : ℕ) where
   -- the shelves with empty ones at the ends stand in order before others that do
   pub ordered-ends : (new shelves : List Shelf) → NoNeighbours is_out_of_order shelves → NoNeighbours is_out_of_order new
-      → Each (λ (shelf : Shelf). Heads (λ next. nat_lt next.column shelf.column ≡ false) new) shelves
+      → AllByRecursion (λ (shelf : Shelf). Heads (λ next. nat_lt next.column shelf.column ≡ false) new) shelves
       → NoNeighbours is_out_of_order (with_ends frame height shelves ++ new)
   ordered-ends new [] ordered others later = others
   ordered-ends new (shelf ∷ shelves) ordered others later =
@@ -162,17 +163,17 @@ module _ (frame : Frame) (height : ℕ) where
 
   -- a fact of each shelf and of each that is added
   pub each-ends : (P : Shelf → Type 0) → ((shelf : Shelf) → P shelf → P (end_shelf frame height shelf)) → (shelves : List Shelf)
-      → Each P shelves → Each P (with_ends frame height shelves)
+      → AllByRecursion P shelves → AllByRecursion P (with_ends frame height shelves)
   each-ends P ends [] each = tt
   each-ends P ends (shelf ∷ shelves) each = (each.0, by_test (ends_column shelf shelves) (each-ends P ends shelves each.1))
     where
-      by_test : (b : Bool) → Each P (with_ends frame height shelves) → Each P (cond b (end_shelf frame height shelf ∷ []) [] ++ with_ends frame height shelves)
+      by_test : (b : Bool) → AllByRecursion P (with_ends frame height shelves) → AllByRecursion P (cond b (end_shelf frame height shelf ∷ []) [] ++ with_ends frame height shelves)
       by_test true rest = (ends shelf each.0, rest)
       by_test false rest = rest
 
 -- shelves in order behind one stand in its column or a later one
 pub columns-from : (from : ℕ) (shelf : Shelf) (shelves : List Shelf) → from ≤ shelf.column → NoNeighbours is_out_of_order (shelf ∷ shelves)
-    → Each (λ (s : Shelf). from ≤ s.column) shelves
+    → AllByRecursion (λ (s : Shelf). from ≤ s.column) shelves
 columns-from from shelf [] h ordered = tt
 columns-from from shelf (next ∷ shelves) h ordered =
     let later : from ≤ next.column = omega (arith, h, no-less next.column shelf.column ordered.0) in
@@ -183,7 +184,7 @@ columns-from from shelf (next ∷ shelves) h ordered =
 
 -- shelves in order behind the last one of a column stand in later ones
 pub columns-after : (shelf : Shelf) (shelves : List Shelf) → ends_column shelf shelves ≡ true → NoNeighbours is_out_of_order (shelf ∷ shelves)
-    → Each (λ (s : Shelf). suc shelf.column ≤ s.column) shelves
+    → AllByRecursion (λ (s : Shelf). suc shelf.column ≤ s.column) shelves
 columns-after shelf [] ends ordered = tt
 columns-after shelf (next ∷ shelves) ends ordered =
     let later : suc shelf.column ≤ next.column = above shelf.column next.column ends ordered.0 in
@@ -194,7 +195,7 @@ columns-after shelf (next ∷ shelves) ends ordered =
 
 module _ (frame : Frame) (height column : ℕ) where
   -- shelves of later columns add nothing
-  ends-later : (shelves : List Shelf) → Each (λ (s : Shelf). suc column ≤ s.column) shelves
+  ends-later : (shelves : List Shelf) → AllByRecursion (λ (s : Shelf). suc column ≤ s.column) shelves
       → (column_height column (with_ends frame height shelves) ≡ 0) × (column_height column shelves ≡ 0)
   ends-later shelves later = (
     column_height-none column (with_ends frame height shelves)
@@ -202,13 +203,13 @@ module _ (frame : Frame) (height column : ℕ) where
     column_height-none column shelves (others shelves later),
   )
     where
-      others : (shelves : List Shelf) → Each (λ (s : Shelf). suc column ≤ s.column) shelves → Each (λ (s : Shelf). s.column ≢ column) shelves
+      others : (shelves : List Shelf) → AllByRecursion (λ (s : Shelf). suc column ≤ s.column) shelves → AllByRecursion (λ (s : Shelf). s.column ≢ column) shelves
       others shelves later =
           Each-weaken (λ (s : Shelf). suc column ≤ s.column) (λ (s : Shelf). s.column ≢ column) shelves
           (λ (s : Shelf) (h : suc column ≤ s.column) (e : s.column ≡ column). omega (arith, h, e)) later
 
   -- a column with a shelf gets the height once
-  pub column_height-ends : (shelves : List Shelf) → NoNeighbours is_out_of_order shelves → Each (λ (s : Shelf). 1 ≤ s.height) shelves
+  pub column_height-ends : (shelves : List Shelf) → NoNeighbours is_out_of_order shelves → AllByRecursion (λ (s : Shelf). 1 ≤ s.height) shelves
       → 1 ≤ column_height column shelves → column_height column (with_ends frame height shelves) ≡ column_height column shelves + height
   column_height-ends [] ordered tall some = absurd (omega (arith, some))
   column_height-ends (shelf ∷ shelves) ordered tall some =
@@ -221,7 +222,7 @@ module _ (frame : Frame) (height column : ℕ) where
       other : (b : Bool) (n : ℕ) → b ≡ false → cond b n 0 ≡ 0
       other b n h = cond-false b n 0 h
 
-      next_in : (shelves : List Shelf) → (shelf.column == column) ≡ true → ends_column shelf shelves ≡ false → Each (λ (s : Shelf). 1 ≤ s.height) shelves
+      next_in : (shelves : List Shelf) → (shelf.column == column) ≡ true → ends_column shelf shelves ≡ false → AllByRecursion (λ (s : Shelf). 1 ≤ s.height) shelves
           → 1 ≤ column_height column shelves
       next_in [] e f tall = absurd (cc)
       next_in (next ∷ shelves) e f tall =
@@ -236,7 +237,7 @@ module _ (frame : Frame) (height column : ℕ) where
           ≡ column_height column (shelf ∷ shelves) + height
       by_test true true e f later_one =
           let is : shelf.column ≡ column = eqb-true shelf.column column e in
-          let none = ends-later shelves (subst (λ (n : ℕ). Each (λ (s : Shelf). suc n ≤ s.column) shelves) is (columns-after shelf shelves f ordered)) in
+          let none = ends-later shelves (subst (λ (n : ℕ). AllByRecursion (λ (s : Shelf). suc n ≤ s.column) shelves) is (columns-after shelf shelves f ordered)) in
           omega (arith, none.0, none.1, own (shelf.column == column) height e)
       by_test true false e f later_one = omega (arith, later_one (next_in shelves e f tall.1))
       by_test false true e f later_one =

@@ -8,7 +8,8 @@ use Rattle.etagere_base.specs.declared.frames.Frame.{Frame}
 use Rattle.etagere_base.specs.declared.geometry.Size.{Size}
 use Rattle.etagere_base.specs.declared.ids.Allocation.{Allocation}
 use Rattle.etagere_base.specs.Frames.{IsFrame, across_side, alignment_along}
-use Rattle.etagere_base.specs.Lists.{Each, NoNeighbours, times, total}
+use Rattle.std.specs.List.{AllByRecursion}
+use Rattle.etagere_base.specs.Lists.{NoNeighbours, times, total}
 use Rattle.etagere_base.proofs.EachLemmas.{Each-append, Each-weaken}
 use Rattle.etagere_base.proofs.FrameSides.{across-positive}
 use Rattle.etagere_base.proofs.Merged.{apart-merged, merged-apart}
@@ -53,14 +54,14 @@ not_zero n h = grind arith
 
 module _ (frame : Frame) (width : ℕ) where
   -- widened shelves once they are merged
-  merged-wider : (shelves : List Shelf) → Each (λ (s : Shelf). NoNeighbours both_free s.items) shelves
+  merged-wider : (shelves : List Shelf) → AllByRecursion (λ (s : Shelf). NoNeighbours both_free s.items) shelves
       → map merged_shelf (map (widened_shelf frame width) shelves) ≡ map (wider_shelf frame width) shelves
   merged-wider [] apart = refl
   merged-wider (shelf ∷ shelves) apart = rw (merged-widened frame width shelf apart.0, merged-wider shelves apart.1) refl
 
   -- a fact of each shelf that wider ones keep
   each-wider : (P : Shelf → Type 0) → ((shelf : Shelf) → P shelf → P (wider_shelf frame width shelf)) → (shelves : List Shelf)
-      → Each P shelves → Each P (map (wider_shelf frame width) shelves)
+      → AllByRecursion P shelves → AllByRecursion P (map (wider_shelf frame width) shelves)
   each-wider P keeps [] each = tt
   each-wider P keeps (shelf ∷ shelves) each = (keeps shelf each.0, each-wider P keeps shelves each.1)
 
@@ -80,7 +81,7 @@ module _ (frame : Frame) (width : ℕ) where
   empty-wider shelf some = is_one_free-wider_end width shelf.items some
 
   -- and so many columns end with a shelf that isn't empty
-  filled-wider : (shelves : List Shelf) → Each (λ (s : Shelf). 1 ≤ length s.items) shelves → filled_ends (map (wider_shelf frame width) shelves) ≡ filled_ends shelves
+  filled-wider : (shelves : List Shelf) → AllByRecursion (λ (s : Shelf). 1 ≤ length s.items) shelves → filled_ends (map (wider_shelf frame width) shelves) ≡ filled_ends shelves
   filled-wider [] some = refl
   filled-wider (shelf ∷ shelves) some = rw (empty-wider shelf some.0, filled-wider shelves some.1, last shelves) refl
     where
@@ -89,7 +90,7 @@ module _ (frame : Frame) (width : ℕ) where
       last (next ∷ shelves) = refl
 
   -- no empty ones are neighbours where none were
-  apart-wider : (shelves : List Shelf) → Each (λ (s : Shelf). 1 ≤ length s.items) shelves → NoNeighbours both_empty shelves
+  apart-wider : (shelves : List Shelf) → AllByRecursion (λ (s : Shelf). 1 ≤ length s.items) shelves → NoNeighbours both_empty shelves
       → NoNeighbours both_empty (map (wider_shelf frame width) shelves)
   apart-wider [] some apart = tt
   apart-wider (shelf ∷ []) some apart = tt
@@ -144,22 +145,22 @@ module _ (state : AtlasState) (size : Size) (valid : IsValid state) (fits : Fits
       (λ (few : frame.columns ≤ 1). omega (arith, few, valid.frame.columns.0)) (cases_lt 1 frame.columns)
 
   -- the items of no shelf have free neighbours
-  apart : Each (λ (s : Shelf). NoNeighbours both_free s.items) state.shelves
+  apart : AllByRecursion (λ (s : Shelf). NoNeighbours both_free s.items) state.shelves
   apart = Each-weaken (IsShelf frame) (λ (s : Shelf). NoNeighbours both_free s.items) state.shelves (λ (s : Shelf) (h : IsShelf frame s). h.apart) valid.shelves
 
   -- each shelf has items
-  some : Each (λ (s : Shelf). 1 ≤ length s.items) state.shelves
+  some : AllByRecursion (λ (s : Shelf). 1 ≤ length s.items) state.shelves
   some = Each-weaken (IsShelf frame) (λ (s : Shelf). 1 ≤ length s.items) state.shelves (λ (s : Shelf) (h : IsShelf frame s). some-items frame s valid.frame h) valid.shelves
 
   -- each stands in a column
-  pub below : Each (λ (s : Shelf). s.column < frame.columns) state.shelves
+  pub below : AllByRecursion (λ (s : Shelf). s.column < frame.columns) state.shelves
   below = Each-weaken (IsShelf frame) (λ (s : Shelf). s.column < frame.columns) state.shelves (λ (s : Shelf) (h : IsShelf frame s). h.column) valid.shelves
 
   -- columns begin where they did
-  begin : Each (λ (s : Shelf). column_place grown s ≡ column_place frame s) state.shelves
+  begin : AllByRecursion (λ (s : Shelf). column_place grown s ≡ column_place frame s) state.shelves
   begin = by_test (width == 0) refl
     where
-      by_test : (b : Bool) → (width == 0) ≡ b → Each (λ (s : Shelf). column_place grown s ≡ column_place frame s) state.shelves
+      by_test : (b : Bool) → (width == 0) ≡ b → AllByRecursion (λ (s : Shelf). column_place grown s ≡ column_place frame s) state.shelves
       by_test true e =
           let same : grown.column_width ≡ frame.column_width = omega (arith, grows.column_width, eqb-true width 0 e) in
           Each-weaken (λ (s : Shelf). s.column < frame.columns) (λ (s : Shelf). column_place grown s ≡ column_place frame s) state.shelves
@@ -183,7 +184,7 @@ module _ (state : AtlasState) (size : Size) (valid : IsValid state) (fits : Fits
       by_height true = refl
       by_height false = map-merged-ends grown height (widened frame width state.shelves)
 
-      merged-same : (shelves : List Shelf) → Each (λ (s : Shelf). NoNeighbours both_free s.items) shelves → map merged_shelf shelves ≡ shelves
+      merged-same : (shelves : List Shelf) → AllByRecursion (λ (s : Shelf). NoNeighbours both_free s.items) shelves → map merged_shelf shelves ≡ shelves
       merged-same [] apart = refl
       merged-same (s ∷ shelves) apart = rw (merged_shelf-apart s apart.0, merged-same shelves apart.1) refl
 
@@ -197,10 +198,10 @@ module _ (state : AtlasState) (size : Size) (valid : IsValid state) (fits : Fits
       same column (suc n) = ap (λ (l : List Shelf). empty_shelf grown column (across_side grown) ∷ l) (same (suc column) n)
 
   -- the shelves with a width added are as shelves must be
-  wide-shelves : Each (IsShelf grown) wide
+  wide-shelves : AllByRecursion (IsShelf grown) wide
   wide-shelves = by_test (width == 0) refl
     where
-      by_test : (b : Bool) → (width == 0) ≡ b → Each (IsShelf grown) (cond b state.shelves (map (wider_shelf frame width) state.shelves))
+      by_test : (b : Bool) → (width == 0) ≡ b → AllByRecursion (IsShelf grown) (cond b state.shelves (map (wider_shelf frame width) state.shelves))
       by_test true e =
           let same : grown.column_width ≡ frame.column_width = omega (arith, grows.column_width, eqb-true width 0 e) in
           Each-weaken (IsShelf frame) (IsShelf grown) state.shelves
@@ -220,7 +221,7 @@ module _ (state : AtlasState) (size : Size) (valid : IsValid state) (fits : Fits
           even : width % alignment_along frame ≡ 0
           even = rest_aligned frame.column_width width (alignment_along frame) valid.frame.aligned (rw (← grows.column_width) grows.is_frame.aligned)
 
-          each-wider-shelf : (shelves : List Shelf) → Each (IsShelf frame) shelves → Each (IsShelf grown) (map (wider_shelf frame width) shelves)
+          each-wider-shelf : (shelves : List Shelf) → AllByRecursion (IsShelf frame) shelves → AllByRecursion (IsShelf grown) (map (wider_shelf frame width) shelves)
           each-wider-shelf [] each = tt
           each-wider-shelf (s ∷ shelves) each = (
             wider_shelf-valid frame grown width s each.0 (not_zero width e) refl even (omega (arith, each.0.column, one_column e)) grows.is_frame.columns.0
@@ -229,10 +230,10 @@ module _ (state : AtlasState) (size : Size) (valid : IsValid state) (fits : Fits
           )
 
   -- they stand where they did
-  pub wide-below : Each (λ (s : Shelf). s.column < frame.columns) wide
+  pub wide-below : AllByRecursion (λ (s : Shelf). s.column < frame.columns) wide
   wide-below = by_test (width == 0)
     where
-      by_test : (b : Bool) → Each (λ (s : Shelf). s.column < frame.columns) (cond b state.shelves (map (wider_shelf frame width) state.shelves))
+      by_test : (b : Bool) → AllByRecursion (λ (s : Shelf). s.column < frame.columns) (cond b state.shelves (map (wider_shelf frame width) state.shelves))
       by_test true = below
       by_test false = each-wider frame width (λ (s : Shelf). s.column < frame.columns) (λ s h. h) state.shelves below
 
@@ -266,7 +267,7 @@ module _ (state : AtlasState) (size : Size) (valid : IsValid state) (fits : Fits
 
   -- a shelf of an old column stands before the new ones
   first-new : (P : ℕ → ℕ → Type 0) → ((column : ℕ) → column < frame.columns → P column frame.columns) → (shelves : List Shelf)
-      → Each (λ (s : Shelf). s.column < frame.columns) shelves → Each (λ (s : Shelf). Heads (λ next. P s.column next.column) new) shelves
+      → AllByRecursion (λ (s : Shelf). s.column < frame.columns) shelves → AllByRecursion (λ (s : Shelf). Heads (λ next. P s.column next.column) new) shelves
   first-new P holds shelves columns_below =
       Each-weaken (λ (s : Shelf). s.column < frame.columns) (λ (s : Shelf). Heads (λ next. P s.column next.column) new) shelves
       (λ (s : Shelf) (h : s.column < frame.columns). of s.column columns (holds s.column h)) columns_below
@@ -275,20 +276,20 @@ module _ (state : AtlasState) (size : Size) (valid : IsValid state) (fits : Fits
       of column zero h = tt
       of column (suc n) h = h
 
-  new-other : Each (λ (s : Shelf). Heads (λ next. (s.column == next.column) ≡ false) new) wide
+  new-other : AllByRecursion (λ (s : Shelf). Heads (λ next. (s.column == next.column) ≡ false) new) wide
   new-other = first-new (λ a b. (a == b) ≡ false) (λ column h. ne_eqb column frame.columns (λ e. omega (arith, h, e))) wide wide-below
 
-  new-later : Each (λ (s : Shelf). Heads (λ next. nat_lt next.column s.column ≡ false) new) wide
+  new-later : AllByRecursion (λ (s : Shelf). Heads (λ next. nat_lt next.column s.column ≡ false) new) wide
   new-later = first-new (λ a b. nat_lt b a ≡ false) (λ column h. le-ltb frame.columns column (omega (arith, h))) wide wide-below
 
-  new-shelves : Each (IsShelf grown) new
+  new-shelves : AllByRecursion (IsShelf grown) new
   new-shelves = shelves-empty_columns grown grows.is_frame frame.columns columns (omega (arith, grows.columns))
 
   -- all shelves are as shelves must be
-  all-shelves : Each (IsShelf grown) all
+  all-shelves : AllByRecursion (IsShelf grown) all
   all-shelves = Each-append (IsShelf grown) (heightened grown height wide) new (by_test (height == 0) refl) new-shelves
     where
-      by_test : (b : Bool) → (height == 0) ≡ b → Each (IsShelf grown) (cond b wide (with_ends grown height wide))
+      by_test : (b : Bool) → (height == 0) ≡ b → AllByRecursion (IsShelf grown) (cond b wide (with_ends grown height wide))
       by_test true e = wide-shelves
       by_test false e =
           each-ends grown height (IsShelf grown)
@@ -342,10 +343,10 @@ module _ (state : AtlasState) (size : Size) (valid : IsValid state) (fits : Fits
             valid.heights column old,
           )
 
-      none : (b : Bool) → frame.columns ≤ column → Each (λ (s : Shelf). s.column ≢ column) (cond b wide (with_ends grown height wide))
+      none : (b : Bool) → frame.columns ≤ column → AllByRecursion (λ (s : Shelf). s.column ≢ column) (cond b wide (with_ends grown height wide))
       none true added = others added
         where
-          others : frame.columns ≤ column → Each (λ (s : Shelf). s.column ≢ column) wide
+          others : frame.columns ≤ column → AllByRecursion (λ (s : Shelf). s.column ≢ column) wide
           others h = Each-weaken (λ (s : Shelf). s.column < frame.columns) (λ (s : Shelf). s.column ≢ column) wide
               (λ (s : Shelf) (k : s.column < frame.columns) (e : s.column ≡ column). omega (arith, h, k, e)) wide-below
       none false added =
@@ -360,7 +361,7 @@ module _ (state : AtlasState) (size : Size) (valid : IsValid state) (fits : Fits
       none-touch : merged_shelves new ≡ new
       none-touch = merged-apart both_empty combined_shelves new (apart-empty_columns grown frame.columns columns)
 
-      new-apart : Each (λ (s : Shelf). Heads (λ next. both_empty s next ≡ false) new) wide
+      new-apart : AllByRecursion (λ (s : Shelf). Heads (λ next. both_empty s next ≡ false) new) wide
       new-apart =
           Each-weaken (λ (s : Shelf). s.column < frame.columns) (λ (s : Shelf). Heads (λ next. both_empty s next ≡ false) new) wide
           (λ (s : Shelf) (h : s.column < frame.columns). of s columns h) wide-below
@@ -438,17 +439,17 @@ module _ (state : AtlasState) (size : Size) (valid : IsValid state) (fits : Fits
   pub grown-valid : IsValid (atlas_grown state size)
   grown-valid =
       let merged_all : (atlas_grown state size).shelves ≡ merged_shelves all = ap merged_shelves merged-in_shelves in
-      let P : Allocation → Type 0 = λ a. record_number a.id < (atlas_grown state size).records in
+      let P : Allocation → Type 0 = λ a. record_number a.id < (atlas_grown state size).peak_items in
       record {
         frame = grows.is_frame;
         columns = refl;
-        shelves = subst (Each (IsShelf grown)) (sym merged_all) (Each-merged both_empty combined_shelves (IsShelf grown) (combined-shelf grown) all all-shelves);
+        shelves = subst (AllByRecursion (IsShelf grown)) (sym merged_all) (Each-merged both_empty combined_shelves (IsShelf grown) (combined-shelf grown) all all-shelves);
         ordered = subst (NoNeighbours is_out_of_order) (sym merged_all) (ordered-merged all all-ordered);
         heights = λ column h. ap (column_height column) merged_all ∙ column_height-merged column all ∙ all-heights column h;
         apart = apart-merged both_empty combined_shelves shelves-merge (map merged_shelf (extended state size).shelves);
         numbers = λ k. omega (arith, ap (λ l. times k (numbers_of l)) grown-allocated, valid.numbers k);
-        below = subst (Each P) (sym grown-allocated)
-            (Each-weaken (λ (a : Allocation). record_number a.id < state.records) P (allocations state)
-            (λ (a : Allocation) (h : record_number a.id < state.records). omega (arith, h)) valid.below);
-        records = (omega arith, omega (arith, valid.records.1, items-grown, fits.records));
+        below = subst (AllByRecursion P) (sym grown-allocated)
+            (Each-weaken (λ (a : Allocation). record_number a.id < state.peak_items) P (allocations state)
+            (λ (a : Allocation) (h : record_number a.id < state.peak_items). omega (arith, h)) valid.below);
+        peak_items = (omega arith, omega (arith, valid.peak_items.1, items-grown, fits.records));
       }

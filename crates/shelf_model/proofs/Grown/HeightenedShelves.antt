@@ -2,7 +2,8 @@
 use Rattle.std.proofs.Common.{◌≡◌, ◌≢◌, ℕ, suc, ◌+◌, ◌≤◌, Bool, true, false, cond, List, [], ◌∷◌, ◌++◌, refl, ap, ◌∙◌, arith}
 use Rattle.std.proofs.lemmas.Bool.{cond-false, cond-true}
 use Rattle.etagere_base.specs.declared.frames.Frame.{Frame}
-use Rattle.etagere_base.specs.Lists.{Each, NoNeighbours}
+use Rattle.std.specs.List.{AllByRecursion}
+use Rattle.etagere_base.specs.Lists.{NoNeighbours}
 use Rattle.etagere_base.proofs.EachLemmas.{Each-both, Each-weaken}
 use Rattle.shelf_model.specs.Growing.{ends_column, filled_ends}
 use Rattle.shelf_model.specs.Merging.{combined_shelves}
@@ -14,7 +15,7 @@ use Rattle.shelf_model.proofs.Places.Heights.{column_height-append, column_heigh
 
 -- each of these shelves stands in a column that can get the height, with others before them
 abbrev pub AreLow : ℕ → List Shelf → List Shelf → Type 0
-AreLow height front back = Each (λ (shelf : Shelf). column_height shelf.column (front ++ back) + height ≤ 65535) back
+AreLow height front back = AllByRecursion (λ (shelf : Shelf). column_height shelf.column (front ++ back) + height ≤ 65535) back
 
 module _ (frame : Frame) (height : ℕ) (shelf : Shelf) (shelves : List Shelf) where
   -- a shelf that isn't the last of its column stays
@@ -32,10 +33,10 @@ module _ (frame : Frame) (height : ℕ) (shelf : Shelf) (shelves : List Shelf) w
   taller-filled e f = cond-true _ _ _ e ∙ cond-false _ _ _ f
 
   -- what becomes of a shelf stands in its column
-  taller-others : (column : ℕ) → shelf.column ≢ column → Each (λ (s : Shelf). s.column ≢ column) (taller_end frame height shelf shelves)
+  taller-others : (column : ℕ) → shelf.column ≢ column → AllByRecursion (λ (s : Shelf). s.column ≢ column) (taller_end frame height shelf shelves)
   taller-others column other = by_test (ends_column shelf shelves) (is_empty shelf)
     where
-      by_test : (b c : Bool) → Each (λ (s : Shelf). s.column ≢ column)
+      by_test : (b c : Bool) → AllByRecursion (λ (s : Shelf). s.column ≢ column)
           (cond b (cond c (combined_shelves shelf (end_shelf frame height shelf) ∷ []) (shelf ∷ end_shelf frame height shelf ∷ [])) (shelf ∷ []))
       by_test true true = (other, tt)
       by_test true false = (other, (other, tt))
@@ -46,7 +47,7 @@ module _ (frame : Frame) (height : ℕ) (shelf : Shelf) (shelves : List Shelf) w
       → AreLow height (front ++ taller_end frame height shelf shelves) shelves
   low-next front ordered low = by_test (ends_column shelf shelves) refl
     where
-      stays : (Later : Shelf → Type 0) → Each Later shelves
+      stays : (Later : Shelf → Type 0) → AllByRecursion Later shelves
           → ((s : Shelf) → Later s → column_height s.column (taller_end frame height shelf shelves) ≡ column_height s.column (shelf ∷ []))
           → AreLow height (front ++ taller_end frame height shelf shelves) shelves
       stays Later each same =

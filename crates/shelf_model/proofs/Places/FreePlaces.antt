@@ -3,7 +3,8 @@ use Rattle.std.proofs.Common.{◌≡◌, ℕ, zero, suc, ◌+◌, ◌<◌, ◌�
 use Rattle.std.proofs.lemmas.Bool.{eq-eqb, ne_eqb, and_parts, and_right}
 use Rattle.std.specs.Prelude.{slice_get}
 use Rattle.shelf_model.specs.Merging.{both_free, combined_items}
-use Rattle.etagere_base.specs.Lists.{Each, times}
+use Rattle.std.specs.List.{AllByRecursion}
+use Rattle.etagere_base.specs.Lists.{times}
 use Rattle.etagere_base.specs.MergingAt.{merged_at}
 use Rattle.shelf_model.specs.Places.{free_places}
 use Rattle.shelf_model.specs.Returning.{is_free_at, place_at, freed}
@@ -55,7 +56,7 @@ starts-before place here (item ∷ items) h =
     omega arith
 
 -- nor is a place after the last item
-pub starts-after : (place here : ℕ) (items : List Item) → Each (λ (item : Item). 1 ≤ item.width) items → here + total_width items ≤ place
+pub starts-after : (place here : ℕ) (items : List Item) → AllByRecursion (λ (item : Item). 1 ≤ item.width) items → here + total_width items ≤ place
     → starts place here items ≡ 0
 starts-after place here [] wide h = refl
 starts-after place here (item ∷ items) wide h =
@@ -71,7 +72,7 @@ starts-append place here front back =
     ∙ times-append place (free_places here front) (free_places (here + total_width front) back)
 
 -- the place of a free item is among the places once
-pub starts-free : (here n : ℕ) (items : List Item) → Each (λ (item : Item). 1 ≤ item.width) items → is_free_at n items ≡ true
+pub starts-free : (here n : ℕ) (items : List Item) → AllByRecursion (λ (item : Item). 1 ≤ item.width) items → is_free_at n items ≡ true
     → starts (place_at here items n) here items ≡ 1
 starts-free here n [] wide free = absurd (cc)
 starts-free here zero (item ∷ items) wide free =

@@ -6,7 +6,8 @@ use Rattle.etagere_base.specs.declared.frames.Frame.{Frame}
 use Rattle.etagere_base.specs.declared.ids.Allocation.{Allocation}
 use Rattle.shelf_model.specs.Fresh.{empty_columns, fresh}
 use Rattle.shelf_model.specs.Merging.{both_empty}
-use Rattle.etagere_base.specs.Lists.{Each, times, NoNeighbours}
+use Rattle.std.specs.List.{AllByRecursion}
+use Rattle.etagere_base.specs.Lists.{times, NoNeighbours}
 use Rattle.shelf_model.specs.Places.{column_height, allocations_after, allocations, record_number}
 use Rattle.shelf_model.specs.Space.{space_in, allocated_space}
 use Rattle.shelf_model.specs.State.{Shelf, empty_shelf, items_in_use}
@@ -26,7 +27,7 @@ fresh-allocated frame = allocations_after-empty_columns frame [] 0 frame.columns
 
 module _ (frame : Frame) (is_frame : IsFrame 65535 frame) where
   -- each shelf of empty columns is as a shelf must be
-  pub shelves-empty_columns : (column n : ℕ) → column + n ≤ frame.columns → Each (IsShelf frame) (empty_columns frame column n)
+  pub shelves-empty_columns : (column n : ℕ) → column + n ≤ frame.columns → AllByRecursion (IsShelf frame) (empty_columns frame column n)
   shelves-empty_columns column zero h = tt
   shelves-empty_columns column (suc n) h = (
     record {
@@ -59,7 +60,7 @@ items_in_use-empty_columns frame column zero = refl
 items_in_use-empty_columns frame column (suc n) = let rest = items_in_use-empty_columns frame (suc column) n in omega arith
 
 -- empty columns after a place are others
-pub others-empty_columns : (frame : Frame) (place column n : ℕ) → place < column → Each (λ (s : Shelf). s.column ≢ place) (empty_columns frame column n)
+pub others-empty_columns : (frame : Frame) (place column n : ℕ) → place < column → AllByRecursion (λ (s : Shelf). s.column ≢ place) (empty_columns frame column n)
 others-empty_columns frame place column zero h = tt
 others-empty_columns frame place column (suc n) h = ((λ e. omega arith), others-empty_columns frame place (suc column) n (omega arith))
 
@@ -85,8 +86,8 @@ fresh-valid frame h all = record {
   heights = λ column below. column_height-empty_columns frame column 0 frame.columns (omega arith) (omega arith);
   apart = apart-empty_columns frame 0 frame.columns;
   numbers = λ number. omega (arith, ap (λ (l : List Allocation). times number (map (λ (a : Allocation). record_number a.id) l)) (fresh-allocated frame));
-  below = subst (Each (λ (a : Allocation). record_number a.id < frame.columns)) (sym (fresh-allocated frame)) tt;
-  records = (omega (arith, items_in_use-empty_columns frame 0 frame.columns), columns-le frame h);
+  below = subst (AllByRecursion (λ (a : Allocation). record_number a.id < frame.columns)) (sym (fresh-allocated frame)) tt;
+  peak_items = (omega (arith, items_in_use-empty_columns frame 0 frame.columns), columns-le frame h);
 }
 
 -- empty columns hold no space

@@ -3,7 +3,7 @@ use Rattle.std.proofs.Common.{◌≡◌, ℕ, suc, ◌+◌, ◌≤◌, List, ◌
 use Rattle.std.proofs.lemmas.Bool.{and_parts, eqb-true}
 use Rattle.std.specs.Prelude.{slice_get}
 use Rattle.shelf_model.specs.Merging.{both_empty, combined_shelves, merged_shelves}
-use Rattle.etagere_base.specs.Lists.{Each}
+use Rattle.std.specs.List.{AllByRecursion}
 use Rattle.etagere_base.specs.MergingAt.{merged_at}
 use Rattle.shelf_model.specs.Places.{column_height}
 use Rattle.shelf_model.specs.State.{Shelf, is_empty}
@@ -34,12 +34,12 @@ pub column_height-other : (column : ℕ) (shelf : Shelf) (shelves : List Shelf) 
 column_height-other column shelf shelves h = omega (arith, part-other column_of height_of column shelf h)
 
 -- shelves of other columns have no height in this one
-pub column_height-none : (column : ℕ) (shelves : List Shelf) → Each (λ (s : Shelf). s.column ≢ column) shelves → column_height column shelves ≡ 0
+pub column_height-none : (column : ℕ) (shelves : List Shelf) → AllByRecursion (λ (s : Shelf). s.column ≢ column) shelves → column_height column shelves ≡ 0
 column_height-none column shelves others = column_total-none column_of height_of column shelves others
 
 -- the one shelf of a column fills it
 pub column_height-alone : (column : ℕ) (shelf : Shelf) (shelves : List Shelf) → shelf.column ≡ column
-    → Each (λ (s : Shelf). s.column ≢ column) shelves → column_height column (shelf ∷ shelves) ≡ shelf.height
+    → AllByRecursion (λ (s : Shelf). s.column ≢ column) shelves → column_height column (shelf ∷ shelves) ≡ shelf.height
 column_height-alone column shelf shelves here others =
     omega (arith, part-own column_of height_of column shelf here, column_height-none column shelves others)
 

@@ -5,7 +5,7 @@ use Rattle.etagere_base.specs.Frames.{IsFrame, across_side}
 use Rattle.etagere_base.specs.declared.frames.Frame.{Frame}
 use Rattle.etagere_base.specs.declared.geometry.Rectangle.{Rectangle}
 use Rattle.etagere_base.specs.declared.ids.Allocation.{Allocation}
-use Rattle.etagere_base.specs.Lists.{Each}
+use Rattle.std.specs.List.{AllByRecursion}
 use Rattle.etagere_base.specs.Places.{rectangle_at}
 use Rattle.shelf_model.specs.Places.{column_place, column_height, allocation_of, allocations_along, allocations_after, allocations}
 use Rattle.etagere_base.specs.Rectangles.{AreApart, SharesNone, IsInside}
@@ -20,13 +20,13 @@ use Rattle.shelf_model.proofs.Places.Heights.{column_height-append, column_heigh
 record IsFilled (frame : Frame) (shelf : Shelf) : Type 0 where
   pub column : shelf.column < frame.columns
   pub height : 1 ≤ shelf.height
-  pub items : Each (λ (item : Item). 1 ≤ item.width) shelf.items
+  pub items : AllByRecursion (λ (item : Item). 1 ≤ item.width) shelf.items
   pub width : total_width shelf.items ≡ frame.column_width
 
 -- shelves that fill the columns of a frame
 pub record IsTiled (frame : Frame) (shelves : List Shelf) : Type 0 where
   pub is_frame : IsFrame 65535 frame
-  pub are_shelves : Each (IsShelf frame) shelves
+  pub are_shelves : AllByRecursion (IsShelf frame) shelves
   pub heights : (column : ℕ) → column < frame.columns → column_height column shelves ≡ across_side frame
 
 -- a shelf of a valid state is such a shelf
@@ -44,7 +44,7 @@ pub valid-tiled : (state : AtlasState) → IsValid state → IsTiled state.frame
 valid-tiled state valid = record { is_frame = valid.frame; are_shelves = valid.shelves; heights = valid.heights }
 
 -- each of shelves that fill the columns is filled by items that are not empty
-each-filled : (frame : Frame) (shelves : List Shelf) → IsTiled frame shelves → Each (IsFilled frame) shelves
+each-filled : (frame : Frame) (shelves : List Shelf) → IsTiled frame shelves → AllByRecursion (IsFilled frame) shelves
 each-filled frame shelves tiled = Each-weaken (IsShelf frame) (IsFilled frame) shelves (filled-from-shelf frame) tiled.are_shelves
 
 -- an allocation whose rectangle lies between these places
@@ -53,7 +53,7 @@ AllocatedIn frame left right top bottom allocation = LiesIn frame left right top
 
 -- what an item allocates lies where the item does
 allocation-lies : (owner : Option ℕ) (frame : Frame) (along across width height : ℕ) → 1 ≤ width → 1 ≤ height
-    → Each (AllocatedIn frame along (along + width) across (across + height))
+    → AllByRecursion (AllocatedIn frame along (along + width) across (across + height))
     (allocation_of owner (rectangle_at frame along across width height))
 allocation-lies None frame along across width height wide tall = tt
 allocation-lies (Some id) frame along across width height wide tall = (
@@ -80,8 +80,8 @@ allocation-apart (Some id) rectangle = (tt, tt)
 
 -- what items hold lies between where the first begins and the last ends
 allocations_along-lies : (frame : Frame) (across height here : ℕ) (items : List Item)
-    → 1 ≤ height → Each (λ (item : Item). 1 ≤ item.width) items
-    → Each (AllocatedIn frame here (here + total_width items) across (across + height)) (allocations_along frame across height here items)
+    → 1 ≤ height → AllByRecursion (λ (item : Item). 1 ≤ item.width) items
+    → AllByRecursion (AllocatedIn frame here (here + total_width items) across (across + height)) (allocations_along frame across height here items)
 allocations_along-lies frame across height here [] tall wide = tt
 allocations_along-lies frame across height here (item ∷ items) tall wide =
     Each-append _ (allocation_of item.id (rectangle_at frame here across item.width height)) _
@@ -96,14 +96,14 @@ allocations_along-lies frame across height here (item ∷ items) tall wide =
 
 -- two lists are apart where what holds of each of one keeps it apart from what holds of each of the other
 each-apart : (P Q : Allocation → Type 0) (xs ys : List Allocation)
-    → ((x y : Allocation) → P x → Q y → SharesNone x.rectangle y.rectangle) → Each P xs → Each Q ys → Each (IsApartFrom ys) xs
+    → ((x y : Allocation) → P x → Q y → SharesNone x.rectangle y.rectangle) → AllByRecursion P xs → AllByRecursion Q ys → AllByRecursion (IsApartFrom ys) xs
 each-apart P Q xs ys apart front back =
     Each-weaken P (IsApartFrom ys) xs
     (λ (x : Allocation) (p : P x). Each-weaken Q _ ys (λ (y : Allocation) (q : Q y). apart x y p q) back) front
 
 -- what the items of a shelf hold is apart
 allocations_along-apart : (frame : Frame) (across height here : ℕ) (items : List Item)
-    → 1 ≤ height → Each (λ (item : Item). 1 ≤ item.width) items
+    → 1 ≤ height → AllByRecursion (λ (item : Item). 1 ≤ item.width) items
     → AreApart (allocations_along frame across height here items)
 allocations_along-apart frame across height here [] tall wide = tt
 allocations_along-apart frame across height here (item ∷ items) tall wide =
@@ -138,7 +138,7 @@ InShelf frame before shelf allocation =
 
 -- what one shelf holds lies in its column, within its height
 shelf-lies : (frame : Frame) (before : List Shelf) (shelf : Shelf) → IsFilled frame shelf
-    → Each (InShelf frame before shelf) (allocated_in_shelf frame before shelf)
+    → AllByRecursion (InShelf frame before shelf) (allocated_in_shelf frame before shelf)
 shelf-lies frame before shelf filled =
     rw filled.width at
     (allocations_along-lies frame (column_height shelf.column before) shelf.height (column_place frame shelf) shelf.items
@@ -151,7 +151,7 @@ column_height-moved column before shelf shelves = omega (arith, column_height-ap
 
 -- what a shelf holds lies after those before it
 shelf-lies_after : (frame : Frame) (before : List Shelf) (shelf : Shelf) (shelves : List Shelf) → IsFilled frame shelf
-    → Each (LiesAfter frame before (shelf ∷ shelves)) (allocated_in_shelf frame before shelf)
+    → AllByRecursion (LiesAfter frame before (shelf ∷ shelves)) (allocated_in_shelf frame before shelf)
 shelf-lies_after frame before shelf shelves filled =
     Each-weaken _ (LiesAfter frame before (shelf ∷ shelves)) _
     (λ (a : Allocation) (lies : InShelf frame before shelf a). record {
@@ -175,8 +175,8 @@ later-lies_after frame before shelf shelves a later =
     }
 
 -- what shelves hold that stand after others lies after these
-allocations_after-lies : (frame : Frame) (before shelves : List Shelf) → Each (IsFilled frame) shelves
-    → Each (LiesAfter frame before shelves) (allocations_after frame before shelves)
+allocations_after-lies : (frame : Frame) (before shelves : List Shelf) → AllByRecursion (IsFilled frame) shelves
+    → AllByRecursion (LiesAfter frame before shelves) (allocations_after frame before shelves)
 allocations_after-lies frame before [] filled = tt
 allocations_after-lies frame before (shelf ∷ shelves) filled =
     Each-append (LiesAfter frame before (shelf ∷ shelves)) _ _
@@ -207,7 +207,7 @@ shelf-apart frame before shelf shelves x y lies after =
 
 -- what shelves hold that stand after others is apart
 allocations_after-apart : (frame : Frame) (before shelves : List Shelf)
-    → Each (IsFilled frame) shelves → AreApart (allocations_after frame before shelves)
+    → AllByRecursion (IsFilled frame) shelves → AreApart (allocations_after frame before shelves)
 allocations_after-apart frame before [] filled = tt
 allocations_after-apart frame before (shelf ∷ shelves) filled =
     AreApart-append (allocated_in_shelf frame before shelf) _
@@ -226,7 +226,7 @@ lies-inside frame shelves tiled a after =
 
 -- everything that shelves allocate that fill the columns lies within the atlas
 pub tiled-inside : (state : AtlasState) → IsTiled state.frame state.shelves
-    → Each (λ (a : Allocation). IsInside state.frame a.rectangle) (allocations state)
+    → AllByRecursion (λ (a : Allocation). IsInside state.frame a.rectangle) (allocations state)
 tiled-inside state tiled =
     Each-weaken (LiesAfter state.frame [] state.shelves) _ _ (lies-inside state.frame state.shelves tiled)
     (allocations_after-lies state.frame [] state.shelves (each-filled state.frame state.shelves tiled))
@@ -236,7 +236,7 @@ pub tiled-apart : (state : AtlasState) → IsTiled state.frame state.shelves →
 tiled-apart state tiled = allocations_after-apart state.frame [] state.shelves (each-filled state.frame state.shelves tiled)
 
 -- everything that is allocated lies within the atlas
-pub allocated-inside : (state : AtlasState) → IsValid state → Each (λ (a : Allocation). IsInside state.frame a.rectangle) (allocations state)
+pub allocated-inside : (state : AtlasState) → IsValid state → AllByRecursion (λ (a : Allocation). IsInside state.frame a.rectangle) (allocations state)
 allocated-inside state valid = tiled-inside state (valid-tiled state valid)
 
 -- any two that are allocated share no unit square

@@ -2,7 +2,8 @@
 use Rattle.std.proofs.Common.{◌≡◌, ℕ, List, [], ◌∷◌, ◌++◌, map, refl, ap, ◌∙◌, arith}
 use Rattle.etagere_base.specs.declared.frames.Frame.{Frame}
 use Rattle.etagere_base.specs.declared.ids.Allocation.{Allocation}
-use Rattle.etagere_base.specs.Lists.{Each, NoNeighbours}
+use Rattle.std.specs.List.{AllByRecursion}
+use Rattle.etagere_base.specs.Lists.{NoNeighbours}
 use Rattle.shelf_model.specs.Merging.{both_empty, both_free, combined_items, combined_shelves, merged, merged_shelf, merged_shelves}
 use Rattle.shelf_model.specs.Places.{allocations, allocations_after, allocations_along, column_height, column_place}
 use Rattle.shelf_model.specs.State.{Shelf, AtlasState}
@@ -15,19 +16,19 @@ use Rattle.shelf_model.proofs.Returned.MergedNear.{items-merge, shelves-merge}
 use Rattle.shelf_model.proofs.Returned.ReturnedWhole.{IsApart, merged_shelf-apart}
 
 -- no merged shelf has free neighbours
-merged_shelf-all : (shelves : List Shelf) → Each IsApart (map merged_shelf shelves)
+merged_shelf-all : (shelves : List Shelf) → AllByRecursion IsApart (map merged_shelf shelves)
 merged_shelf-all [] = tt
 merged_shelf-all (shelf ∷ shelves) = (apart-merged both_free combined_items items-merge shelf.items, merged_shelf-all shelves)
 
 -- merging leaves no free neighbours in a shelf and no empty ones in a column
-pub merged-all : (state : AtlasState) → Each IsApart (merged state).shelves × NoNeighbours both_empty (merged state).shelves
+pub merged-all : (state : AtlasState) → AllByRecursion IsApart (merged state).shelves × NoNeighbours both_empty (merged state).shelves
 merged-all state = (
   Each-merged both_empty combined_shelves IsApart (λ x y t h k. h) (map merged_shelf state.shelves) (merged_shelf-all state.shelves),
   apart-merged both_empty combined_shelves shelves-merge (map merged_shelf state.shelves),
 )
 
 -- shelves without free neighbours are merged already
-merged_shelf-same : (shelves : List Shelf) → Each IsApart shelves → map merged_shelf shelves ≡ shelves
+merged_shelf-same : (shelves : List Shelf) → AllByRecursion IsApart shelves → map merged_shelf shelves ≡ shelves
 merged_shelf-same [] apart = refl
 merged_shelf-same (shelf ∷ shelves) apart =
     ap (λ (s : Shelf). s ∷ map merged_shelf shelves) (merged_shelf-apart shelf apart.0)
@@ -37,7 +38,7 @@ merged_shelf-same (shelf ∷ shelves) apart =
 pub merged-once : (state : AtlasState) → merged (merged state) ≡ merged state
 merged-once state =
     let all = merged-all state in
-    ap (λ (l : List Shelf). record { frame = state.frame; shelves = l; records = state.records })
+    ap (λ (l : List Shelf). record { frame = state.frame; shelves = l; peak_items = state.peak_items })
     (ap merged_shelves (merged_shelf-same (merged state).shelves all.0)
     ∙ merged-apart both_empty combined_shelves (merged state).shelves all.1)
 

@@ -196,7 +196,7 @@ taken_returned state size placement id valid h not_allocated =
     let t = taking state size placement valid placed in
     let restored = restored-items frame placement id shelf t allocated_in_none.1 in
     ap layout (once-near (taken state placement id) id (taken-shelves state size placement id valid h) (taken-ids_once state size placement id valid h none))
-    ∙ ap (λ (shelves : List Shelf). record { frame = frame; shelves = shelves; records = 0 })
+    ∙ ap (λ (shelves : List Shelf). record { frame = frame; shelves = shelves; peak_items = 0 })
     (ap (λ (shelves : List Shelf). map without_free_list (merged_shelves (at_first (is_allocated_in id) (returned_shelf frame id) shelves)))
     (split.split (shelf_pieces frame placement id))
     ∙ (restored-shelves frame placement id split.front shelf split.back t (rw split.whole at valid.apart) allocated_in_none.0 restored

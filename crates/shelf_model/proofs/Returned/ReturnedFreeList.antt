@@ -3,7 +3,8 @@ use Rattle.std.proofs.Common.{◌≡◌, ℕ, zero, suc, ◌+◌, ◌≤◌, Boo
 use Rattle.std.proofs.lemmas.Bool.{cond_both}
 use Rattle.std.specs.Prelude.{slice_get}
 use Rattle.shelf_model.specs.Merging.{both_free, combined_items, merged_items}
-use Rattle.etagere_base.specs.Lists.{Each, times, NoNeighbours}
+use Rattle.std.specs.List.{AllByRecursion}
+use Rattle.etagere_base.specs.Lists.{times, NoNeighbours}
 use Rattle.etagere_base.specs.MergingAt.{merged_at, merged_before}
 use Rattle.shelf_model.specs.Places.{free_places}
 use Rattle.shelf_model.specs.Returning.{is_free_at, is_free_before, place_at, freed, returned_free_list}
@@ -87,7 +88,7 @@ is_free_before-combined : (n : ℕ) (items : List Item) → is_free_before n (me
 is_free_before-combined zero items = refl
 is_free_before-combined (suc n) items = is_free_at-merged_before n (freed (suc n) items) ∙ is_free_at-freed_before n items
 
-module _ (here n : ℕ) (items : List Item) (wide : Each (λ (item : Item). 1 ≤ item.width) items) (free_list : List ℕ)
+module _ (here n : ℕ) (items : List Item) (wide : AllByRecursion (λ (item : Item). 1 ≤ item.width) items) (free_list : List ℕ)
     (counts : (place : ℕ) → times place free_list ≡ starts place here items) where
   -- the free list without the place of a free next item
   times-others : (place : ℕ) (b : Bool) → is_free_at (suc n) items ≡ b

@@ -5,7 +5,7 @@ use Rattle.std.specs.Prelude.{slice_get}
 use Rattle.etagere_base.specs.Frames.{alignment_along}
 use Rattle.etagere_base.specs.declared.frames.Frame.{Frame}
 use Rattle.shelf_model.specs.Merging.{both_free, combined_items, merged_items, merged_shelf}
-use Rattle.etagere_base.specs.Lists.{Each}
+use Rattle.std.specs.List.{AllByRecursion}
 use Rattle.shelf_model.specs.Places.{column_place}
 use Rattle.shelf_model.specs.Returning.{freed, freed_shelf}
 use Rattle.shelf_model.specs.State.{Item, Shelf, is_free, total_width}
@@ -20,7 +20,7 @@ use Rattle.shelf_model.proofs.Returned.ReturnedFreeList.{times-returned_free_lis
 
 -- a fact of each item that doesn't speak of ids stays when one is freed
 Each-freed : (P : Item → Type 0) → ((item : Item) → P item → P (record { width = item.width; id = None }))
-    → (n : ℕ) (items : List Item) → Each P items → Each P (freed n items)
+    → (n : ℕ) (items : List Item) → AllByRecursion P items → AllByRecursion P (freed n items)
 Each-freed P keeps n [] h = tt
 Each-freed P keeps zero (item ∷ items) h = (keeps item h.0, h.1)
 Each-freed P keeps (suc n) (item ∷ items) h = (h.0, Each-freed P keeps n items h.1)

@@ -4,7 +4,8 @@ use Rattle.std.specs.Prelude.{nat_lt}
 use Rattle.etagere_base.specs.declared.frames.Frame.{Frame}
 use Rattle.etagere_base.specs.declared.ids.Allocation.{Allocation}
 use Rattle.shelf_model.specs.Merging.{merged_items, both_empty, combined_shelves, merged_shelves}
-use Rattle.etagere_base.specs.Lists.{Each, times, at_first, NoNeighbours}
+use Rattle.std.specs.List.{AllByRecursion}
+use Rattle.etagere_base.specs.Lists.{times, at_first, NoNeighbours}
 use Rattle.shelf_model.specs.Atlas.{without_id}
 use Rattle.shelf_model.specs.Places.{allocations, column_height, record_number}
 use Rattle.shelf_model.specs.Returning.{freed, returned}
@@ -67,8 +68,8 @@ module _ (frame : Frame) (id : ℕ) where
       omega arith
 
   -- each shelf is as a shelf must be after an id was returned
-  returned-shelves : (shelves : List Shelf) → Each (IsShelf frame) shelves
-      → Each (IsShelf frame) (merged_shelves (at_first (is_allocated_in id) (returned_shelf frame id) shelves))
+  returned-shelves : (shelves : List Shelf) → AllByRecursion (IsShelf frame) shelves
+      → AllByRecursion (IsShelf frame) (merged_shelves (at_first (is_allocated_in id) (returned_shelf frame id) shelves))
   returned-shelves shelves h =
       Each-merged both_empty combined_shelves (IsShelf frame) (combined-shelf frame) _
       (Each-at_first (is_allocated_in id) (returned_shelf frame id) (IsShelf frame) returned_shelf-valid shelves h)
@@ -110,7 +111,7 @@ pub returned-valid : (state : AtlasState) (id : ℕ) → IsValid state → IsVal
 returned-valid state id valid =
     let left = near-allocated state id valid in
     let others : Allocation → Bool = λ a. not (a.id == id) in
-    let P : Allocation → Type 0 = λ a. record_number a.id < state.records in
+    let P : Allocation → Type 0 = λ a. record_number a.id < state.peak_items in
     rw (returned-near state id valid) record {
       frame = valid.frame;
       columns = valid.columns;
@@ -119,6 +120,6 @@ returned-valid state id valid =
       heights = λ column h. heights-returned state.frame id column state.shelves ∙ valid.heights column h;
       apart = apart-merged both_empty combined_shelves shelves-merge (at_first (is_allocated_in id) (returned_shelf state.frame id) state.shelves);
       numbers = λ k. omega (arith, ap (λ all. times k (numbers_of all)) left, numbers-filter k others (allocations state), valid.numbers k);
-      below = subst (Each P) (sym left) (Each-filter P others (allocations state) valid.below);
-      records = (omega (arith, items_in_use-returned-le state.frame id state.shelves, valid.records.0), valid.records.1);
+      below = subst (AllByRecursion P) (sym left) (Each-filter P others (allocations state) valid.below);
+      peak_items = (omega (arith, items_in_use-returned-le state.frame id state.shelves, valid.peak_items.0), valid.peak_items.1);
     }

@@ -4,7 +4,8 @@ use Rattle.std.proofs.lemmas.Bool.{cond_both, cases_lt}
 use Rattle.std.specs.Prelude.{is_some}
 use Rattle.etagere_base.specs.declared.frames.Frame.{Frame}
 use Rattle.shelf_model.specs.Merging.{both_free, combined_items, merged_shelf, merged_shelves}
-use Rattle.etagere_base.specs.Lists.{Each, NoNeighbours, at_first, times}
+use Rattle.std.specs.List.{AllByRecursion}
+use Rattle.etagere_base.specs.Lists.{NoNeighbours, at_first, times}
 use Rattle.shelf_model.specs.Returning.{number_of, freed_in, returned}
 use Rattle.shelf_model.specs.State.{Item, Shelf, AtlasState}
 use Rattle.shelf_model.proofs.Allocations.InShelves.{is_allocated_in, returned_shelf, returned_near}
@@ -48,7 +49,7 @@ merged-freed_in frame id shelf apart = by_number (number_of id shelf.items) refl
 
 module _ (frame : Frame) (id : ℕ) where
   -- shelves that an id holds nothing of stay as they are
-  merged-freed_none : (shelves : List Shelf) → Each IsApart shelves → times id (ids shelves) ≡ 0
+  merged-freed_none : (shelves : List Shelf) → AllByRecursion IsApart shelves → times id (ids shelves) ≡ 0
       → map merged_shelf (map (freed_in frame id) shelves) ≡ shelves
   merged-freed_none [] apart none = refl
   merged-freed_none (shelf ∷ shelves) apart none =
@@ -58,7 +59,7 @@ module _ (frame : Frame) (id : ℕ) where
       ∙ ap (λ (l : List Shelf). shelf ∷ l) (merged-freed_none shelves apart.1 (omega arith))
 
   -- where an id holds one item, only the first shelf that has it changes
-  merged-freed : (shelves : List Shelf) → Each IsApart shelves → times id (ids shelves) ≤ 1
+  merged-freed : (shelves : List Shelf) → AllByRecursion IsApart shelves → times id (ids shelves) ≤ 1
       → map merged_shelf (map (freed_in frame id) shelves) ≡ at_first (is_allocated_in id) (returned_shelf frame id) shelves
   merged-freed [] apart once = refl
   merged-freed (shelf ∷ shelves) apart once =
@@ -81,10 +82,10 @@ module _ (frame : Frame) (id : ℕ) where
           (cases_lt 0 (times id (item_ids shelf.items)))
 
 -- a state after a return is merged where the item stood, where the id holds one item and no free neighbours were
-pub once-near : (state : AtlasState) (id : ℕ) → Each (IsShelf state.frame) state.shelves → times id (ids state.shelves) ≤ 1
+pub once-near : (state : AtlasState) (id : ℕ) → AllByRecursion (IsShelf state.frame) state.shelves → times id (ids state.shelves) ≤ 1
     → returned state id ≡ returned_near state id
 once-near state id shelves once =
-    ap (λ (shelves : List Shelf). record { frame = state.frame; shelves = merged_shelves shelves; records = state.records })
+    ap (λ (shelves : List Shelf). record { frame = state.frame; shelves = merged_shelves shelves; peak_items = state.peak_items })
     (merged-freed state.frame id state.shelves
     (Each-weaken (IsShelf state.frame) IsApart state.shelves (λ (shelf : Shelf) (h : IsShelf state.frame shelf). h.apart) shelves) once)
 

@@ -5,7 +5,7 @@ use Rattle.std.specs.Prelude.{nat_lt}
 use Rattle.etagere_base.specs.Frames.{IsFrame, along_side, across_side}
 use Rattle.etagere_base.specs.Sides.{swapped_axes}
 use Rattle.etagere_base.specs.declared.frames.Frame.{Frame}
-use Rattle.etagere_base.specs.Lists.{Each}
+use Rattle.std.specs.List.{AllByRecursion}
 use Rattle.shelf_model.specs.Space.{allocated_width, space_in, allocated_space}
 use Rattle.shelf_model.specs.State.{Shelf, AtlasState}
 use Rattle.shelf_model.specs.Valid.{IsShelf, IsValid}
@@ -17,7 +17,7 @@ use Rattle.shelf_model.proofs.Places.Tiling.{IsTiled, valid-tiled}
 use Rattle.shelf_model.proofs.Spaces.SpaceLemmas.{allocated_width-le}
 
 -- shelves hold no more than their heights by the width of a column
-space_in-le : (frame : Frame) (shelves : List Shelf) → Each (IsShelf frame) shelves
+space_in-le : (frame : Frame) (shelves : List Shelf) → AllByRecursion (IsShelf frame) shelves
     → space_in shelves ≤ frame.column_width * total_before column_of height_of frame.columns shelves
 space_in-le frame shelves valid =
     omega (

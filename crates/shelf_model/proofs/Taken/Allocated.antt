@@ -39,7 +39,7 @@ new_number-not_allocated state id none =
 -- afterwards
 pub taken-allocated : (old : AtlasState) (size : Size) (placement : Placement) (id : ℕ) → IsValid old
     → placement_of old size ≡ Some placement → times (record_number id) (allocated_numbers old) ≡ 0
-    → record_number id < (taken old placement id).records
+    → record_number id < (taken old placement id).peak_items
     → Allocated old size (record { id = id; rectangle = rectangle_of_placement old.frame placement }) (taken old placement id)
 taken-allocated old size placement id valid placed fresh low =
     let not_allocated = new_number-not_allocated old id fresh in

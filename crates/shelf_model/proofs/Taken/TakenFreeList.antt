@@ -4,7 +4,8 @@ use Rattle.std.proofs.lemmas.Bool.{cond-true}
 use Rattle.std.specs.Prelude.{is_none}
 use Rattle.etagere_base.specs.declared.frames.Frame.{Frame}
 use Rattle.shelf_model.specs.Choice.{Placement}
-use Rattle.etagere_base.specs.Lists.{Each, times}
+use Rattle.std.specs.List.{AllByRecursion}
+use Rattle.etagere_base.specs.Lists.{times}
 use Rattle.shelf_model.specs.Places.{free_places}
 use Rattle.shelf_model.specs.State.{Item, is_free, total_width}
 use Rattle.etagere_base.specs.Lists.{replace_place, remove_place}
@@ -33,7 +34,7 @@ places-split p here front item back width id fits =
     omega (arith, starts-append p here front (allocated_item width id ∷ free_item (item.width - width) ∷ back), begin)
 
 -- a free item's place is the place of no other
-place-once : (frame : Frame) (here : ℕ) (front : List Item) (item : Item) (back : List Item) → item.id ≡ None → 1 ≤ item.width → Each (IsItem frame) (front ++ item ∷ back)
+place-once : (frame : Frame) (here : ℕ) (front : List Item) (item : Item) (back : List Item) → item.id ≡ None → 1 ≤ item.width → AllByRecursion (IsItem frame) (front ++ item ∷ back)
     → times (here + total_width front) (free_places here (front ++ item ∷ back)) ≡ 1
 place-once frame here front item back free wide each =
     let place = here + total_width front in
@@ -43,7 +44,7 @@ place-once frame here front item back free wide each =
 
 -- the free list has the places of the free items once after an item was taken, if it had them before
 pub pieces-free_list : (frame : Frame) (here : ℕ) (front : List Item) (item : Item) (back : List Item) (placement : Placement) (id : ℕ) (free_list : List ℕ)
-    → IsRoom frame item placement → placement.along ≡ here + total_width front → Each (IsItem frame) (front ++ item ∷ back)
+    → IsRoom frame item placement → placement.along ≡ here + total_width front → AllByRecursion (IsItem frame) (front ++ item ∷ back)
     → ((p : ℕ) → times p free_list ≡ times p (free_places here (front ++ item ∷ back)))
     → (p : ℕ) → times p (taken_free_list placement free_list) ≡ times p (free_places here (front ++ (item_pieces placement id item ++ back)))
 pieces-free_list frame here front item back placement id free_list room begins each counts p =

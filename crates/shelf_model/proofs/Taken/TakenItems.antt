@@ -4,7 +4,8 @@ use Rattle.std.proofs.lemmas.Bool.{cond-true, cond-false}
 use Rattle.std.specs.Prelude.{◌==◌}
 use Rattle.etagere_base.specs.declared.frames.Frame.{Frame}
 use Rattle.shelf_model.specs.Choice.{number_at, width_at}
-use Rattle.etagere_base.specs.Lists.{Each, times}
+use Rattle.std.specs.List.{AllByRecursion}
+use Rattle.etagere_base.specs.Lists.{times}
 use Rattle.shelf_model.specs.Places.{free_places}
 use Rattle.shelf_model.specs.State.{Item, is_free, total_width}
 use Rattle.shelf_model.specs.Valid.{IsItem}
@@ -29,7 +30,7 @@ counted-free here item items place true h k = refl
 counted-free here item items place false h k = absurd (omega (arith, starts-before place (here + item.width) items h))
 
 -- a place of a free item has its item
-pub free_at : (frame : Frame) (here : ℕ) (items : List Item) (place : ℕ) → Each (IsItem frame) items → 1 ≤ times place (free_places here items) → IsFreeAt here items place
+pub free_at : (frame : Frame) (here : ℕ) (items : List Item) (place : ℕ) → AllByRecursion (IsItem frame) items → 1 ≤ times place (free_places here items) → IsFreeAt here items place
 free_at frame here [] place each h = absurd (omega arith)
 free_at frame here (item ∷ items) place each h = by_test (here == place) refl (free_at frame (here + item.width) items place each.1)
   where

@@ -9,7 +9,8 @@ use Rattle.etagere_base.specs.Frames.{alignment_along}
 use Rattle.etagere_base.specs.declared.frames.Frame.{Frame}
 use Rattle.shelf_model.specs.Choice.{Placement}
 use Rattle.shelf_model.specs.Merging.{both_free}
-use Rattle.etagere_base.specs.Lists.{Each, NoNeighbours}
+use Rattle.std.specs.List.{AllByRecursion}
+use Rattle.etagere_base.specs.Lists.{NoNeighbours}
 use Rattle.shelf_model.specs.State.{Item, is_free, is_one_free, total_width}
 use Rattle.shelf_model.specs.Taking.{item_pieces}
 use Rattle.shelf_model.specs.Valid.{IsItem}
@@ -63,11 +64,11 @@ rest-aligned n m k h g l =
 
 -- the items are wide and aligned after one was taken
 pub pieces-each : (frame : Frame) (front : List Item) (item : Item) (back : List Item) (placement : Placement) (id : ℕ)
-    → IsRoom frame item placement → Each (IsItem frame) (front ++ item ∷ back) → Each (IsItem frame) (front ++ (item_pieces placement id item ++ back))
+    → IsRoom frame item placement → AllByRecursion (IsItem frame) (front ++ item ∷ back) → AllByRecursion (IsItem frame) (front ++ (item_pieces placement id item ++ back))
 pieces-each frame front item back placement id room each =
     let old = Each-back (IsItem frame) front (item ∷ back) each in
     Each-append (IsItem frame) front _ (Each-front (IsItem frame) front (item ∷ back) each)
-    (pieces-cases (λ _ pieces. Each (IsItem frame) (pieces ++ back)) frame placement id item room
+    (pieces-cases (λ _ pieces. AllByRecursion (IsItem frame) (pieces ++ back)) frame placement id item room
     (λ split. (record { width = room.wide; aligned = room.aligned }, (record { width = omega arith; aligned = rest-aligned item.width placement.width (alignment_along frame) old.0.aligned room.aligned (omega arith) }, old.1)))
     (λ _. (record { width = old.0.width; aligned = old.0.aligned }, old.1)))
 

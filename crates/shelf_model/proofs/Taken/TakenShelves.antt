@@ -7,7 +7,8 @@ use Rattle.etagere_base.specs.declared.frames.Frame.{Frame}
 use Rattle.etagere_base.specs.declared.geometry.Size.{Size}
 use Rattle.shelf_model.specs.Choice.{Placement, is_item_split, is_shelf_split, placement_in, shelf_height, width_at}
 use Rattle.shelf_model.specs.Merging.{both_free}
-use Rattle.etagere_base.specs.Lists.{Each, NoNeighbours, replaced_at, times}
+use Rattle.std.specs.List.{AllByRecursion}
+use Rattle.etagere_base.specs.Lists.{NoNeighbours, replaced_at, times}
 use Rattle.shelf_model.specs.Places.{column_height, column_place, free_places}
 use Rattle.shelf_model.specs.State.{Shelf, AtlasState, is_empty, is_one_free, empty_shelf, total_width}
 use Rattle.shelf_model.specs.Taking.{item_pieces, shelf_pieces, taken_free_list}
@@ -102,7 +103,7 @@ pub taken_shelf-valid : (frame : Frame) (placement : Placement) (id height : ℕ
 taken_shelf-valid frame placement id height shelf t tall =
     let f = t.found in
     let same = taken-items frame placement id shelf t in
-    let items : Each (IsItem frame) (f.at.front ++ f.item ∷ f.at.back) = subst (Each (IsItem frame)) f.at.whole t.valid.items in
+    let items : AllByRecursion (IsItem frame) (f.at.front ++ f.item ∷ f.at.back) = subst (AllByRecursion (IsItem frame)) f.at.whole t.valid.items in
     record {
       column = t.valid.column;
       height = tall;

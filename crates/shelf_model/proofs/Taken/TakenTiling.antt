@@ -7,7 +7,8 @@ use Rattle.etagere_base.specs.declared.frames.Frame.{Frame}
 use Rattle.etagere_base.specs.declared.geometry.Size.{Size}
 use Rattle.shelf_model.specs.Choice.{Placement, placement_of}
 use Rattle.shelf_model.specs.Merging.{both_empty}
-use Rattle.etagere_base.specs.Lists.{Each, NoNeighbours}
+use Rattle.std.specs.List.{AllByRecursion}
+use Rattle.etagere_base.specs.Lists.{NoNeighbours}
 use Rattle.shelf_model.specs.Places.{column_height}
 use Rattle.shelf_model.specs.State.{Shelf, AtlasState, is_empty, empty_shelf}
 use Rattle.shelf_model.specs.Taking.{shelf_pieces, taken}
@@ -24,11 +25,11 @@ use Rattle.shelf_model.proofs.Taken.TakenShelves.{IsTaking, empty_shelf-valid, s
 
 -- the shelves are valid after a placement took an item in one
 each-shelf : (frame : Frame) (placement : Placement) (id : ℕ) (front : List Shelf) (shelf : Shelf) (back : List Shelf)
-    → IsFrame 65535 frame → IsTaking frame placement shelf → Each (IsShelf frame) (front ++ shelf ∷ back) → Each (IsShelf frame) (front ++ (shelf_pieces frame placement id shelf ++ back))
+    → IsFrame 65535 frame → IsTaking frame placement shelf → AllByRecursion (IsShelf frame) (front ++ shelf ∷ back) → AllByRecursion (IsShelf frame) (front ++ (shelf_pieces frame placement id shelf ++ back))
 each-shelf frame placement id front shelf back valid t each =
     let old = Each-back (IsShelf frame) front (shelf ∷ back) each in
     Each-append (IsShelf frame) front _ (Each-front (IsShelf frame) front (shelf ∷ back) each)
-    (shelf_pieces-cases (λ _ pieces. Each (IsShelf frame) (pieces ++ back)) frame placement id shelf t
+    (shelf_pieces-cases (λ _ pieces. AllByRecursion (IsShelf frame) (pieces ++ back)) frame placement id shelf t
     (λ empty split. (taken_shelf-valid frame placement id placement.height shelf t t.height, (empty_shelf-valid frame shelf.column (shelf.height - placement.height) valid t.valid.column (omega arith), old.1)))
     (λ _. (taken_shelf-valid frame placement id shelf.height shelf t t.valid.height, old.1)))
 
@@ -80,7 +81,7 @@ pieces-heights frame placement id shelf t column =
 
 -- each shelf is as a shelf must be after a placement was taken
 pub taken-shelves : (state : AtlasState) (size : Size) (placement : Placement) (id : ℕ) → IsValid state
-    → placement_of state size ≡ Some placement → Each (IsShelf state.frame) (taken state placement id).shelves
+    → placement_of state size ≡ Some placement → AllByRecursion (IsShelf state.frame) (taken state placement id).shelves
 taken-shelves state size placement id valid h =
     let placed = placement_of-placed state size placement h in
     let shelf = placed.chosen.shelf in
@@ -88,7 +89,7 @@ taken-shelves state size placement id valid h =
     let split = split-at state.shelves placement.shelf shelf placed.chosen.at in
     rw (split.split (shelf_pieces state.frame placement id))
     (each-shelf state.frame placement id split.front shelf split.back valid.frame t
-    (subst (Each (IsShelf state.frame)) split.whole valid.shelves))
+    (subst (AllByRecursion (IsShelf state.frame)) split.whole valid.shelves))
 
 -- the shelves stand column after column after a placement was taken
 pub taken-ordered : (state : AtlasState) (size : Size) (placement : Placement) (id : ℕ) → IsValid state

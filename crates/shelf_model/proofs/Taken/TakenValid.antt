@@ -4,7 +4,8 @@ use Rattle.etagere_base.specs.declared.frames.Frame.{Frame}
 use Rattle.etagere_base.specs.declared.geometry.Size.{Size}
 use Rattle.etagere_base.specs.declared.ids.Allocation.{Allocation}
 use Rattle.shelf_model.specs.Choice.{Placement, placement_of, rectangle_of_placement, splits}
-use Rattle.etagere_base.specs.Lists.{Each, times}
+use Rattle.std.specs.List.{AllByRecursion}
+use Rattle.etagere_base.specs.Lists.{times}
 use Rattle.shelf_model.specs.Places.{allocated_numbers, record_number}
 use Rattle.shelf_model.specs.State.{Shelf, AtlasState, items_in_use}
 use Rattle.shelf_model.specs.Taking.{shelf_pieces, taken}
@@ -61,14 +62,14 @@ taken-room state size placement id valid h =
 -- the records afterwards
 pub taken-valid : (state : AtlasState) (size : Size) (placement : Placement) (id : ℕ)
     → IsValid state → placement_of state size ≡ Some placement → times (record_number id) (allocated_numbers state) ≡ 0
-    → record_number id < (taken state placement id).records → IsValid (taken state placement id)
+    → record_number id < (taken state placement id).peak_items → IsValid (taken state placement id)
 taken-valid state size placement id valid h fresh low =
     let takes = taken-allocations state size placement id valid h in
     let new : Allocation = record { id = id; rectangle = rectangle_of_placement state.frame placement } in
-    let P : ℕ → Allocation → Type 0 = λ records a. record_number a.id < records in
-    let before = subst (Each (P state.records)) takes.before valid.below in
-    let still : (all : List Allocation) → Each (P state.records) all → Each (P (taken state placement id).records) all =
-    λ all. Each-weaken (P state.records) (P (taken state placement id).records) all (λ a l. omega (arith, l)) in
+    let P : ℕ → Allocation → Type 0 = λ peak_items a. record_number a.id < peak_items in
+    let before = subst (AllByRecursion (P state.peak_items)) takes.before valid.below in
+    let still : (all : List Allocation) → AllByRecursion (P state.peak_items) all → AllByRecursion (P (taken state placement id).peak_items) all =
+    λ all. Each-weaken (P state.peak_items) (P (taken state placement id).peak_items) all (λ a l. omega (arith, l)) in
     record {
       frame = valid.frame;
       columns = valid.columns;
@@ -83,9 +84,9 @@ taken-valid state size placement id valid h fresh low =
         numbers-inserted k takes.front new takes.back,
         counted-once (λ n. times n (allocated_numbers state)) (record_number id) k fresh (valid.numbers k),
       );
-      below = subst (Each (P (taken state placement id).records)) (sym takes.after)
-          (Each-append (P (taken state placement id).records) takes.front (new ∷ takes.back)
-          (still takes.front (Each-front (P state.records) takes.front takes.back before))
-          (low, still takes.back (Each-back (P state.records) takes.front takes.back before)));
-      records = (omega arith, omega (arith, valid.records, taken-room state size placement id valid h));
+      below = subst (AllByRecursion (P (taken state placement id).peak_items)) (sym takes.after)
+          (Each-append (P (taken state placement id).peak_items) takes.front (new ∷ takes.back)
+          (still takes.front (Each-front (P state.peak_items) takes.front takes.back before))
+          (low, still takes.back (Each-back (P state.peak_items) takes.front takes.back before)));
+      peak_items = (omega arith, omega (arith, valid.peak_items, taken-room state size placement id valid h));
     }

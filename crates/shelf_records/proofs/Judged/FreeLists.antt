@@ -1,7 +1,8 @@
 -- A free list of a shelf has just its free items where each of its members is one and they are as many.
 use Rattle.std.proofs.Common.{◌≡◌, ◌≢◌, ℕ, zero, suc, ◌≤◌, Bool, true, false, not, List, [], ◌∷◌, length, filter, refl, arith, ◌∙◌}
 use Rattle.std.specs.Prelude.{◌==◌, if◌then◌else◌}
-use Rattle.etagere_base.specs.Lists.{Each, times}
+use Rattle.std.specs.List.{AllByRecursion}
+use Rattle.etagere_base.specs.Lists.{times}
 use Rattle.etagere_links.proofs.ListEnds.{times-here, times-other}
 use Rattle.etagere_links.specs.declared.records.LinkedItem.{LinkedItem}
 use Rattle.etagere_links.specs.RecordLists.{Entry}
@@ -32,18 +33,18 @@ times-failed p k (x ∷ xs) fails = by_test (p x) refl (times-failed p k xs fail
     by_test false e later = later
 
 -- a member keeps what each does
-pub each-stands : (P : ℕ → Type 0) (k : ℕ) (xs : List ℕ) → 1 ≤ times k xs → Each P xs → P k
+pub each-stands : (P : ℕ → Type 0) (k : ℕ) (xs : List ℕ) → 1 ≤ times k xs → AllByRecursion P xs → P k
 each-stands P k [] stands each = absurd (omega arith)
 each-stands P k (x ∷ xs) stands each = by_test (x == k) refl (each-stands P k xs)
   where
-    by_test : (b : Bool) → (x == k) ≡ b → (1 ≤ times k xs → Each P xs → P k) → P k
+    by_test : (b : Bool) → (x == k) ≡ b → (1 ≤ times k xs → AllByRecursion P xs → P k) → P k
     by_test true e later = let same : x ≡ k = grind arith in rw (← same) each.0
     by_test false e later =
         let other : x ≢ k = grind arith in
         later (omega (arith, stands, times-other k x xs other)) each.1
 
 -- what holds of each member holds of each
-each-from_stands : (P : ℕ → Type 0) (xs : List ℕ) → ((k : ℕ) → 1 ≤ times k xs → P k) → Each P xs
+each-from_stands : (P : ℕ → Type 0) (xs : List ℕ) → ((k : ℕ) → 1 ≤ times k xs → P k) → AllByRecursion P xs
 each-from_stands P [] each = tt
 each-from_stands P (x ∷ xs) each =
     (each x (omega (arith, times-here x xs)), each-from_stands P xs (λ k stands. each k (omega (arith, stands))))
@@ -75,7 +76,7 @@ module _ (items : List LinkedItem) (marks : List Bool) (entry : Entry) where
           absurd (omega (arith, none, same, stands))
 
   -- a free list that has just the free items has free items of the shelf
-  pub lists-own : AreOwn items marks entry → ListsFree items entry → Each (λ member. is_own_free items marks entry.number member ≡ true) entry.free_list
+  pub lists-own : AreOwn items marks entry → ListsFree items entry → AllByRecursion (λ member. is_own_free items marks entry.number member ≡ true) entry.free_list
   lists-own own lists =
       each-from_stands (λ member. is_own_free items marks entry.number member ≡ true) entry.free_list
       (λ k stands. free-own own k (omega (arith, stands, lists k)))
@@ -91,7 +92,7 @@ module _ (items : List LinkedItem) (marks : List Bool) (entry : Entry) where
 
   -- a free list of as many free items of the shelf, each once, has just these
   pub own-lists : AreOwn items marks entry → ((k : ℕ) → times k entry.free_list ≤ 1)
-      → Each (λ member. is_own_free items marks entry.number member ≡ true) entry.free_list
+      → AllByRecursion (λ member. is_own_free items marks entry.number member ≡ true) entry.free_list
       → length entry.free_list ≡ length (free_present items entry.items) → ListsFree items entry
   own-lists own once each long = times-as_long entry.free_list (free_present items entry.items) fewer long
     where

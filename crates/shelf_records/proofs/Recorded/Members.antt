@@ -1,13 +1,14 @@
 -- Numbers that stand in lists: a fact of each is one of theirs, and where they stand.
 use Rattle.std.proofs.Common.{◌≡◌, ◌≢◌, ℕ, zero, suc, ◌≤◌, Bool, true, false, List, [], ◌∷◌, ◌++◌, refl, ap, arith, subst}
 use Rattle.std.specs.Prelude.{◌==◌}
-use Rattle.etagere_base.specs.Lists.{Each, times}
+use Rattle.std.specs.List.{AllByRecursion}
+use Rattle.etagere_base.specs.Lists.{times}
 use Rattle.etagere_base.proofs.TimesLemmas.{times-append}
 use Rattle.etagere_links.proofs.ListEnds.{times-other}
 use Rattle.etagere_links.specs.RecordLists.{Entry, item_numbers}
 
 -- a fact of each number is one of a number that stands in the list
-pub Each-member : (P : ℕ → Type 0) (xs : List ℕ) (k : ℕ) → Each P xs → 1 ≤ times k xs → P k
+pub Each-member : (P : ℕ → Type 0) (xs : List ℕ) (k : ℕ) → AllByRecursion P xs → 1 ≤ times k xs → P k
 Each-member P [] k each stands = absurd (omega (arith, stands))
 Each-member P (x ∷ xs) k each stands = by_test (x == k) refl (Each-member P xs k each.1)
   where

@@ -1,15 +1,14 @@
 -- What is allocated in the state that records spell: what the records of its items say, shelf after shelf.
 use Rattle.std.proofs.Common.{◌≡◌, ℕ, ◌+◌, ◌≤◌, List, [], ◌∷◌, ◌++◌, map, refl, ap, arith, sym, ◌∙◌}
 use Rattle.std.specs.Prelude.{◌*◌, ◌/◌, ◌%◌, ◌==◌, if◌then◌else◌}
-use Rattle.std.specs.List.{flat_map}
+use Rattle.std.specs.List.{AllByRecursion, flat_map}
 use Rattle.std.proofs.lemmas.Grind.{flat_map-append}
 use Rattle.std.proofs.lemmas.List.{map-append}
-use Rattle.etagere_base.specs.Lists.{Each}
 use Rattle.etagere_base.specs.Places.{rectangle_at}
 use Rattle.etagere_base.specs.declared.ids.Allocation.{Allocation}
 use Rattle.etagere_links.specs.RecordLists.{Entry, item_numbers, shelf_numbers}
 use Rattle.etagere_links.proofs.AllLists.LinkedFrames.{shelf_numbers-append}
-use Rattle.shelf_records.specs.AtlasRecords.{AtlasRecords, across_of, along_of, height_of, item_at, place_of, shelf_of, spelled_shelf}
+use Rattle.shelf_records.specs.AtlasRecords.{AtlasRecords, across_of, along_of, height_of, item_at, item_place_of, shelf_of, spelled_shelf}
 use Rattle.shelf_model.specs.Places.{allocation_of, allocations_after, allocations_along, column_height}
 use Rattle.shelf_records.specs.Private.Kept.{IsPlaced}
 use Rattle.shelf_records.specs.Private.Reading.{recorded_allocation}
@@ -30,7 +29,7 @@ module _ (atlas : AtlasRecords) where
   spelled-column entry wide whole = omega (arith, wide, whole)
 
   -- what the items of a shelf allocate, which lie side by side
-  along-recorded : (shelf here : ℕ) (numbers : List ℕ) → Each (λ item. shelf_of atlas.records.items item ≡ shelf) numbers → LieFrom atlas.records.items here numbers
+  along-recorded : (shelf here : ℕ) (numbers : List ℕ) → AllByRecursion (λ item. shelf_of atlas.records.items item ≡ shelf) numbers → LieFrom atlas.records.items here numbers
       → allocations_along atlas.frame (across_of atlas.records.shelves shelf) (height_of atlas.records.shelves shelf) here (map (item_at atlas.records.items) numbers)
       ≡ flat_map (recorded_allocation atlas.frame atlas.records) numbers
   along-recorded shelf here [] owners lies = refl
@@ -38,13 +37,13 @@ module _ (atlas : AtlasRecords) where
       let item = item_at atlas.records.items n in
       let at : (shelf place : ℕ) → List Allocation = λ shelf place.
       allocation_of item.id (rectangle_at atlas.frame place (across_of atlas.records.shelves shelf) item.width (height_of atlas.records.shelves shelf)) in
-      let own : at (shelf_of atlas.records.items n) (place_of atlas.records.items n) ≡ at shelf here =
-      ap (λ s. at s (place_of atlas.records.items n)) owners.0 ∙ ap (λ p. at shelf p) lies.0 in
+      let own : at (shelf_of atlas.records.items n) (item_place_of atlas.records.items n) ≡ at shelf here =
+      ap (λ s. at s (item_place_of atlas.records.items n)) owners.0 ∙ ap (λ p. at shelf p) lies.0 in
       ap (λ l. at shelf here ++ l) (along-recorded shelf (here + item.width) ns owners.1 lies.1)
       ∙ ap (λ l. l ++ flat_map (recorded_allocation atlas.frame atlas.records) ns) (sym own)
 
   -- what shelves allocate that stand after others
-  pub after-recorded : (before entries : List Entry) → 1 ≤ atlas.frame.column_width → Each (IsPlaced atlas) entries
+  pub after-recorded : (before entries : List Entry) → 1 ≤ atlas.frame.column_width → AllByRecursion (IsPlaced atlas) entries
       → AreStacked atlas.records.shelves atlas.frame.column_width (shelf_numbers before) (shelf_numbers entries)
       → allocations_after atlas.frame (map (spelled_shelf atlas) before) (map (spelled_shelf atlas) entries)
       ≡ flat_map (recorded_allocation atlas.frame atlas.records) (item_numbers entries)

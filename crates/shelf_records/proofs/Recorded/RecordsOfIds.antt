@@ -1,10 +1,10 @@
 -- In records that keep every rule an id names one record, by one look: that of the item that is allocated under it.
 use Rattle.std.proofs.Common.{◌≡◌, ◌≢◌, ℕ, zero, suc, ◌+◌, ◌<◌, ◌≤◌, Bool, true, false, cond, Option, None, Some, List, [], ◌∷◌, ◌++◌, length, get_or, refl, ap, arith, sym, ◌∙◌}
 use Rattle.std.proofs.lemmas.Bool.{eq-eqb, eqb-true}
-use Rattle.std.specs.List.{flat_map}
+use Rattle.std.specs.List.{AllByRecursion, flat_map}
 use Rattle.std.specs.Option.{option_map_or}
 use Rattle.std.specs.Prelude.{◌*◌, ◌%◌, ◌==◌, find, is_some, option_map, slice_get, if◌then◌else◌}
-use Rattle.etagere_base.specs.Lists.{Each, times}
+use Rattle.etagere_base.specs.Lists.{times}
 use Rattle.etagere_base.specs.Places.{rectangle_at}
 use Rattle.etagere_base.specs.declared.frames.Frame.{Frame}
 use Rattle.etagere_base.specs.declared.geometry.Rectangle.{Rectangle}
@@ -19,7 +19,7 @@ use Rattle.etagere_links.proofs.AllLists.LinkedUnused.{three-count}
 use Rattle.etagere_links.proofs.AllLists.LinkedWalks.{once-part}
 use Rattle.etagere_links.proofs.AllLists.LinkedFrames.{shelf_numbers-append}
 use Rattle.etagere_links.proofs.ListEnds.{times-here, times-other}
-use Rattle.shelf_records.specs.AtlasRecords.{across_of, height_of, is_allocated_at, item_at, place_of, shelf_of, spelled_item}
+use Rattle.shelf_records.specs.AtlasRecords.{across_of, height_of, is_allocated_at, item_at, item_place_of, shelf_of, spelled_item}
 use Rattle.shelf_model.specs.Places.{allocation_of, allocations, is_allocated, rectangle_of}
 use Rattle.shelf_records.specs.Private.Kept.{AreKept, IsPlaced, atlas_of, state_of}
 use Rattle.shelf_records.specs.Private.Reading.{record_of, recorded_allocation, recorded_rectangle}
@@ -107,7 +107,7 @@ marked-within (x ∷ xs) zero marked = omega arith
 marked-within (x ∷ xs) (suc k) marked = omega (arith, marked-within xs k marked)
 
 -- an item that is marked allocated is no unused record
-in_use : (items : List LinkedItem) (used unused : List ℕ) (number : ℕ) → HasEachOnce (length items) (used ++ unused ++ []) → Each (λ item. is_allocated_at items item ≡ false) unused → is_allocated_at items number ≡ true → 1 ≤ times number used
+in_use : (items : List LinkedItem) (used unused : List ℕ) (number : ℕ) → HasEachOnce (length items) (used ++ unused ++ []) → AllByRecursion (λ item. is_allocated_at items item ≡ false) unused → is_allocated_at items number ≡ true → 1 ≤ times number used
 in_use items used unused number once free marked = by_count (times number unused) refl
   where
     by_count : (n : ℕ) → times number unused ≡ n → 1 ≤ times number used
@@ -209,8 +209,8 @@ kept-shelf_within frame records number kept stands =
 pub kept-shelf : (frame : Frame) (records : Records) (number : ℕ) → AreKept frame records → is_allocated_at records.items number ≡ true → shelf_of records.items number < length records.shelves
 kept-shelf frame records number kept marked =
     let stands : StandsIn number (walked_lists records).entries = marked-stands frame records number kept marked in
-    let placed : Each (IsPlaced (atlas_of frame records)) (stands.before ++ stands.entry ∷ stands.after) = rw (← stands.whole) kept.placed in
-    let owners : Each (λ item. shelf_of records.items item ≡ stands.entry.number) (stands.items.front ++ number ∷ stands.items.back) =
+    let placed : AllByRecursion (IsPlaced (atlas_of frame records)) (stands.before ++ stands.entry ∷ stands.after) = rw (← stands.whole) kept.placed in
+    let owners : AllByRecursion (λ item. shelf_of records.items item ≡ stands.entry.number) (stands.items.front ++ number ∷ stands.items.back) =
     rw (← stands.items.whole) (Each-middle (IsPlaced (atlas_of frame records)) stands.before stands.entry stands.after placed).owners in
     let names : shelf_of records.items number ≡ stands.entry.number =
     Each-middle (λ item. shelf_of records.items item ≡ stands.entry.number) stands.items.front number stands.items.back owners in
@@ -230,13 +230,13 @@ field_at-read field other (y ∷ ys) (suc k) x within read = field_at-read field
 pub rectangle-read : (frame : Frame) (records : Records) (number at : ℕ) (item : LinkedItem) (shelf : LinkedShelf) → number < length records.items → item ≡ get_or records.items number item → at ≡ item.shelf → at < length records.shelves → shelf ≡ get_or records.shelves at shelf
     → rectangle_at frame item.x shelf.y item.width shelf.height ≡ recorded_rectangle frame records number
 rectangle-read frame records number at item shelf within read names shelf_within shelf_read =
-    let place : place_of records.items number ≡ item.x = field_at-read (λ (x : LinkedItem). x.x) 0 records.items number item within read in
+    let place : item_place_of records.items number ≡ item.x = field_at-read (λ (x : LinkedItem). x.x) 0 records.items number item within read in
     let named : shelf_of records.items number ≡ at = field_at-read (λ (x : LinkedItem). x.shelf) 0 records.items number item within read ∙ sym names in
     let whole : item_at records.items number ≡ spelled_item number item = field_at-read (spelled_item number) (record { width = 0; id = None }) records.items number item within read in
     let across : across_of records.shelves at ≡ shelf.y = field_at-read (λ (x : LinkedShelf). x.y) 0 records.shelves at shelf shelf_within shelf_read in
     let height : height_of records.shelves at ≡ shelf.height = field_at-read (λ (x : LinkedShelf). x.height) 0 records.shelves at shelf shelf_within shelf_read in
     sym (
-    ap (λ s. rectangle_at frame (place_of records.items number) (across_of records.shelves s) (item_at records.items number).width (height_of records.shelves s)) named
+    ap (λ s. rectangle_at frame (item_place_of records.items number) (across_of records.shelves s) (item_at records.items number).width (height_of records.shelves s)) named
     ∙ ap (λ p. rectangle_at frame p (across_of records.shelves at) (item_at records.items number).width (height_of records.shelves at)) place
     ∙ ap (λ a. rectangle_at frame item.x a (item_at records.items number).width (height_of records.shelves at)) across
     ∙ ap (λ (i : Item). rectangle_at frame item.x shelf.y i.width (height_of records.shelves at)) whole

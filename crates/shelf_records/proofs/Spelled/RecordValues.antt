@@ -2,14 +2,15 @@
 use Rattle.std.proofs.Common.{◌≡◌, ◌≢◌, ℕ, zero, suc, ◌+◌, ◌≤◌, Bool, false, None, Some, List, [], ◌∷◌, map, refl, ap, arith, sym, ◌∙◌}
 use Rattle.std.specs.Prelude.{◌*◌, filter, slice_get, if◌then◌else◌}
 use Rattle.std.specs.Option.{option_map_or}
-use Rattle.etagere_base.specs.Lists.{Each, times}
+use Rattle.std.specs.List.{AllByRecursion}
+use Rattle.etagere_base.specs.Lists.{times}
 use Rattle.etagere_links.specs.declared.records.LinkedItem.{LinkedItem}
 use Rattle.etagere_links.specs.declared.records.LinkedShelf.{LinkedShelf}
 use Rattle.etagere_links.specs.RecordLists.{field_at}
 use Rattle.etagere_links.specs.Edits.{changed_by}
 use Rattle.etagere_links.proofs.RecordChanges.{get-changed_by-other}
 use Rattle.etagere_links.proofs.ListEnds.{times-here}
-use Rattle.shelf_records.specs.AtlasRecords.{is_allocated_at, place_of, shelf_of, along_of, across_of, height_of, is_empty_at, item_at, spelled_item}
+use Rattle.shelf_records.specs.AtlasRecords.{is_allocated_at, item_place_of, shelf_of, along_of, across_of, height_of, is_empty_at, item_at, spelled_item}
 use Rattle.shelf_records.specs.StandsFor.{LieFrom}
 
 -- what an item record says beside its links
@@ -48,7 +49,7 @@ values-same {T} {V} values read other xs ys k same =
 -- the item of a number says the same
 pub record SameItem (items new : List LinkedItem) (k : ℕ) : Type 0 where
   pub item : item_at new k ≡ item_at items k
-  pub place : place_of new k ≡ place_of items k
+  pub place : item_place_of new k ≡ item_place_of items k
   pub shelf : shelf_of new k ≡ shelf_of items k
   pub allocated : is_allocated_at new k ≡ is_allocated_at items k
 
@@ -122,7 +123,7 @@ LieFrom-same items new here (x ∷ xs) same lies =
     (own.place ∙ lies.0, rw own.item rest)
 
 -- items that say the same have the owners that they had
-pub owners-same : (items new : List LinkedItem) (shelf : ℕ) (xs : List ℕ) → ((k : ℕ) → 1 ≤ times k xs → SameItem items new k) → Each (λ item. shelf_of items item ≡ shelf) xs → Each (λ item. shelf_of new item ≡ shelf) xs
+pub owners-same : (items new : List LinkedItem) (shelf : ℕ) (xs : List ℕ) → ((k : ℕ) → 1 ≤ times k xs → SameItem items new k) → AllByRecursion (λ item. shelf_of items item ≡ shelf) xs → AllByRecursion (λ item. shelf_of new item ≡ shelf) xs
 owners-same items new shelf [] same each = tt
 owners-same items new shelf (x ∷ xs) same each =
     ((same x (omega (arith, times-here x xs))).shelf ∙ each.0, owners-same items new shelf xs (λ k stands. same k (omega (arith, stands))) each.1)

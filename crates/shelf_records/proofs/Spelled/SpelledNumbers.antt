@@ -7,7 +7,8 @@ use Rattle.std.proofs.lemmas.List.Elements.{filter-append}
 use Rattle.std.proofs.lemmas.Nat.{mod-mul-add}
 use Rattle.std.proofs.lemmas.Option.{slice_get_within}
 use Rattle.etagere_base.specs.declared.ids.Allocation.{Allocation}
-use Rattle.etagere_base.specs.Lists.{Each, times}
+use Rattle.std.specs.List.{AllByRecursion}
+use Rattle.etagere_base.specs.Lists.{times}
 use Rattle.etagere_links.specs.Links.{no_link}
 use Rattle.etagere_links.specs.declared.records.LinkedItem.{LinkedItem}
 use Rattle.etagere_links.proofs.ListEnds.{times-other}
@@ -94,12 +95,12 @@ spelled-numbers atlas entries few =
 
 -- the marked ones are among the records
 pub marked-below : (items : List LinkedItem) (xs : List ℕ)
-    → Each (λ (number : ℕ). number < length items) (filter (is_allocated_at items) xs)
+    → AllByRecursion (λ (number : ℕ). number < length items) (filter (is_allocated_at items) xs)
 marked-below items [] = tt
 marked-below items (x ∷ xs) = by_test (is_allocated_at items x) refl (marked-below items xs)
   where
-    by_test : (b : Bool) → is_allocated_at items x ≡ b → Each (λ (number : ℕ). number < length items) (filter (is_allocated_at items) xs)
-        → Each (λ (number : ℕ). number < length items) (cond b (x ∷ filter (is_allocated_at items) xs) (filter (is_allocated_at items) xs))
+    by_test : (b : Bool) → is_allocated_at items x ≡ b → AllByRecursion (λ (number : ℕ). number < length items) (filter (is_allocated_at items) xs)
+        → AllByRecursion (λ (number : ℕ). number < length items) (cond b (x ∷ filter (is_allocated_at items) xs) (filter (is_allocated_at items) xs))
     by_test true e later = (marked-within items x e, later)
     by_test false e later = later
 

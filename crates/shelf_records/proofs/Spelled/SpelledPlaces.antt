@@ -3,7 +3,7 @@ use Rattle.std.proofs.Common.{◌≡◌, ℕ, ◌+◌, ◌*◌, Bool, true, fals
 use Rattle.std.specs.Prelude.{slice_get, if◌then◌else◌, is_none}
 use Rattle.std.specs.Option.{option_map_or}
 use Rattle.etagere_links.specs.declared.records.LinkedItem.{LinkedItem}
-use Rattle.shelf_records.specs.AtlasRecords.{is_allocated_at, item_at, place_of, spelled_item}
+use Rattle.shelf_records.specs.AtlasRecords.{is_allocated_at, item_at, item_place_of, spelled_item}
 use Rattle.shelf_model.specs.Places.{free_places}
 use Rattle.shelf_records.specs.StandsFor.{LieFrom}
 use Rattle.shelf_model.specs.State.{is_free}
@@ -24,7 +24,7 @@ free-spelled items number = by_record (slice_get items number)
 
 -- where the free ones begin of items that lie side by side
 pub free_places-spelled : (items : List LinkedItem) (here : ℕ) (xs : List ℕ) → LieFrom items here xs
-    → free_places here (map (item_at items) xs) ≡ map (place_of items) (filter (λ member. not (is_allocated_at items member)) xs)
+    → free_places here (map (item_at items) xs) ≡ map (item_place_of items) (filter (λ member. not (is_allocated_at items member)) xs)
 free_places-spelled items here [] lies = refl
 free_places-spelled items here (x ∷ xs) lies =
     let later = free_places-spelled items (here + (item_at items x).width) xs lies.1 in
@@ -35,7 +35,7 @@ free_places-spelled items here (x ∷ xs) lies =
     rest : List ℕ
     rest = filter (λ member. not (is_allocated_at items member)) xs
 
-    by_test : (b : Bool) → place_of items x ≡ here
-        → cond b (here ∷ []) [] ++ map (place_of items) rest ≡ map (place_of items) (cond b (x ∷ rest) rest)
-    by_test true begins = ap (λ (n : ℕ). n ∷ map (place_of items) rest) (sym begins)
+    by_test : (b : Bool) → item_place_of items x ≡ here
+        → cond b (here ∷ []) [] ++ map (item_place_of items) rest ≡ map (item_place_of items) (cond b (x ∷ rest) rest)
+    by_test true begins = ap (λ (n : ℕ). n ∷ map (item_place_of items) rest) (sym begins)
     by_test false begins = refl

@@ -5,13 +5,14 @@ use Rattle.std.specs.Prelude.{◌/◌, ◌%◌}
 use Rattle.std.proofs.lemmas.Nat.{div-add-mod'}
 use Rattle.etagere_base.specs.declared.frames.Frame.{Frame}
 use Rattle.etagere_base.specs.declared.ids.Allocation.{Allocation}
-use Rattle.etagere_base.specs.Lists.{Each, NoNeighbours, times}
+use Rattle.std.specs.List.{AllByRecursion}
+use Rattle.etagere_base.specs.Lists.{NoNeighbours, times}
 use Rattle.etagere_base.proofs.EachLemmas.{Each-weaken}
 use Rattle.etagere_base.proofs.TimesLemmas.{times-append}
 use Rattle.etagere_links.proofs.AllLists.LinkedWalks.{IsPart, part-of, walked-numbers}
 use Rattle.etagere_links.proofs.Tallies.{length-once}
 use Rattle.etagere_links.specs.RecordLists.{Records, Entry, item_numbers, shelf_walk, unused_item_walk, walked_lists}
-use Rattle.shelf_records.specs.AtlasRecords.{AtlasRecords, along_of, is_allocated_at, item_at, place_of, spelled_shelf, spelled_state, walked_entries}
+use Rattle.shelf_records.specs.AtlasRecords.{AtlasRecords, along_of, is_allocated_at, item_at, item_place_of, spelled_shelf, spelled_state, walked_entries}
 use Rattle.shelf_model.specs.Merging.{both_free}
 use Rattle.shelf_model.specs.Places.{allocations, column_place, free_places, record_number}
 use Rattle.shelf_records.specs.Private.Kept.{AreKept, HasFlag, IsPlaced, Witnessed, atlas_of, state_of}
@@ -37,19 +38,19 @@ module _ (atlas : AtlasRecords) where
   free_list-spelled entry aligned has free place =
       let items = atlas.records.items in
       let along = along_of atlas.records.shelves entry.number in
-      times-map (place_of items) entry.free_list (filter (λ member. not (is_allocated_at items member)) entry.items) free.items place
+      times-map (item_place_of items) entry.free_list (filter (λ member. not (is_allocated_at items member)) entry.items) free.items place
       ∙ ap (times place) (sym (free_places-spelled items along entry.items has.places))
       ∙ ap (λ (n : ℕ). times place (free_places n (map (item_at items) entry.items))) (sym (along-spelled along atlas.frame.column_width aligned))
 
   -- the shelves that records spell are as shelves must be
   shelves-spelled : (entries : List Entry)
-      → Each (λ (shelf : Shelf). shelf.column < atlas.frame.columns) (map (spelled_shelf atlas) entries)
-      → Each (λ (shelf : Shelf). 1 ≤ shelf.height) (map (spelled_shelf atlas) entries)
-      → Each (HasItems atlas) entries
-      → Each (λ (shelf : Shelf). NoNeighbours both_free shelf.items) (map (spelled_shelf atlas) entries)
-      → Each (HasFreeList atlas) entries
-      → Each (λ (entry : Entry). along_of atlas.records.shelves entry.number % atlas.frame.column_width ≡ 0) entries
-      → Each (IsShelf atlas.frame) (map (spelled_shelf atlas) entries)
+      → AllByRecursion (λ (shelf : Shelf). shelf.column < atlas.frame.columns) (map (spelled_shelf atlas) entries)
+      → AllByRecursion (λ (shelf : Shelf). 1 ≤ shelf.height) (map (spelled_shelf atlas) entries)
+      → AllByRecursion (HasItems atlas) entries
+      → AllByRecursion (λ (shelf : Shelf). NoNeighbours both_free shelf.items) (map (spelled_shelf atlas) entries)
+      → AllByRecursion (HasFreeList atlas) entries
+      → AllByRecursion (λ (entry : Entry). along_of atlas.records.shelves entry.number % atlas.frame.column_width ≡ 0) entries
+      → AllByRecursion (IsShelf atlas.frame) (map (spelled_shelf atlas) entries)
   shelves-spelled [] columns heights has apart free along = tt
   shelves-spelled (entry ∷ entries) columns heights has apart free along = (
     record {
@@ -64,9 +65,9 @@ module _ (atlas : AtlasRecords) where
   )
 
   -- what a shelf's record and those of its items say, from the rules
-  entries-placed : (entries : List Entry) → Each (HasItemLinks atlas) entries
-      → Each (λ (entry : Entry). along_of atlas.records.shelves entry.number % atlas.frame.column_width ≡ 0) entries
-      → Each (HasItems atlas) entries → Each (HasFreeList atlas) entries → Each (IsPlaced atlas) entries
+  entries-placed : (entries : List Entry) → AllByRecursion (HasItemLinks atlas) entries
+      → AllByRecursion (λ (entry : Entry). along_of atlas.records.shelves entry.number % atlas.frame.column_width ≡ 0) entries
+      → AllByRecursion (HasItems atlas) entries → AllByRecursion (HasFreeList atlas) entries → AllByRecursion (IsPlaced atlas) entries
   entries-placed [] links along has free = tt
   entries-placed (entry ∷ entries) links along has free = (
     record { owners = links.0.owners; along = along.0; places = has.0.places; free_list = free.0.items },
@@ -103,8 +104,8 @@ module _ (atlas : AtlasRecords) where
           apart = neighbours.shelves;
           numbers = λ k. omega (arith, ap (times k) marked, filter-times (is_allocated_at atlas.records.items) numbers k, numbers-part.once k);
           below = Each-unmap (λ (n : ℕ). n < length atlas.records.items) (λ (a : Allocation). record_number a.id) (allocations spelled)
-              (subst (Each (λ (n : ℕ). n < length atlas.records.items)) (sym marked) (marked-below atlas.records.items numbers));
-          records = (
+              (subst (AllByRecursion (λ (n : ℕ). n < length atlas.records.items)) (sym marked) (marked-below atlas.records.items numbers));
+          peak_items = (
             omega (arith, items_in_use-spelled atlas (walked_entries atlas), length-once (length atlas.records.items) numbers numbers-part.once numbers-part.within),
             stands.counts.items.1,
           );

@@ -2,7 +2,8 @@
 use Rattle.std.proofs.Common.{◌≡◌, ℕ, ◌≤◌, Bool, true, false, List, [], ◌∷◌, ◌++◌, length, map, refl, arith}
 use Rattle.std.specs.Prelude.{filter, not}
 use Rattle.etagere_base.proofs.TimesLemmas.{times-append}
-use Rattle.etagere_base.specs.Lists.{Each, times}
+use Rattle.std.specs.List.{AllByRecursion}
+use Rattle.etagere_base.specs.Lists.{times}
 use Rattle.etagere_links.specs.Edits.{AreFitting}
 use Rattle.etagere_links.specs.Links.{no_link}
 use Rattle.etagere_links.specs.RecordLists.{Records, Entry, first_item_of, first_free_of, shelf_walk, unused_shelf_walk, unused_item_walk, item_walk, walked_entry, walked_lists, shelf_numbers, item_numbers, HasEachOnce, IsEntry, IsLinked}
@@ -19,8 +20,8 @@ pub record AllFit (records : Records) : Type 0 where
   pub shelf_next : AreFitting shelf_chain.next records.shelves
   pub item_next : AreFitting item_chain.next records.items
   pub free_next : AreFitting free_list.next records.items
-  pub first_items : Each (λ number. Fits (first_item_of records.shelves number)) (shelf_walk records).met
-  pub first_frees : Each (λ number. Fits (first_free_of records.shelves number)) (shelf_walk records).met
+  pub first_items : AllByRecursion (λ number. Fits (first_item_of records.shelves number)) (shelf_walk records).met
+  pub first_frees : AllByRecursion (λ number. Fits (first_free_of records.shelves number)) (shelf_walk records).met
   pub first_shelf : Fits records.first_shelf
   pub unused_items : Fits records.unused_items
   pub unused_shelves : Fits records.unused_shelves
@@ -36,12 +37,12 @@ filter-times test (x ∷ xs) k = by_test (test x) refl (filter-times test xs k)
 
 -- the lists of each shelf are spelled by links
 entries-linked : (atlas : AtlasRecords) → length atlas.records.items ≤ no_link → AllFit atlas.records → (numbers : List ℕ)
-    → Each (λ number. Fits (first_item_of atlas.records.shelves number)) numbers
-    → Each (λ number. Fits (first_free_of atlas.records.shelves number)) numbers
-    → Each (HasItemLinks atlas) (map (walked_entry atlas.records) numbers)
-    → Each (HasFreeList atlas) (map (walked_entry atlas.records) numbers)
-    → Each (λ (entry : Entry). (item_walk atlas.records entry.number).end ≡ no_link) (map (walked_entry atlas.records) numbers)
-    → Each (IsEntry atlas.records) (map (walked_entry atlas.records) numbers)
+    → AllByRecursion (λ number. Fits (first_item_of atlas.records.shelves number)) numbers
+    → AllByRecursion (λ number. Fits (first_free_of atlas.records.shelves number)) numbers
+    → AllByRecursion (HasItemLinks atlas) (map (walked_entry atlas.records) numbers)
+    → AllByRecursion (HasFreeList atlas) (map (walked_entry atlas.records) numbers)
+    → AllByRecursion (λ (entry : Entry). (item_walk atlas.records entry.number).end ≡ no_link) (map (walked_entry atlas.records) numbers)
+    → AllByRecursion (IsEntry atlas.records) (map (walked_entry atlas.records) numbers)
 entries-linked atlas few fit [] first_items first_frees links frees ends = tt
 entries-linked atlas few fit (n ∷ ns) first_items first_frees links frees ends = (
   record {

@@ -8,7 +8,8 @@ use Rattle.etagere_links.specs.Edits.{link_at}
 use Rattle.etagere_links.specs.Records.{shelf_chain}
 use Rattle.etagere_base.proofs.EachLemmas.{Each-weaken}
 use Rattle.etagere_base.proofs.TimesLemmas.{times-append}
-use Rattle.etagere_base.specs.Lists.{Each, NoNeighbours}
+use Rattle.std.specs.List.{AllByRecursion}
+use Rattle.etagere_base.specs.Lists.{NoNeighbours}
 use Rattle.etagere_links.specs.Links.{no_link}
 use Rattle.etagere_links.specs.RecordLists.{Entry, Lists, shelf_walk, item_walk, free_walk, unused_item_walk, unused_shelf_walk, walked_lists, shelf_numbers, item_numbers, HasEachOnce, IsEntry, IsLinked}
 use Rattle.etagere_links.specs.Walks.{Walked}
@@ -24,12 +25,12 @@ use Rattle.shelf_model.specs.State.{Shelf, AtlasState}
 use Rattle.shelf_model.specs.Valid.{IsShelf}
 
 -- a fact of each element's image is a fact of each element
-pub Each-unmap : {X Y : Type 0} (P : Y → Type 0) (f : X → Y) (xs : List X) → Each P (map f xs) → Each (λ (x : X). P (f x)) xs
+pub Each-unmap : {X Y : Type 0} (P : Y → Type 0) (f : X → Y) (xs : List X) → AllByRecursion P (map f xs) → AllByRecursion (λ (x : X). P (f x)) xs
 Each-unmap P f [] each = tt
 Each-unmap P f (x ∷ xs) each = (each.0, Each-unmap P f xs each.1)
 
 -- three facts of each element are one
-Each-three : {X : Type 0} (P Q R S : X → Type 0) → ((x : X) → P x → Q x → R x → S x) → (xs : List X) → Each P xs → Each Q xs → Each R xs → Each S xs
+Each-three : {X : Type 0} (P Q R S : X → Type 0) → ((x : X) → P x → Q x → R x → S x) → (xs : List X) → AllByRecursion P xs → AllByRecursion Q xs → AllByRecursion R xs → AllByRecursion S xs
 Each-three P Q R S makes [] ps qs rs = tt
 Each-three P Q R S makes (x ∷ xs) ps qs rs = (makes x ps.0 qs.0 rs.0, Each-three P Q R S makes xs ps.1 qs.1 rs.1)
 
@@ -76,10 +77,10 @@ witnessed-stands atlas lists state witnessed =
     let unused_item_end : (unused_item_walk atlas.records).end ≡ no_link = ap (λ (w : Walked). w.end) walks.unused_items in
     let frame : state.frame ≡ atlas.frame = ap (λ (s : AtlasState). s.frame) witnessed.spelled in
     let shelves : state.shelves ≡ map (spelled_shelf atlas) lists.entries = ap (λ (s : AtlasState). s.shelves) witnessed.spelled in
-    let are_shelves : Each (λ (entry : Entry). IsShelf atlas.frame (spelled_shelf atlas entry)) lists.entries =
+    let are_shelves : AllByRecursion (λ (entry : Entry). IsShelf atlas.frame (spelled_shelf atlas entry)) lists.entries =
     Each-unmap (IsShelf atlas.frame) (spelled_shelf atlas) lists.entries
-    (subst (λ (ss : List Shelf). Each (IsShelf atlas.frame) ss) shelves (subst (λ (f : Frame). Each (IsShelf f) state.shelves) frame witnessed.valid.shelves)) in
-    let each : (P : Entry → Type 0) → Each P lists.entries → Each P (walked_entries atlas) = λ P ps. subst (λ (es : List Entry). Each P es) entries ps in
+    (subst (λ (ss : List Shelf). AllByRecursion (IsShelf atlas.frame) ss) shelves (subst (λ (f : Frame). AllByRecursion (IsShelf f) state.shelves) frame witnessed.valid.shelves)) in
+    let each : (P : Entry → Type 0) → AllByRecursion P lists.entries → AllByRecursion P (walked_entries atlas) = λ P ps. subst (λ (es : List Entry). AllByRecursion P es) entries ps in
     record {
       spelled = subst (λ (es : List Entry). state ≡ spelled_state atlas es) entries witnessed.spelled;
       frame = subst (λ (f : Frame). IsFrame 65535 f) frame witnessed.valid.frame;
@@ -124,7 +125,7 @@ witnessed-stands atlas lists state witnessed =
                 (Each-weaken (HasWalks atlas.records) (λ (entry : Entry). (item_walk atlas.records entry.number).end ≡ no_link) lists.entries (λ entry walked. ap (λ (w : Walked). w.end) walked.items) walks.entries);
             unused_item_end = unused_item_end;
           };
-      unused = subst (λ (us : List ℕ). Each (λ item. is_allocated_at atlas.records.items item ≡ false) us) unused_items witnessed.unused;
+      unused = subst (λ (us : List ℕ). AllByRecursion (λ item. is_allocated_at atlas.records.items item ≡ false) us) unused_items witnessed.unused;
       space = witnessed.space;
     }
 

@@ -3,7 +3,8 @@
 use Rattle.std.specs.Prelude.{◌≡◌, ℕ, ◌+◌, ◌/◌, ◌%◌, ◌<◌, ◌≤◌, true, ◌&&◌, ◌||◌, ◌==◌, Bool, false, not, nat_le, nat_lt, pos, None, List, [], ◌∷◌, map, filter, slice_index_or, if◌then◌else◌}
 use Rattle.etagere_base.specs.declared.frames.Frame.{Frame}
 use Rattle.etagere_base.specs.Frames.{across_side}
-use Rattle.etagere_base.specs.Lists.{Each, NoNeighbours, times}
+use Rattle.std.specs.List.{AllByRecursion}
+use Rattle.etagere_base.specs.Lists.{NoNeighbours, times}
 use Rattle.etagere_links.specs.declared.records.LinkedItem.{LinkedItem}
 use Rattle.etagere_links.specs.declared.records.LinkedShelf.{LinkedShelf}
 use Rattle.etagere_links.specs.Chains.{LeadsBack}
@@ -18,8 +19,8 @@ use Rattle.shelf_model.specs.Valid.{is_out_of_order}
 
 -- an atlas with these records; its links to first records and its space are looked at by no rule
 -- that a pass judges
-abbrev pub judged : Frame → List LinkedShelf → List LinkedItem → AtlasRecords
-judged frame shelves items =
+abbrev pub atlas_of_records : Frame → List LinkedShelf → List LinkedItem → AtlasRecords
+atlas_of_records frame shelves items =
     record {
       frame = frame;
       records =
@@ -70,15 +71,15 @@ FillFrom frame shelves column height (entry ∷ entries) =
 -- the shelves fill each column, column after column; each record says where its shelf begins
 pub record HasShelvesIn (atlas : AtlasRecords) (entries : List Entry) : Type 0 where
   pub columns :
-      Each (λ (shelf : Shelf). shelf.column < atlas.frame.columns)
+      AllByRecursion (λ (shelf : Shelf). shelf.column < atlas.frame.columns)
       (map (spelled_shelf atlas) entries)
   pub ordered : NoNeighbours is_out_of_order (map (spelled_shelf atlas) entries)
   pub along :
-      Each
+      AllByRecursion
       (λ (entry : Entry). along_of atlas.records.shelves entry.number % atlas.frame.column_width ≡ 0)
       entries
   pub across : AreStacked atlas.records.shelves atlas.frame.column_width [] (shelf_numbers entries)
-  pub heights : Each (λ (shelf : Shelf). 1 ≤ shelf.height) (map (spelled_shelf atlas) entries)
+  pub heights : AllByRecursion (λ (shelf : Shelf). 1 ≤ shelf.height) (map (spelled_shelf atlas) entries)
   pub filled :
       (column : ℕ) → column < atlas.frame.columns
       → column_height column (map (spelled_shelf atlas) entries) ≡ across_side atlas.frame
@@ -124,7 +125,7 @@ pub record FreeBack (records : List LinkedItem) (entry : Entry) : Type 0 where
 -- items link back to the one before, and name their shelf
 pub record ItemsLinkBack (items : List LinkedItem) (shelf : ℕ) (numbers : List ℕ) : Type 0 where
   pub back : LeadsBack (link_at item_chain.previous items) None numbers
-  pub owners : Each (λ item. shelf_of items item ≡ shelf) numbers
+  pub owners : AllByRecursion (λ item. shelf_of items item ≡ shelf) numbers
 
 -- the items of a shelf do
 abbrev pub LinkBack : List LinkedItem → Entry → Type 0

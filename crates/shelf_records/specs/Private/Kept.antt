@@ -2,7 +2,8 @@
 -- links spell, and apart from the space that an atlas says is allocated.
 use Rattle.std.specs.Prelude.{◌≡◌, ℕ, ◌%◌, pos, false, Some, [], filter, not, slice_get}
 use Rattle.etagere_base.specs.declared.frames.Frame.{Frame}
-use Rattle.etagere_base.specs.Lists.{Each, times}
+use Rattle.std.specs.List.{AllByRecursion}
+use Rattle.etagere_base.specs.Lists.{times}
 use Rattle.etagere_links.specs.RecordLists.{Records, Entry, Lists, IsLinked, shelf_numbers, walked_lists}
 use Rattle.shelf_records.specs.AtlasRecords.{AtlasRecords, along_of, is_allocated_at, is_empty_at, shelf_of, spelled_shelf, spelled_state}
 use Rattle.shelf_model.specs.Choice.{Placement}
@@ -13,7 +14,7 @@ use Rattle.shelf_model.specs.Valid.{IsValid}
 
 -- what the records of a shelf and of its items say beside their links
 pub record IsPlaced (atlas : AtlasRecords) (entry : Entry) : Type 0 where
-  pub owners : Each (λ item. shelf_of atlas.records.items item ≡ entry.number) entry.items
+  pub owners : AllByRecursion (λ item. shelf_of atlas.records.items item ≡ entry.number) entry.items
   pub along : along_of atlas.records.shelves entry.number % atlas.frame.column_width ≡ 0
   pub places : LieFrom atlas.records.items (along_of atlas.records.shelves entry.number) entry.items
   pub free_list :
@@ -30,12 +31,12 @@ pub record Witnessed (atlas : AtlasRecords) (lists : Lists) (state : AtlasState)
   pub spelled : state ≡ spelled_state atlas lists.entries
   pub counts : HasCounts atlas
   pub linked : IsLinked atlas.records lists
-  pub placed : Each (IsPlaced atlas) lists.entries
-  pub flags : Each (HasFlag atlas) lists.entries
+  pub placed : AllByRecursion (IsPlaced atlas) lists.entries
+  pub flags : AllByRecursion (HasFlag atlas) lists.entries
   pub stacked : AreStacked atlas.records.shelves atlas.frame.column_width []
       (shelf_numbers lists.entries)
   pub valid : IsValid state
-  pub unused : Each (λ item. is_allocated_at atlas.records.items item ≡ false) lists.unused_items
+  pub unused : AllByRecursion (λ item. is_allocated_at atlas.records.items item ≡ false) lists.unused_items
   pub space : atlas.allocated_space ≡ pos (space_in state.shelves)
 
 -- an atlas of these records that says that nothing is allocated

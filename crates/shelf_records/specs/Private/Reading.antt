@@ -8,7 +8,7 @@ use Rattle.etagere_base.specs.declared.geometry.Rectangle.{Rectangle}
 use Rattle.etagere_base.specs.declared.ids.Allocation.{Allocation}
 use Rattle.etagere_links.specs.declared.records.LinkedItem.{LinkedItem}
 use Rattle.etagere_links.specs.RecordLists.{Records, field_at}
-use Rattle.shelf_records.specs.AtlasRecords.{across_of, height_of, is_allocated_at, item_at, place_of, shelf_of}
+use Rattle.shelf_records.specs.AtlasRecords.{across_of, height_of, is_allocated_at, item_at, item_place_of, shelf_of}
 use Rattle.shelf_model.specs.Places.{allocation_of}
 use Rattle.shelf_model.specs.Returning.{has_id}
 
@@ -21,7 +21,7 @@ record_of items id =
 -- where the item of this number lies
 abbrev pub recorded_rectangle : Frame → Records → ℕ → Rectangle
 recorded_rectangle frame records number =
-    rectangle_at frame (place_of records.items number)
+    rectangle_at frame (item_place_of records.items number)
     (across_of records.shelves (shelf_of records.items number))
     (item_at records.items number).width (height_of records.shelves (shelf_of records.items number))
 

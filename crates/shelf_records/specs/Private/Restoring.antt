@@ -2,7 +2,7 @@
 use Rattle.std.specs.Prelude.{◌≡◌, ℕ, Option, None, List, [], ◌∷◌, ◌++◌, length, map}
 use Rattle.etagere_base.specs.declared.faults.RestoreFault.{RestoreFault}
 use Rattle.etagere_base.specs.declared.faults.RestoreFault.TheVariants as faults
-use Rattle.etagere_base.specs.Lists.{Each}
+use Rattle.std.specs.List.{AllByRecursion}
 use Rattle.etagere_links.specs.declared.marking.WalkFault.{WalkFault}
 use Rattle.etagere_links.specs.declared.marking.WalkFault.TheVariants.{OutOfRange, Marked, Circular, Memory}
 use Rattle.etagere_links.specs.Edits.{AreFitting, link_at}
@@ -59,7 +59,7 @@ chain_entry records number = record { number = number; items = (item_walk record
 pub record HasItemLists (atlas : AtlasRecords) (shelves : List Entry) (unused : List ℕ) : Type 0 where
   pub met : shelves ≡ map (chain_entry atlas.records) (shelf_walk atlas.records).met
   pub unused_met : unused ≡ (unused_item_walk atlas.records).met
-  pub chains : Each (HasChain atlas.records) (shelf_walk atlas.records).met
+  pub chains : AllByRecursion (HasChain atlas.records) (shelf_walk atlas.records).met
   pub unused_end : (unused_item_walk atlas.records).end ≡ no_link
   pub once : HasEachOnce (length atlas.records.items) (item_numbers shelves ++ unused)
   pub next_fits : AreFitting item_chain.next atlas.records.items
@@ -78,5 +78,5 @@ pub record IsWalked (atlas : AtlasRecords) (entries : List Entry) (unused : List
   pub shelves : HasShelfLists atlas (shelf_walk atlas.records).met
   pub back : LeadsBack (link_at shelf_chain.previous atlas.records.shelves) None (shelf_walk atlas.records).met
   pub items : HasItemLists atlas (map (chain_entry atlas.records) (shelf_walk atlas.records).met) (unused_item_walk atlas.records).met
-  pub free : Each (HasFree atlas.records) (shelf_walk atlas.records).met
+  pub free : AllByRecursion (HasFree atlas.records) (shelf_walk atlas.records).met
   pub free_fits : AreFitting free_list.next atlas.records.items

@@ -1,17 +1,17 @@
 -- The rules as passes judge them over lists are those of what stands for a state.
 use Rattle.std.proofs.Common.{◌≡◌, List, [], subst, sym}
-use Rattle.etagere_base.specs.Lists.{Each}
+use Rattle.std.specs.List.{AllByRecursion}
 use Rattle.etagere_base.proofs.EachLemmas.{Each-weaken}
 use Rattle.etagere_links.proofs.AllLists.LinkedWalks.{walked-numbers}
 use Rattle.etagere_links.specs.RecordLists.{Entry, free_walk, shelf_numbers, shelf_walk}
 use Rattle.etagere_links.specs.Links.{no_link}
 use Rattle.shelf_records.specs.AtlasRecords.{AtlasRecords, spelled_state, walked_entries}
-use Rattle.shelf_records.specs.Private.Judging.{FreeBack, HasShelvesIn, judged}
+use Rattle.shelf_records.specs.Private.Judging.{FreeBack, HasShelvesIn, atlas_of_records}
 use Rattle.shelf_records.specs.StandsFor.{AreStacked, HasFreeList, HasItems, HasNeighbours, HasShelves}
 
 -- the records of an atlas as passes see them
 abbrev pub judged_of : AtlasRecords → AtlasRecords
-judged_of atlas = judged atlas.frame atlas.records.shelves atlas.records.items
+judged_of atlas = atlas_of_records atlas.frame atlas.records.shelves atlas.records.items
 
 -- the items of a shelf
 items-of : (atlas : AtlasRecords) (entry : Entry) → HasItems (judged_of atlas) entry → HasItems atlas entry
@@ -22,11 +22,11 @@ of-items : (atlas : AtlasRecords) (entry : Entry) → HasItems atlas entry → H
 of-items atlas entry has = record { places = has.places; items = has.items; width = has.width; is_empty = has.is_empty }
 
 -- the items of all shelves
-pub each-items-of : (atlas : AtlasRecords) (entries : List Entry) → Each (HasItems (judged_of atlas)) entries → Each (HasItems atlas) entries
+pub each-items-of : (atlas : AtlasRecords) (entries : List Entry) → AllByRecursion (HasItems (judged_of atlas)) entries → AllByRecursion (HasItems atlas) entries
 each-items-of atlas entries each = Each-weaken (HasItems (judged_of atlas)) (HasItems atlas) entries (items-of atlas) each
 
 -- and back
-pub of-each-items : (atlas : AtlasRecords) (entries : List Entry) → Each (HasItems atlas) entries → Each (HasItems (judged_of atlas)) entries
+pub of-each-items : (atlas : AtlasRecords) (entries : List Entry) → AllByRecursion (HasItems atlas) entries → AllByRecursion (HasItems (judged_of atlas)) entries
 of-each-items atlas entries each = Each-weaken (HasItems atlas) (HasItems (judged_of atlas)) entries (of-items atlas) each
 
 -- neighbours

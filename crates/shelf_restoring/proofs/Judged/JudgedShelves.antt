@@ -4,12 +4,13 @@ use Rattle.std.specs.Prelude.{◌%◌, ◌==◌, if◌then◌else◌}
 use Rattle.etagere_base.proofs.FrameSides.{across-positive}
 use Rattle.etagere_base.specs.declared.frames.Frame.{Frame}
 use Rattle.etagere_base.specs.Frames.{IsFrame, longest_side}
-use Rattle.etagere_base.specs.Lists.{Each, NoNeighbours}
+use Rattle.std.specs.List.{AllByRecursion}
+use Rattle.etagere_base.specs.Lists.{NoNeighbours}
 use Rattle.etagere_links.specs.declared.records.LinkedItem.{LinkedItem}
 use Rattle.etagere_links.specs.declared.records.LinkedShelf.{LinkedShelf}
 use Rattle.etagere_links.specs.RecordLists.{Entry}
 use Rattle.shelf_records.specs.AtlasRecords.{along_of, spelled_shelf}
-use Rattle.shelf_records.specs.Private.Judging.{HasShelvesIn, judged, StackFrom, FillFrom}
+use Rattle.shelf_records.specs.Private.Judging.{HasShelvesIn, atlas_of_records, StackFrom, FillFrom}
 use Rattle.shelf_model.specs.State.{Shelf}
 use Rattle.shelf_model.specs.Valid.{is_out_of_order}
 use Rattle.shelf_restoring.proofs.Judged.StackedShelves.{FillsRest, fills-follow, follow-fills, follow-stacked, ordered-rises, stacked-follow}
@@ -21,23 +22,23 @@ module _ (frame : Frame) (shelves : List LinkedShelf) (items : List LinkedItem) 
   nothing false height e = refl
 
   -- shelves that keep the rule follow
-  pub shelves-stack : HasShelvesIn (judged frame shelves items) entries → StackFrom frame shelves 0 0 entries
+  pub shelves-stack : HasShelvesIn (atlas_of_records frame shelves items) entries → StackFrom frame shelves 0 0 entries
   shelves-stack has =
       stacked-follow frame shelves items [] 0 0 entries (ordered-rises frame shelves items entries has.ordered) refl (λ later above. refl) has.across
 
   -- shelves that keep the rule fill
-  pub shelves-fill : IsFrame longest_side frame → HasShelvesIn (judged frame shelves items) entries → FillFrom frame shelves 0 0 entries
+  pub shelves-fill : IsFrame longest_side frame → HasShelvesIn (atlas_of_records frame shelves items) entries → FillFrom frame shelves 0 0 entries
   shelves-fill is has =
       let fills : FillsRest frame shelves items 0 0 entries = λ k above within. omega (arith, nothing (0 == k) 0 refl, has.filled k within) in
       fills-follow frame shelves items 0 0 entries (ordered-rises frame shelves items entries has.ordered) (omega (arith, is.columns.0))
       (across-positive longest_side frame is) has.columns fills
 
   -- shelves that follow and fill keep the rule
-  pub shelves-kept : Each (λ (shelf : Shelf). shelf.column < frame.columns) (map (spelled_shelf (judged frame shelves items)) entries)
-      → NoNeighbours is_out_of_order (map (spelled_shelf (judged frame shelves items)) entries)
-      → Each (λ (entry : Entry). along_of shelves entry.number % frame.column_width ≡ 0) entries
-      → Each (λ (shelf : Shelf). 1 ≤ shelf.height) (map (spelled_shelf (judged frame shelves items)) entries)
-      → StackFrom frame shelves 0 0 entries → FillFrom frame shelves 0 0 entries → HasShelvesIn (judged frame shelves items) entries
+  pub shelves-kept : AllByRecursion (λ (shelf : Shelf). shelf.column < frame.columns) (map (spelled_shelf (atlas_of_records frame shelves items)) entries)
+      → NoNeighbours is_out_of_order (map (spelled_shelf (atlas_of_records frame shelves items)) entries)
+      → AllByRecursion (λ (entry : Entry). along_of shelves entry.number % frame.column_width ≡ 0) entries
+      → AllByRecursion (λ (shelf : Shelf). 1 ≤ shelf.height) (map (spelled_shelf (atlas_of_records frame shelves items)) entries)
+      → StackFrom frame shelves 0 0 entries → FillFrom frame shelves 0 0 entries → HasShelvesIn (atlas_of_records frame shelves items) entries
   shelves-kept columns ordered along heights stack fill =
       let rise = ordered-rises frame shelves items entries ordered in
       record {

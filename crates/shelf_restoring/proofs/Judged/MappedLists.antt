@@ -1,14 +1,15 @@
 -- Facts of what a list spells are facts of its elements.
 use Rattle.std.proofs.Common.{Bool, List, [], ◌∷◌, map}
-use Rattle.etagere_base.specs.Lists.{Each, NoNeighbours}
+use Rattle.std.specs.List.{AllByRecursion}
+use Rattle.etagere_base.specs.Lists.{NoNeighbours}
 
 -- a fact of each
-pub each-map : {X Y : Type 0} (P : Y → Type 0) (f : X → Y) (xs : List X) → Each (λ x. P (f x)) xs → Each P (map f xs)
+pub each-map : {X Y : Type 0} (P : Y → Type 0) (f : X → Y) (xs : List X) → AllByRecursion (λ x. P (f x)) xs → AllByRecursion P (map f xs)
 each-map P f [] each = tt
 each-map P f (x ∷ xs) each = (each.0, each-map P f xs each.1)
 
 -- and back
-pub each-unmap : {X Y : Type 0} (P : Y → Type 0) (f : X → Y) (xs : List X) → Each P (map f xs) → Each (λ x. P (f x)) xs
+pub each-unmap : {X Y : Type 0} (P : Y → Type 0) (f : X → Y) (xs : List X) → AllByRecursion P (map f xs) → AllByRecursion (λ x. P (f x)) xs
 each-unmap P f [] each = tt
 each-unmap P f (x ∷ xs) each = (each.0, each-unmap P f xs each.1)
 

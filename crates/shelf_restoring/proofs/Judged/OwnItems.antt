@@ -4,7 +4,8 @@ use Rattle.std.proofs.Common.{◌≡◌, ◌≢◌, ℕ, zero, suc, ◌+◌, ◌
 use Rattle.std.specs.Prelude.{◌==◌, slice_index_or, if◌then◌else◌}
 use Rattle.etagere_base.proofs.EachLemmas.{Each-both, Each-weaken}
 use Rattle.etagere_base.proofs.TimesLemmas.{times-append}
-use Rattle.etagere_base.specs.Lists.{Each, times}
+use Rattle.std.specs.List.{AllByRecursion}
+use Rattle.etagere_base.specs.Lists.{times}
 use Rattle.etagere_links.proofs.ListEnds.{times-here, times-other}
 use Rattle.etagere_links.specs.declared.records.LinkedItem.{LinkedItem}
 use Rattle.etagere_links.specs.RecordLists.{Entry, item_numbers, shelf_numbers}
@@ -13,12 +14,12 @@ use Rattle.shelf_records.specs.Private.Judging.{AreOwn, is_own}
 use Rattle.shelf_records.proofs.Judged.FreeLists.{each-stands}
 
 -- a fact of each element for each number
-each-all : (Q : ℕ → Entry → Type 0) (entries : List Entry) → ((k : ℕ) → Each (Q k) entries) → Each (λ (entry : Entry). (k : ℕ) → Q k entry) entries
+each-all : (Q : ℕ → Entry → Type 0) (entries : List Entry) → ((k : ℕ) → AllByRecursion (Q k) entries) → AllByRecursion (λ (entry : Entry). (k : ℕ) → Q k entry) entries
 each-all Q [] all = tt
 each-all Q (entry ∷ entries) all = (λ k. (all k).0, each-all Q entries (λ k. (all k).1))
 
 -- no shelf has a number that stands nowhere
-numbers-other : (shelf : ℕ) (entries : List Entry) → times shelf (shelf_numbers entries) ≡ 0 → Each (λ (entry : Entry). entry.number ≢ shelf) entries
+numbers-other : (shelf : ℕ) (entries : List Entry) → times shelf (shelf_numbers entries) ≡ 0 → AllByRecursion (λ (entry : Entry). entry.number ≢ shelf) entries
 numbers-other shelf [] none = tt
 numbers-other shelf (entry ∷ entries) none = (
   λ e. let stands : times shelf (shelf_numbers (entry ∷ entries)) ≡ 1 + times shelf (shelf_numbers entries) = rw e (times-here shelf (shelf_numbers entries)) in omega (arith, none, stands),
@@ -27,7 +28,7 @@ numbers-other shelf (entry ∷ entries) none = (
 
 -- the items of a shelf name it
 abbrev pub NamesItsOwn : List LinkedItem → Entry → Type 0
-NamesItsOwn items entry = Each (λ item. shelf_of items item ≡ entry.number) entry.items
+NamesItsOwn items entry = AllByRecursion (λ item. shelf_of items item ≡ entry.number) entry.items
 
 -- an item that names another shelf does not stand in this one
 names-other : (items : List LinkedItem) (k : ℕ) (entry : Entry) → NamesItsOwn items entry → entry.number ≢ shelf_of items k → times k entry.items ≡ 0
@@ -39,8 +40,8 @@ names-other items k entry names other = by_count (times k entry.items) refl
         absurd (other (sym (each-stands (λ item. shelf_of items item ≡ entry.number) k entry.items (omega (arith, e)) names)))
 
 -- an item whose shelf is none of these stands in none
-names-none : (items : List LinkedItem) (k : ℕ) (entries : List Entry) → Each (NamesItsOwn items) entries
-    → Each (λ (entry : Entry). entry.number ≢ shelf_of items k) entries → times k (item_numbers entries) ≡ 0
+names-none : (items : List LinkedItem) (k : ℕ) (entries : List Entry) → AllByRecursion (NamesItsOwn items) entries
+    → AllByRecursion (λ (entry : Entry). entry.number ≢ shelf_of items k) entries → times k (item_numbers entries) ≡ 0
 names-none items k [] names others = refl
 names-none items k (entry ∷ entries) names others =
     omega (
@@ -56,13 +57,13 @@ StandsThere items k count entry = entry.number ≡ shelf_of items k → times k 
 
 -- each item stands in the shelf that it names as often as in all
 stands-there : (items : List LinkedItem) (k : ℕ) (entries : List Entry) → times (shelf_of items k) (shelf_numbers entries) ≤ 1
-    → Each (NamesItsOwn items) entries → Each (StandsThere items k (times k (item_numbers entries))) entries
+    → AllByRecursion (NamesItsOwn items) entries → AllByRecursion (StandsThere items k (times k (item_numbers entries))) entries
 stands-there items k [] once names = tt
 stands-there items k (entry ∷ entries) once names = by_test (entry.number == shelf_of items k) refl (stands-there items k entries)
   where
     by_test : (b : Bool) → (entry.number == shelf_of items k) ≡ b
-        → (times (shelf_of items k) (shelf_numbers entries) ≤ 1 → Each (NamesItsOwn items) entries → Each (StandsThere items k (times k (item_numbers entries))) entries)
-        → Each (StandsThere items k (times k (item_numbers (entry ∷ entries)))) (entry ∷ entries)
+        → (times (shelf_of items k) (shelf_numbers entries) ≤ 1 → AllByRecursion (NamesItsOwn items) entries → AllByRecursion (StandsThere items k (times k (item_numbers entries))) entries)
+        → AllByRecursion (StandsThere items k (times k (item_numbers (entry ∷ entries)))) (entry ∷ entries)
     by_test true e later =
         let same : entry.number ≡ shelf_of items k = grind arith in
         let stands : times (shelf_of items k) (shelf_numbers (entry ∷ entries)) ≡ 1 + times (shelf_of items k) (shelf_numbers entries) =
@@ -85,7 +86,7 @@ stands-there items k (entry ∷ entries) once names = by_test (entry.number == s
 pub own-items : (items : List LinkedItem) (marks : List Bool) (entries : List Entry)
     → ((k : ℕ) → times k (shelf_numbers entries) ≤ 1)
     → ((k : ℕ) → times k (item_numbers entries) ≡ (if slice_index_or marks k false then 1 else 0))
-    → Each (NamesItsOwn items) entries → Each (AreOwn items marks) entries
+    → AllByRecursion (NamesItsOwn items) entries → AllByRecursion (AreOwn items marks) entries
 own-items items marks entries once marked names =
     each-all (λ k (entry : Entry). times k entry.items ≡ (if is_own items marks entry.number k then 1 else 0)) entries
     (λ k. Each-weaken (λ (entry : Entry). NamesItsOwn items entry × StandsThere items k (times k (item_numbers entries)) entry)

@@ -2,7 +2,8 @@
 use Rattle.std.proofs.Common.{◌≡◌, ℕ, ◌<◌, ◌≤◌, Bool, true, false, List, [], ◌∷◌, ◌++◌, length, refl, arith}
 use Rattle.std.specs.Prelude.{nat_lt, if◌then◌else◌}
 use Rattle.etagere_base.proofs.TimesLemmas.{times-append}
-use Rattle.etagere_base.specs.Lists.{Each, times}
+use Rattle.std.specs.List.{AllByRecursion}
+use Rattle.etagere_base.specs.Lists.{times}
 use Rattle.etagere_links.proofs.Tallies.{length-once}
 use Rattle.etagere_links.specs.RecordLists.{Entry, HasEachOnce, item_numbers, shelf_numbers}
 
@@ -31,7 +32,7 @@ below-front : (count : ℕ) (xs ys : List ℕ) → HasEachOnce count (xs ++ ys) 
 below-front count xs ys once k = omega (arith, once k, times-append k xs ys)
 
 -- the items of each shelf are short
-below-items : (count : ℕ) (entries : List Entry) → AreBelow count (item_numbers entries) → Each (λ (entry : Entry). length entry.items ≤ count) entries
+below-items : (count : ℕ) (entries : List Entry) → AreBelow count (item_numbers entries) → AllByRecursion (λ (entry : Entry). length entry.items ≤ count) entries
 below-items count [] below = tt
 below-items count (entry ∷ entries) below = (
   below-length count entry.items (λ k. omega (arith, below k, times-append k entry.items (item_numbers entries))),
@@ -40,7 +41,7 @@ below-items count (entry ∷ entries) below = (
 
 -- a shelf has no more items than there are records
 pub short-items : (count : ℕ) (entries : List Entry) (unused : List ℕ) → HasEachOnce count (item_numbers entries ++ unused)
-    → Each (λ (entry : Entry). length entry.items ≤ count) entries
+    → AllByRecursion (λ (entry : Entry). length entry.items ≤ count) entries
 short-items count entries unused once = below-items count entries (below-front count (item_numbers entries) unused once)
 
 -- as many numbers as shelves

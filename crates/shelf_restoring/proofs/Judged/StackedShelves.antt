@@ -4,13 +4,14 @@ use Rattle.std.proofs.Common.{◌≡◌, ◌≢◌, ℕ, ◌+◌, ◌<◌, ◌�
 use Rattle.std.specs.Prelude.{◌==◌, if◌then◌else◌}
 use Rattle.etagere_base.specs.declared.frames.Frame.{Frame}
 use Rattle.etagere_base.specs.Frames.{across_side}
-use Rattle.etagere_base.specs.Lists.{Each, NoNeighbours}
+use Rattle.std.specs.List.{AllByRecursion}
+use Rattle.etagere_base.specs.Lists.{NoNeighbours}
 use Rattle.etagere_links.specs.declared.records.LinkedItem.{LinkedItem}
 use Rattle.etagere_links.specs.declared.records.LinkedShelf.{LinkedShelf}
 use Rattle.etagere_links.specs.RecordLists.{Entry, shelf_numbers}
 use Rattle.shelf_records.specs.AtlasRecords.{height_of, spelled_shelf}
 use Rattle.shelf_model.specs.Places.{column_height}
-use Rattle.shelf_records.specs.Private.Judging.{judged, column_at, height_below, StackFrom, FillFrom}
+use Rattle.shelf_records.specs.Private.Judging.{atlas_of_records, column_at, height_below, StackFrom, FillFrom}
 use Rattle.shelf_records.specs.StandsFor.{AreStacked, height_before}
 use Rattle.shelf_model.specs.State.{Shelf}
 use Rattle.shelf_model.specs.Valid.{is_out_of_order}
@@ -89,7 +90,7 @@ alone own k below here none = by_test (own == k)
 module _ (frame : Frame) (shelves : List LinkedShelf) (items : List LinkedItem) where
   -- the shelves that records spell
   abbrev spelled : List Entry → List Shelf
-  spelled entries = map (spelled_shelf (judged frame shelves items)) entries
+  spelled entries = map (spelled_shelf (atlas_of_records frame shelves items)) entries
 
   -- columns rise from this one on
   abbrev pub RiseFrom : ℕ → List Entry → Type 0
@@ -274,7 +275,7 @@ module _ (frame : Frame) (shelves : List LinkedShelf) (items : List LinkedItem) 
 
   -- shelves that rise and fill all columns follow
   pub fills-follow : (column height : ℕ) (entries : List Entry) → RiseFrom column entries → column < frame.columns → 1 ≤ across_side frame
-      → Each (λ (shelf : Shelf). shelf.column < frame.columns) (spelled entries)
+      → AllByRecursion (λ (shelf : Shelf). shelf.column < frame.columns) (spelled entries)
       → FillsRest column height entries → FillFrom frame shelves column height entries
   fills-follow column height [] rise within tall columns fills =
       let here : height ≡ across_side frame = omega (arith, own-column column column height refl, fills column (omega arith) within) in

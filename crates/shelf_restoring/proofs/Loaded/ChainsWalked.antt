@@ -1,7 +1,8 @@
 -- The items of the first few shelves, and of one more.
 use Rattle.std.proofs.Common.{◌≡◌, ℕ, zero, suc, ◌+◌, ◌<◌, ◌≤◌, Bool, List, [], ◌∷◌, ◌++◌, length, get_or, map, take, refl, ap, arith, sym, subst, append_assoc, append-nil, ◌∙◌}
 use Rattle.std.proofs.lemmas.List.{length-append, length-map, take_more}
-use Rattle.etagere_base.specs.Lists.{Each, times}
+use Rattle.std.specs.List.{AllByRecursion}
+use Rattle.etagere_base.specs.Lists.{times}
 use Rattle.etagere_base.proofs.EachLemmas.{Each-append}
 use Rattle.etagere_base.proofs.TimesLemmas.{times-append}
 use Rattle.etagere_links.specs.Marks.{IsMarkedBy}
@@ -38,9 +39,9 @@ items-next records numbers i n within is =
 
 -- a fact of each of the first few and of the next one
 pub each-next : (P : ℕ → Type 0) (numbers : List ℕ) (i n : ℕ) → i < length numbers → n ≡ get_or numbers i 0
-    → Each P (take i numbers) → P n → Each P (take (i + 1) numbers)
+    → AllByRecursion P (take i numbers) → P n → AllByRecursion P (take (i + 1) numbers)
 each-next P numbers i n within is each here =
-    subst (Each P) (sym (take-next numbers i n within is)) (Each-append P (take i numbers) (n ∷ []) each (here, tt))
+    subst (AllByRecursion P) (sym (take-next numbers i n within is)) (Each-append P (take i numbers) (n ∷ []) each (here, tt))
 
 -- the marks once the items of the next shelf are marked
 pub marks-next : (records : Records) (unused numbers : List ℕ) (i n : ℕ) (marks : List Bool) → i < length numbers → n ≡ get_or numbers i 0

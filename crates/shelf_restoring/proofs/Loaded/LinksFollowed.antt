@@ -4,7 +4,8 @@ use Rattle.std.proofs.Math.Seq.{split_at}
 use Rattle.std.proofs.lemmas.List.{length-map, map-append}
 use Rattle.std.specs.Prelude.{if◌then◌else◌, nat_lt}
 use Rattle.etagere_base.specs.declared.faults.RestoreFault.{RestoreFault}
-use Rattle.etagere_base.specs.Lists.{Each, times}
+use Rattle.std.specs.List.{AllByRecursion}
+use Rattle.etagere_base.specs.Lists.{times}
 use Rattle.etagere_base.proofs.TimesLemmas.{times-append}
 use Rattle.etagere_links.specs.declared.marking.WalkFault.{WalkFault}
 use Rattle.etagere_links.specs.declared.marking.WalkFault.TheVariants.{OutOfRange, Marked, Circular, Memory}
@@ -49,7 +50,7 @@ walk-once {T} link records start few =
 
 -- a walk is refused after others that were along lists of their own
 pub refused-after : (count more from steps : ℕ) (before : List ℕ) (front back : List Walked) (walked : Walked) (marks : List Bool) (records : ℕ) (fault : WalkFault)
-    → Each (λ (walked : Walked). walked.end ≡ no_link) front → IsMarkedBy marks (before ++ met_by front) → BreaksOff marks records walked fault → ((k : ℕ) → times k walked.met ≤ 1)
+    → AllByRecursion (λ (walked : Walked). walked.end ≡ no_link) front → IsMarkedBy marks (before ++ met_by front) → BreaksOff marks records walked fault → ((k : ℕ) → times k walked.met ≤ 1)
     → steps ≡ from + links_in front + links_by walked fault → IsStopped (from + links_until count more before (front ++ walked ∷ back)) steps fault
 refused-after count more from steps before front back walked marks records fault ends marked breaks once counted =
     record {
@@ -65,7 +66,7 @@ walks-split walk_of numbers i within =
 
 -- the walk of the next number is refused
 next-refused : (walk_of : ℕ → Walked) (numbers : List ℕ) (i count more from here steps : ℕ) (before : List ℕ) (marks : List Bool) (records : ℕ) (fault : WalkFault) → i < length numbers
-    → Each (λ (walked : Walked). walked.end ≡ no_link) (map walk_of (take i numbers)) → IsMarkedBy marks (before ++ met_by (map walk_of (take i numbers)))
+    → AllByRecursion (λ (walked : Walked). walked.end ≡ no_link) (map walk_of (take i numbers)) → IsMarkedBy marks (before ++ met_by (map walk_of (take i numbers)))
     → BreaksOff marks records (walk_of (get_or numbers i 0)) fault → ((k : ℕ) → times k (walk_of (get_or numbers i 0)).met ≤ 1)
     → here ≡ from + length (met_by (map walk_of (take i numbers))) → steps ≡ here + links_by (walk_of (get_or numbers i 0)) fault
     → IsStopped (from + links_until count more before (map walk_of numbers)) steps fault
@@ -76,7 +77,7 @@ next-refused walk_of numbers i count more from here steps before marks records f
 
 -- the links that were followed with those of the next number are no more than all
 next-within : (walk_of : ℕ → Walked) (numbers : List ℕ) (i count more from here steps : ℕ) (before : List ℕ) (marks : List Bool) → i < length numbers
-    → Each (λ (walked : Walked). walked.end ≡ no_link) (map walk_of (take i numbers)) → IsMarkedBy marks (before ++ met_by (map walk_of (take i numbers)))
+    → AllByRecursion (λ (walked : Walked). walked.end ≡ no_link) (map walk_of (take i numbers)) → IsMarkedBy marks (before ++ met_by (map walk_of (take i numbers)))
     → here ≡ from + length (met_by (map walk_of (take i numbers))) → steps ≡ here + length (walk_of (get_or numbers i 0)).met
     → steps ≤ from + links_until count more before (map walk_of numbers)
 next-within walk_of numbers i count more from here steps before marks within ends marked so_far counted =
@@ -101,18 +102,18 @@ module _ (records : Records) where
   frees-met (n ∷ ns) = ap (λ (ms : List ℕ). (free_walk records n).met ++ ms) (frees-met ns)
 
   -- the chains end
-  pub chains-end : (numbers : List ℕ) → Each (HasChain records) numbers → Each (λ (walked : Walked). walked.end ≡ no_link) (map (item_walk records) numbers)
+  pub chains-end : (numbers : List ℕ) → AllByRecursion (HasChain records) numbers → AllByRecursion (λ (walked : Walked). walked.end ≡ no_link) (map (item_walk records) numbers)
   chains-end [] each = tt
   chains-end (n ∷ ns) each = (each.0.end, chains-end ns each.1)
 
   -- the free lists end
-  pub frees-end : (numbers : List ℕ) → Each (HasFree records) numbers → Each (λ (walked : Walked). walked.end ≡ no_link) (map (free_walk records) numbers)
+  pub frees-end : (numbers : List ℕ) → AllByRecursion (HasFree records) numbers → AllByRecursion (λ (walked : Walked). walked.end ≡ no_link) (map (free_walk records) numbers)
   frees-end [] each = tt
   frees-end (n ∷ ns) each = (each.0.end, frees-end ns each.1)
 
   -- the walk along the chain of the next shelf is refused
   pub chain-refused : (numbers unused : List ℕ) (i more from here steps : ℕ) (marks : List Bool) (fault : WalkFault) → i < length numbers → length records.items ≤ no_link
-      → Each (HasChain records) (take i numbers) → IsMarkedBy marks (unused ++ item_numbers (map (chain_entry records) (take i numbers)))
+      → AllByRecursion (HasChain records) (take i numbers) → IsMarkedBy marks (unused ++ item_numbers (map (chain_entry records) (take i numbers)))
       → BreaksOff marks (length records.items) (item_walk records (get_or numbers i 0)) fault
       → here ≡ from + length (item_numbers (map (chain_entry records) (take i numbers))) → steps ≡ here + links_by (item_walk records (get_or numbers i 0)) fault
       → StopsAfter (from + links_until (length records.items) more unused (map (item_walk records) numbers)) steps (chain_fault fault)
@@ -125,7 +126,7 @@ module _ (records : Records) where
 
   -- memory is wanting once it was walked along
   pub chain-wanting : (numbers unused : List ℕ) (i more from here steps : ℕ) (marks : List Bool) → i < length numbers
-      → Each (HasChain records) (take i numbers) → IsMarkedBy marks (unused ++ item_numbers (map (chain_entry records) (take i numbers)))
+      → AllByRecursion (HasChain records) (take i numbers) → IsMarkedBy marks (unused ++ item_numbers (map (chain_entry records) (take i numbers)))
       → here ≡ from + length (item_numbers (map (chain_entry records) (take i numbers))) → steps ≡ here + length (item_walk records (get_or numbers i 0)).met
       → steps ≤ from + links_until (length records.items) more unused (map (item_walk records) numbers)
   chain-wanting numbers unused i more from here steps marks within chains marked so_far counted =
@@ -135,7 +136,7 @@ module _ (records : Records) where
 
   -- the walk along the free list of the next shelf is refused
   pub free-refused : (numbers : List ℕ) (i from here steps : ℕ) (marks : List Bool) (fault : WalkFault) → i < length numbers → length records.items ≤ no_link
-      → Each (HasFree records) (take i numbers) → IsMarkedBy marks (free_numbers (map (walked_entry records) (take i numbers)))
+      → AllByRecursion (HasFree records) (take i numbers) → IsMarkedBy marks (free_numbers (map (walked_entry records) (take i numbers)))
       → BreaksOff marks (length records.items) (free_walk records (get_or numbers i 0)) fault
       → here ≡ from + length (free_numbers (map (walked_entry records) (take i numbers))) → steps ≡ here + links_by (free_walk records (get_or numbers i 0)) fault
       → StopsAfter (from + links_until 0 0 [] (map (free_walk records) numbers)) steps (free_fault fault)
@@ -148,7 +149,7 @@ module _ (records : Records) where
 
   -- memory is wanting once it was walked along
   pub free-wanting : (numbers : List ℕ) (i from here steps : ℕ) (marks : List Bool) → i < length numbers
-      → Each (HasFree records) (take i numbers) → IsMarkedBy marks (free_numbers (map (walked_entry records) (take i numbers)))
+      → AllByRecursion (HasFree records) (take i numbers) → IsMarkedBy marks (free_numbers (map (walked_entry records) (take i numbers)))
       → here ≡ from + length (free_numbers (map (walked_entry records) (take i numbers))) → steps ≡ here + length (free_walk records (get_or numbers i 0)).met
       → steps ≤ from + links_until 0 0 [] (map (free_walk records) numbers)
   free-wanting numbers i from here steps marks within frees marked so_far counted =
@@ -197,7 +198,7 @@ module _ (records : Records) where
       omega (arith, first, others, met_by-length (map (item_walk records) (shelf_walk records).met), ap (λ (ns : List ℕ). length ns) (items-met (shelf_walk records).met))
 
   -- where some record was met by no walk, no further links are followed
-  pub none-further : (more : ℕ) (walks : List Walked) (marks : List Bool) (count : ℕ) → Each (λ (walked : Walked). walked.end ≡ no_link) walks → length marks ≡ count → IsMarkedBy marks (met_by walks)
+  pub none-further : (more : ℕ) (walks : List Walked) (marks : List Bool) (count : ℕ) → AllByRecursion (λ (walked : Walked). walked.end ≡ no_link) walks → length marks ≡ count → IsMarkedBy marks (met_by walks)
       → (HasEachOnce (length marks) (met_by walks) → ⊥) → links_in walks ≡ links_until count more [] walks
   none-further more walks marks count ends is marked missing =
       let none : has_each count (met_by walks) ≡ false = rw (← is) (not-told marks (met_by walks) marked missing) in
@@ -206,7 +207,7 @@ module _ (records : Records) where
       omega (arith, all, told)
 
   -- the free lists are lists of their own
-  pub frees-go : (numbers : List ℕ) (marks : List Bool) → Each (HasFree records) numbers → IsMarkedBy marks (free_numbers (map (walked_entry records) numbers))
+  pub frees-go : (numbers : List ℕ) (marks : List Bool) → AllByRecursion (HasFree records) numbers → IsMarkedBy marks (free_numbers (map (walked_entry records) numbers))
       → links_until 0 0 [] (map (free_walk records) numbers) ≡ links_in (map (free_walk records) numbers)
   frees-go numbers marks frees marked =
       let all = until-all 0 0 [] (map (free_walk records) numbers)
@@ -219,7 +220,7 @@ module _ (records : Records) where
       omega (arith, counted, met_by-length (map (free_walk records) numbers), ap (λ (ns : List ℕ). length ns) (frees-met numbers))
 
   -- where each record was met once, further walks may follow
-  pub each-goes : (more count : ℕ) (walks : List Walked) → Each (λ (walked : Walked). walked.end ≡ no_link) walks → HasEachOnce count (met_by walks) → links_until count more [] walks ≡ links_in walks + more
+  pub each-goes : (more count : ℕ) (walks : List Walked) → AllByRecursion (λ (walked : Walked). walked.end ≡ no_link) walks → HasEachOnce count (met_by walks) → links_until count more [] walks ≡ links_in walks + more
   each-goes more count walks ends once =
       let all = until-all count more [] walks (λ k. each-once k (nat_lt k count) (once k)) ends in
       all ∙ ap (λ (b : Bool). links_in walks + (if b then more else 0)) (once-told count (met_by walks) once)

@@ -1,7 +1,8 @@
 -- A walk through a snapshot that is refused says which rule is broken.
 use Rattle.std.proofs.Common.{◌≡◌, ◌≢◌, ℕ, zero, suc, ◌+◌, ◌<◌, ◌≤◌, Bool, List, [], ◌∷◌, ◌++◌, length, get_or, map, take, refl, ap, arith, sym, subst}
 use Rattle.std.specs.Prelude.{not}
-use Rattle.etagere_base.specs.Lists.{Each, times}
+use Rattle.std.specs.List.{AllByRecursion}
+use Rattle.etagere_base.specs.Lists.{times}
 use Rattle.etagere_base.proofs.TimesLemmas.{times-append}
 use Rattle.etagere_links.specs.declared.marking.WalkFault.{WalkFault}
 use Rattle.etagere_links.specs.declared.marking.WalkFault.TheVariants.{OutOfRange, Marked, Circular, Memory}
@@ -60,11 +61,11 @@ unused_items-broken atlas marks Circular breaks marked = λ (shared : IsShared a
 unused_items-broken atlas marks Memory breaks marked = tt
 
 -- a fact of each image is a fact of the image of one
-Each-image : {Y : Type 0} (P : Y → Type 0) (f : ℕ → Y) (xs : List ℕ) (i n : ℕ) → i < length xs → n ≡ get_or xs i 0 → Each P (map f xs) → P (f n)
+Each-image : {Y : Type 0} (P : Y → Type 0) (f : ℕ → Y) (xs : List ℕ) (i n : ℕ) → i < length xs → n ≡ get_or xs i 0 → AllByRecursion P (map f xs) → P (f n)
 Each-image P f xs i n within is each =
     subst (λ (m : ℕ). P (f m)) (sym is) (at xs i within each)
   where
-    at : (xs : List ℕ) (i : ℕ) → i < length xs → Each P (map f xs) → P (f (get_or xs i 0))
+    at : (xs : List ℕ) (i : ℕ) → i < length xs → AllByRecursion P (map f xs) → P (f (get_or xs i 0))
     at [] i within each = absurd (omega arith)
     at (x ∷ xs) zero within each = each.0
     at (x ∷ xs) (suc i) within each = at xs i (omega arith) each.1
@@ -94,7 +95,7 @@ pub chain-broken : (atlas : AtlasRecords) (marks : List Bool) (numbers : List �
     → IsMarkedBy marks ((unused_item_walk atlas.records).met ++ item_numbers (map (chain_entry atlas.records) (take i numbers)))
     → IsBroken atlas (chain_fault fault)
 chain-broken atlas marks numbers i n OutOfRange met within is breaks marked = λ (links : HasLinks atlas).
-    let each : Each (HasItemLinks atlas) (map (walked_entry atlas.records) numbers) = subst (λ (ns : List ℕ). Each (HasItemLinks atlas) (map (walked_entry atlas.records) ns)) (sym met) links.each_shelf in
+    let each : AllByRecursion (HasItemLinks atlas) (map (walked_entry atlas.records) numbers) = subst (λ (ns : List ℕ). AllByRecursion (HasItemLinks atlas) (map (walked_entry atlas.records) ns)) (sym met) links.each_shelf in
     not-in-range (length atlas.records.items) (item_walk atlas.records n) breaks.0 breaks.1 (Each-image (HasItemLinks atlas) (walked_entry atlas.records) numbers i n within is each).items
 chain-broken atlas marks numbers i n Marked met within is breaks marked = λ (shared : IsShared atlas).
     let unused = (unused_item_walk atlas.records).met in
@@ -105,7 +106,7 @@ chain-broken atlas marks numbers i n Marked met within is breaks marked = λ (sh
     (λ k. omega (arith, next-times atlas.records numbers i n k within is, times-append k (unused ++ before) (item_walk atlas.records n).met, times-append k unused before, times-append k all unused)) once
 chain-broken atlas marks numbers i n Circular met within is breaks marked = λ (shared : IsShared atlas).
     breaks (Each-image (λ (entry : Entry). (item_walk atlas.records entry.number).end ≡ no_link) (walked_entry atlas.records) numbers i n within is
-    (subst (λ (ns : List ℕ). Each (λ (entry : Entry). (item_walk atlas.records entry.number).end ≡ no_link) (map (walked_entry atlas.records) ns)) (sym met) shared.item_ends))
+    (subst (λ (ns : List ℕ). AllByRecursion (λ (entry : Entry). (item_walk atlas.records entry.number).end ≡ no_link) (map (walked_entry atlas.records) ns)) (sym met) shared.item_ends))
 chain-broken atlas marks numbers i n Memory met within is breaks marked = tt
 
 -- a free item of a shelf is an item of it
@@ -113,7 +114,7 @@ free-items : (atlas : AtlasRecords) (n k : ℕ) → HasFreeList atlas (walked_en
 free-items atlas n k free = omega (arith, free.items k, filter-times (λ member. not (is_allocated_at atlas.records.items member)) (item_walk atlas.records n).met k)
 
 -- how often a number is a free item of shelves and of the next one, where free items are items: no more than of all items
-pub free-times : (atlas : AtlasRecords) (numbers : List ℕ) (i n k : ℕ) → Each (HasFreeList atlas) (map (walked_entry atlas.records) numbers)
+pub free-times : (atlas : AtlasRecords) (numbers : List ℕ) (i n k : ℕ) → AllByRecursion (HasFreeList atlas) (map (walked_entry atlas.records) numbers)
     → i < length numbers → n ≡ get_or numbers i 0
     → times k (free_numbers (map (walked_entry atlas.records) (take i numbers))) + times k (free_walk atlas.records n).met
     ≤ times k (item_numbers (map (walked_entry atlas.records) numbers))
@@ -133,12 +134,12 @@ pub free-broken : (atlas : AtlasRecords) (marks : List Bool) (i n : ℕ) (fault 
     → IsBroken atlas (free_fault fault)
 free-broken atlas marks i n OutOfRange once within is breaks marked = λ (links : HasLinks atlas).
     not-in-range (length atlas.records.items) (free_walk atlas.records n) breaks.0 breaks.1 (Each-image (HasItemLinks atlas) (walked_entry atlas.records) (shelf_walk atlas.records).met i n within is links.each_shelf).free_list
-free-broken atlas marks i n Marked once within is breaks marked = λ (free : Each (HasFreeList atlas) (walked_entries atlas)).
+free-broken atlas marks i n Marked once within is breaks marked = λ (free : AllByRecursion (HasFreeList atlas) (walked_entries atlas)).
     let unused = (unused_item_walk atlas.records).met in
     let before = free_numbers (map (walked_entry atlas.records) (take i (shelf_walk atlas.records).met)) in
     let all = item_numbers (walked_entries atlas) in
     not-twice (length atlas.records.items) (before ++ (free_walk atlas.records n).met) (all ++ unused) (breaks before marked)
     (λ k. omega (arith, free-times atlas (shelf_walk atlas.records).met i n k free within is, times-append k before (free_walk atlas.records n).met, times-append k all unused)) once
-free-broken atlas marks i n Circular once within is breaks marked = λ (free : Each (HasFreeList atlas) (walked_entries atlas)).
+free-broken atlas marks i n Circular once within is breaks marked = λ (free : AllByRecursion (HasFreeList atlas) (walked_entries atlas)).
     breaks (Each-image (HasFreeList atlas) (walked_entry atlas.records) (shelf_walk atlas.records).met i n within is free).ends
 free-broken atlas marks i n Memory once within is breaks marked = tt

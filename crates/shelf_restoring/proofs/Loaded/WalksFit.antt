@@ -2,7 +2,8 @@
 -- once at most.
 use Rattle.std.proofs.Common.{◌≡◌, ℕ, ◌≤◌, List, [], ◌∷◌, ◌++◌, length, map, refl, ap, sym, subst, arith, ◌∙◌}
 use Rattle.std.proofs.lemmas.List.{length-map}
-use Rattle.etagere_base.specs.Lists.{Each, times}
+use Rattle.std.specs.List.{AllByRecursion}
+use Rattle.etagere_base.specs.Lists.{times}
 use Rattle.etagere_base.proofs.EachLemmas.{Each-weaken}
 use Rattle.etagere_links.proofs.AllLists.LinkedWalks.{walked-numbers}
 use Rattle.etagere_links.proofs.WalkChains.{walk-leads}
@@ -23,7 +24,7 @@ same-items records (n ∷ ns) = ap (λ (ms : List ℕ). (item_walk records n).me
 
 -- a free list that a walk meets has a number once at most
 frees-once : (records : Records) → length records.items ≤ no_link → (numbers : List ℕ)
-    → Each (λ (entry : Entry). (item : ℕ) → times item entry.free_list ≤ 1) (map (walked_entry records) numbers)
+    → AllByRecursion (λ (entry : Entry). (item : ℕ) → times item entry.free_list ≤ 1) (map (walked_entry records) numbers)
 frees-once records few [] = tt
 frees-once records few (n ∷ ns) =
     let bits : LinkedItem → ℕ = λ here. bits_of (free_list.next here) in
@@ -66,7 +67,7 @@ module _ (atlas : AtlasRecords) (entries : List Entry) (unused : List ℕ) (walk
       walked.shelves.once
 
   -- a shelf has no more items than links can name
-  pub walked-short : length atlas.records.items ≤ no_link → Each (λ (entry : Entry). length entry.items ≤ no_link) entries
+  pub walked-short : length atlas.records.items ≤ no_link → AllByRecursion (λ (entry : Entry). length entry.items ≤ no_link) entries
   walked-short few =
       Each-weaken (λ (entry : Entry). length entry.items ≤ length atlas.records.items) (λ (entry : Entry). length entry.items ≤ no_link)
       entries (λ entry short. omega (arith, few, short)) (short-items (length atlas.records.items) entries unused walked-items)
@@ -82,7 +83,7 @@ module _ (atlas : AtlasRecords) (entries : List Entry) (unused : List ℕ) (walk
 
   -- a free list has an item once at most
   pub walked-frees : length atlas.records.items ≤ no_link
-      → Each (λ (entry : Entry). (item : ℕ) → times item entry.free_list ≤ 1) entries
+      → AllByRecursion (λ (entry : Entry). (item : ℕ) → times item entry.free_list ≤ 1) entries
   walked-frees few =
-      subst (λ (es : List Entry). Each (λ (entry : Entry). (item : ℕ) → times item entry.free_list ≤ 1) es) (sym walked.entries_met)
+      subst (λ (es : List Entry). AllByRecursion (λ (entry : Entry). (item : ℕ) → times item entry.free_list ≤ 1) es) (sym walked.entries_met)
       (frees-once atlas.records few (shelf_walk atlas.records).met)

@@ -2,7 +2,7 @@
 -- records.
 use Rattle.std.proofs.Common.{◌≡◌, ℕ, ℤ, List, [], ◌∷◌, ◌++◌, length, map, refl, subst}
 use Rattle.etagere_base.specs.Frames.{HasAllColumns, IsFrame, longest_side}
-use Rattle.etagere_base.specs.Lists.{Each}
+use Rattle.std.specs.List.{AllByRecursion}
 use Rattle.etagere_links.specs.Links.{no_link}
 use Rattle.etagere_links.specs.RecordLists.{Entry, HasEachOnce, free_walk, item_walk, shelf_walk, unused_item_walk, unused_shelf_walk, walked_entry}
 use Rattle.etagere_links.specs.Walks.{Walked}
@@ -23,9 +23,9 @@ stops count walked ends = rw ends refl
 
 module _ (atlas : AtlasRecords) where
   -- the links of each shelf's items
-  links-of : (numbers : List ℕ) → Each (HasChain atlas.records) numbers → Each (HasFree atlas.records) numbers
-      → Each (LinkBack atlas.records.items) (map (walked_entry atlas.records) numbers)
-      → Each (HasItemLinks atlas) (map (walked_entry atlas.records) numbers)
+  links-of : (numbers : List ℕ) → AllByRecursion (HasChain atlas.records) numbers → AllByRecursion (HasFree atlas.records) numbers
+      → AllByRecursion (LinkBack atlas.records.items) (map (walked_entry atlas.records) numbers)
+      → AllByRecursion (HasItemLinks atlas) (map (walked_entry atlas.records) numbers)
   links-of [] chains frees links = tt
   links-of (n ∷ ns) chains frees links = (
     record {
@@ -38,9 +38,9 @@ module _ (atlas : AtlasRecords) where
   )
 
   -- the free list of each shelf
-  frees-of : (numbers : List ℕ) → Each (HasFree atlas.records) numbers
-      → Each (FreeBack atlas.records.items) (map (walked_entry atlas.records) numbers)
-      → Each (HasFreeList atlas) (map (walked_entry atlas.records) numbers)
+  frees-of : (numbers : List ℕ) → AllByRecursion (HasFree atlas.records) numbers
+      → AllByRecursion (FreeBack atlas.records.items) (map (walked_entry atlas.records) numbers)
+      → AllByRecursion (HasFreeList atlas) (map (walked_entry atlas.records) numbers)
   frees-of [] frees back = tt
   frees-of (n ∷ ns) frees back = (
     free-of atlas (walked_entry atlas.records n) frees.0.end back.0,
@@ -48,8 +48,8 @@ module _ (atlas : AtlasRecords) where
   )
 
   -- the chain of each shelf ends at none
-  ends-of : (numbers : List ℕ) → Each (HasChain atlas.records) numbers
-      → Each (λ (entry : Entry). (item_walk atlas.records entry.number).end ≡ no_link) (map (walked_entry atlas.records) numbers)
+  ends-of : (numbers : List ℕ) → AllByRecursion (HasChain atlas.records) numbers
+      → AllByRecursion (λ (entry : Entry). (item_walk atlas.records entry.number).end ≡ no_link) (map (walked_entry atlas.records) numbers)
   ends-of [] chains = tt
   ends-of (n ∷ ns) chains = (chains.0.end, ends-of ns chains.1)
 

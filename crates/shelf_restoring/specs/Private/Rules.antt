@@ -3,34 +3,34 @@ use Rattle.std.specs.Prelude.{◌≡◌, ℕ, ℤ, false, pos, List, map}
 use Rattle.etagere_base.specs.declared.faults.RestoreFault.{RestoreFault}
 use Rattle.etagere_base.specs.declared.faults.RestoreFault.TheVariants.{Link, Shelves, Runs, Neighbours, FreeList, Unused, Space, Memory}
 use Rattle.etagere_base.specs.declared.frames.Frame.{Frame}
-use Rattle.etagere_base.specs.Lists.{Each}
+use Rattle.std.specs.List.{AllByRecursion}
 use Rattle.etagere_links.specs.declared.records.LinkedItem.{LinkedItem}
 use Rattle.etagere_links.specs.declared.records.LinkedShelf.{LinkedShelf}
 use Rattle.etagere_links.specs.RecordLists.{Entry}
 use Rattle.shelf_records.specs.AtlasRecords.{is_allocated_at, spelled_shelf, spelled_state}
-use Rattle.shelf_records.specs.Private.Judging.{FreeBack, HasShelvesIn, LinkBack, judged}
+use Rattle.shelf_records.specs.Private.Judging.{FreeBack, HasShelvesIn, LinkBack, atlas_of_records}
 use Rattle.shelf_model.specs.Space.{space_in}
 use Rattle.shelf_records.specs.StandsFor.{HasItems, HasNeighbours}
 
 -- all rules that are judged over lists
 pub record KeepsRules (frame : Frame) (shelves : List LinkedShelf) (items : List LinkedItem) (entries : List Entry) (unused : List ℕ) (space : ℤ) : Type 0 where
-  pub links : Each (LinkBack items) entries
-  pub free_lists : Each (FreeBack items) entries
-  pub stacked : HasShelvesIn (judged frame shelves items) entries
-  pub filled : Each (HasItems (judged frame shelves items)) entries
-  pub neighbours : HasNeighbours (spelled_state (judged frame shelves items) entries)
-  pub unused_free : Each (λ item. is_allocated_at items item ≡ false) unused
-  pub sum : space ≡ pos (space_in (map (spelled_shelf (judged frame shelves items)) entries))
+  pub links : AllByRecursion (LinkBack items) entries
+  pub free_lists : AllByRecursion (FreeBack items) entries
+  pub stacked : HasShelvesIn (atlas_of_records frame shelves items) entries
+  pub filled : AllByRecursion (HasItems (atlas_of_records frame shelves items)) entries
+  pub neighbours : HasNeighbours (spelled_state (atlas_of_records frame shelves items) entries)
+  pub unused_free : AllByRecursion (λ item. is_allocated_at items item ≡ false) unused
+  pub sum : space ≡ pos (space_in (map (spelled_shelf (atlas_of_records frame shelves items)) entries))
 
 -- the rule whose breach is this fault is broken; want of memory breaks none
 abbrev pub BreaksRule : Frame → List LinkedShelf → List LinkedItem → List Entry → List ℕ → ℤ → RestoreFault → Type 0
-BreaksRule frame shelves items entries unused space Link = Each (LinkBack items) entries → ⊥
-BreaksRule frame shelves items entries unused space FreeList = Each (FreeBack items) entries → ⊥
-BreaksRule frame shelves items entries unused space Shelves = HasShelvesIn (judged frame shelves items) entries → ⊥
-BreaksRule frame shelves items entries unused space Runs = Each (HasItems (judged frame shelves items)) entries → ⊥
-BreaksRule frame shelves items entries unused space Neighbours = HasNeighbours (spelled_state (judged frame shelves items) entries) → ⊥
-BreaksRule frame shelves items entries unused space Unused = Each (λ item. is_allocated_at items item ≡ false) unused → ⊥
+BreaksRule frame shelves items entries unused space Link = AllByRecursion (LinkBack items) entries → ⊥
+BreaksRule frame shelves items entries unused space FreeList = AllByRecursion (FreeBack items) entries → ⊥
+BreaksRule frame shelves items entries unused space Shelves = HasShelvesIn (atlas_of_records frame shelves items) entries → ⊥
+BreaksRule frame shelves items entries unused space Runs = AllByRecursion (HasItems (atlas_of_records frame shelves items)) entries → ⊥
+BreaksRule frame shelves items entries unused space Neighbours = HasNeighbours (spelled_state (atlas_of_records frame shelves items) entries) → ⊥
+BreaksRule frame shelves items entries unused space Unused = AllByRecursion (λ item. is_allocated_at items item ≡ false) unused → ⊥
 BreaksRule frame shelves items entries unused space Space =
-    space ≡ pos (space_in (map (spelled_shelf (judged frame shelves items)) entries)) → ⊥
+    space ≡ pos (space_in (map (spelled_shelf (atlas_of_records frame shelves items)) entries)) → ⊥
 BreaksRule frame shelves items entries unused space Memory = Unit {0}
 BreaksRule frame shelves items entries unused space fault = ⊥

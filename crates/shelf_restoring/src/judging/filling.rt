@@ -5,17 +5,17 @@
 ghost use Rattle.std.specs.Prelude.{◌≡◌, ◌≤◌, length, map};
 ghost use Rattle.etagere_base.specs.Deciding.{Decides};
 ghost use Rattle.etagere_base.specs.Frames.{IsFrame, longest_side};
-ghost use Rattle.etagere_base.specs.Lists.{Each};
+ghost use Rattle.std.specs.List.{AllByRecursion};
 ghost use Rattle.etagere_links.specs.Links.{no_link};
 ghost use Rattle.etagere_links.specs.RecordLists.{Entry};
 ghost use Rattle.shelf_records.specs.AtlasRecords.{item_at};
-ghost use Rattle.shelf_records.specs.Private.Judging.{judged};
+ghost use Rattle.shelf_records.specs.Private.Judging.{atlas_of_records};
 ghost use Rattle.shelf_records.specs.StandsFor.{HasItems, LieFrom};
 ghost use Rattle.shelf_model.specs.State as state;
 ghost use Rattle.shelf_model.specs.Valid.{IsItem};
 
 use crate::judging::WalkedShelf;
-use crate::judging::framing::alignment_along;
+use crate::judging::frame_ranges::alignment_along;
 use etagere_base::Frame;
 use etagere_links::{LinkedItem, LinkedShelf};
 use shelf_records::fields;
@@ -28,9 +28,9 @@ pub fn have_items(
     entries: &[WalkedShelf],
 ) -> bool
     requires frame { IsFrame longest_side frame.now }
-    requires short { Each (λ (entry : Entry). length entry.items ≤ no_link) entries.now }
+    requires short { AllByRecursion (λ (entry : Entry). length entry.items ≤ no_link) entries.now }
     ensures { Decides result
-        (Each (HasItems (judged frame.now shelves.now items.now)) entries.now) }
+        (AllByRecursion (HasItems (atlas_of_records frame.now shelves.now items.now)) entries.now) }
 {
     for entry in entries {
         if !has_items(frame, shelves, items, entry) {
@@ -49,7 +49,7 @@ fn has_items(
 ) -> bool
     requires frame { IsFrame longest_side frame.now }
     requires short { length entry.now.items ≤ no_link }
-    ensures { Decides result (HasItems (judged frame.now shelves.now items.now) entry.now) }
+    ensures { Decides result (HasItems (atlas_of_records frame.now shelves.now items.now) entry.now) }
 {
     let shelf = usize::from(entry.number);
     if !lie_from(items, fields::along(shelves, shelf), &entry.items) {
@@ -82,7 +82,7 @@ fn lie_from(items: &[LinkedItem], start: u16, numbers: &[u16]) -> bool
 /// Whether these items are all at least a pixel wide, and aligned.
 fn are_items(frame: &Frame, items: &[LinkedItem], numbers: &[u16]) -> bool
     requires { IsFrame longest_side frame.now }
-    ensures { Decides result (Each (IsItem frame.now) (map (item_at items.now) numbers.now)) }
+    ensures { Decides result (AllByRecursion (IsItem frame.now) (map (item_at items.now) numbers.now)) }
 {
     for number in numbers {
         if !is_item(frame, items, usize::from(*number)) {

@@ -5,7 +5,8 @@
 
 ghost use Rattle.std.specs.Prelude.{◌≡◌, ℕ, ◌≤◌, ◌++◌, true, IfOk, length};
 ghost use Rattle.etagere_base.specs.Deciding.{Decides};
-ghost use Rattle.etagere_base.specs.Lists.{Each, times};
+ghost use Rattle.std.specs.List.{AllByRecursion};
+ghost use Rattle.etagere_base.specs.Lists.{times};
 ghost use Rattle.etagere_links.specs.RecordLists.{Entry, HasEachOnce, item_numbers, shelf_numbers};
 ghost use Rattle.shelf_records.specs.Private.Judging as judging;
 ghost use Rattle.shelf_records.specs.Private.Judging.{AreOwn, AreUsed, FreeBack, LinkBack, ListsFree};
@@ -28,11 +29,11 @@ pub fn judge_free_lists(
 ) -> Result<bool, AllocError>
     requires shelves { (number : ℕ) → times number (shelf_numbers entries.now) ≤ 1 }
     requires items { HasEachOnce (length items.now) (item_numbers entries.now ++ unused.now) }
-    requires owners { Each (LinkBack items.now) entries.now }
-    requires once { Each
+    requires owners { AllByRecursion (LinkBack items.now) entries.now }
+    requires once { AllByRecursion
         (λ (entry : Entry). (item : ℕ) → times item entry.free_list ≤ 1)
         entries.now }
-    ensures { IfOk result (λ answer. Decides answer (Each (FreeBack items.now) entries.now)) }
+    ensures { IfOk result (λ answer. Decides answer (AllByRecursion (FreeBack items.now) entries.now)) }
 {
     let marks = used_marks(alloc, items.len(), unused)?;
     Ok(have_free_lists(items, &marks, entries))
@@ -55,11 +56,11 @@ fn used_marks(alloc: Global, count: usize, unused: &[u16]) -> Result<Vec<bool>, 
 /// Whether the free list of each of these shelves has each of its free items once and links back.
 /// The marks say which items are in use.
 fn have_free_lists(items: &[LinkedItem], marks: &[bool], entries: &[WalkedShelf]) -> bool
-    requires own { Each (AreOwn items.now marks.now) entries.now }
-    requires once { Each
+    requires own { AllByRecursion (AreOwn items.now marks.now) entries.now }
+    requires once { AllByRecursion
         (λ (entry : Entry). (item : ℕ) → times item entry.free_list ≤ 1)
         entries.now }
-    ensures { Decides result (Each (FreeBack items.now) entries.now) }
+    ensures { Decides result (AllByRecursion (FreeBack items.now) entries.now) }
 {
     for entry in entries {
         if !has_free_list(items, marks, entry.number, &entry.items, &entry.free_list) {
@@ -110,7 +111,7 @@ fn lists_free(
 /// Whether all of these are free items of the shelf of this number.
 fn are_own_free(items: &[LinkedItem], marks: &[bool], shelf: u16, numbers: &[u16]) -> bool
     ensures { Decides result
-        (Each (λ item. judging.is_own_free items.now marks.now shelf item ≡ true) numbers.now) }
+        (AllByRecursion (λ item. judging.is_own_free items.now marks.now shelf item ≡ true) numbers.now) }
 {
     for number in numbers {
         if !is_own_free(items, marks, shelf, usize::from(*number)) {

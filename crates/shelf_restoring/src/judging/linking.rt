@@ -3,7 +3,7 @@
 //! Definitions: `LinkBack` and `ItemsLinkBack` of `Judging`, and `LeadsBack` of `Chains` for one list.
 ghost use Rattle.std.specs.Prelude.{◌≡◌, false};
 ghost use Rattle.etagere_base.specs.Deciding.{Decides};
-ghost use Rattle.etagere_base.specs.Lists.{Each};
+ghost use Rattle.std.specs.List.{AllByRecursion};
 ghost use Rattle.etagere_links.specs.Chains.{LeadsBack};
 ghost use Rattle.etagere_links.specs.Edits.{link_at};
 ghost use Rattle.shelf_records.specs.AtlasRecords as spec;
@@ -15,7 +15,7 @@ use shelf_records::fields;
 
 /// Whether the items of each of these shelves link back, and name their shelf.
 pub fn have_links_back(items: &[LinkedItem], entries: &[WalkedShelf]) -> bool
-    ensures { Decides result (Each (LinkBack items.now) entries.now) }
+    ensures { Decides result (AllByRecursion (LinkBack items.now) entries.now) }
 {
     for entry in entries {
         if !items_link_back(items, entry.number, &entry.items) {
@@ -60,7 +60,7 @@ pub fn links_back<List, T: Linked<List>>(records: &[T], numbers: &[u16]) -> bool
 
 /// Whether each of these items names the shelf of this number.
 pub fn name_their_shelf(items: &[LinkedItem], shelf: u16, numbers: &[u16]) -> bool
-    ensures { Decides result (Each (λ item. spec.shelf_of items.now item ≡ shelf) numbers.now) }
+    ensures { Decides result (AllByRecursion (λ item. spec.shelf_of items.now item ≡ shelf) numbers.now) }
 {
     for number in numbers {
         if fields::shelf(items, usize::from(*number)) != usize::from(shelf) {

@@ -4,11 +4,12 @@
 
 ghost use Rattle.std.specs.Prelude.{◌≡◌, ◌≤◌, map};
 ghost use Rattle.etagere_base.specs.Deciding.{Decides};
-ghost use Rattle.etagere_base.specs.Lists.{Each, NoNeighbours};
+ghost use Rattle.std.specs.List.{AllByRecursion};
+ghost use Rattle.etagere_base.specs.Lists.{NoNeighbours};
 ghost use Rattle.etagere_links.specs.RecordLists.{Entry};
 ghost use Rattle.shelf_records.specs.AtlasRecords as spec;
 ghost use Rattle.shelf_model.specs.Merging as merging;
-ghost use Rattle.shelf_records.specs.Private.Judging.{judged};
+ghost use Rattle.shelf_records.specs.Private.Judging.{atlas_of_records};
 ghost use Rattle.shelf_records.specs.StandsFor.{HasNeighbours};
 
 use crate::judging::WalkedShelf;
@@ -27,7 +28,7 @@ pub fn has_neighbours(
 ) -> bool
     requires { 1 ≤ frame.now.column_width }
     ensures { Decides result
-        (HasNeighbours (spec.spelled_state (judged frame.now shelves.now items.now) entries.now)) }
+        (HasNeighbours (spec.spelled_state (atlas_of_records frame.now shelves.now items.now) entries.now)) }
 {
     if !has_free_items_apart(items, entries) {
         return false;
@@ -38,7 +39,7 @@ pub fn has_neighbours(
 /// Whether no two free items stand side by side in any of these shelves.
 fn has_free_items_apart(items: &[LinkedItem], entries: &[WalkedShelf]) -> bool
     ensures { Decides result
-        (Each
+        (AllByRecursion
         (λ (entry : Entry). NoNeighbours merging.both_free (map (spec.item_at items.now) entry.items))
         entries.now) }
 {
@@ -82,7 +83,7 @@ fn has_empty_shelves_apart(
     requires { 1 ≤ frame.now.column_width }
     ensures { Decides result
         (NoNeighbours merging.both_empty
-        (map (spec.spelled_shelf (judged frame.now shelves.now items.now)) entries.now)) }
+        (map (spec.spelled_shelf (atlas_of_records frame.now shelves.now items.now)) entries.now)) }
 {
     for at in 0..entries.len() {
         let next = at + 1;
@@ -105,8 +106,8 @@ fn are_both_empty(
     requires { 1 ≤ frame.now.column_width }
     ensures { result
         ≡ merging.both_empty
-        (spec.spelled_shelf (judged frame.now shelves.now items.now) entry.now)
-        (spec.spelled_shelf (judged frame.now shelves.now items.now) next.now) }
+        (spec.spelled_shelf (atlas_of_records frame.now shelves.now items.now) entry.now)
+        (spec.spelled_shelf (atlas_of_records frame.now shelves.now items.now) next.now) }
 {
     column_of(frame, shelves, entry) == column_of(frame, shelves, next)
         && is_one_free(items, &entry.items)

@@ -5,22 +5,22 @@
 
 ghost use Rattle.std.specs.Prelude.{◌≡◌, ◌≤◌, ◌*◌, false, pos, length, map};
 ghost use Rattle.etagere_base.specs.Deciding.{Decides};
-ghost use Rattle.etagere_base.specs.Lists.{Each};
+ghost use Rattle.etagere_base.specs.declared.frames.Frame.{Frame};
+ghost use Rattle.std.specs.List.{AllByRecursion};
 ghost use Rattle.etagere_links.specs.Links.{no_link};
 ghost use Rattle.etagere_links.specs.RecordLists.{Entry};
 ghost use Rattle.shelf_records.specs.AtlasRecords as spec;
-ghost use Rattle.shelf_records.specs.Private.Judging.{judged};
+ghost use Rattle.shelf_records.specs.Private.Judging.{atlas_of_records};
 ghost use Rattle.shelf_model.specs.Space as space;
 
 use crate::judging::WalkedShelf;
-use etagere_base::Frame;
 use etagere_links::{LinkedItem, LinkedShelf};
 use shelf_records::fields;
 
 /// Whether none of these items is allocated.
 pub fn none_allocated(items: &[LinkedItem], numbers: &[u16]) -> bool
     ensures { Decides result
-        (Each (λ item. spec.is_allocated_at items.now item ≡ false) numbers.now) }
+        (AllByRecursion (λ item. spec.is_allocated_at items.now item ≡ false) numbers.now) }
 {
     for number in numbers {
         if fields::is_allocated(items, usize::from(*number)) {
@@ -32,19 +32,18 @@ pub fn none_allocated(items: &[LinkedItem], numbers: &[u16]) -> bool
 
 /// Whether this is the area of all allocated items of these shelves.
 pub fn is_space(
-    frame: &Frame,
     shelves: &[LinkedShelf],
     items: &[LinkedItem],
     entries: &[WalkedShelf],
     allocated: i32,
 ) -> bool
     requires few { length entries.now ≤ no_link }
-    requires short { Each (λ (entry : Entry). length entry.items ≤ no_link) entries.now }
-    ensures { Decides result
+    requires short { AllByRecursion (λ (entry : Entry). length entry.items ≤ no_link) entries.now }
+    ensures { (frame : Frame) → Decides result
         (allocated ≡ pos (space.space_in
-        (map (spec.spelled_shelf (judged frame.now shelves.now items.now)) entries.now))) }
+        (map (spec.spelled_shelf (atlas_of_records frame shelves.now items.now)) entries.now))) }
 {
-    let space = allocated_space(frame, shelves, items, entries);
+    let space = allocated_space(shelves, items, entries);
     match u64::try_from(allocated) {
         Ok(allocated) => allocated == space,
         Err(_) => false,
@@ -52,17 +51,12 @@ pub fn is_space(
 }
 
 /// The area of the allocated items of shelves.
-fn allocated_space(
-    _frame: &Frame,
-    shelves: &[LinkedShelf],
-    items: &[LinkedItem],
-    entries: &[WalkedShelf],
-) -> u64
+fn allocated_space(shelves: &[LinkedShelf], items: &[LinkedItem], entries: &[WalkedShelf]) -> u64
     requires few { length entries.now ≤ no_link }
-    requires short { Each (λ (entry : Entry). length entry.items ≤ no_link) entries.now }
-    ensures { result
+    requires short { AllByRecursion (λ (entry : Entry). length entry.items ≤ no_link) entries.now }
+    ensures { (frame : Frame) → result
         ≡ space.space_in
-        (map (spec.spelled_shelf (judged _frame.now shelves.now items.now)) entries.now) }
+        (map (spec.spelled_shelf (atlas_of_records frame shelves.now items.now)) entries.now) }
 {
     let mut total = 0;
     for entry in entries {

@@ -3,32 +3,30 @@
 //! Definitions: `HasShelvesIn` of `Judging`, which is `HasShelves` of `StandsFor` over lists. Since
 //! columns rise, a pass keeps the height of one column alone.
 
-ghost use Rattle.std.specs.Prelude.{◌≡◌, ◌≤◌, ◌<◌, ◌/◌, ◌%◌, length};
+ghost use Rattle.std.specs.Prelude.{◌≡◌, ◌≤◌, ◌<◌, ◌/◌, ◌%◌, List, length};
 ghost use Rattle.etagere_base.specs.Deciding.{Decides};
 ghost use Rattle.etagere_base.specs.Frames.{IsFrame, longest_side};
-ghost use Rattle.etagere_base.specs.Lists.{Each, NoNeighbours};
+ghost use Rattle.std.specs.List.{AllByRecursion};
+ghost use Rattle.etagere_base.specs.Lists.{NoNeighbours};
 ghost use Rattle.etagere_links.specs.Links.{no_link};
 ghost use Rattle.etagere_links.specs.RecordLists.{Entry};
+ghost use Rattle.etagere_links.specs.declared.records.LinkedItem.{LinkedItem};
 ghost use Rattle.shelf_records.specs.AtlasRecords as spec;
 ghost use Rattle.shelf_records.specs.Private.Judging as judging;
-ghost use Rattle.shelf_records.specs.Private.Judging.{HasShelvesIn, judged};
+ghost use Rattle.shelf_records.specs.Private.Judging.{HasShelvesIn, atlas_of_records};
 
 use crate::judging::WalkedShelf;
 use etagere_base::Frame;
-use etagere_links::{LinkedItem, LinkedShelf};
+use etagere_links::LinkedShelf;
 use shelf_records::fields;
 
 /// Whether the shelves fill each column, column after column, and each says rightly where it
 /// begins.
-pub fn has_shelves(
-    frame: &Frame,
-    shelves: &[LinkedShelf],
-    _items: &[LinkedItem],
-    entries: &[WalkedShelf],
-) -> bool
+pub fn has_shelves(frame: &Frame, shelves: &[LinkedShelf], entries: &[WalkedShelf]) -> bool
     requires frame { IsFrame longest_side frame.now }
     requires few { length entries.now ≤ no_link }
-    ensures { Decides result (HasShelvesIn (judged frame.now shelves.now _items.now) entries.now) }
+    ensures { (items : List LinkedItem) →
+        Decides result (HasShelvesIn (atlas_of_records frame.now shelves.now items) entries.now) }
 {
     if !are_in_columns(frame, shelves, entries) {
         return false;
@@ -52,7 +50,7 @@ pub fn has_shelves(
 fn are_in_columns(frame: &Frame, shelves: &[LinkedShelf], entries: &[WalkedShelf]) -> bool
     requires { 1 ≤ frame.now.column_width }
     ensures { Decides result
-        (Each
+        (AllByRecursion
         (λ (entry : Entry). judging.column_at frame.now shelves.now entry < frame.now.columns)
         entries.now) }
 {
@@ -92,7 +90,7 @@ fn is_later(frame: &Frame, shelves: &[LinkedShelf], entry: &WalkedShelf, next: &
 fn are_at_columns(frame: &Frame, shelves: &[LinkedShelf], entries: &[WalkedShelf]) -> bool
     requires { 1 ≤ frame.now.column_width }
     ensures { Decides result
-        (Each
+        (AllByRecursion
         (λ (entry : Entry). spec.along_of shelves.now entry.number % frame.now.column_width ≡ 0)
         entries.now) }
 {
@@ -108,7 +106,7 @@ fn are_at_columns(frame: &Frame, shelves: &[LinkedShelf], entries: &[WalkedShelf
 /// Whether each of these shelves is at least a pixel tall.
 fn are_high(shelves: &[LinkedShelf], entries: &[WalkedShelf]) -> bool
     ensures { Decides result
-        (Each (λ (entry : Entry). 1 ≤ spec.height_of shelves.now entry.number) entries.now) }
+        (AllByRecursion (λ (entry : Entry). 1 ≤ spec.height_of shelves.now entry.number) entries.now) }
 {
     for entry in entries {
         if fields::height(shelves, usize::from(entry.number)) == 0 {

@@ -3,17 +3,18 @@ use Rattle.std.proofs.Common.{◌≡◌, ℕ, ◌+◌, ◌<◌, ◌≤◌, Bool,
 use Rattle.std.proofs.lemmas.Bool.Decides.{nat_tests}
 use Rattle.std.specs.Option.{option_map_or}
 use Rattle.std.specs.Prelude.{nat_lt}
-use Rattle.etagere_base.specs.Lists.{Each, times}
+use Rattle.std.specs.List.{AllByRecursion}
+use Rattle.etagere_base.specs.Lists.{times}
 use Rattle.etagere_base.specs.declared.frames.Frame.{Frame}
 use Rattle.etagere_links.specs.RecordLists.{Records, shelf_walk}
 use Rattle.etagere_links.proofs.AllLists.LinkedWalks.{walked-numbers}
 use Rattle.shelf_model.specs.Choice.{bad_fit_rank}
 use Rattle.shelf_model.specs.Listing.{RiseFrom}
-use Rattle.shelf_heights.specs.Private.ByHeight.{AreRanked, order_of, place_number, ranked_numbers}
+use Rattle.shelf_heights.specs.Private.ByHeight.{AreByHeight, order_of, chain_order, numbers_by_height}
 use Rattle.shelf_records.specs.Private.Kept.{AreKept}
 use Rattle.shelf_store.specs.Private.Searching.{best_candidate, earlier, earliest, first_by_height, first_offer, good_offer, offered, rank_of}
 use Rattle.shelf_store.specs.declared.choosing.Candidate.{Candidate}
-use Rattle.shelf_heights.specs.declared.ranked.RankedShelf.{RankedShelf}
+use Rattle.shelf_heights.specs.declared.by_height.BoundedShelf.{BoundedShelf}
 use Rattle.shelf_store.proofs.ByHeight.LeastOffers.{IsLeast, IsOffer, IsOutcome, least-first, least-later, lowest-outcome, none-less, offer-is, outcome-same, weight}
 use Rattle.shelf_store.proofs.ByHeight.PlacesRise.{LiesWithin, kept-within, places-rise}
 use Rattle.shelf_store.proofs.ByHeight.RisingNumbers.{of-each, rise-low}
@@ -43,7 +44,7 @@ module _ (frame : Frame) (records : Records) (width height : ℕ) where
           omega (arith, above, (offers-parts records width height shelf candidate offer).rank)
 
   -- the first good offer of shelves in their order weighs least
-  first-good : (from : ℕ) (shelves : List ℕ) (candidate : Candidate) → Each (LiesWithin frame records.shelves) shelves → RiseFrom from (map (order_of records.shelves) shelves)
+  first-good : (from : ℕ) (shelves : List ℕ) (candidate : Candidate) → AllByRecursion (LiesWithin frame records.shelves) shelves → RiseFrom from (map (order_of records.shelves) shelves)
       → first_offer (good_offer records width height) shelves ≡ Some candidate → IsLeast frame records width height shelves candidate × (candidate.rank < bad_fit_rank)
   first-good from [] candidate within rise first = absurd (cc)
   first-good from (shelf ∷ shelves) candidate within rise first =
@@ -63,7 +64,7 @@ module _ (frame : Frame) (records : Records) (width height : ℕ) where
           let same : own ≡ candidate = cc in
           let offer = good-is shelf candidate (good ∙ ap Some same) in
           let here : IsOffer records.shelves shelf candidate = offer-is frame records width height shelf candidate within.0 offer.0 in
-          let weighs : weight records.shelves candidate ≡ order_of records.shelves shelf = omega (arith, here.good offer.1, ap (place_number records.shelves) here.own) in (
+          let weighs : weight records.shelves candidate ≡ order_of records.shelves shelf = omega (arith, here.good offer.1, ap (chain_order records.shelves) here.own) in (
             least-first frame records width height shelf shelves candidate here.own offer.0
                 (λ k stands other offers.
                 let there : IsOffer records.shelves k other = offer-is frame records width height k other (Each-member (LiesWithin frame records.shelves) shelves k within.1 stands) offers in
@@ -94,7 +95,7 @@ module _ (frame : Frame) (records : Records) (width height : ℕ) where
   earliest-step shelf shelves (Some first) None bad within offer least =
       least-first frame records width height shelf shelves first (offer-is frame records width height shelf first within offer).own offer
       (λ k stands. none-less frame records width height k first (least k stands))
-  earliest-step shelf shelves (Some first) (Some later) bad within offer least = by_test (nat_lt (place_number records.shelves first.shelf) (place_number records.shelves later.shelf)) refl
+  earliest-step shelf shelves (Some first) (Some later) bad within offer least = by_test (nat_lt (chain_order records.shelves first.shelf) (chain_order records.shelves later.shelf)) refl
     where
       own : first.shelf ≡ shelf
       own = (offer-is frame records width height shelf first within offer).own
@@ -102,13 +103,13 @@ module _ (frame : Frame) (records : Records) (width height : ℕ) where
       ranks : first.rank ≡ later.rank
       ranks = bad shelf (grind arith) first offer ∙ sym (bad later.shelf (omega (arith, least.stands)) later least.offer)
 
-      by_test : (b : Bool) → nat_lt (place_number records.shelves first.shelf) (place_number records.shelves later.shelf) ≡ b → IsOutcome frame records width height (shelf ∷ shelves) (cond b (Some first) (Some later))
+      by_test : (b : Bool) → nat_lt (chain_order records.shelves first.shelf) (chain_order records.shelves later.shelf) ≡ b → IsOutcome frame records width height (shelf ∷ shelves) (cond b (Some first) (Some later))
       by_test true e =
-          let before : place_number records.shelves first.shelf < place_number records.shelves later.shelf = grind (arith, nat_tests) in
+          let before : chain_order records.shelves first.shelf < chain_order records.shelves later.shelf = grind (arith, nat_tests) in
           least-first frame records width height shelf shelves first own offer
           (λ k stands other offers. omega (arith, ranks, before, least.least k stands other offers))
       by_test false e =
-          let after : place_number records.shelves later.shelf ≤ place_number records.shelves first.shelf = grind (arith, nat_tests) in
+          let after : chain_order records.shelves later.shelf ≤ chain_order records.shelves first.shelf = grind (arith, nat_tests) in
           least-later frame records width height shelf shelves later
           (λ other offers.
           let same : first ≡ other = cc in
@@ -116,7 +117,7 @@ module _ (frame : Frame) (records : Records) (width height : ℕ) where
           omega (arith, ranks, after, weighs)) least
 
   -- where all offers rank alike, that of the earliest place weighs least
-  earliest-outcome : (shelves : List ℕ) → ((k : ℕ) → 1 ≤ times k shelves → OffersBad k) → Each (LiesWithin frame records.shelves) shelves
+  earliest-outcome : (shelves : List ℕ) → ((k : ℕ) → 1 ≤ times k shelves → OffersBad k) → AllByRecursion (LiesWithin frame records.shelves) shelves
       → IsOutcome frame records width height shelves (earliest records.shelves (map (offered records width height) shelves))
   earliest-outcome [] bad within = λ k stands. absurd (omega (arith, stands))
   earliest-outcome (shelf ∷ shelves) bad within =
@@ -124,7 +125,7 @@ module _ (frame : Frame) (records : Records) (width height : ℕ) where
       (earliest-outcome shelves (λ k stands. bad k (omega (arith, stands))) within.1)
 
   -- what the search by height finds weighs least
-  by_height-outcome : (from : ℕ) (shelves : List ℕ) → Each (LiesWithin frame records.shelves) shelves → RiseFrom from (map (order_of records.shelves) shelves)
+  by_height-outcome : (from : ℕ) (shelves : List ℕ) → AllByRecursion (LiesWithin frame records.shelves) shelves → RiseFrom from (map (order_of records.shelves) shelves)
       → IsOutcome frame records width height shelves (first_by_height records width height shelves)
   by_height-outcome from shelves within rise = by_first (first_offer (good_offer records width height) shelves) refl
     where
@@ -138,19 +139,19 @@ module _ (frame : Frame) (records : Records) (width height : ℕ) where
       by_first (Some candidate) first = (first-good from shelves candidate within rise first).0
 
 -- a fact of each number of one list is one of each of another that has the same numbers
-each-of : (P : ℕ → Type 0) (xs ys : List ℕ) → ((k : ℕ) → 1 ≤ times k ys → 1 ≤ times k xs) → Each P xs → Each P ys
+each-of : (P : ℕ → Type 0) (xs ys : List ℕ) → ((k : ℕ) → 1 ≤ times k ys → 1 ≤ times k xs) → AllByRecursion P xs → AllByRecursion P ys
 each-of P xs [] less each = tt
 each-of P xs (y ∷ ys) less each = (Each-member P xs y each (less y (grind arith)), each-of P xs ys (λ k stands. less k (omega (arith, stands))) each)
 
 -- the shelf of least rank is the one that the search by height finds
-pub best-by-height : (frame : Frame) (records : Records) (ranked : List RankedShelf) (width height : ℕ) → AreKept frame records → AreRanked frame records ranked
-    → best_candidate records width height ≡ first_by_height records width height (ranked_numbers ranked)
-best-by-height frame records ranked width height kept are =
+pub best-by-height : (frame : Frame) (records : Records) (by_height : List BoundedShelf) (width height : ℕ) → AreKept frame records → AreByHeight frame records by_height
+    → best_candidate records width height ≡ first_by_height records width height (numbers_by_height by_height)
+best-by-height frame records by_height width height kept are =
     let chain : List ℕ = (shelf_walk records).met in
-    let within : Each (LiesWithin frame records.shelves) chain = kept-within frame records kept in
-    let same : (k : ℕ) → times k (ranked_numbers ranked) ≡ times k chain = λ k. are.once k ∙ ap (times k) (walked-numbers records chain) in
-    outcome-same frame records width height 0 chain (ranked_numbers ranked) (best_candidate records width height) (first_by_height records width height (ranked_numbers ranked)) within
+    let within : AllByRecursion (LiesWithin frame records.shelves) chain = kept-within frame records kept in
+    let same : (k : ℕ) → times k (numbers_by_height by_height) ≡ times k chain = λ k. are.once k ∙ ap (times k) (walked-numbers records chain) in
+    outcome-same frame records width height 0 chain (numbers_by_height by_height) (best_candidate records width height) (first_by_height records width height (numbers_by_height by_height)) within
     (places-rise frame records kept) same
     (lowest-outcome frame records width height 0 chain within (places-rise frame records kept))
-    (by_height-outcome frame records width height 0 (ranked_numbers ranked)
-    (each-of (LiesWithin frame records.shelves) chain (ranked_numbers ranked) (λ k stands. omega (arith, stands, same k)) within) are.rising)
+    (by_height-outcome frame records width height 0 (numbers_by_height by_height)
+    (each-of (LiesWithin frame records.shelves) chain (numbers_by_height by_height) (λ k stands. omega (arith, stands, same k)) within) are.rising)

@@ -8,23 +8,23 @@ use Rattle.std.specs.Prelude.{find, nat_le, nat_lt, if◌then◌else◌}
 use Rattle.etagere_links.specs.RecordLists.{Records, free_walk}
 use Rattle.etagere_links.specs.declared.records.LinkedShelf.{LinkedShelf}
 use Rattle.shelf_records.specs.AtlasRecords.{height_of, item_at}
-use Rattle.shelf_heights.specs.Private.ByHeight.{place_number, ranked_at, ranked_numbers}
-use Rattle.shelf_store.specs.Private.Opening.{AreSearchable, IsEarliestWide, IsSearchable, looked_into, place_at, widest_of}
+use Rattle.shelf_heights.specs.Private.ByHeight.{chain_order, bounded_at, numbers_by_height}
+use Rattle.shelf_store.specs.Private.Opening.{AreSearchable, IsEarliestWide, IsSearchable, looked_into, chain_order_at, widest_of}
 use Rattle.shelf_store.specs.Private.Searching.{earlier, earliest, first_wide, offered, rank_of}
 use Rattle.shelf_store.specs.declared.choosing.Candidate.{Candidate}
-use Rattle.shelf_heights.specs.declared.ranked.RankedShelf.{RankedShelf}
+use Rattle.shelf_heights.specs.declared.by_height.BoundedShelf.{BoundedShelf}
 use Rattle.shelf_store.proofs.ByHeight.EarliestShelves.{each-at}
 use Rattle.shelf_store.proofs.ByHeight.SearchedOnes.{offered-low}
 use Rattle.shelf_store.proofs.ByHeight.Searches.{SearchesFrom}
 use Rattle.shelf_store.proofs.Searched.SearchSteps.{is_wide}
 
 -- how many bounds are not below a width
-abbrev pub wide_count : ℕ → List RankedShelf → ℕ
+abbrev pub wide_count : ℕ → List BoundedShelf → ℕ
 wide_count width [] = 0
 wide_count width (one ∷ others) = (if nat_le width one.widest then 1 else 0) + wide_count width others
 
 -- with a narrow bound in place of a wide one they are fewer
-pub count-fallen : (width index : ℕ) (ranked : List RankedShelf) (one : RankedShelf) → index < length ranked → width ≤ (ranked_at ranked index).widest → one.widest < width → wide_count width (set ranked index one) < wide_count width ranked
+pub count-fallen : (width index : ℕ) (by_height : List BoundedShelf) (one : BoundedShelf) → index < length by_height → width ≤ (bounded_at by_height index).widest → one.widest < width → wide_count width (set by_height index one) < wide_count width by_height
 count-fallen width index [] one within wide narrow = absurd (omega arith)
 count-fallen width zero (first ∷ others) one within wide narrow =
     let high : nat_le width first.widest ≡ true = grind (arith, nat_tests) in
@@ -44,7 +44,7 @@ widest-low records width (n ∷ ns) some none = by_test (nat_le width (item_at r
         omega (arith, low, rest none)
 
 -- a shelf that is tall enough and offers nothing has a narrow bound once its free list was searched
-pub looked-low : (records : Records) (width height : ℕ) (one : RankedShelf) → 1 ≤ width → height ≤ height_of records.shelves one.shelf → offered records width height one.shelf ≡ None → (looked_into records width one).widest < width
+pub looked-low : (records : Records) (width height : ℕ) (one : BoundedShelf) → 1 ≤ width → height ≤ height_of records.shelves one.shelf → offered records width height one.shelf ≡ None → (looked_into records width one).widest < width
 looked-low records width height one some tall none = by_first (first_wide records width one.shelf) refl
   where
     tall_is : nat_le height (height_of records.shelves one.shelf) ≡ true
@@ -67,19 +67,19 @@ offered-of records width height shelf candidate offers = by_parts (nat_le height
 module _ (shelves : List LinkedShelf) (offers : ℕ → Option Candidate) where
   -- each offer of these shelves is of one whose place is later
   abbrev AreLater : ℕ → List ℕ → Type 0
-  AreLater place ns = (k : ℕ) → k < length ns → (candidate : Candidate) → offers (get_or ns k 0) ≡ Some candidate → place < place_number shelves candidate.shelf
+  AreLater place ns = (k : ℕ) → k < length ns → (candidate : Candidate) → offers (get_or ns k 0) ≡ Some candidate → place < chain_order shelves candidate.shelf
 
-  later-stays : (one : Candidate) (ns : List ℕ) → AreLater (place_number shelves one.shelf) ns → earlier shelves (Some one) (earliest shelves (map offers ns)) ≡ Some one
+  later-stays : (one : Candidate) (ns : List ℕ) → AreLater (chain_order shelves one.shelf) ns → earlier shelves (Some one) (earliest shelves (map offers ns)) ≡ Some one
   later-stays one [] later = refl
   later-stays one (n ∷ ns) later = by_offer (offers n) refl (earliest shelves (map offers ns)) refl (later-stays one ns (λ k within candidate is. later (suc k) (omega (arith, within)) candidate is))
     where
-      test : (other : Candidate) → offers n ≡ Some other → nat_lt (place_number shelves one.shelf) (place_number shelves other.shelf) ≡ true
+      test : (other : Candidate) → offers n ≡ Some other → nat_lt (chain_order shelves one.shelf) (chain_order shelves other.shelf) ≡ true
       test other e = let less = later 0 (omega arith) other e in grind (arith, nat_tests)
 
       by_offer : (o : Option Candidate) → offers n ≡ o → (r : Option Candidate) → earliest shelves (map offers ns) ≡ r → earlier shelves (Some one) (earliest shelves (map offers ns)) ≡ Some one → earlier shelves (Some one) (earlier shelves (offers n) (earliest shelves (map offers ns))) ≡ Some one
       by_offer None e r f rest = rw e rest
       by_offer (Some other) e None f rest = rw (e, f, test other e) refl
-      by_offer (Some other) e (Some third) f rest = rw (e, f) (by_test (nat_lt (place_number shelves other.shelf) (place_number shelves third.shelf)))
+      by_offer (Some other) e (Some third) f rest = rw (e, f) (by_test (nat_lt (chain_order shelves other.shelf) (chain_order shelves third.shelf)))
         where
           by_test : (b : Bool) → earlier shelves (Some one) (cond b (Some other) (Some third)) ≡ Some one
           by_test true = rw (test other e) refl
@@ -87,8 +87,8 @@ module _ (shelves : List LinkedShelf) (offers : ℕ → Option Candidate) where
 
   -- the offer at a position, before which no place is earlier and behind which each is later, is the earliest
   pub earliest-is : (ns : List ℕ) (index : ℕ) (one : Candidate) → index < length ns → offers (get_or ns index 0) ≡ Some one
-      → ((k : ℕ) → k < index → (candidate : Candidate) → offers (get_or ns k 0) ≡ Some candidate → place_number shelves one.shelf ≤ place_number shelves candidate.shelf)
-      → ((k : ℕ) → index < k → k < length ns → (candidate : Candidate) → offers (get_or ns k 0) ≡ Some candidate → place_number shelves one.shelf < place_number shelves candidate.shelf)
+      → ((k : ℕ) → k < index → (candidate : Candidate) → offers (get_or ns k 0) ≡ Some candidate → chain_order shelves one.shelf ≤ chain_order shelves candidate.shelf)
+      → ((k : ℕ) → index < k → k < length ns → (candidate : Candidate) → offers (get_or ns k 0) ≡ Some candidate → chain_order shelves one.shelf < chain_order shelves candidate.shelf)
       → earliest shelves (map offers ns) ≡ Some one
   earliest-is [] index one within is before behind = absurd (omega arith)
   earliest-is (n ∷ ns) zero one within is before behind =
@@ -102,7 +102,7 @@ module _ (shelves : List LinkedShelf) (offers : ℕ → Option Candidate) where
       by_offer None e = rw e refl
       by_offer (Some other) e =
           let high = before 0 (omega arith) other e in
-          let test : nat_lt (place_number shelves other.shelf) (place_number shelves one.shelf) ≡ false = grind (arith, nat_tests) in
+          let test : nat_lt (chain_order shelves other.shelf) (chain_order shelves one.shelf) ≡ false = grind (arith, nat_tests) in
           rw (e, test) refl
 
 -- the number at a position behind another
@@ -118,52 +118,52 @@ length-drop ns zero within = omega arith
 length-drop [] (suc from) within = absurd (omega arith)
 length-drop (n ∷ ns) (suc from) within = omega (arith, length-drop ns from (omega arith))
 
-number-at : (ranked : List RankedShelf) (k : ℕ) → k < length ranked → get_or (ranked_numbers ranked) k 0 ≡ (ranked_at ranked k).shelf
+number-at : (by_height : List BoundedShelf) (k : ℕ) → k < length by_height → get_or (numbers_by_height by_height) k 0 ≡ (bounded_at by_height k).shelf
 number-at [] k within = absurd (omega arith)
 number-at (one ∷ others) zero within = refl
 number-at (one ∷ others) (suc k) within = number-at others k (omega arith)
 
 -- what the shelf in the first place offers is chosen of those from a position on
-pub chosen-earliest : (records : Records) (width height start index : ℕ) (ranked : List RankedShelf) (candidate : Candidate) → AreSearchable records ranked → IsEarliestWide records.shelves ranked start (length ranked) width index
-    → offered records width height (ranked_at ranked index).shelf ≡ Some candidate → earliest records.shelves (map (offered records width height) (drop start (ranked_numbers ranked))) ≡ Some candidate
-chosen-earliest records width height start index ranked candidate searchable is offers =
+pub chosen-earliest : (records : Records) (width height start index : ℕ) (by_height : List BoundedShelf) (candidate : Candidate) → AreSearchable records by_height → IsEarliestWide records.shelves by_height start (length by_height) width index
+    → offered records width height (bounded_at by_height index).shelf ≡ Some candidate → earliest records.shelves (map (offered records width height) (drop start (numbers_by_height by_height))) ≡ Some candidate
+chosen-earliest records width height start index by_height candidate searchable is offers =
     earliest-is records.shelves (offered records width height) (drop start numbers) (index - start) candidate (omega (arith, inside, is.after, is.within))
     (number_is (index - start) index (omega (arith, is.after)) is.within ∙ offers)
-    (λ k low other offer. subst (λ n. place_number records.shelves candidate.shelf ≤ n) (place_of_offer k (omega (arith, low, is.within)) other offer) (rw own (is.before (start + k) (omega arith) (omega (arith, low, is.after)) (wide k (omega (arith, low, is.within)) other offer))))
-    (λ k high within other offer. subst (λ n. place_number records.shelves candidate.shelf < n) (place_of_offer k (omega (arith, within, inside)) other offer) (rw own (is.behind (start + k) (omega (arith, high, is.after)) (omega (arith, within, inside)) (wide k (omega (arith, within, inside)) other offer))))
+    (λ k low other offer. subst (λ n. chain_order records.shelves candidate.shelf ≤ n) (place_of_offer k (omega (arith, low, is.within)) other offer) (rw own (is.before (start + k) (omega arith) (omega (arith, low, is.after)) (wide k (omega (arith, low, is.within)) other offer))))
+    (λ k high within other offer. subst (λ n. chain_order records.shelves candidate.shelf < n) (place_of_offer k (omega (arith, within, inside)) other offer) (rw own (is.behind (start + k) (omega (arith, high, is.after)) (omega (arith, within, inside)) (wide k (omega (arith, within, inside)) other offer))))
   where
     numbers : List ℕ
-    numbers = ranked_numbers ranked
+    numbers = numbers_by_height by_height
 
-    inside : start + length (drop start numbers) ≡ length ranked
-    inside = length-drop numbers start (omega (arith, is.after, is.within, length-map ranked (λ (x : RankedShelf). x.shelf))) ∙ length-map ranked (λ (x : RankedShelf). x.shelf)
+    inside : start + length (drop start numbers) ≡ length by_height
+    inside = length-drop numbers start (omega (arith, is.after, is.within, length-map by_height (λ (x : BoundedShelf). x.shelf))) ∙ length-map by_height (λ (x : BoundedShelf). x.shelf)
 
-    own : place_number records.shelves candidate.shelf ≡ place_at records.shelves ranked index
-    own = ap (place_number records.shelves) (offered-of records width height (ranked_at ranked index).shelf candidate offers)
+    own : chain_order records.shelves candidate.shelf ≡ chain_order_at records.shelves by_height index
+    own = ap (chain_order records.shelves) (offered-of records width height (bounded_at by_height index).shelf candidate offers)
 
-    number_is : (k place : ℕ) → start + k ≡ place → place < length ranked → offered records width height (get_or (drop start numbers) k 0) ≡ offered records width height (ranked_at ranked place).shelf
-    number_is k place sum within = ap (offered records width height) (get-drop numbers start k ∙ ap (λ n. get_or numbers n 0) sum ∙ number-at ranked place within)
+    number_is : (k place : ℕ) → start + k ≡ place → place < length by_height → offered records width height (get_or (drop start numbers) k 0) ≡ offered records width height (bounded_at by_height place).shelf
+    number_is k place sum within = ap (offered records width height) (get-drop numbers start k ∙ ap (λ n. get_or numbers n 0) sum ∙ number-at by_height place within)
 
-    offer_at : (k : ℕ) → start + k < length ranked → (other : Candidate) → offered records width height (get_or (drop start numbers) k 0) ≡ Some other → offered records width height (ranked_at ranked (start + k)).shelf ≡ Some other
+    offer_at : (k : ℕ) → start + k < length by_height → (other : Candidate) → offered records width height (get_or (drop start numbers) k 0) ≡ Some other → offered records width height (bounded_at by_height (start + k)).shelf ≡ Some other
     offer_at k within other offer = sym (number_is k (start + k) refl within) ∙ offer
 
-    place_of_offer : (k : ℕ) → start + k < length ranked → (other : Candidate) → offered records width height (get_or (drop start numbers) k 0) ≡ Some other → place_at records.shelves ranked (start + k) ≡ place_number records.shelves other.shelf
-    place_of_offer k within other offer = ap (place_number records.shelves) (sym (offered-of records width height (ranked_at ranked (start + k)).shelf other (offer_at k within other offer)))
+    place_of_offer : (k : ℕ) → start + k < length by_height → (other : Candidate) → offered records width height (get_or (drop start numbers) k 0) ≡ Some other → chain_order_at records.shelves by_height (start + k) ≡ chain_order records.shelves other.shelf
+    place_of_offer k within other offer = ap (chain_order records.shelves) (sym (offered-of records width height (bounded_at by_height (start + k)).shelf other (offer_at k within other offer)))
 
-    wide : (k : ℕ) → start + k < length ranked → (other : Candidate) → offered records width height (get_or (drop start numbers) k 0) ≡ Some other → width ≤ (ranked_at ranked (start + k)).widest
-    wide k within other offer = by_test (nat_lt (ranked_at ranked (start + k)).widest width) refl
+    wide : (k : ℕ) → start + k < length by_height → (other : Candidate) → offered records width height (get_or (drop start numbers) k 0) ≡ Some other → width ≤ (bounded_at by_height (start + k)).widest
+    wide k within other offer = by_test (nat_lt (bounded_at by_height (start + k)).widest width) refl
       where
-        by_test : (b : Bool) → nat_lt (ranked_at ranked (start + k)).widest width ≡ b → width ≤ (ranked_at ranked (start + k)).widest
+        by_test : (b : Bool) → nat_lt (bounded_at by_height (start + k)).widest width ≡ b → width ≤ (bounded_at by_height (start + k)).widest
         by_test false e = grind (arith, nat_tests)
         by_test true e =
-            let low : (ranked_at ranked (start + k)).widest < width = grind (arith, nat_tests) in
-            let none = offered-low records width height (ranked_at ranked (start + k)) (each-at (IsSearchable records) ranked (start + k) within searchable) low in
+            let low : (bounded_at by_height (start + k)).widest < width = grind (arith, nat_tests) in
+            let none = offered-low records width height (bounded_at by_height (start + k)) (each-at (IsSearchable records) by_height (start + k) within searchable) low in
             let some = offer_at k within other offer in
             absurd (cc)
 
 -- where something is offered there, that is it
-pub offer-earliest : (records : Records) (width height start index : ℕ) (numbers : List ℕ) (ranked : List RankedShelf) (found : Option Candidate) → SearchesFrom records height start numbers ranked → IsEarliestWide records.shelves ranked start (length ranked) width index
-    → found ≡ offered records width height (ranked_at ranked index).shelf → is_some found ≡ true → found ≡ earliest records.shelves (map (offered records width height) (drop start numbers))
-offer-earliest records width height start index numbers ranked None search is value some = absurd (cc)
-offer-earliest records width height start index numbers ranked (Some candidate) search is value some =
-    sym (ap (λ (ns : List ℕ). earliest records.shelves (map (offered records width height) (drop start ns))) (sym search.same) ∙ chosen-earliest records width height start index ranked candidate search.searchable is (sym value))
+pub offer-earliest : (records : Records) (width height start index : ℕ) (numbers : List ℕ) (by_height : List BoundedShelf) (found : Option Candidate) → SearchesFrom records height start numbers by_height → IsEarliestWide records.shelves by_height start (length by_height) width index
+    → found ≡ offered records width height (bounded_at by_height index).shelf → is_some found ≡ true → found ≡ earliest records.shelves (map (offered records width height) (drop start numbers))
+offer-earliest records width height start index numbers by_height None search is value some = absurd (cc)
+offer-earliest records width height start index numbers by_height (Some candidate) search is value some =
+    sym (ap (λ (ns : List ℕ). earliest records.shelves (map (offered records width height) (drop start ns))) (sym search.same) ∙ chosen-earliest records width height start index by_height candidate search.searchable is (sym value))

@@ -3,52 +3,52 @@
 use Rattle.std.proofs.Common.{◌≡◌, ℕ, zero, suc, ◌+◌, ◌<◌, ◌≤◌, Bool, true, false, cond, Option, None, Some, List, [], ◌∷◌, drop, length, map, take, refl, arith, sym, subst}
 use Rattle.std.proofs.lemmas.Bool.Decides.{nat_tests}
 use Rattle.std.specs.Prelude.{◌*◌, ◌==◌, IfSome, nat_lt}
-use Rattle.etagere_base.specs.Lists.{Each}
+use Rattle.std.specs.List.{AllByRecursion}
 use Rattle.etagere_links.specs.declared.records.LinkedShelf.{LinkedShelf}
 use Rattle.shelf_records.specs.AtlasRecords.{height_of}
 use Rattle.shelf_model.specs.Listing.{RiseFrom}
-use Rattle.shelf_heights.specs.Private.ByHeight.{AreInOrder, IsFirstAsWide, IsStart, order_at, order_of, place_number, ranked_at, ranked_numbers}
-use Rattle.shelf_store.specs.Private.Opening.{ArePlaced, IsBehind, IsEarliest, IsEarliestWide, earlier_position, place_at}
+use Rattle.shelf_heights.specs.Private.ByHeight.{AreInOrder, IsFirstAsWide, IsStart, order_at, order_of, chain_order, bounded_at, numbers_by_height}
+use Rattle.shelf_store.specs.Private.Opening.{ArePlaced, IsBehind, IsEarliest, IsEarliestWide, earlier_position, chain_order_at}
 use Rattle.shelf_store.specs.Private.Searching.{earliest}
-use Rattle.shelf_heights.specs.declared.ranked.RankedShelf.{RankedShelf}
+use Rattle.shelf_heights.specs.declared.by_height.BoundedShelf.{BoundedShelf}
 use Rattle.shelf_heights.proofs.ByHeight.Positions.{rise-read}
 
 -- a shelf with no bound and no number
-abbrev nothing : RankedShelf
+abbrev nothing : BoundedShelf
 nothing = record { widest = 0; shelf = 0 }
 
 -- a fact of each is one of that at a position, between two, from one on, and up to one
-pub each-at : (P : RankedShelf → Type 0) (ones : List RankedShelf) (k : ℕ) → k < length ones → Each P ones → P (ranked_at ones k)
+pub each-at : (P : BoundedShelf → Type 0) (ones : List BoundedShelf) (k : ℕ) → k < length ones → AllByRecursion P ones → P (bounded_at ones k)
 each-at P [] k within each = absurd (omega arith)
 each-at P (one ∷ ones) zero within each = each.0
 each-at P (one ∷ ones) (suc k) within each = each-at P ones k (omega arith) each.1
 
-each-from : (P : RankedShelf → Type 0) (ones : List RankedShelf) (from k : ℕ) → from ≤ k → k < length ones → Each P (drop from ones) → P (ranked_at ones k)
+each-from : (P : BoundedShelf → Type 0) (ones : List BoundedShelf) (from k : ℕ) → from ≤ k → k < length ones → AllByRecursion P (drop from ones) → P (bounded_at ones k)
 each-from P ones zero k after within each = each-at P ones k within each
 each-from P [] (suc from) k after within each = absurd (omega arith)
 each-from P (one ∷ ones) (suc from) zero after within each = absurd (omega arith)
 each-from P (one ∷ ones) (suc from) (suc k) after within each = each-from P ones from k (omega arith) (omega arith) each
 
-pub number-from : (P : ℕ → Type 0) (ones : List RankedShelf) (from k : ℕ) → from ≤ k → k < length ones → Each P (drop from (ranked_numbers ones)) → P (ranked_at ones k).shelf
+pub number-from : (P : ℕ → Type 0) (ones : List BoundedShelf) (from k : ℕ) → from ≤ k → k < length ones → AllByRecursion P (drop from (numbers_by_height ones)) → P (bounded_at ones k).shelf
 number-from P [] from k after within each = absurd (omega arith)
 number-from P (one ∷ ones) zero zero after within each = each.0
 number-from P (one ∷ ones) zero (suc k) after within each = number-from P ones zero k (omega arith) (omega arith) each.1
 number-from P (one ∷ ones) (suc from) zero after within each = absurd (omega arith)
 number-from P (one ∷ ones) (suc from) (suc k) after within each = number-from P ones from k (omega arith) (omega arith) each
 
-pub from-each : (P : RankedShelf → Type 0) (ones : List RankedShelf) (from : ℕ) → ((k : ℕ) → from ≤ k → k < length ones → P (ranked_at ones k)) → Each P (drop from ones)
+pub from-each : (P : BoundedShelf → Type 0) (ones : List BoundedShelf) (from : ℕ) → ((k : ℕ) → from ≤ k → k < length ones → P (bounded_at ones k)) → AllByRecursion P (drop from ones)
 from-each P [] zero each = tt
 from-each P [] (suc from) each = tt
 from-each P (one ∷ ones) zero each = (each 0 (omega arith) (omega arith), from-each P ones zero (λ k after within. each (suc k) (omega arith) (omega (arith, within))))
 from-each P (one ∷ ones) (suc from) each = from-each P ones from (λ k after within. each (suc k) (omega (arith, after)) (omega (arith, within)))
 
-each-to : (P : RankedShelf → Type 0) (ones : List RankedShelf) (to k : ℕ) → k < to → k < length ones → Each P (take to ones) → P (ranked_at ones k)
+each-to : (P : BoundedShelf → Type 0) (ones : List BoundedShelf) (to k : ℕ) → k < to → k < length ones → AllByRecursion P (take to ones) → P (bounded_at ones k)
 each-to P ones zero k before within each = absurd (omega arith)
 each-to P [] (suc to) k before within each = absurd (omega arith)
 each-to P (one ∷ ones) (suc to) zero before within each = each.0
 each-to P (one ∷ ones) (suc to) (suc k) before within each = each-to P ones to k (omega arith) (omega arith) each.1
 
-each-between : (P : RankedShelf → Type 0) (ones : List RankedShelf) (from to k : ℕ) → from ≤ k → k < to → k < length ones → Each P (drop from (take to ones)) → P (ranked_at ones k)
+each-between : (P : BoundedShelf → Type 0) (ones : List BoundedShelf) (from to k : ℕ) → from ≤ k → k < to → k < length ones → AllByRecursion P (drop from (take to ones)) → P (bounded_at ones k)
 each-between P ones zero to k after before within each = each-to P ones to k before within each
 each-between P ones (suc from) zero k after before within each = absurd (omega arith)
 each-between P [] (suc from) (suc to) k after before within each = absurd (omega arith)
@@ -56,47 +56,47 @@ each-between P (one ∷ ones) (suc from) (suc to) zero after before within each 
 each-between P (one ∷ ones) (suc from) (suc to) (suc k) after before within each = each-between P ones from to k (omega arith) (omega arith) (omega arith) each
 
 -- the bound of the shelf that is found is as wide
-pub found-wide : (ones : List RankedShelf) (index width : ℕ) → index < length ones → Each (λ (one : RankedShelf). width ≤ one.widest) (take 1 (drop index ones)) → width ≤ (ranked_at ones index).widest
+pub found-wide : (ones : List BoundedShelf) (index width : ℕ) → index < length ones → AllByRecursion (λ (one : BoundedShelf). width ≤ one.widest) (take 1 (drop index ones)) → width ≤ (bounded_at ones index).widest
 found-wide [] index width within each = absurd (omega arith)
 found-wide (one ∷ ones) zero width within each = each.0
 found-wide (one ∷ ones) (suc index) width within each = found-wide ones index width (omega arith) each
 
 -- orders rise from position to position
-orders-rise : (shelves : List LinkedShelf) (from : ℕ) (ranked : List RankedShelf) (k next : ℕ) → k < next → next < length ranked → RiseFrom from (map (order_of shelves) (ranked_numbers ranked))
-    → order_of shelves (ranked_at ranked k).shelf < order_of shelves (ranked_at ranked next).shelf
+orders-rise : (shelves : List LinkedShelf) (from : ℕ) (by_height : List BoundedShelf) (k next : ℕ) → k < next → next < length by_height → RiseFrom from (map (order_of shelves) (numbers_by_height by_height))
+    → order_of shelves (bounded_at by_height k).shelf < order_of shelves (bounded_at by_height next).shelf
 orders-rise shelves from [] k next less within rise = absurd (omega arith)
 orders-rise shelves from (one ∷ others) k zero less within rise = absurd (omega arith)
 orders-rise shelves from (one ∷ others) zero (suc next) less within rise =
     omega (arith, rise-read shelves (order_of shelves one.shelf + 1) next others nothing (omega arith) rise.1)
 orders-rise shelves from (one ∷ others) (suc k) (suc next) less within rise = orders-rise shelves (order_of shelves one.shelf + 1) others k next (omega arith) (omega arith) rise.1
 
-module _ (shelves : List LinkedShelf) (ranked : List RankedShelf) where
+module _ (shelves : List LinkedShelf) (by_height : List BoundedShelf) where
   -- before the first shelf that is as wide none is found
-  pub none-earliest : (start width : ℕ) → IsEarliest shelves ranked start start width None
+  pub none-earliest : (start width : ℕ) → IsEarliest shelves by_height start start width None
   none-earliest start width = λ k after before. absurd (omega (arith, after, before))
 
   -- the next shelf that is as wide is found, unless that before it has the earlier place
-  pub next-earliest : (start from index next width : ℕ) (first : Option ℕ) → start ≤ from → IsEarliest shelves ranked start from width first → IsFirstAsWide from width ranked (Some index) → IsBehind shelves ranked index next
-      → IsEarliest shelves ranked start next width (Some (earlier_position shelves ranked first index))
+  pub next-earliest : (start from index next width : ℕ) (first : Option ℕ) → start ≤ from → IsEarliest shelves by_height start from width first → IsFirstAsWide from width by_height (Some index) → IsBehind shelves by_height index next
+      → IsEarliest shelves by_height start next width (Some (earlier_position shelves by_height first index))
   next-earliest start from index next width first after earliest reached behind = by_first first earliest
     where
-      between : (k : ℕ) → from ≤ k → k < index → (ranked_at ranked k).widest < width
-      between k beyond before = each-between (λ (one : RankedShelf). one.widest < width) ranked from index k beyond before (omega (arith, before, reached.1)) reached.2
+      between : (k : ℕ) → from ≤ k → k < index → (bounded_at by_height k).widest < width
+      between k beyond before = each-between (λ (one : BoundedShelf). one.widest < width) by_height from index k beyond before (omega (arith, before, reached.1)) reached.2
 
-      new : ((k : ℕ) → start ≤ k → k < from → width ≤ (ranked_at ranked k).widest → place_at shelves ranked index ≤ place_at shelves ranked k) → IsEarliestWide shelves ranked start next width index
+      new : ((k : ℕ) → start ≤ k → k < from → width ≤ (bounded_at by_height k).widest → chain_order_at shelves by_height index ≤ chain_order_at shelves by_height k) → IsEarliestWide shelves by_height start next width index
       new earlier_ones = record {
         after = omega (arith, after, reached.0);
         within = behind.after;
-        wide = found-wide ranked index width reached.1 reached.3;
+        wide = found-wide by_height index width reached.1 reached.3;
         before = λ k beyond before wide. by_test k beyond before wide (nat_lt k from) refl;
         behind = λ k beyond before wide. behind.later k beyond before;
       }
         where
-          by_test : (k : ℕ) → start ≤ k → k < index → width ≤ (ranked_at ranked k).widest → (b : Bool) → nat_lt k from ≡ b → place_at shelves ranked index ≤ place_at shelves ranked k
+          by_test : (k : ℕ) → start ≤ k → k < index → width ≤ (bounded_at by_height k).widest → (b : Bool) → nat_lt k from ≡ b → chain_order_at shelves by_height index ≤ chain_order_at shelves by_height k
           by_test k beyond before wide true e = let here : k < from = grind (arith, nat_tests) in earlier_ones k beyond here wide
           by_test k beyond before wide false e = let here : from ≤ k = grind (arith, nat_tests) in absurd (omega (arith, wide, between k here before))
 
-      kept : (one : ℕ) → IsEarliestWide shelves ranked start from width one → place_at shelves ranked one < place_at shelves ranked index → IsEarliestWide shelves ranked start next width one
+      kept : (one : ℕ) → IsEarliestWide shelves by_height start from width one → chain_order_at shelves by_height one < chain_order_at shelves by_height index → IsEarliestWide shelves by_height start next width one
       kept one is less = record {
         after = is.after;
         within = omega (arith, is.within, reached.0, behind.after);
@@ -105,7 +105,7 @@ module _ (shelves : List LinkedShelf) (ranked : List RankedShelf) where
         behind = λ k beyond before wide. by_test k beyond before wide (nat_lt k from) (nat_lt k index) (k == index) refl refl refl;
       }
         where
-          by_test : (k : ℕ) → one < k → k < next → width ≤ (ranked_at ranked k).widest → (a b c : Bool) → nat_lt k from ≡ a → nat_lt k index ≡ b → (k == index) ≡ c → place_at shelves ranked one < place_at shelves ranked k
+          by_test : (k : ℕ) → one < k → k < next → width ≤ (bounded_at by_height k).widest → (a b c : Bool) → nat_lt k from ≡ a → nat_lt k index ≡ b → (k == index) ≡ c → chain_order_at shelves by_height one < chain_order_at shelves by_height k
           by_test k beyond before wide true b c e f g = let here : k < from = grind (arith, nat_tests) in is.behind k beyond here wide
           by_test k beyond before wide false true c e f g =
               let low : from ≤ k = grind (arith, nat_tests) in
@@ -113,36 +113,36 @@ module _ (shelves : List LinkedShelf) (ranked : List RankedShelf) where
               absurd (omega (arith, wide, between k low high))
           by_test k beyond before wide false false true e f g =
               let same : k ≡ index = grind arith in
-              subst (λ n. place_at shelves ranked one < place_at shelves ranked n) (sym same) less
+              subst (λ n. chain_order_at shelves by_height one < chain_order_at shelves by_height n) (sym same) less
           by_test k beyond before wide false false false e f g =
               let here : index < k = grind (arith, nat_tests) in
               omega (arith, less, behind.later k here before)
 
-      before_later : (one : ℕ) → IsEarliestWide shelves ranked start from width one → place_at shelves ranked index ≤ place_at shelves ranked one → (k : ℕ) → start ≤ k → k < from → width ≤ (ranked_at ranked k).widest → place_at shelves ranked index ≤ place_at shelves ranked k
+      before_later : (one : ℕ) → IsEarliestWide shelves by_height start from width one → chain_order_at shelves by_height index ≤ chain_order_at shelves by_height one → (k : ℕ) → start ≤ k → k < from → width ≤ (bounded_at by_height k).widest → chain_order_at shelves by_height index ≤ chain_order_at shelves by_height k
       before_later one is less k beyond before wide = by_side (nat_lt k one) (k == one) refl refl
         where
-          by_side : (a b : Bool) → nat_lt k one ≡ a → (k == one) ≡ b → place_at shelves ranked index ≤ place_at shelves ranked k
+          by_side : (a b : Bool) → nat_lt k one ≡ a → (k == one) ≡ b → chain_order_at shelves by_height index ≤ chain_order_at shelves by_height k
           by_side true b f g = let here : k < one = grind (arith, nat_tests) in omega (arith, less, is.before k beyond here wide)
-          by_side false true f g = let same : k ≡ one = grind arith in subst (λ n. place_at shelves ranked index ≤ place_at shelves ranked n) (sym same) less
+          by_side false true f g = let same : k ≡ one = grind arith in subst (λ n. chain_order_at shelves by_height index ≤ chain_order_at shelves by_height n) (sym same) less
           by_side false false f g = let here : one < k = grind (arith, nat_tests) in omega (arith, less, is.behind k here before wide)
 
-      by_first : (o : Option ℕ) → IsEarliest shelves ranked start from width o → IsEarliest shelves ranked start next width (Some (earlier_position shelves ranked o index))
+      by_first : (o : Option ℕ) → IsEarliest shelves by_height start from width o → IsEarliest shelves by_height start next width (Some (earlier_position shelves by_height o index))
       by_first None none = new (λ k beyond before wide. absurd (omega (arith, wide, none k beyond before)))
-      by_first (Some one) is = by_test (nat_lt (place_at shelves ranked one) (place_at shelves ranked index)) refl
+      by_first (Some one) is = by_test (nat_lt (chain_order_at shelves by_height one) (chain_order_at shelves by_height index)) refl
         where
-          by_test : (b : Bool) → nat_lt (place_at shelves ranked one) (place_at shelves ranked index) ≡ b → IsEarliestWide shelves ranked start next width (cond b one index)
-          by_test true e = let less : place_at shelves ranked one < place_at shelves ranked index = grind (arith, nat_tests) in kept one is less
+          by_test : (b : Bool) → nat_lt (chain_order_at shelves by_height one) (chain_order_at shelves by_height index) ≡ b → IsEarliestWide shelves by_height start next width (cond b one index)
+          by_test true e = let less : chain_order_at shelves by_height one < chain_order_at shelves by_height index = grind (arith, nat_tests) in kept one is less
           by_test false e =
-              let less : place_at shelves ranked index ≤ place_at shelves ranked one = grind (arith, nat_tests) in
+              let less : chain_order_at shelves by_height index ≤ chain_order_at shelves by_height one = grind (arith, nat_tests) in
               new (before_later one is less)
 
   -- where no bound behind is as wide, what was found is that of all
-  pub ended-earliest : (start from width : ℕ) (first : Option ℕ) → from ≤ length ranked → IsEarliest shelves ranked start from width first → IsFirstAsWide from width ranked None → IsEarliest shelves ranked start (length ranked) width first
+  pub ended-earliest : (start from width : ℕ) (first : Option ℕ) → from ≤ length by_height → IsEarliest shelves by_height start from width first → IsFirstAsWide from width by_height None → IsEarliest shelves by_height start (length by_height) width first
   ended-earliest start from width None within none low = λ k beyond before. by_test k beyond before (nat_lt k from) refl
     where
-      by_test : (k : ℕ) → start ≤ k → k < length ranked → (b : Bool) → nat_lt k from ≡ b → (ranked_at ranked k).widest < width
+      by_test : (k : ℕ) → start ≤ k → k < length by_height → (b : Bool) → nat_lt k from ≡ b → (bounded_at by_height k).widest < width
       by_test k beyond before true e = let here : k < from = grind (arith, nat_tests) in none k beyond here
-      by_test k beyond before false e = let here : from ≤ k = grind (arith, nat_tests) in each-from (λ (one : RankedShelf). one.widest < width) ranked from k here before low
+      by_test k beyond before false e = let here : from ≤ k = grind (arith, nat_tests) in each-from (λ (one : BoundedShelf). one.widest < width) by_height from k here before low
   ended-earliest start from width (Some one) within is low =
       record {
         after = is.after;
@@ -152,33 +152,33 @@ module _ (shelves : List LinkedShelf) (ranked : List RankedShelf) where
         behind = λ k beyond before wide. by_test k beyond before wide (nat_lt k from) refl;
       }
     where
-      by_test : (k : ℕ) → one < k → k < length ranked → width ≤ (ranked_at ranked k).widest → (b : Bool) → nat_lt k from ≡ b → place_at shelves ranked one < place_at shelves ranked k
+      by_test : (k : ℕ) → one < k → k < length by_height → width ≤ (bounded_at by_height k).widest → (b : Bool) → nat_lt k from ≡ b → chain_order_at shelves by_height one < chain_order_at shelves by_height k
       by_test k beyond before wide true e = let here : k < from = grind (arith, nat_tests) in is.behind k beyond here wide
       by_test k beyond before wide false e =
           let here : from ≤ k = grind (arith, nat_tests) in
-          absurd (omega (arith, wide, each-from (λ (one : RankedShelf). one.widest < width) ranked from k here before low))
+          absurd (omega (arith, wide, each-from (λ (one : BoundedShelf). one.widest < width) by_height from k here before low))
 
   -- what was found is a shelf of the list
-  pub first-within : (start from width : ℕ) (first : Option ℕ) → from ≤ length ranked → IsEarliest shelves ranked start from width first → IfSome first (λ index. index < length ranked)
+  pub first-within : (start from width : ℕ) (first : Option ℕ) → from ≤ length by_height → IsEarliest shelves by_height start from width first → IfSome first (λ index. index < length by_height)
   first-within start from width None within is = tt
   first-within start from width (Some one) within is = omega (arith, is.within, within)
 
   -- the next position is behind; so is that behind all shelves of this height
-  pub next-behind : (index : ℕ) → index < length ranked → IsBehind shelves ranked index (index + 1)
+  pub next-behind : (index : ℕ) → index < length by_height → IsBehind shelves by_height index (index + 1)
   next-behind index within = record { after = omega arith; within = omega (arith, within); later = λ k beyond before. absurd (omega (arith, beyond, before)) }
 
-  pub height-behind : (index next probes : ℕ) → AreInOrder shelves ranked → ArePlaced shelves ranked → index < length ranked → IsStart shelves ranked (order_at (height_of shelves (ranked_at ranked index).shelf + 1) 0) next probes → IsBehind shelves ranked index next
+  pub height-behind : (index next probes : ℕ) → AreInOrder shelves by_height → ArePlaced shelves by_height → index < length by_height → IsStart shelves by_height (order_at (height_of shelves (bounded_at by_height index).shelf + 1) 0) next probes → IsBehind shelves by_height index next
   height-behind index next probes order placed within start =
       record {
         after = by_test (nat_lt index next) refl;
         within = start.within;
         later = λ k beyond before.
-            let inside : k < length ranked = omega (arith, before, start.within) in
-            let below = each-to (λ (one : RankedShelf). order_of shelves one.shelf < order_at (height_of shelves (ranked_at ranked index).shelf + 1) 0) ranked next k before inside start.before in
-            let above = orders-rise shelves 0 ranked index k beyond inside order.rising in
-            let here = each-at (λ (one : RankedShelf). place_number shelves one.shelf < 65536 * 65536) ranked index within placed in
-            let there = each-at (λ (one : RankedShelf). place_number shelves one.shelf < 65536 * 65536) ranked k inside placed in
-            later (height_of shelves (ranked_at ranked index).shelf) (place_at shelves ranked index) (height_of shelves (ranked_at ranked k).shelf) (place_at shelves ranked k) here there above below;
+            let inside : k < length by_height = omega (arith, before, start.within) in
+            let below = each-to (λ (one : BoundedShelf). order_of shelves one.shelf < order_at (height_of shelves (bounded_at by_height index).shelf + 1) 0) by_height next k before inside start.before in
+            let above = orders-rise shelves 0 by_height index k beyond inside order.rising in
+            let here = each-at (λ (one : BoundedShelf). chain_order shelves one.shelf < 65536 * 65536) by_height index within placed in
+            let there = each-at (λ (one : BoundedShelf). chain_order shelves one.shelf < 65536 * 65536) by_height k inside placed in
+            later (height_of shelves (bounded_at by_height index).shelf) (chain_order_at shelves by_height index) (height_of shelves (bounded_at by_height k).shelf) (chain_order_at shelves by_height k) here there above below;
       }
     where
       later : (height place other behind : ℕ) → place < 65536 * 65536 → behind < 65536 * 65536 → order_at height place < order_at other behind → order_at other behind < order_at (height + 1) 0 → place < behind
@@ -188,9 +188,9 @@ module _ (shelves : List LinkedShelf) (ranked : List RankedShelf) where
       by_test true e = grind (arith, nat_tests)
       by_test false e =
           let low : next ≤ index = grind (arith, nat_tests) in
-          let high = each-from (λ (one : RankedShelf). order_at (height_of shelves (ranked_at ranked index).shelf + 1) 0 ≤ order_of shelves one.shelf) ranked next index low within start.after in
-          let here = each-at (λ (one : RankedShelf). place_number shelves one.shelf < 65536 * 65536) ranked index within placed in
-          absurd (too_high (height_of shelves (ranked_at ranked index).shelf) (place_at shelves ranked index) here high)
+          let high = each-from (λ (one : BoundedShelf). order_at (height_of shelves (bounded_at by_height index).shelf + 1) 0 ≤ order_of shelves one.shelf) by_height next index low within start.after in
+          let here = each-at (λ (one : BoundedShelf). chain_order shelves one.shelf < 65536 * 65536) by_height index within placed in
+          absurd (too_high (height_of shelves (bounded_at by_height index).shelf) (chain_order_at shelves by_height index) here high)
         where
           too_high : (height place : ℕ) → place < 65536 * 65536 → order_at (height + 1) 0 ≤ order_at height place → ⊥
           too_high height place here high = omega (arith, here, high)

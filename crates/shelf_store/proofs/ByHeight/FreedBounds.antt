@@ -3,7 +3,8 @@
 use Rattle.std.proofs.Common.{◌≡◌, ℕ, ◌+◌, ◌≤◌, Bool, true, false, Option, None, Some, List, [], ◌∷◌, ◌++◌, length, map, refl, ap, subst, arith, ◌∙◌}
 use Rattle.std.proofs.lemmas.List.{map-append}
 use Rattle.etagere_base.proofs.EachLemmas.{Each-append, Each-back, Each-front, Each-middle, Each-weaken}
-use Rattle.etagere_base.specs.Lists.{Each, NoNeighbours}
+use Rattle.std.specs.List.{AllByRecursion}
+use Rattle.etagere_base.specs.Lists.{NoNeighbours}
 use Rattle.etagere_base.specs.MergingAt.{merged_at, merged_before}
 use Rattle.etagere_links.specs.declared.records.LinkedItem.{LinkedItem}
 use Rattle.etagere_links.specs.Edits.{link_at}
@@ -16,7 +17,7 @@ use Rattle.etagere_links.proofs.ListEnds.{last-append}
 use Rattle.shelf_records.specs.AtlasRecords.{AtlasRecords, is_allocated_at, item_at, width_of}
 use Rattle.shelf_model.specs.Merging.{both_free, combined_items, merged_items}
 use Rattle.shelf_store.specs.Private.ItemReturned.{free_named}
-use Rattle.shelf_store.specs.Private.RankedReturned.{freed_width, named_width}
+use Rattle.shelf_store.specs.Private.ReturnedByHeight.{freed_width, named_width}
 use Rattle.shelf_model.specs.Returning.{freed}
 use Rattle.shelf_model.specs.State.{Item, is_free}
 use Rattle.shelf_model.proofs.Returned.MergedNear.{merged_items-freed}
@@ -28,7 +29,7 @@ abbrev pub IsWithin : ℕ → Item → Type 0
 IsWithin widest item = is_free item ≡ true → item.width ≤ widest
 
 -- the free items are no wider than a greater width
-pub within-more : (one other : ℕ) (items : List Item) → one ≤ other → Each (IsWithin one) items → Each (IsWithin other) items
+pub within-more : (one other : ℕ) (items : List Item) → one ≤ other → AllByRecursion (IsWithin one) items → AllByRecursion (IsWithin other) items
 within-more one other items less each =
     Each-weaken (IsWithin one) (IsWithin other) items (λ (item : Item) within free. omega (arith, within free, less)) each
 
@@ -38,9 +39,9 @@ record IsNextMerged (items : List LinkedItem) (front back : List ℕ) (width wid
   merged :
       merged_at both_free combined_items (length front) (map (item_at items) front ++ free_item width ∷ map (item_at items) back)
       ≡ map (item_at items) front ++ free_item (width + named_width items (free_named items (first_or None back))) ∷ rest
-  within : Each (IsWithin widest) rest
+  within : AllByRecursion (IsWithin widest) rest
 
-next-is-merged : (items : List LinkedItem) (front back : List ℕ) (width widest : ℕ) → Each (IsWithin widest) (map (item_at items) back) → IsNextMerged items front back width widest
+next-is-merged : (items : List LinkedItem) (front back : List ℕ) (width widest : ℕ) → AllByRecursion (IsWithin widest) (map (item_at items) back) → IsNextMerged items front back width widest
 next-is-merged items front [] width widest within =
     let same : width + 0 ≡ width = omega arith in
     record { rest = []; merged = rw same (next-stays (item_at items) front width [] refl); within = tt }
@@ -64,25 +65,25 @@ next-is-merged items front (next ∷ back) width widest within = by_mark (is_all
         }
 
 -- a free item that merged with the free one before it, if any
-previous-within : (items : List LinkedItem) (width widest : ℕ) (rest : List Item) (front : List ℕ) → Each (IsWithin widest) (map (item_at items) front) → Each (IsWithin widest) rest → width + named_width items (free_named items (last_or None front)) ≤ widest → Each (IsWithin widest) (merged_before both_free combined_items (length front) (map (item_at items) front ++ free_item width ∷ rest))
+previous-within : (items : List LinkedItem) (width widest : ℕ) (rest : List Item) (front : List ℕ) → AllByRecursion (IsWithin widest) (map (item_at items) front) → AllByRecursion (IsWithin widest) rest → width + named_width items (free_named items (last_or None front)) ≤ widest → AllByRecursion (IsWithin widest) (merged_before both_free combined_items (length front) (map (item_at items) front ++ free_item width ∷ rest))
 previous-within items width widest rest =
-    by_end (λ (xs : List ℕ). Each (IsWithin widest) (map (item_at items) xs) → Each (IsWithin widest) rest → width + named_width items (free_named items (last_or None xs)) ≤ widest → Each (IsWithin widest) (merged_before both_free combined_items (length xs) (map (item_at items) xs ++ free_item width ∷ rest)))
+    by_end (λ (xs : List ℕ). AllByRecursion (IsWithin widest) (map (item_at items) xs) → AllByRecursion (IsWithin widest) rest → width + named_width items (free_named items (last_or None xs)) ≤ widest → AllByRecursion (IsWithin widest) (merged_before both_free combined_items (length xs) (map (item_at items) xs ++ free_item width ∷ rest)))
     (λ _ after low. ((λ _. omega (arith, low)), after))
     some
   where
-    some : (xs : List ℕ) (last : ℕ) → Each (IsWithin widest) (map (item_at items) (xs ++ last ∷ [])) → Each (IsWithin widest) rest → width + named_width items (free_named items (last_or None (xs ++ last ∷ []))) ≤ widest → Each (IsWithin widest) (merged_before both_free combined_items (length (xs ++ last ∷ [])) (map (item_at items) (xs ++ last ∷ []) ++ free_item width ∷ rest))
+    some : (xs : List ℕ) (last : ℕ) → AllByRecursion (IsWithin widest) (map (item_at items) (xs ++ last ∷ [])) → AllByRecursion (IsWithin widest) rest → width + named_width items (free_named items (last_or None (xs ++ last ∷ []))) ≤ widest → AllByRecursion (IsWithin widest) (merged_before both_free combined_items (length (xs ++ last ∷ [])) (map (item_at items) (xs ++ last ∷ []) ++ free_item width ∷ rest))
     some xs last before after low_ = by_mark (is_allocated_at items last) refl
       where
         low : width + named_width items (free_named items (Some last)) ≤ widest
         low = subst (λ (o : Option ℕ). width + named_width items (free_named items o) ≤ widest) (last-append xs last None) low_
 
-        parts : Each (IsWithin widest) (map (item_at items) xs ++ item_at items last ∷ [])
-        parts = subst (λ (is : List Item). Each (IsWithin widest) is) (map-append (item_at items) xs (last ∷ [])) before
+        parts : AllByRecursion (IsWithin widest) (map (item_at items) xs ++ item_at items last ∷ [])
+        parts = subst (λ (is : List Item). AllByRecursion (IsWithin widest) is) (map-append (item_at items) xs (last ∷ [])) before
 
-        front : Each (IsWithin widest) (map (item_at items) xs)
+        front : AllByRecursion (IsWithin widest) (map (item_at items) xs)
         front = Each-front (IsWithin widest) (map (item_at items) xs) (item_at items last ∷ []) parts
 
-        by_mark : (b : Bool) → is_allocated_at items last ≡ b → Each (IsWithin widest) (merged_before both_free combined_items (length (xs ++ last ∷ [])) (map (item_at items) (xs ++ last ∷ []) ++ free_item width ∷ rest))
+        by_mark : (b : Bool) → is_allocated_at items last ≡ b → AllByRecursion (IsWithin widest) (merged_before both_free combined_items (length (xs ++ last ∷ [])) (map (item_at items) (xs ++ last ∷ []) ++ free_item width ∷ rest))
         by_mark true e =
             let own = Each-middle (IsWithin widest) (map (item_at items) xs) (item_at items last) [] parts in
             let wide : width ≤ widest = omega (arith, low) in
@@ -105,11 +106,11 @@ freed_width-is atlas shelf number front back free is =
     ∙ ap (λ (o : Option ℕ). width_of items number + named_width items (free_named items (first_or None back)) + named_width items (free_named items o)) previous
 
 -- the free items of a shelf after one of its items became free
-pub freed-within : (atlas : AtlasRecords) (shelf number : ℕ) (front back free : List ℕ) (widest : ℕ) → IsEntry atlas.records (entry_of shelf (front ++ number ∷ back) free) → NoNeighbours both_free (map (item_at atlas.records.items) (front ++ number ∷ back)) → Each (IsWithin widest) (map (item_at atlas.records.items) (front ++ number ∷ back)) → freed_width atlas.records.items number ≤ widest → Each (IsWithin widest) (merged_items (freed (length front) (map (item_at atlas.records.items) (front ++ number ∷ back))))
+pub freed-within : (atlas : AtlasRecords) (shelf number : ℕ) (front back free : List ℕ) (widest : ℕ) → IsEntry atlas.records (entry_of shelf (front ++ number ∷ back) free) → NoNeighbours both_free (map (item_at atlas.records.items) (front ++ number ∷ back)) → AllByRecursion (IsWithin widest) (map (item_at atlas.records.items) (front ++ number ∷ back)) → freed_width atlas.records.items number ≤ widest → AllByRecursion (IsWithin widest) (merged_items (freed (length front) (map (item_at atlas.records.items) (front ++ number ∷ back))))
 freed-within atlas shelf number front back free widest is apart within low =
     let items : List LinkedItem = atlas.records.items in
     let whole : map (item_at items) (front ++ number ∷ back) ≡ map (item_at items) front ++ item_at items number ∷ map (item_at items) back = map-append (item_at items) front (number ∷ back) in
-    let parts : Each (IsWithin widest) (map (item_at items) front ++ item_at items number ∷ map (item_at items) back) = subst (λ (is : List Item). Each (IsWithin widest) is) whole within in
+    let parts : AllByRecursion (IsWithin widest) (map (item_at items) front ++ item_at items number ∷ map (item_at items) back) = subst (λ (is : List Item). AllByRecursion (IsWithin widest) is) whole within in
     let next : IsNextMerged items front back (width_of items number) widest =
     next-is-merged items front back (width_of items number) widest (Each-back (IsWithin widest) (map (item_at items) front) (item_at items number ∷ map (item_at items) back) parts).1 in
     let here : freed (length front) (map (item_at items) (front ++ number ∷ back)) ≡ map (item_at items) front ++ free_item (width_of items number) ∷ map (item_at items) back =

@@ -2,14 +2,15 @@
 use Rattle.std.proofs.Common.{◌≡◌, ℕ, ◌+◌, ◌*◌, ◌<◌, ◌≤◌, Bool, true, false, cond, Option, None, Some, List, [], ◌∷◌, map, refl, ap, arith, sym, ◌∙◌}
 use Rattle.std.proofs.lemmas.Bool.Decides.{nat_tests}
 use Rattle.std.specs.Prelude.{◌/◌, ◌||◌, nat_le, nat_lt}
-use Rattle.etagere_base.specs.Lists.{Each, times}
+use Rattle.std.specs.List.{AllByRecursion}
+use Rattle.etagere_base.specs.Lists.{times}
 use Rattle.etagere_base.specs.declared.frames.Frame.{Frame}
 use Rattle.etagere_links.specs.declared.records.LinkedShelf.{LinkedShelf}
 use Rattle.etagere_links.specs.RecordLists.{Records}
 use Rattle.shelf_records.specs.AtlasRecords.{height_of, is_empty_at}
 use Rattle.shelf_model.specs.Choice.{bad_fit_rank}
 use Rattle.shelf_model.specs.Listing.{RiseFrom}
-use Rattle.shelf_heights.specs.Private.ByHeight.{order_at, order_of, place_number}
+use Rattle.shelf_heights.specs.Private.ByHeight.{order_at, order_of, chain_order}
 use Rattle.shelf_store.specs.Private.Searching.{better, lowest, offered}
 use Rattle.shelf_store.specs.declared.choosing.Candidate.{Candidate}
 use Rattle.shelf_store.proofs.ByHeight.PlacesRise.{LiesWithin}
@@ -19,12 +20,12 @@ use Rattle.shelf_store.proofs.Searched.SearchSteps.{Offers, offers-parts}
 
 -- how a candidate weighs: by its rank, and then by the place of its shelf
 abbrev pub weight : List LinkedShelf → Candidate → ℕ
-weight shelves candidate = order_at candidate.rank (place_number shelves candidate.shelf)
+weight shelves candidate = order_at candidate.rank (chain_order shelves candidate.shelf)
 
 -- what is known of what a shelf offers
 pub record IsOffer (shelves : List LinkedShelf) (shelf : ℕ) (candidate : Candidate) : Type 0 where
   pub own : candidate.shelf ≡ shelf
-  pub place : place_number shelves candidate.shelf < 65536 * 65536
+  pub place : chain_order shelves candidate.shelf < 65536 * 65536
   pub above : order_of shelves shelf ≤ weight shelves candidate
   pub good : candidate.rank < bad_fit_rank → candidate.rank ≡ height_of shelves shelf
   pub most : candidate.rank ≤ bad_fit_rank
@@ -48,8 +49,8 @@ module _ (frame : Frame) (records : Records) (width height : ℕ) where
   pub offer-is : (shelf : ℕ) (candidate : Candidate) → LiesWithin frame records.shelves shelf → offered records width height shelf ≡ Some candidate → IsOffer records.shelves shelf candidate
   offer-is shelf candidate within offer =
       let parts : Offers records width height shelf candidate = offers-parts records width height shelf candidate offer in
-      let is = rank-is (is_empty_at records.shelves shelf || nat_le (height_of records.shelves shelf) (height + height / 2)) (height_of records.shelves shelf) (place_number records.shelves shelf) candidate.rank within.low parts.rank in
-      let places : place_number records.shelves candidate.shelf ≡ place_number records.shelves shelf = ap (place_number records.shelves) parts.shelf_is in
+      let is = rank-is (is_empty_at records.shelves shelf || nat_le (height_of records.shelves shelf) (height + height / 2)) (height_of records.shelves shelf) (chain_order records.shelves shelf) candidate.rank within.low parts.rank in
+      let places : chain_order records.shelves candidate.shelf ≡ chain_order records.shelves shelf = ap (chain_order records.shelves) parts.shelf_is in
       record {
         own = parts.shelf_is;
         place = omega (arith, places, within.along, within.across);
@@ -94,8 +95,8 @@ module _ (frame : Frame) (records : Records) (width height : ℕ) where
   none-less shelf candidate none other offers = absurd (cc)
 
   -- the outcome is one, in whichever order shelves stand whose places rise in one
-  pub outcome-same : (from : ℕ) (shelves others : List ℕ) (o p : Option Candidate) → Each (LiesWithin frame records.shelves) shelves
-      → RiseFrom from (map (place_number records.shelves) shelves) → ((k : ℕ) → times k others ≡ times k shelves)
+  pub outcome-same : (from : ℕ) (shelves others : List ℕ) (o p : Option Candidate) → AllByRecursion (LiesWithin frame records.shelves) shelves
+      → RiseFrom from (map (chain_order records.shelves) shelves) → ((k : ℕ) → times k others ≡ times k shelves)
       → IsOutcome shelves o → IsOutcome others p → o ≡ p
   outcome-same from shelves others None None within rise same one other = refl
   outcome-same from shelves others None (Some candidate) within rise same one other =
@@ -117,13 +118,13 @@ module _ (frame : Frame) (records : Records) (width height : ℕ) where
       let less : weight records.shelves candidate ≤ weight records.shelves second = one.least second.shelf stands second other.offer in
       let more : weight records.shelves second ≤ weight records.shelves candidate = other.least candidate.shelf (omega (arith, one.stands, same candidate.shelf)) candidate one.offer in
       let shelf : candidate.shelf ≡ second.shelf =
-      rise-same (place_number records.shelves) from shelves rise candidate.shelf second.shelf one.stands stands
-      (same-place candidate.rank second.rank (place_number records.shelves candidate.shelf) (place_number records.shelves second.shelf) here.place there.place (omega (arith, less, more))) in
+      rise-same (chain_order records.shelves) from shelves rise candidate.shelf second.shelf one.stands stands
+      (same-place candidate.rank second.rank (chain_order records.shelves candidate.shelf) (chain_order records.shelves second.shelf) here.place there.place (omega (arith, less, more))) in
       sym one.offer ∙ ap (offered records width height) shelf ∙ other.offer
 
   -- one more shelf in front, against the outcome of those after it
-  lowest-step : (shelf : ℕ) (shelves : List ℕ) (o p : Option Candidate) → Each (LiesWithin frame records.shelves) (shelf ∷ shelves)
-      → RiseFrom (place_number records.shelves shelf + 1) (map (place_number records.shelves) shelves)
+  lowest-step : (shelf : ℕ) (shelves : List ℕ) (o p : Option Candidate) → AllByRecursion (LiesWithin frame records.shelves) (shelf ∷ shelves)
+      → RiseFrom (chain_order records.shelves shelf + 1) (map (chain_order records.shelves) shelves)
       → offered records width height shelf ≡ o → IsOutcome shelves p → IsOutcome (shelf ∷ shelves) (better o p)
   lowest-step shelf shelves None None within rise offer least = of-each (λ k. offered records width height k ≡ None) shelf shelves offer least
   lowest-step shelf shelves None (Some later) within rise offer least = least-later shelf shelves later (none-less shelf later offer) least
@@ -141,9 +142,9 @@ module _ (frame : Frame) (records : Records) (width height : ℕ) where
       no_less ranks k stands other offers =
           let there : IsOffer records.shelves k other = offer-is k other (Each-member (LiesWithin frame records.shelves) shelves k within.1 stands) offers in
           let above : later.rank ≤ other.rank =
-          lower-rank later.rank other.rank (place_number records.shelves later.shelf) (place_number records.shelves other.shelf) there.place (least.least k stands other offers) in
-          let rises : place_number records.shelves shelf + 1 ≤ place_number records.shelves k = rise-low (place_number records.shelves) (place_number records.shelves shelf + 1) shelves rise k stands in
-          omega (arith, ranks, above, rises, ap (place_number records.shelves) own.own, ap (place_number records.shelves) there.own)
+          lower-rank later.rank other.rank (chain_order records.shelves later.shelf) (chain_order records.shelves other.shelf) there.place (least.least k stands other offers) in
+          let rises : chain_order records.shelves shelf + 1 ≤ chain_order records.shelves k = rise-low (chain_order records.shelves) (chain_order records.shelves shelf + 1) shelves rise k stands in
+          omega (arith, ranks, above, rises, ap (chain_order records.shelves) own.own, ap (chain_order records.shelves) there.own)
 
       by_test : (b : Bool) → nat_lt later.rank first.rank ≡ b → IsLeast (shelf ∷ shelves) (cond b later first)
       by_test true e =
@@ -156,9 +157,9 @@ module _ (frame : Frame) (records : Records) (width height : ℕ) where
       by_test false e = least-first shelf shelves first own.own offer (no_less (grind (arith, nat_tests)))
 
   -- the first of least rank weighs least, where places rise
-  pub lowest-outcome : (from : ℕ) (shelves : List ℕ) → Each (LiesWithin frame records.shelves) shelves → RiseFrom from (map (place_number records.shelves) shelves)
+  pub lowest-outcome : (from : ℕ) (shelves : List ℕ) → AllByRecursion (LiesWithin frame records.shelves) shelves → RiseFrom from (map (chain_order records.shelves) shelves)
       → IsOutcome shelves (lowest (map (offered records width height) shelves))
   lowest-outcome from [] within rise = λ k stands. absurd (omega (arith, stands))
   lowest-outcome from (shelf ∷ shelves) within rise =
       lowest-step shelf shelves (offered records width height shelf) (lowest (map (offered records width height) shelves)) within rise.1 refl
-      (lowest-outcome (place_number records.shelves shelf + 1) shelves within.1 rise.1)
+      (lowest-outcome (chain_order records.shelves shelf + 1) shelves within.1 rise.1)

@@ -5,15 +5,15 @@ use Rattle.std.proofs.lemmas.List.{drop-map, length-map, take-append-drop, take-
 use Rattle.std.specs.Option.{option_map_or}
 use Rattle.std.proofs.lemmas.Bool.Decides.{nat_tests}
 use Rattle.std.specs.Prelude.{◌/◌, ◌||◌, nat_le, nat_lt}
-use Rattle.etagere_base.specs.Lists.{Each}
+use Rattle.std.specs.List.{AllByRecursion}
 use Rattle.etagere_links.specs.RecordLists.{Records}
 use Rattle.shelf_records.specs.AtlasRecords.{height_of, is_empty_at}
 use Rattle.shelf_model.specs.Choice.{bad_fit_rank}
-use Rattle.shelf_heights.specs.Private.ByHeight.{AreInOrder, IsFirstAsWide, order_of, ranked_numbers, ranked_at}
+use Rattle.shelf_heights.specs.Private.ByHeight.{AreInOrder, IsFirstAsWide, order_of, numbers_by_height, bounded_at}
 use Rattle.shelf_store.specs.Private.Opening.{AreSearchable, IsSearchable}
 use Rattle.shelf_store.specs.Private.Searching.{AreTooTall, IsFirstGood, earliest, first_by_height, first_offer, good_offer, offered, rank_of}
 use Rattle.shelf_store.specs.declared.choosing.FirstGood.TheVariants.{Rest}
-use Rattle.shelf_heights.specs.declared.ranked.RankedShelf.{RankedShelf}
+use Rattle.shelf_heights.specs.declared.by_height.BoundedShelf.{BoundedShelf}
 use Rattle.shelf_heights.proofs.ByHeight.PassedBounds.{joined}
 use Rattle.shelf_store.proofs.ByHeight.Searches.{Each-drop, Each-take, SearchesFrom, behind, good-reached, good-vain, none_left, offered-vain, passed-earliest, passed-first, reached}
 use Rattle.shelf_heights.proofs.ByHeight.Positions.{after-probed}
@@ -25,10 +25,10 @@ OffersNone records width height shelf = offered records width height shelf ≡ N
 -- no shelf has a place from the start up to here
 pub record HasPassed (records : Records) (width height start from : ℕ) (numbers : List ℕ) : Type 0 where
   pub after : start ≤ from
-  pub vain : Each (OffersNone records width height) (drop start (take from numbers))
+  pub vain : AllByRecursion (OffersNone records width height) (drop start (take from numbers))
 
 -- what holds of the shelf at an index holds of each from there up to the next
-at-index : (P : ℕ → Type 0) (ranked : List RankedShelf) (index : ℕ) (d : RankedShelf) → index < length ranked → P (get_or ranked index d).shelf → Each P (drop index (take (suc index) (ranked_numbers ranked)))
+at-index : (P : ℕ → Type 0) (by_height : List BoundedShelf) (index : ℕ) (d : BoundedShelf) → index < length by_height → P (get_or by_height index d).shelf → AllByRecursion P (drop index (take (suc index) (numbers_by_height by_height)))
 at-index P [] index d within own = absurd (omega arith)
 at-index P (x ∷ xs) zero d within own = (own, tt)
 at-index P (x ∷ xs) (suc index) d within own = at-index P xs index d (omega arith) own
@@ -42,7 +42,7 @@ drop-taken (x ∷ xs) (suc n) = drop-taken xs n
 -- at the start none is passed
 pub started : (records : Records) (width height start : ℕ) (numbers : List ℕ) → HasPassed records width height start start numbers
 started records width height start numbers =
-    record { after = omega arith; vain = subst (Each (OffersNone records width height)) (sym (drop-taken numbers start)) tt }
+    record { after = omega arith; vain = subst (AllByRecursion (OffersNone records width height)) (sym (drop-taken numbers start)) tt }
 
 -- from one position on: what stands before another, and what stands from there on
 drop-between : (xs : List ℕ) (from next : ℕ) → from ≤ next → drop from xs ≡ drop from (take next xs) ++ drop next xs
@@ -51,38 +51,38 @@ drop-between xs (suc from) zero after = absurd (omega arith)
 drop-between [] (suc from) (suc next) after = refl
 drop-between (x ∷ xs) (suc from) (suc next) after = drop-between xs from next (omega arith)
 
-module _ (records : Records) (width height start from index : ℕ) (numbers : List ℕ) (ranked : List RankedShelf) (search : SearchesFrom records height from numbers ranked) (first : IsFirstAsWide from width ranked (Some index)) where
+module _ (records : Records) (width height start from index : ℕ) (numbers : List ℕ) (by_height : List BoundedShelf) (search : SearchesFrom records height from numbers by_height) (first : IsFirstAsWide from width by_height (Some index)) where
   -- the shelves up to the next that is as wide have no place
-  pub to-next : HasPassed records width height start from numbers → Each (OffersNone records width height) (drop start (take index numbers))
+  pub to-next : HasPassed records width height start from numbers → AllByRecursion (OffersNone records width height) (drop start (take index numbers))
   to-next passed =
-      let numbers_are : ranked_numbers (drop from (take index ranked)) ≡ drop from (take index numbers) =
-      sym (drop-map (λ (x : RankedShelf). x.shelf) from (take index ranked)) ∙ ap (drop from) (sym (take-map (λ (x : RankedShelf). x.shelf) index ranked) ∙ ap (take index) search.same) in
+      let numbers_are : numbers_by_height (drop from (take index by_height)) ≡ drop from (take index numbers) =
+      sym (drop-map (λ (x : BoundedShelf). x.shelf) from (take index by_height)) ∙ ap (drop from) (sym (take-map (λ (x : BoundedShelf). x.shelf) index by_height) ∙ ap (take index) search.same) in
       joined (OffersNone records width height) numbers start from index passed.after first.0 passed.vain
-      (subst (Each (OffersNone records width height)) numbers_are
-      (offered-vain records width height (drop from (take index ranked)) (Each-drop (IsSearchable records) from (take index ranked) (Each-take (IsSearchable records) index ranked search.searchable)) first.2))
+      (subst (AllByRecursion (OffersNone records width height)) numbers_are
+      (offered-vain records width height (drop from (take index by_height)) (Each-drop (IsSearchable records) from (take index by_height) (Each-take (IsSearchable records) index by_height search.searchable)) first.2))
 
   -- a shelf that has no place is passed
-  pub passed-vain : HasPassed records width height start from numbers → OffersNone records width height (ranked_at ranked index).shelf → HasPassed records width height start (index + 1) numbers
+  pub passed-vain : HasPassed records width height start from numbers → OffersNone records width height (bounded_at by_height index).shelf → HasPassed records width height start (index + 1) numbers
   passed-vain passed none =
-      let here : Each (OffersNone records width height) (drop index (take (index + 1) numbers)) =
-      subst (λ n. Each (OffersNone records width height) (drop index (take n numbers))) (sym (add-one index))
-      (subst (λ (ns : List ℕ). Each (OffersNone records width height) (drop index (take (suc index) ns))) search.same
-      (at-index (OffersNone records width height) ranked index (record { widest = 0; shelf = 0 }) first.1 none)) in
+      let here : AllByRecursion (OffersNone records width height) (drop index (take (index + 1) numbers)) =
+      subst (λ n. AllByRecursion (OffersNone records width height) (drop index (take n numbers))) (sym (add-one index))
+      (subst (λ (ns : List ℕ). AllByRecursion (OffersNone records width height) (drop index (take (suc index) ns))) search.same
+      (at-index (OffersNone records width height) by_height index (record { widest = 0; shelf = 0 }) first.1 none)) in
       record {
         after = omega (arith, passed.after, first.0);
         vain = joined (OffersNone records width height) numbers start index (index + 1) (omega (arith, passed.after, first.0)) (omega arith) (to-next passed) here;
       }
 
 -- where no bound is as wide, there is no place up to the end
-pub passed-ended : (records : Records) (width height start from : ℕ) (numbers : List ℕ) (ranked : List RankedShelf) → SearchesFrom records height from numbers ranked → IsFirstAsWide from width ranked None
-    → HasPassed records width height start from numbers → (start ≤ length ranked) × (length ranked ≤ length numbers) × Each (OffersNone records width height) (drop start (take (length ranked) numbers)) × AreTooTall records.shelves height (drop (length ranked) numbers)
-passed-ended records width height start from numbers ranked search low passed =
-    let size : length numbers ≡ length ranked = ap length (sym search.same) ∙ length-map ranked (λ (x : RankedShelf). x.shelf) in
-    let all : take (length ranked) numbers ≡ numbers = ap (λ n. take n numbers) (sym size) ∙ take-length numbers in (
+pub passed-ended : (records : Records) (width height start from : ℕ) (numbers : List ℕ) (by_height : List BoundedShelf) → SearchesFrom records height from numbers by_height → IsFirstAsWide from width by_height None
+    → HasPassed records width height start from numbers → (start ≤ length by_height) × (length by_height ≤ length numbers) × AllByRecursion (OffersNone records width height) (drop start (take (length by_height) numbers)) × AreTooTall records.shelves height (drop (length by_height) numbers)
+passed-ended records width height start from numbers by_height search low passed =
+    let size : length numbers ≡ length by_height = ap length (sym search.same) ∙ length-map by_height (λ (x : BoundedShelf). x.shelf) in
+    let all : take (length by_height) numbers ≡ numbers = ap (λ n. take n numbers) (sym size) ∙ take-length numbers in (
       omega (arith, passed.after, search.within),
       omega (arith, size),
-      joined (OffersNone records width height) numbers start from (length ranked) passed.after search.within passed.vain
-          (subst (λ (ns : List ℕ). Each (OffersNone records width height) (drop from ns)) (sym all) (none_left records width height from numbers ranked search low)),
+      joined (OffersNone records width height) numbers start from (length by_height) passed.after search.within passed.vain
+          (subst (λ (ns : List ℕ). AllByRecursion (OffersNone records width height) (drop from ns)) (sym all) (none_left records width height from numbers by_height search low)),
       subst (λ n. AreTooTall records.shelves height (drop n numbers)) size (subst (AreTooTall records.shelves height) (sym (drop-all numbers)) tt),
     )
   where
@@ -97,17 +97,17 @@ good-where records width height shelf number is_good b at is chosen =
     ap (λ (c : Bool). cond c (offered records width height shelf) None) (ap (λ n. nat_lt (rank_of records.shelves height n) bad_fit_rank) (sym at) ∙ sym is ∙ chosen)
 
 -- behind a shelf that is passed, a search goes on
-pub past : (records : Records) (width height from index : ℕ) (numbers : List ℕ) (ranked : List RankedShelf) → SearchesFrom records height from numbers ranked → IsFirstAsWide from width ranked (Some index)
-    → SearchesFrom records height (index + 1) numbers ranked
-past records width height from index numbers ranked search first = behind records width height from index numbers ranked ranked search first refl search.searchable
+pub past : (records : Records) (width height from index : ℕ) (numbers : List ℕ) (by_height : List BoundedShelf) → SearchesFrom records height from numbers by_height → IsFirstAsWide from width by_height (Some index)
+    → SearchesFrom records height (index + 1) numbers by_height
+past records width height from index numbers by_height search first = behind records width height from index numbers by_height by_height search first refl search.searchable
 
 -- and finds the same good fit
-pub good-passed : (records : Records) (width height from index : ℕ) (numbers : List ℕ) (ranked : List RankedShelf) → SearchesFrom records height from numbers ranked → IsFirstAsWide from width ranked (Some index)
-    → good_offer records width height (ranked_at ranked index).shelf ≡ None
+pub good-passed : (records : Records) (width height from index : ℕ) (numbers : List ℕ) (by_height : List BoundedShelf) → SearchesFrom records height from numbers by_height → IsFirstAsWide from width by_height (Some index)
+    → good_offer records width height (bounded_at by_height index).shelf ≡ None
     → first_offer (good_offer records width height) (drop (index + 1) numbers) ≡ first_offer (good_offer records width height) (drop from numbers)
-good-passed records width height from index numbers ranked search first none =
+good-passed records width height from index numbers by_height search first none =
     sym (
-    good-reached records width height from index numbers (ranked_at ranked index) (reached records width height from index numbers ranked search first)
+    good-reached records width height from index numbers (bounded_at by_height index) (reached records width height from index numbers by_height search first)
     ∙ ap (λ o. option_map_or Some o (first_offer (good_offer records width height) (drop (index + 1) numbers))) none
     )
 
@@ -125,20 +125,20 @@ not-good records height shelf low bad = by_test (is_empty_at records.shelves she
         omega (arith, above)
 
 -- from the first shelf on that is too tall for a good fit, each is
-pub too-tall-from : (records : Records) (height index : ℕ) (ranked : List RankedShelf) → AreInOrder records.shelves ranked → AreSearchable records ranked → index < length ranked
-    → height_of records.shelves (ranked_at ranked index).shelf < 65536
-    → nat_lt (rank_of records.shelves height (ranked_at ranked index).shelf) bad_fit_rank ≡ false
-    → AreTooTall records.shelves height (drop index (ranked_numbers ranked))
-too-tall-from records height index ranked order searchable within low bad =
-    let here : height + height / 2 + 1 ≤ height_of records.shelves (ranked_at ranked index).shelf = not-good records height (ranked_at ranked index).shelf low bad in
-    rw (drop-map (λ (x : RankedShelf). x.shelf) index ranked)
-    (each-tall (drop index ranked) (Each-drop (IsSearchable records) index ranked searchable)
-    (after-probed records.shelves 0 (order_of records.shelves (ranked_at ranked index).shelf) index ranked (record { widest = 0; shelf = 0 }) within order.rising (omega arith)))
+pub too-tall-from : (records : Records) (height index : ℕ) (by_height : List BoundedShelf) → AreInOrder records.shelves by_height → AreSearchable records by_height → index < length by_height
+    → height_of records.shelves (bounded_at by_height index).shelf < 65536
+    → nat_lt (rank_of records.shelves height (bounded_at by_height index).shelf) bad_fit_rank ≡ false
+    → AreTooTall records.shelves height (drop index (numbers_by_height by_height))
+too-tall-from records height index by_height order searchable within low bad =
+    let here : height + height / 2 + 1 ≤ height_of records.shelves (bounded_at by_height index).shelf = not-good records height (bounded_at by_height index).shelf low bad in
+    rw (drop-map (λ (x : BoundedShelf). x.shelf) index by_height)
+    (each-tall (drop index by_height) (Each-drop (IsSearchable records) index by_height searchable)
+    (after-probed records.shelves 0 (order_of records.shelves (bounded_at by_height index).shelf) index by_height (record { widest = 0; shelf = 0 }) within order.rising (omega arith)))
   where
-    each-tall : (ones : List RankedShelf) → AreSearchable records ones → Each (λ (one : RankedShelf). order_of records.shelves (ranked_at ranked index).shelf ≤ order_of records.shelves one.shelf) ones → AreTooTall records.shelves height (ranked_numbers ones)
+    each-tall : (ones : List BoundedShelf) → AreSearchable records ones → AllByRecursion (λ (one : BoundedShelf). order_of records.shelves (bounded_at by_height index).shelf ≤ order_of records.shelves one.shelf) ones → AreTooTall records.shelves height (numbers_by_height ones)
     each-tall [] searchable after = tt
     each-tall (one ∷ others) searchable after =
-        let here : height + height / 2 + 1 ≤ height_of records.shelves (ranked_at ranked index).shelf = not-good records height (ranked_at ranked index).shelf low bad in
+        let here : height + height / 2 + 1 ≤ height_of records.shelves (bounded_at by_height index).shelf = not-good records height (bounded_at by_height index).shelf low bad in
         (omega (arith, here, searchable.0.place, after.0), each-tall others searchable.1 after.1)
 
 -- behind the shelves that have no place, the same is found

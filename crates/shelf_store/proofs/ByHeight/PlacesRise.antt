@@ -5,7 +5,8 @@ use Rattle.std.proofs.lemmas.Bool.Decides.{nat_tests}
 use Rattle.std.proofs.lemmas.Option.{slice_get-map}
 use Rattle.std.specs.Prelude.{◌/◌, ◌==◌, nat_lt, slice_get}
 use Rattle.etagere_base.specs.Frames.{across_side, along_side}
-use Rattle.etagere_base.specs.Lists.{Each, NoNeighbours}
+use Rattle.std.specs.List.{AllByRecursion}
+use Rattle.etagere_base.specs.Lists.{NoNeighbours}
 use Rattle.etagere_base.specs.declared.frames.Frame.{Frame}
 use Rattle.etagere_base.proofs.EachLemmas.{Each-get}
 use Rattle.etagere_base.proofs.FrameSides.{column-within, columns-apart, sides_low}
@@ -15,7 +16,7 @@ use Rattle.etagere_links.proofs.AllLists.LinkedWalks.{walked-numbers}
 use Rattle.shelf_records.specs.AtlasRecords.{AtlasRecords, across_of, along_of, height_of, spelled_shelf}
 use Rattle.shelf_model.specs.Listing.{RiseFrom}
 use Rattle.shelf_model.specs.Places.{column_height}
-use Rattle.shelf_heights.specs.Private.ByHeight.{place_number}
+use Rattle.shelf_heights.specs.Private.ByHeight.{chain_order}
 use Rattle.shelf_records.specs.Private.Kept.{AreKept, atlas_of, state_of}
 use Rattle.shelf_records.specs.StandsFor.{AreStacked, height_before}
 use Rattle.shelf_model.specs.State.{Shelf}
@@ -35,7 +36,7 @@ pub record LiesWithin (frame : Frame) (shelves : List LinkedShelf) (number : ℕ
   pub low : height_of shelves number < 65536
 
 -- a fact of the element of each number is one of each element
-Each-got : {X : Type 0} (P : X → Type 0) (xs : List X) → ((n : ℕ) (x : X) → slice_get xs n ≡ Some x → P x) → Each P xs
+Each-got : {X : Type 0} (P : X → Type 0) (xs : List X) → ((n : ℕ) (x : X) → slice_get xs n ≡ Some x → P x) → AllByRecursion P xs
 Each-got P [] got = tt
 Each-got P (x ∷ xs) got = (got zero x refl, Each-got P xs (λ n y at. got (suc n) y at))
 
@@ -66,7 +67,7 @@ lies-at frame records position number kept at =
     }
 
 -- each shelf in use lies so
-pub kept-within : (frame : Frame) (records : Records) → AreKept frame records → Each (LiesWithin frame records.shelves) (shelf_walk records).met
+pub kept-within : (frame : Frame) (records : Records) → AreKept frame records → AllByRecursion (LiesWithin frame records.shelves) (shelf_walk records).met
 kept-within frame records kept = Each-got (LiesWithin frame records.shelves) (shelf_walk records).met (λ position number at. lies-at frame records position number kept at)
 
 -- a place further across in one column, or in a later column, is a greater one
@@ -93,7 +94,7 @@ module _ (frame : Frame) (records : Records) (wide : 1 ≤ frame.column_width) w
       → nat_lt (column_at next) (column_at number) ≡ false
       → across_of records.shelves number ≡ height_before records.shelves frame.column_width (column_at number) before
       → across_of records.shelves next ≡ height_before records.shelves frame.column_width (column_at next) (before ++ number ∷ [])
-      → place_number records.shelves number + 1 ≤ place_number records.shelves next
+      → chain_order records.shelves number + 1 ≤ chain_order records.shelves next
   place-after before number next here there ordered stacked above =
       let tall : ℕ = height_of records.shelves number in
       let upon : column_at number ≡ column_at next → across_of records.shelves next ≡ across_of records.shelves number + tall =
@@ -109,28 +110,28 @@ module _ (frame : Frame) (records : Records) (wide : 1 ≤ frame.column_width) w
       omega (arith, apart, here.column, there.column)
 
   -- the places of stacked shelves rise
-  stacked-rise : (before : List ℕ) (from number : ℕ) (numbers : List ℕ) → Each (LiesWithin frame records.shelves) (number ∷ numbers)
+  stacked-rise : (before : List ℕ) (from number : ℕ) (numbers : List ℕ) → AllByRecursion (LiesWithin frame records.shelves) (number ∷ numbers)
       → NoNeighbours is_out_of_order (map (spelled_shelf (atlas_of frame records)) (map (walked_entry records) (number ∷ numbers)))
       → AreStacked records.shelves frame.column_width before (number ∷ numbers)
-      → from ≤ place_number records.shelves number
-      → RiseFrom from (map (place_number records.shelves) (number ∷ numbers))
+      → from ≤ chain_order records.shelves number
+      → RiseFrom from (map (chain_order records.shelves) (number ∷ numbers))
   stacked-rise before from number [] within ordered stacked low = (low, tt)
   stacked-rise before from number (next ∷ numbers) within ordered stacked low = (
     low,
-    stacked-rise (before ++ number ∷ []) (place_number records.shelves number + 1) next numbers within.1 ordered.1 stacked.1
+    stacked-rise (before ++ number ∷ []) (chain_order records.shelves number + 1) next numbers within.1 ordered.1 stacked.1
         (place-after before number next within.0 within.1.0 ordered.0 stacked.0 stacked.1.0),
   )
 
 -- along the chain of the shelves in use the places where they begin rise
-pub places-rise : (frame : Frame) (records : Records) → AreKept frame records → RiseFrom 0 (map (place_number records.shelves) (shelf_walk records).met)
+pub places-rise : (frame : Frame) (records : Records) → AreKept frame records → RiseFrom 0 (map (chain_order records.shelves) (shelf_walk records).met)
 places-rise frame records kept =
     by_numbers (shelf_walk records).met (kept-within frame records kept) kept.valid.ordered
     (subst (λ (ns : List ℕ). AreStacked records.shelves frame.column_width [] ns) (walked-numbers records (shelf_walk records).met) kept.stacked)
   where
-    by_numbers : (numbers : List ℕ) → Each (LiesWithin frame records.shelves) numbers
+    by_numbers : (numbers : List ℕ) → AllByRecursion (LiesWithin frame records.shelves) numbers
         → NoNeighbours is_out_of_order (map (spelled_shelf (atlas_of frame records)) (map (walked_entry records) numbers))
         → AreStacked records.shelves frame.column_width [] numbers
-        → RiseFrom 0 (map (place_number records.shelves) numbers)
+        → RiseFrom 0 (map (chain_order records.shelves) numbers)
     by_numbers [] within ordered stacked = tt
     by_numbers (number ∷ numbers) within ordered stacked =
         stacked-rise frame records kept.valid.frame.column_width [] 0 number numbers within ordered stacked (omega arith)

@@ -1,9 +1,9 @@
--- One ranked shelf that is searched: what it offers, and how its bound falls.
+-- One shelf by height that is searched: what it offers, and how its bound falls.
 use Rattle.std.proofs.Common.{◌≡◌, ℕ, ◌<◌, ◌≤◌, Bool, true, false, cond, Option, None, Some, option_map, List, [], ◌∷◌, length, refl, ap, arith, ◌∙◌}
 use Rattle.std.proofs.lemmas.Bool.Decides.{nat_tests}
 use Rattle.std.specs.Option.{option_map_or}
 use Rattle.std.specs.Prelude.{IfSome, find, nat_le, nat_lt}
-use Rattle.etagere_base.specs.Lists.{Each}
+use Rattle.std.specs.List.{AllByRecursion}
 use Rattle.etagere_links.specs.declared.records.LinkedItem.{LinkedItem}
 use Rattle.etagere_links.specs.RecordLists.{Records, free_walk}
 use Rattle.shelf_records.specs.AtlasRecords.{height_of, item_at}
@@ -12,7 +12,7 @@ use Rattle.shelf_store.specs.Private.Opening.{IsSearchable, searched, widest_of}
 use Rattle.shelf_store.specs.Private.Searching.{first_wide, good_offer, offered, rank_of}
 use Rattle.shelf_store.specs.declared.choosing.Candidate.{Candidate}
 use Rattle.shelf_store.specs.declared.choosing.Searched.TheVariants.{Found, Widest}
-use Rattle.shelf_heights.specs.declared.ranked.RankedShelf.{RankedShelf}
+use Rattle.shelf_heights.specs.declared.by_height.BoundedShelf.{BoundedShelf}
 use Rattle.shelf_store.proofs.Searched.SearchSteps.{is_wide}
 
 -- the candidate of an item of a shelf
@@ -20,7 +20,7 @@ abbrev candidate_of : Records → ℕ → ℕ → ℕ → Candidate
 candidate_of records height shelf item = record { shelf = shelf; item = item; rank = rank_of records.shelves height shelf }
 
 -- none of these items is wide enough
-none-wide : (records : Records) (width widest : ℕ) (numbers : List ℕ) → widest < width → Each (λ item. (item_at records.items item).width ≤ widest) numbers → find (is_wide records width) numbers ≡ None
+none-wide : (records : Records) (width widest : ℕ) (numbers : List ℕ) → widest < width → AllByRecursion (λ item. (item_at records.items item).width ≤ widest) numbers → find (is_wide records width) numbers ≡ None
 none-wide records width widest [] low bounds = refl
 none-wide records width widest (n ∷ ns) low bounds =
     ap (λ b. cond b (Some n) (find (is_wide records width) ns)) (not-le width (item_at records.items n).width widest low bounds.0)
@@ -30,7 +30,7 @@ none-wide records width widest (n ∷ ns) low bounds =
     not-le a b c h k = grind (arith, nat_tests)
 
 -- a shelf whose bound is below a width offers nothing
-pub offered-low : (records : Records) (width height : ℕ) (one : RankedShelf) → IsSearchable records one → one.widest < width → offered records width height one.shelf ≡ None
+pub offered-low : (records : Records) (width height : ℕ) (one : BoundedShelf) → IsSearchable records one → one.widest < width → offered records width height one.shelf ≡ None
 offered-low records width height one searchable low =
     ap (λ o. cond (nat_le height (height_of records.shelves one.shelf)) (option_map (candidate_of records height one.shelf) o) None) (none-wide records width one.widest (free_walk records one.shelf).met low searchable.bound)
     ∙ by_test (nat_le height (height_of records.shelves one.shelf))
@@ -46,7 +46,7 @@ offered-short records width height shelf short =
     ap (λ b. cond b (option_map (candidate_of records height shelf) (first_wide records width shelf)) None) fails
 
 -- what is offered is of a record
-pub offered-within : (records : Records) (width height : ℕ) (one : RankedShelf) → IsSearchable records one → IfSome (offered records width height one.shelf) (λ (candidate : Candidate). candidate.shelf < length records.shelves)
+pub offered-within : (records : Records) (width height : ℕ) (one : BoundedShelf) → IsSearchable records one → IfSome (offered records width height one.shelf) (λ (candidate : Candidate). candidate.shelf < length records.shelves)
 offered-within records width height one searchable = by_parts (nat_le height (height_of records.shelves one.shelf)) (first_wide records width one.shelf)
   where
     by_parts : (b : Bool) (o : Option ℕ) → IfSome (cond b (option_map (candidate_of records height one.shelf) o) None) (λ (candidate : Candidate). candidate.shelf < length records.shelves)
@@ -64,12 +64,12 @@ good-none records width height shelf none =
     by_test false o = refl
 
 -- each of these items is at most as wide as a bound on the widest
-bounds-widest : (items : List LinkedItem) (numbers : List ℕ) (bound : ℕ) → widest_of items numbers ≤ bound → Each (λ item. (item_at items item).width ≤ bound) numbers
+bounds-widest : (items : List LinkedItem) (numbers : List ℕ) (bound : ℕ) → widest_of items numbers ≤ bound → AllByRecursion (λ item. (item_at items item).width ≤ bound) numbers
 bounds-widest items [] bound low = tt
 bounds-widest items (n ∷ ns) bound low = (omega (arith, low), bounds-widest items ns bound (omega (arith, low)))
 
 -- where nothing is found, the widest width is a bound
-pub fallen : (records : Records) (width widest : ℕ) (one : RankedShelf) → IsSearchable records one → Widest widest ≡ searched records width one.shelf → IsSearchable records (record one { widest = widest })
+pub fallen : (records : Records) (width widest : ℕ) (one : BoundedShelf) → IsSearchable records one → Widest widest ≡ searched records width one.shelf → IsSearchable records (record one { widest = widest })
 fallen records width widest one searchable found =
     record {
       stands = searchable.stands;

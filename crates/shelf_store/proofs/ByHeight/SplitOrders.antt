@@ -15,7 +15,7 @@ use Rattle.etagere_links.proofs.RecordChanges.{length-changed_by}
 use Rattle.etagere_links.proofs.RecordFrames.{length-linked_between, map-linked_between}
 use Rattle.shelf_records.specs.AtlasRecords.{across_of, along_of, height_of}
 use Rattle.shelf_model.specs.Choice.{Placement}
-use Rattle.shelf_heights.specs.Private.ByHeight.{order_of, place_number}
+use Rattle.shelf_heights.specs.Private.ByHeight.{order_of, chain_order}
 use Rattle.shelf_records.specs.Private.Kept.{AreKept}
 use Rattle.shelf_store.specs.Private.PlacementTaken.{placement_taken, shelf_split_for, with_item_given, with_rest_written}
 use Rattle.shelf_store.proofs.ByHeight.PlacesRise.{LiesWithin, kept-within, places-rise}
@@ -30,7 +30,7 @@ use Rattle.shelf_store.proofs.Spelled.SpelledUses.{SameShelf-then, same-shelf, s
 -- a shelf that says the same stands where it stood
 pub order-same : (shelves new : List LinkedShelf) (k : ℕ) → SameShelf shelves new k → order_of new k ≡ order_of shelves k
 order-same shelves new k same =
-    ap (λ (h : ℕ). h * (65536 * 65536) + place_number new k) same.height
+    ap (λ (h : ℕ). h * (65536 * 65536) + chain_order new k) same.height
     ∙ ap (λ (a : ℕ). height_of shelves k * (65536 * 65536) + (a * 65536 + across_of new k)) same.along
     ∙ ap (λ (a : ℕ). height_of shelves k * (65536 * 65536) + (along_of shelves k * 65536 + a)) same.across
 
@@ -97,7 +97,7 @@ order-taken column_width found records k =
     let same : SameShelf split.shelves given.shelves k = same-given found (rests_of found.splits_shelf found.splits_item records).item split k in
     let marked : LinkedShelf → LinkedShelf = λ here. record here { is_empty = false } in
     let new : List LinkedShelf = changed_by (Some found.shelf) marked given.shelves in
-    ap (λ (h : ℕ). h * (65536 * 65536) + place_number new k) (field_at-kept (λ (x : LinkedShelf). x.height) 0 marked given.shelves found.shelf k (λ x. refl))
+    ap (λ (h : ℕ). h * (65536 * 65536) + chain_order new k) (field_at-kept (λ (x : LinkedShelf). x.height) 0 marked given.shelves found.shelf k (λ x. refl))
     ∙ ap (λ (a : ℕ). height_of given.shelves k * (65536 * 65536) + (a * 65536 + across_of new k)) (field_at-kept (λ (x : LinkedShelf). x.x) 0 marked given.shelves found.shelf k (λ x. refl))
     ∙ ap (λ (a : ℕ). height_of given.shelves k * (65536 * 65536) + (along_of given.shelves k * 65536 + a)) (field_at-kept (λ (x : LinkedShelf). x.y) 0 marked given.shelves found.shelf k (λ x. refl))
     ∙ order-same split.shelves given.shelves k same
@@ -125,8 +125,8 @@ pub orders-apart : (frame : Frame) (records : Records) (k other : ℕ) → AreKe
 orders-apart frame records k other kept stands other_stands differ same =
     let here : LiesWithin frame records.shelves k = Each-member (LiesWithin frame records.shelves) (shelf_walk records).met k (kept-within frame records kept) stands in
     let there : LiesWithin frame records.shelves other = Each-member (LiesWithin frame records.shelves) (shelf_walk records).met other (kept-within frame records kept) other_stands in
-    let place : place_number records.shelves k ≡ place_number records.shelves other =
-    one-place (height_of records.shelves k) (place_number records.shelves k) (height_of records.shelves other) (place_number records.shelves other)
+    let place : chain_order records.shelves k ≡ chain_order records.shelves other =
+    one-place (height_of records.shelves k) (chain_order records.shelves k) (height_of records.shelves other) (chain_order records.shelves other)
     (place-low (along_of records.shelves k) (across_of records.shelves k) here.along here.across)
     (place-low (along_of records.shelves other) (across_of records.shelves other) there.along there.across) same in
-    differ (rise-same (place_number records.shelves) 0 (shelf_walk records).met (places-rise frame records kept) k other stands other_stands place)
+    differ (rise-same (chain_order records.shelves) 0 (shelf_walk records).met (places-rise frame records kept) k other stands other_stands place)

@@ -2,7 +2,8 @@
 use Rattle.std.proofs.Common.{◌≡◌, ℕ, ◌-◌, ◌≤◌, Bool, true, false, None, List, [], ◌∷◌, ◌++◌, ap, arith, ◌∙◌, sym, subst}
 use Rattle.std.specs.Prelude.{cond, is_none}
 use Rattle.etagere_base.proofs.EachLemmas.{Each-append, Each-back, Each-front}
-use Rattle.etagere_base.specs.Lists.{Each, replaced_at}
+use Rattle.std.specs.List.{AllByRecursion}
+use Rattle.etagere_base.specs.Lists.{replaced_at}
 use Rattle.etagere_base.specs.declared.frames.Frame.{Frame}
 use Rattle.shelf_model.specs.Choice.{Placement}
 use Rattle.shelf_heights.specs.Private.ByHeight.{IsBound}
@@ -15,10 +16,10 @@ abbrev IsLow : ℕ → Item → Type 0
 IsLow widest item = is_free item ≡ true → item.width ≤ widest
 
 -- the pieces of an item are no wider
-pieces-low : (widest : ℕ) (placement : Placement) (id : ℕ) (item : Item) → is_free item ≡ true → IsLow widest item → Each (IsLow widest) (item_pieces placement id item)
+pieces-low : (widest : ℕ) (placement : Placement) (id : ℕ) (item : Item) → is_free item ≡ true → IsLow widest item → AllByRecursion (IsLow widest) (item_pieces placement id item)
 pieces-low widest placement id item free low = (λ given. absurd (cc), by_split placement.splits_item)
   where
-    by_split : (b : Bool) → Each (IsLow widest) (cond b (record { width = item.width - placement.width; id = None } ∷ []) [])
+    by_split : (b : Bool) → AllByRecursion (IsLow widest) (cond b (record { width = item.width - placement.width; id = None } ∷ []) [])
     by_split true = (λ rest. omega (arith, low free), tt)
     by_split false = tt
 
@@ -28,12 +29,12 @@ bound-taken frame widest placement id shelf takes bound =
     let front : List Item = takes.found.at.front in
     let back : List Item = takes.found.at.back in
     let item : Item = takes.found.item in
-    let split : Each (IsLow widest) (front ++ item ∷ back) = subst (Each (IsLow widest)) takes.found.at.whole bound in
-    let tail : Each (IsLow widest) (item ∷ back) = Each-back (IsLow widest) front (item ∷ back) split in
-    let pieces : Each (IsLow widest) (item_pieces placement id item) = pieces-low widest placement id item (ap is_none takes.room.free) tail.0 in
+    let split : AllByRecursion (IsLow widest) (front ++ item ∷ back) = subst (AllByRecursion (IsLow widest)) takes.found.at.whole bound in
+    let tail : AllByRecursion (IsLow widest) (item ∷ back) = Each-back (IsLow widest) front (item ∷ back) split in
+    let pieces : AllByRecursion (IsLow widest) (item_pieces placement id item) = pieces-low widest placement id item (ap is_none takes.room.free) tail.0 in
     let is : replaced_at placement.item (item_pieces placement id) shelf.items ≡ front ++ (item_pieces placement id item ++ back) =
     ap (λ n. replaced_at n (item_pieces placement id) shelf.items) takes.item ∙ takes.found.at.split (item_pieces placement id) in
-    subst (Each (IsLow widest)) (sym is)
+    subst (AllByRecursion (IsLow widest)) (sym is)
     (Each-append (IsLow widest) front (item_pieces placement id item ++ back) (Each-front (IsLow widest) front (item ∷ back) split)
     (Each-append (IsLow widest) (item_pieces placement id item) back pieces tail.1))
 

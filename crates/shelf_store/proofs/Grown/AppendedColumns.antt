@@ -4,7 +4,7 @@ use Rattle.std.proofs.lemmas.List.{length-map}
 use Rattle.std.specs.Prelude.{◌==◌}
 use Rattle.etagere_base.specs.declared.frames.Frame.{Frame}
 use Rattle.etagere_base.specs.Frames.{across_side}
-use Rattle.etagere_base.specs.Lists.{Each}
+use Rattle.std.specs.List.{AllByRecursion}
 use Rattle.etagere_base.proofs.EachLemmas.{Each-append, Each-weaken}
 use Rattle.etagere_links.specs.Chains.{Leads}
 use Rattle.etagere_links.specs.Edits.{link_at}
@@ -74,7 +74,7 @@ last-entry records before entry unused_items unused_shelves loose loose_shelves 
     (shelves-few records (before ++ entry ∷ []) unused_items unused_shelves loose loose_shelves linked))
 
 -- shelves that stand in columns before one don't count for it
-height-none : (frame : Frame) (records : Records) (column : ℕ) (entries : List Entry) → Each (λ (shelf : Shelf). shelf.column < column) (shelves_spelled frame records entries)
+height-none : (frame : Frame) (records : Records) (column : ℕ) (entries : List Entry) → AllByRecursion (λ (shelf : Shelf). shelf.column < column) (shelves_spelled frame records entries)
     → height_before records.shelves frame.column_width column (shelf_numbers entries) ≡ 0
 height-none frame records column [] below = refl
 height-none frame records column (entry ∷ entries) below =
@@ -97,7 +97,7 @@ one-more frame first count shelves new is =
 
 -- all shelves stand before the column after it
 all-below : (frame : Frame) (first : ℕ) (shelves new : List Shelf) → new ≡ shelves ++ empty_shelf frame first (across_side frame) ∷ []
-    → Each (λ (shelf : Shelf). shelf.column < first) shelves → Each (λ (shelf : Shelf). shelf.column < first + 1) new
+    → AllByRecursion (λ (shelf : Shelf). shelf.column < first) shelves → AllByRecursion (λ (shelf : Shelf). shelf.column < first + 1) new
 all-below frame first shelves new is below =
     rw is
     (Each-append (λ (shelf : Shelf). shelf.column < first + 1) shelves (empty_shelf frame first (across_side frame) ∷ [])
@@ -118,7 +118,7 @@ grown-equal frame old growing shelves others items more e has = rw (← e) has
 -- so many columns from one on are appended
 columns-appended : (grown : Frame) (old : ℕ) → 1 ≤ grown.column_width → (count : ℕ) (growing : Growing) (before : List Entry) (entry : Entry) (unused_items unused_shelves : List ℕ) (first items more : ℕ)
     → IsGrowing grown old growing (before ++ entry ∷ []) unused_items unused_shelves (count + items) (count + more)
-    → Each (λ (shelf : Shelf). shelf.column < first) (shelves_spelled grown growing.records (before ++ entry ∷ []))
+    → AllByRecursion (λ (shelf : Shelf). shelf.column < first) (shelves_spelled grown growing.records (before ++ entry ∷ []))
     → CanAppend grown count entry.number first growing
     × HasGrown grown old (columns_appended grown count entry.number first growing)
     (shelves_spelled grown growing.records (before ++ entry ∷ []) ++ empty_columns grown first count) items more
@@ -172,7 +172,7 @@ appends grown old growing shelves first items more wide fits some below has =
     let last : last_shelf growing.records ≡ Some entry.number =
     last-entry growing.records before entry has.unused_items has.unused_shelves _ _ is.spelled.linked in
     let both = columns-appended grown old wide count growing before entry has.unused_items has.unused_shelves first items more is
-    (subst (λ (ss : List Shelf). Each (λ (shelf : Shelf). shelf.column < first) ss) (sym spelled) below) in (
+    (subst (λ (ss : List Shelf). AllByRecursion (λ (shelf : Shelf). shelf.column < first) ss) (sym spelled) below) in (
       λ number e. let equal : entry.number ≡ number = cc in subst (λ (n : ℕ). CanAppend grown count n first growing) equal both.0,
       subst (λ (at : Option ℕ). HasGrown grown old (columns_added grown first at growing) (shelves ++ empty_columns grown first count) items more) (sym last)
           (grown-equal grown old (columns_appended grown count entry.number first growing) (shelves_spelled grown growing.records (before ++ entry ∷ []) ++ empty_columns grown first count)

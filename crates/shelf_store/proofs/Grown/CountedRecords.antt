@@ -4,7 +4,8 @@ use Rattle.std.specs.Prelude.{◌/◌, ◌%◌, nat_lt, not}
 use Rattle.etagere_base.specs.declared.frames.Frame.{Frame}
 use Rattle.etagere_base.specs.declared.geometry.Size.{Size}
 use Rattle.etagere_base.specs.Frames.{across_side}
-use Rattle.etagere_base.specs.Lists.{Each, times, total}
+use Rattle.std.specs.List.{AllByRecursion}
+use Rattle.etagere_base.specs.Lists.{times, total}
 use Rattle.etagere_base.proofs.AlignedPlaces.{multiple}
 use Rattle.etagere_links.specs.declared.records.LinkedItem.{LinkedItem}
 use Rattle.etagere_links.specs.Chains.{Leads}
@@ -17,7 +18,7 @@ use Rattle.shelf_model.specs.Growing.{ends_column, ends_free, filled_ends, grown
 use Rattle.shelf_records.specs.Private.Kept.{AreKept, HasFlag, IsPlaced, atlas_of, bare, state_of}
 use Rattle.shelf_store.specs.Private.RecordsGrown.{allocated_ends, counted_from, ends_column_at, ends_free_at, filled_ends_of, is_filled_end, last_from, needed_of}
 use Rattle.shelf_model.specs.State.{Shelf, is_empty}
-use Rattle.shelf_store.proofs.Grown.GrowthSteps.{counted-next, counted-none, last-next, last-none}
+use Rattle.shelf_store.proofs.Grown.GrowSteps.{counted-next, counted-none, last-next, last-none}
 use Rattle.shelf_store.proofs.Searched.Following.{IsLeft}
 use Rattle.shelf_store.proofs.Searched.LinkedParts.{items-left, shelves-left}
 use Rattle.shelf_records.proofs.Spelled.SpelledPlaces.{free-spelled}
@@ -51,7 +52,7 @@ ends-spelled records shelf (x ∷ xs) left =
     rw (first, last) (sym (ends-last records.items x xs))
 
 -- what holds of each number that stands in a list holds of each of it
-each-standing : (P : ℕ → Type 0) (numbers : List ℕ) → ((k : ℕ) → 1 ≤ times k numbers → P k) → Each P numbers
+each-standing : (P : ℕ → Type 0) (numbers : List ℕ) → ((k : ℕ) → 1 ≤ times k numbers → P k) → AllByRecursion P numbers
 each-standing P [] holds = tt
 each-standing P (x ∷ xs) holds = (holds x (omega (arith, times-here x xs)), each-standing P xs (λ k stands. holds k (omega (arith, stands))))
 
@@ -87,7 +88,7 @@ module _ (frame : Frame) (records : Records) where
 
   -- the ends that are counted along the shelves
   counted-ends : (n : ℕ) (at : Option ℕ) (numbers : List ℕ) → Leads (link_at shelf_chain.next records.shelves) at numbers None → length numbers ≤ n
-      → Each (λ k. ends_free_at records k ≡ ends_free (shelf_at k).items) numbers
+      → AllByRecursion (λ k. ends_free_at records k ≡ ends_free (shelf_at k).items) numbers
       → counted_from (λ shelf next. not (ends_free_at records shelf)) records.shelves n at
       ≡ total (λ (shelf : Shelf). cond (ends_free shelf.items) 0 1) (shelves_at numbers)
   counted-ends n at [] leads few same = counted-none (λ shelf next. not (ends_free_at records shelf)) records.shelves n at leads
@@ -111,7 +112,7 @@ module _ (frame : Frame) (records : Records) where
 
   -- a shelf ends its column where its record does
   column-ends : (x : ℕ) (xs : List ℕ) → Leads (link_at shelf_chain.next records.shelves) (link_at shelf_chain.next records.shelves x) xs None
-      → Each IsSaid (x ∷ xs) → ends_column_at records.shelves x (link_at shelf_chain.next records.shelves x) ≡ ends_column (shelf_at x) (shelves_at xs)
+      → AllByRecursion IsSaid (x ∷ xs) → ends_column_at records.shelves x (link_at shelf_chain.next records.shelves x) ≡ ends_column (shelf_at x) (shelves_at xs)
   column-ends x [] leads said = let none : link_at shelf_chain.next records.shelves x ≡ None = leads in rw none refl
   column-ends x (y ∷ ys) leads said =
       rw leads.0
@@ -119,7 +120,7 @@ module _ (frame : Frame) (records : Records) where
 
   -- the filled ends that are counted along the shelves
   counted-filled : (n : ℕ) (at : Option ℕ) (numbers : List ℕ) → Leads (link_at shelf_chain.next records.shelves) at numbers None → length numbers ≤ n
-      → Each IsSaid numbers → counted_from (is_filled_end records.shelves) records.shelves n at ≡ filled_ends (shelves_at numbers)
+      → AllByRecursion IsSaid numbers → counted_from (is_filled_end records.shelves) records.shelves n at ≡ filled_ends (shelves_at numbers)
   counted-filled n at [] leads few said = counted-none (is_filled_end records.shelves) records.shelves n at leads
   counted-filled zero at (x ∷ xs) leads few said = absurd (omega (arith, few))
   counted-filled (suc n) at (x ∷ xs) leads few said =
@@ -153,8 +154,8 @@ ends-counted frame records kept =
       filled = counted-filled frame records (length records.shelves) records.first_shelf numbers left.leads few (each-said numbers kept.placed kept.flags);
     }
   where
-    each-said : (numbers : List ℕ) → Each (IsPlaced (atlas_of frame records)) (map (walked_entry records) numbers)
-        → Each (HasFlag (atlas_of frame records)) (map (walked_entry records) numbers) → Each (IsSaid frame records) numbers
+    each-said : (numbers : List ℕ) → AllByRecursion (IsPlaced (atlas_of frame records)) (map (walked_entry records) numbers)
+        → AllByRecursion (HasFlag (atlas_of frame records)) (map (walked_entry records) numbers) → AllByRecursion (IsSaid frame records) numbers
     each-said [] placed flags = tt
     each-said (x ∷ xs) placed flags = (record { along = placed.0.along; flag = flags.0 }, each-said xs placed.1 flags.1)
 

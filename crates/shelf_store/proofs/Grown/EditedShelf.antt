@@ -1,7 +1,8 @@
 -- Half grown records, after the items of one shelf were edited: it spells another shelf, and the others what they did.
 use Rattle.std.proofs.Common.{◌≡◌, ℕ, ◌+◌, ◌-◌, ◌<◌, ◌≤◌, false, List, [], ◌∷◌, ◌++◌, length, ap, arith, sym, ◌∙◌}
 use Rattle.etagere_base.specs.declared.frames.Frame.{Frame}
-use Rattle.etagere_base.specs.Lists.{Each, times}
+use Rattle.std.specs.List.{AllByRecursion}
+use Rattle.etagere_base.specs.Lists.{times}
 use Rattle.etagere_base.proofs.EachLemmas.{Each-append, Each-back, Each-front, Each-middle}
 use Rattle.etagere_links.specs.RecordLists.{Entry, IsEntry, IsLinkedExcept, item_numbers, shelf_numbers}
 use Rattle.etagere_links.proofs.AllLists.LinkedEdits.{same-numbers}
@@ -28,7 +29,7 @@ pub record EditsShelf (frame : Frame) (old : ℕ) (growing edits : Growing) (bef
   pub flag : is_empty shelf ≡ is_empty (spelled_shelf (bare frame growing.records) entry)
   pub others : (k : ℕ) → 1 ≤ times k (item_numbers before) + times k (item_numbers after) → SameItem growing.records.items edits.records.items k
   pub same : (k : ℕ) → SameShelf growing.records.shelves edits.records.shelves k
-  pub unused : Each (λ item. is_allocated_at edits.records.items item ≡ false) unused_items
+  pub unused : AllByRecursion (λ item. is_allocated_at edits.records.items item ≡ false) unused_items
   pub as_many : length edits.records.items ≡ length growing.records.items
   pub as_many_shelves : length edits.records.shelves ≡ length growing.records.shelves
   pub used_up : old < length growing.records.items → length unused_items ≤ items

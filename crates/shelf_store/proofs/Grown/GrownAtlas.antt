@@ -16,7 +16,7 @@ use Rattle.shelf_store.specs.Private.RecordsGrown.{CanGrow, needed_of, records_g
 use Rattle.shelf_model.specs.Space.{allocated_space}
 use Rattle.shelf_model.specs.State.{AtlasState, items_in_use}
 use Rattle.shelf_store.proofs.Grown.CountedRecords.{needed-counted}
-use Rattle.shelf_model.proofs.Grown.GrownFrames.{Fits, GrowsFrame, frame-grows, growth-fits, size-fits}
+use Rattle.shelf_model.proofs.Grown.GrownFrames.{Fits, GrowsFrame, frame-grows, grow-fits, size-fits}
 use Rattle.shelf_model.proofs.Grown.GrownValid.{grown-allocated, grown-space, items-grown}
 use Rattle.shelf_store.proofs.Grown.HalfGrown.{GrowsKept, GrowsRecords}
 
@@ -29,7 +29,7 @@ no-fault state size none few =
 
 -- a fault where the size has none and there are too many
 pub many-fault : (state : AtlasState) (size : Size) → 65535 < items_in_use state.shelves + records_needed state size → grow_fault state size ≡ None → ⊥
-many-fault state size many none = let fits = growth-fits state size none in absurd (omega (arith, fits.records, many))
+many-fault state size many none = let fits = grow-fits state size none in absurd (omega (arith, fits.records, many))
 
 -- what a growth that has no fault comes to, whether there is memory for it or not
 pub record GrowsAtlas (frame : Frame) (size : Size) (records : Records) (grown : Frame) (needed : Needed) : Type 0 where
@@ -76,7 +76,7 @@ grows-atlas grows-kept frame size records grown needed kept no_fault is_grown is
     none = no-fault state size no_fault (omega (arith, few, ap (λ (n : Needed). n.items) now, needed-counted frame size records kept))
 
     fits : Fits state size
-    fits = growth-fits state size none
+    fits = grow-fits state size none
 
     grows : GrowsRecords frame size records
     grows = grows-kept frame size records kept none

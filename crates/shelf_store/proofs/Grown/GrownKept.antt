@@ -6,7 +6,8 @@ use Rattle.std.specs.Prelude.{nat_lt}
 use Rattle.etagere_base.specs.declared.frames.Frame.{Frame}
 use Rattle.etagere_base.specs.declared.geometry.Size.{Size}
 use Rattle.etagere_base.specs.Frames.{across_side}
-use Rattle.etagere_base.specs.Lists.{Each, total}
+use Rattle.std.specs.List.{AllByRecursion}
+use Rattle.etagere_base.specs.Lists.{total}
 use Rattle.etagere_base.proofs.EachLemmas.{Each-append, Each-weaken}
 use Rattle.etagere_base.proofs.FrameSides.{column_width-le, sides_low}
 use Rattle.etagere_links.specs.RecordLists.{Records}
@@ -20,13 +21,13 @@ use Rattle.shelf_store.specs.Private.RecordsGrown.{CanAppend, CanHeightenAll, Ca
 use Rattle.shelf_model.specs.State.{AtlasState, Shelf, is_empty, total_width}
 use Rattle.shelf_model.specs.Valid.{IsShelf}
 use Rattle.shelf_store.proofs.Grown.CountedRecords.{CountsEnds, ends-counted}
-use Rattle.shelf_store.proofs.Grown.EndedGrowth.{ended}
-use Rattle.shelf_model.proofs.Grown.GrownFrames.{Fits, GrowsFrame, frame-grows, growth-fits}
+use Rattle.shelf_store.proofs.Grown.EndedGrow.{ended}
+use Rattle.shelf_model.proofs.Grown.GrownFrames.{Fits, GrowsFrame, frame-grows, grow-fits}
 use Rattle.shelf_model.proofs.Grown.GrownShelf.{wider_shelf}
 use Rattle.shelf_model.proofs.Grown.GrownShelves.{end_shelf, taller_end, taller_ends}
 use Rattle.shelf_model.proofs.Grown.GrownValid.{below, grown-shelves, one_column, taller, wide-below, wide-filled, wide-heights, wide-ordered, wider}
 use Rattle.shelf_store.proofs.Grown.HalfGrown.{Appends, GrowsKept, HasGrown, Heightens, Widens}
-use Rattle.shelf_store.proofs.Grown.StartedGrowth.{started}
+use Rattle.shelf_store.proofs.Grown.StartedGrow.{started}
 use Rattle.shelf_model.proofs.Places.ColumnShelves.{columns-le-shelves}
 use Rattle.shelf_model.proofs.Places.Heights.{column_height-none}
 
@@ -52,14 +53,14 @@ spelling {frame} {old} {growing} {shelves} {others} {items} {more} h has =
 
 module _ (frame : Frame) (height : ℕ) where
   -- with heights at the ends of the columns all shelves stand before the column that they stood before
-  below-taller_ends : (n : ℕ) (shelves : List Shelf) → Each (λ (s : Shelf). s.column < n) shelves → Each (λ (s : Shelf). s.column < n) (taller_ends frame height shelves)
+  below-taller_ends : (n : ℕ) (shelves : List Shelf) → AllByRecursion (λ (s : Shelf). s.column < n) shelves → AllByRecursion (λ (s : Shelf). s.column < n) (taller_ends frame height shelves)
   below-taller_ends n [] each = tt
   below-taller_ends n (shelf ∷ shelves) each =
       Each-append (λ (s : Shelf). s.column < n) (taller_end frame height shelf shelves) (taller_ends frame height shelves)
       (by_test (ends_column shelf shelves) (is_empty shelf)) (below-taller_ends n shelves each.1)
     where
       by_test : (b c : Bool)
-          → Each (λ (s : Shelf). s.column < n) (cond b (cond c (combined_shelves shelf (end_shelf frame height shelf) ∷ []) (shelf ∷ end_shelf frame height shelf ∷ [])) (shelf ∷ []))
+          → AllByRecursion (λ (s : Shelf). s.column < n) (cond b (cond c (combined_shelves shelf (end_shelf frame height shelf) ∷ []) (shelf ∷ end_shelf frame height shelf ∷ [])) (shelf ∷ []))
       by_test true true = (each.0, tt)
       by_test true false = (each.0, (each.0, tt))
       by_test false c = (each.0, tt)
@@ -203,10 +204,10 @@ module _ (frame : Frame) (size : Size) (records : Records) (kept : AreKept frame
           (λ h. absurd (cc), spelling (cond-true (height == 0) wide (taller_ends grown height wide) none.0) (waiting (omega arith) (omega arith) has))
 
   -- all shelves stand before the new columns
-  tall-below : Each (λ (s : Shelf). s.column < frame.columns) tall
+  tall-below : AllByRecursion (λ (s : Shelf). s.column < frame.columns) tall
   tall-below = by_test (height == 0)
     where
-      by_test : (b : Bool) → Each (λ (s : Shelf). s.column < frame.columns) (cond b wide (taller_ends grown height wide))
+      by_test : (b : Bool) → AllByRecursion (λ (s : Shelf). s.column < frame.columns) (cond b wide (taller_ends grown height wide))
       by_test true = wide-below state size kept.valid fits
       by_test false = below-taller_ends grown height frame.columns wide (wide-below state size kept.valid fits)
 
@@ -245,7 +246,7 @@ module _ (frame : Frame) (size : Size) (records : Records) (kept : AreKept frame
 pub grows-kept : Widens → Heightens → Appends → GrowsKept
 grows-kept widens heightens appends frame size records kept no_fault =
     let state : AtlasState = state_of frame records in
-    let fits : Fits state size = growth-fits state size no_fault in
+    let fits : Fits state size = grow-fits state size no_fault in
     let wide = widened-all frame size records kept fits widens (started frame size records kept no_fault) in
     let tall = heightened-all frame size records kept fits heightens wide.1 in
     let all = appended-all frame size records kept fits appends tall.1 in

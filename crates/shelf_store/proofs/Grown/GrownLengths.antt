@@ -14,7 +14,7 @@ use Rattle.etagere_links.proofs.RecordFrames.{length-linked_between}
 use Rattle.shelf_store.specs.declared.growing.Needed.{Needed}
 use Rattle.shelf_records.specs.AtlasRecords.{across_of, along_of, height_of, is_allocated_at, is_empty_at}
 use Rattle.shelf_store.specs.Private.RecordsGrown.{Growing, after_item, after_shelf, columns_added, columns_appended, columns_heightened, empty_shelf_record, end_heightened, ends_column_at, last_item, last_shelf, next_item, next_shelf, records_grown, shelf_heightened, shelf_inserted, shelf_widened, shelves_widened, widened_after, with_height, with_missing, with_width}
-use Rattle.shelf_store.proofs.Grown.StartedGrowth.{length-shelves}
+use Rattle.shelf_store.proofs.Grown.StartedGrow.{length-shelves}
 
 -- how many shelf records there are
 abbrev count : Growing → ℕ

@@ -7,10 +7,10 @@ use Rattle.etagere_links.specs.RecordLists.{Records}
 use Rattle.etagere_links.specs.RecordMaking.{records_made}
 use Rattle.etagere_links.specs.RecordUses.{missing}
 use Rattle.etagere_links.specs.Records.{item_chain, shelf_chain}
-use Rattle.shelf_heights.specs.Private.ByHeight.{AreRanked}
+use Rattle.shelf_heights.specs.Private.ByHeight.{AreByHeight}
 use Rattle.shelf_store.specs.Private.RecordsGrown.{Growing, needed_of, records_grown, with_columns, with_height, with_missing, with_width}
 use Rattle.shelf_store.specs.declared.growing.Needed.{Needed}
-use Rattle.shelf_heights.specs.declared.ranked.RankedShelf.{RankedShelf}
+use Rattle.shelf_heights.specs.declared.by_height.BoundedShelf.{BoundedShelf}
 
 -- tests of which none passed
 none-of : (a b c : Bool) → (a || b || c) ≡ false → (a ≡ false) × (b ≡ false) × (c ≡ false)
@@ -50,9 +50,9 @@ nothing-grown frame grown needed records is none =
     ∙ ap (λ (n : ℕ). records_made (missing item_chain n records.unused_items records.items) (missing shelf_chain needed.shelves records.unused_shelves records.shelves) records) no_items
     ∙ ap (λ (n : ℕ). records_made 0 (missing shelf_chain n records.unused_shelves records.shelves) records) no_shelves
 
--- shelves are ranked in one frame as in another
-pub ranked-elsewhere : (frame grown : Frame) (old new : Records) (before after : List RankedShelf) → new ≡ old → after ≡ before → AreRanked frame old before → AreRanked grown new after
-ranked-elsewhere frame grown old new before after same_records same_ranked are =
-    subst (λ (records : Records). AreRanked grown records after) (sym same_records)
-    (subst (λ (ranked : List RankedShelf). AreRanked grown old ranked) (sym same_ranked)
+-- shelves stand by height in one frame as in another
+pub by_height-elsewhere : (frame grown : Frame) (old new : Records) (before after : List BoundedShelf) → new ≡ old → after ≡ before → AreByHeight frame old before → AreByHeight grown new after
+by_height-elsewhere frame grown old new before after same_records same_by_height are =
+    subst (λ (records : Records). AreByHeight grown records after) (sym same_records)
+    (subst (λ (by_height : List BoundedShelf). AreByHeight grown old by_height) (sym same_by_height)
     (record { once = are.once; rising = are.rising; bounds = are.bounds }))

@@ -1,6 +1,7 @@
 -- Records half way through a growth: what they spell in the grown frame, and which of them wait to be put to use.
 use Rattle.std.proofs.Common.{◌≡◌, ℕ, suc, ◌+◌, ◌-◌, ◌*◌, ◌/◌, ◌<◌, ◌≤◌, ◌≢◌, cond, None, Some, List, [], ◌∷◌, ◌++◌, length, map}
-use Rattle.etagere_base.specs.Lists.{Each, NoNeighbours, times, total}
+use Rattle.std.specs.List.{AllByRecursion}
+use Rattle.etagere_base.specs.Lists.{NoNeighbours, times, total}
 use Rattle.etagere_base.specs.declared.frames.Frame.{Frame}
 use Rattle.etagere_base.specs.declared.geometry.Size.{Size}
 use Rattle.etagere_links.specs.RecordLists.{Entry, Records, shelf_numbers}
@@ -28,7 +29,7 @@ pub record IsGrowing (frame : Frame) (old : ℕ) (growing : Growing) (entries : 
   pub spelled : IsSpelledBut (bare frame growing.records) (lists_of entries unused_items unused_shelves)
       (numbers_from growing.made.item (items - length unused_items) ++ [])
       (numbers_from growing.made.shelf (shelves - length unused_shelves) ++ [])
-  pub flags : Each (HasFlag (bare frame growing.records)) entries
+  pub flags : AllByRecursion (HasFlag (bare frame growing.records)) entries
   pub counts : HasCounts (bare frame growing.records)
   pub more : old ≤ length growing.records.items
   pub used_up : old < length growing.records.items → length unused_items ≤ items
@@ -65,7 +66,7 @@ Inserts =
     → IsGrowing frame old growing (before ++ entry ∷ after) unused_items unused_shelves (suc items) (suc shelves)
     → 1 ≤ frame.column_width → along ≡ column * frame.column_width
     → across ≡ height_before growing.records.shelves frame.column_width column (shelf_numbers (before ++ entry ∷ []))
-    → Each (λ (other : Entry). along_of growing.records.shelves other.number / frame.column_width ≢ column) after
+    → AllByRecursion (λ (other : Entry). along_of growing.records.shelves other.number / frame.column_width ≢ column) after
     → CanInsert entry.number growing × HasInserted frame old growing before after entry unused_items unused_shelves items shelves column along across height
 
 -- what widening all shelves comes to, where all stand in the first column and fill it
@@ -73,7 +74,7 @@ abbrev pub Widens : Type 0
 Widens =
     (frame grown : Frame) (old : ℕ) (growing : Growing) (shelves : List Shelf) (width items more : ℕ)
     → 1 ≤ width → 1 ≤ frame.column_width → grown.column_width ≡ frame.column_width + width → grown.column_width ≤ 65535
-    → Each (λ (shelf : Shelf). shelf.column ≡ 0) shelves → Each (λ (shelf : Shelf). total_width shelf.items ≡ frame.column_width) shelves
+    → AllByRecursion (λ (shelf : Shelf). shelf.column ≡ 0) shelves → AllByRecursion (λ (shelf : Shelf). total_width shelf.items ≡ frame.column_width) shelves
     → HasGrown grown old growing shelves (total (λ shelf. cond (ends_free shelf.items) 0 1) shelves + items) more
     → CanWidenAll frame.column_width width (length growing.records.shelves) growing.records.first_shelf growing
     × HasGrown grown old (shelves_widened frame.column_width width (length growing.records.shelves) growing.records.first_shelf growing)
@@ -93,7 +94,7 @@ Heightens =
 abbrev pub Appends : Type 0
 Appends =
     (grown : Frame) (old : ℕ) (growing : Growing) (shelves : List Shelf) (first items more : ℕ)
-    → 1 ≤ grown.column_width → first ≤ grown.columns → 1 ≤ length shelves → Each (λ (shelf : Shelf). shelf.column < first) shelves
+    → 1 ≤ grown.column_width → first ≤ grown.columns → 1 ≤ length shelves → AllByRecursion (λ (shelf : Shelf). shelf.column < first) shelves
     → HasGrown grown old growing shelves (grown.columns - first + items) (grown.columns - first + more)
     → ((last : ℕ) → last_shelf growing.records ≡ Some last → CanAppend grown (grown.columns - first) last first growing)
     × HasGrown grown old (columns_added grown first (last_shelf growing.records) growing) (shelves ++ empty_columns grown first (grown.columns - first)) items more

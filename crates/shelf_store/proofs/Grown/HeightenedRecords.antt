@@ -2,7 +2,7 @@
 use Rattle.std.proofs.Common.{◌≡◌, ℕ, zero, suc, ◌+◌, ◌-◌, ◌≤◌, true, Option, None, Some, List, [], ◌∷◌, ◌++◌, length, refl, sym, ◌∙◌, arith, append_assoc, subst}
 use Rattle.std.proofs.lemmas.List.{append-nil}
 use Rattle.etagere_base.specs.declared.frames.Frame.{Frame}
-use Rattle.etagere_base.specs.Lists.{Each}
+use Rattle.std.specs.List.{AllByRecursion}
 use Rattle.etagere_links.specs.Chains.{Leads}
 use Rattle.etagere_links.specs.Edits.{link_at}
 use Rattle.etagere_links.specs.RecordLists.{Entry, shelf_numbers}
@@ -15,7 +15,7 @@ use Rattle.shelf_model.specs.Places.{column_height}
 use Rattle.shelf_store.specs.Private.RecordsGrown.{CanHeighten, CanHeightenAll, Growing, columns_heightened, end_heightened, ends_column_at}
 use Rattle.shelf_model.specs.State.{Shelf}
 use Rattle.shelf_model.proofs.Grown.GrownShelves.{taller_end, taller_ends}
-use Rattle.shelf_store.proofs.Grown.GrowthSteps.{heightened-next, heightened-none}
+use Rattle.shelf_store.proofs.Grown.GrowSteps.{heightened-next, heightened-none}
 use Rattle.shelf_store.proofs.Grown.HalfGrown.{HasGrown, Heightens, Inserts, IsGrowing, shelves_spelled}
 use Rattle.shelf_store.proofs.Grown.HeightenedSteps.{HasStep, IsAt, growing-as, here-is, shelf_spelled, step}
 use Rattle.shelf_store.proofs.Grown.MadeLinked.{numbers_from}
@@ -104,7 +104,7 @@ few-shelves frame old growing entries unused_items unused_shelves items shelves 
 
 -- where no column is higher than this, all can get the height
 low-all : (height : ℕ) (shelves left : List Shelf) → ((column : ℕ) → column_height column shelves + height ≤ 65535)
-    → Each (λ (shelf : Shelf). column_height shelf.column shelves + height ≤ 65535) left
+    → AllByRecursion (λ (shelf : Shelf). column_height shelf.column shelves + height ≤ 65535) left
 low-all height shelves [] low = tt
 low-all height shelves (shelf ∷ left) low = (low shelf.column, low-all height shelves left low)
 

@@ -4,7 +4,8 @@ use Rattle.std.specs.Prelude.{◌%◌, not}
 use Rattle.std.proofs.lemmas.Bool.{cond-false, cond-true}
 use Rattle.std.proofs.lemmas.List.{length-append, length-map, map-append}
 use Rattle.etagere_base.specs.declared.frames.Frame.{Frame}
-use Rattle.etagere_base.specs.Lists.{Each, NoNeighbours}
+use Rattle.std.specs.List.{AllByRecursion}
+use Rattle.etagere_base.specs.Lists.{NoNeighbours}
 use Rattle.etagere_base.proofs.AlignedPlaces.{multiple}
 use Rattle.etagere_base.proofs.EachLemmas.{Each-back}
 use Rattle.etagere_base.proofs.NoNeighboursLemmas.{NoNeighbours-tail}
@@ -72,7 +73,7 @@ module _ (grown : Frame) (old height : ℕ) where
 
   -- a shelf ends its column where its record does
   ends-said : (growing : Growing) (entry : Entry) (after : List Entry) (next : Option ℕ) → Leads (link_at shelf_chain.next growing.records.shelves) next (shelf_numbers after) None
-      → Each (IsPlaced (bare grown growing.records)) (entry ∷ after)
+      → AllByRecursion (IsPlaced (bare grown growing.records)) (entry ∷ after)
       → ends_column_at growing.records.shelves entry.number next ≡ ends_column (shelf_spelled grown growing entry) (shelves_spelled grown growing.records after)
   ends-said growing entry [] next leads placed = let none : next ≡ None = leads in rw none refl
   ends-said growing entry (other ∷ after) next leads placed =
@@ -171,13 +172,13 @@ module _ (grown : Frame) (old height : ℕ) where
 
     -- the other shelves stand in later columns where this one is the last of its own
     others-after : ends_column shelf shelves ≡ true
-        → Each (λ (other : Entry). along_of growing.records.shelves other.number / grown.column_width ≢ along_of growing.records.shelves entry.number / grown.column_width) after
+        → AllByRecursion (λ (other : Entry). along_of growing.records.shelves other.number / grown.column_width ≢ along_of growing.records.shelves entry.number / grown.column_width) after
     others-after e =
         each-later after
-        (subst (λ (l : List Shelf). Each (λ (s : Shelf). suc shelf.column ≤ s.column) l) (sym here.rest) (columns-after shelf shelves e at.ordered))
+        (subst (λ (l : List Shelf). AllByRecursion (λ (s : Shelf). suc shelf.column ≤ s.column) l) (sym here.rest) (columns-after shelf shelves e at.ordered))
       where
-        each-later : (after : List Entry) → Each (λ (s : Shelf). suc shelf.column ≤ s.column) (shelves_spelled grown growing.records after)
-            → Each (λ (other : Entry). along_of growing.records.shelves other.number / grown.column_width ≢ along_of growing.records.shelves entry.number / grown.column_width) after
+        each-later : (after : List Entry) → AllByRecursion (λ (s : Shelf). suc shelf.column ≤ s.column) (shelves_spelled grown growing.records after)
+            → AllByRecursion (λ (other : Entry). along_of growing.records.shelves other.number / grown.column_width ≢ along_of growing.records.shelves entry.number / grown.column_width) after
         each-later [] later = tt
         each-later (other ∷ after) later =
             (λ same. omega (arith, later.0, same, ap (λ (s : Shelf). s.column) here.own), each-later after later.1)

@@ -3,7 +3,8 @@ use Rattle.std.proofs.Common.{◌≡◌, ◌≢◌, ℕ, suc, ◌+◌, ◌-◌, 
 use Rattle.std.proofs.Math.Nat.{mul-div_cancel, mul-mod_left}
 use Rattle.std.specs.Prelude.{◌%◌, ◌==◌, is_some, slice_get}
 use Rattle.etagere_base.specs.declared.frames.Frame.{Frame}
-use Rattle.etagere_base.specs.Lists.{Each, times}
+use Rattle.std.specs.List.{AllByRecursion}
+use Rattle.etagere_base.specs.Lists.{times}
 use Rattle.etagere_links.specs.declared.records.LinkedItem.{LinkedItem}
 use Rattle.etagere_links.specs.declared.records.LinkedShelf.{LinkedShelf}
 use Rattle.etagere_links.specs.Edits.{changed_by, link_at, linked_between}
@@ -23,7 +24,7 @@ use Rattle.etagere_links.proofs.AllLists.LinkedUnused.{IsLoose, lists_of, loose-
 use Rattle.etagere_links.proofs.AllLists.LinkedUses.{but_first}
 use Rattle.etagere_links.proofs.RecordChanges.{get-changed_by-other, length-changed_by, link_at-changed}
 use Rattle.etagere_links.proofs.RecordFrames.{length-linked_between, map-linked_between}
-use Rattle.shelf_records.specs.AtlasRecords.{across_of, along_of, height_of, is_allocated_at, is_empty_at, item_at, place_of, shelf_of, spelled_item, spelled_shelf}
+use Rattle.shelf_records.specs.AtlasRecords.{across_of, along_of, height_of, is_allocated_at, is_empty_at, item_at, item_place_of, shelf_of, spelled_item, spelled_shelf}
 use Rattle.shelf_records.specs.Private.Kept.{HasFlag, IsPlaced, bare}
 use Rattle.shelf_store.specs.Private.RecordsGrown.{CanInsert, Growing, after_item, after_shelf, empty_shelf_record, made_after_shelf, next_item, next_shelf}
 use Rattle.shelf_records.specs.StandsFor.{AreStacked, height_before}
@@ -43,7 +44,7 @@ use Rattle.shelf_store.proofs.Spelled.SpelledUses.{Each-but_first, SameEntries, 
 use Rattle.shelf_records.proofs.Spelled.StackedMerges.{height-one, height_before-append}
 
 -- a fact of each element, with one put after another
-Each-inserted : {X : Type 0} (P : X → Type 0) (xs : List X) (y z : X) (ys : List X) → P z → Each P (xs ++ y ∷ ys) → Each P (xs ++ y ∷ z ∷ ys)
+Each-inserted : {X : Type 0} (P : X → Type 0) (xs : List X) (y z : X) (ys : List X) → P z → AllByRecursion P (xs ++ y ∷ ys) → AllByRecursion P (xs ++ y ∷ z ∷ ys)
 Each-inserted P [] y z ys here each = (each.0, (here, each.1))
 Each-inserted P (x ∷ xs) y z ys here each = (each.0, Each-inserted P xs y z ys here each.1)
 
@@ -60,7 +61,7 @@ map-inserted f g (x ∷ xs) y z ys w here same =
     rw (first, map-inserted f g xs y z ys w here rest) refl
 
 -- a fact of the number of each shelf
-Each-numbers : (P : ℕ → Type 0) (entries : List Entry) → Each (λ (entry : Entry). P entry.number) entries → Each P (shelf_numbers entries)
+Each-numbers : (P : ℕ → Type 0) (entries : List Entry) → AllByRecursion (λ (entry : Entry). P entry.number) entries → AllByRecursion P (shelf_numbers entries)
 Each-numbers P [] each = tt
 Each-numbers P (entry ∷ entries) each = (each.0, Each-numbers P entries each.1)
 
@@ -73,7 +74,7 @@ module _ (shelves new : List LinkedShelf) (column_width column added : ℕ) wher
 
   -- shelves of other columns stand where they stood
   stacked-beyond : (below below' numbers : List ℕ) → ((c : ℕ) → c ≢ column → height_before new column_width c below' ≡ height_before shelves column_width c below)
-      → ((k : ℕ) → 1 ≤ times k numbers → SameShelf shelves new k) → Each (λ n. along_of shelves n / column_width ≢ column) numbers
+      → ((k : ℕ) → 1 ≤ times k numbers → SameShelf shelves new k) → AllByRecursion (λ n. along_of shelves n / column_width ≢ column) numbers
       → AreStacked shelves column_width below numbers → AreStacked new column_width below' numbers
   stacked-beyond below below' [] heights same others stacked = tt
   stacked-beyond below below' (n ∷ ns) heights same others stacked =
@@ -90,7 +91,7 @@ module _ (shelves new : List LinkedShelf) (column_width column added : ℕ) wher
   stacked-inserted : (below below' before after : List ℕ) (number : ℕ) → along_of new added / column_width ≡ column
       → across_of new added ≡ height_before shelves column_width column below + height_before shelves column_width column (before ++ number ∷ [])
       → ((c : ℕ) → height_before new column_width c below' ≡ height_before shelves column_width c below)
-      → ((k : ℕ) → 1 ≤ times k (before ++ number ∷ after) → SameShelf shelves new k) → Each (λ n. along_of shelves n / column_width ≢ column) after
+      → ((k : ℕ) → 1 ≤ times k (before ++ number ∷ after) → SameShelf shelves new k) → AllByRecursion (λ n. along_of shelves n / column_width ≢ column) after
       → AreStacked shelves column_width below (before ++ number ∷ after) → AreStacked new column_width below' (before ++ number ∷ added ∷ after)
   stacked-inserted below below' [] after number is across heights same others stacked =
       let own : SameShelf shelves new number = same number (omega (arith, times-here number after)) in
@@ -131,7 +132,7 @@ record IsInserted (records new : Records) (shelf item width along across height 
   tall : height_of new.shelves shelf ≡ height
   is_empty : is_empty_at new.shelves shelf ≡ true
   spells : item_at new.items item ≡ record { width = width; id = None }
-  place : place_of new.items item ≡ along
+  place : item_place_of new.items item ≡ along
   owner : shelf_of new.items item ≡ shelf
   free : is_allocated_at new.items item ≡ false
   others : (k : ℕ) → shelf ≢ k → SameShelf records.shelves new.shelves k
@@ -198,7 +199,7 @@ module _ (records : Records) (previous shelf item width along across height : �
 -- an empty shelf was put after another one of those that records spell
 record IsAdded (frame : Frame) (records new : Records) (before after : List Entry) (entry added : Entry) (unused_items unused_shelves loose loose_shelves : List ℕ) (column height : ℕ) : Type 0 where
   spelled : IsSpelledBut (bare frame new) (lists_of (before ++ entry ∷ added ∷ after) unused_items unused_shelves) loose loose_shelves
-  flags : Each (HasFlag (bare frame records)) (before ++ entry ∷ after) → Each (HasFlag (bare frame new)) (before ++ entry ∷ added ∷ after)
+  flags : AllByRecursion (HasFlag (bare frame records)) (before ++ entry ∷ after) → AllByRecursion (HasFlag (bare frame new)) (before ++ entry ∷ added ∷ after)
   others : shelves_spelled frame new (before ++ entry ∷ after) ≡ shelves_spelled frame records (before ++ entry ∷ after)
   empty : spelled_shelf (bare frame new) added ≡ empty_shelf frame column height
   same : (k : ℕ) → 1 ≤ times k (shelf_numbers (before ++ entry ∷ after)) → SameShelf records.shelves new.shelves k
@@ -246,12 +247,12 @@ module _ (frame : Frame) (records : Records) (before after : List Entry) (entry 
       → spelled_shelf (bare frame new_records) (entry_of shelf (item ∷ []) (item ∷ [])) ≡ empty_shelf frame column height
   added-spelled wide is =
       shelf-parts (along_of new_records.shelves shelf / frame.column_width) column (height_of new_records.shelves shelf) height
-      (item_at new_records.items item ∷ []) (record { width = frame.column_width; id = None } ∷ []) (place_of new_records.items item ∷ []) (along_column ∷ [])
+      (item_at new_records.items item ∷ []) (record { width = frame.column_width; id = None } ∷ []) (item_place_of new_records.items item ∷ []) (along_column ∷ [])
       (added-column wide is) is.tall (ap (λ (i : Item). i ∷ []) is.spells) (ap (λ p. p ∷ []) is.place)
 
   -- an empty shelf put after another one, where those before it in its column end
   shelf-added : 1 ≤ frame.column_width → across ≡ height_before records.shelves frame.column_width column (shelf_numbers (before ++ entry ∷ []))
-      → Each (λ (other : Entry). along_of records.shelves other.number / frame.column_width ≢ column) after
+      → AllByRecursion (λ (other : Entry). along_of records.shelves other.number / frame.column_width ≢ column) after
       → IsSpelledBut (bare frame records) (lists_of (before ++ entry ∷ after) unused_items unused_shelves) (item ∷ loose) (shelf ∷ loose_shelves)
       → IsAdded frame records new_records before after entry (entry_of shelf (item ∷ []) (item ∷ [])) unused_items unused_shelves loose loose_shelves column height
   shelf-added wide ends others spelled =
@@ -318,7 +319,7 @@ left_shelves growing unused shelves = numbers_from growing.made.shelf (shelves -
 record IsReady (frame : Frame) (growing used : Growing) (entries : List Entry) (unused_items unused_shelves : List ℕ) (items shelves : ℕ) : Type 0 where
   spelled : IsSpelledBut (bare frame used.records) (lists_of entries (but_first unused_items) (but_first unused_shelves))
       (next_item growing ∷ left_items used (but_first unused_items) items) (next_shelf (after_item growing) ∷ left_shelves used (but_first unused_shelves) shelves)
-  flags : Each (HasFlag (bare frame used.records)) entries
+  flags : AllByRecursion (HasFlag (bare frame used.records)) entries
   same : shelves_spelled frame used.records entries ≡ shelves_spelled frame growing.records entries
   same_shelves : used.records.shelves ≡ growing.records.shelves
   count : length used.records.items ≡ length growing.records.items
@@ -326,7 +327,7 @@ record IsReady (frame : Frame) (growing used : Growing) (entries : List Entry) (
 -- an item and a shelf are put to use, where some of each are still needed
 ready : (frame : Frame) (growing : Growing) (entries : List Entry) (unused_items unused_shelves : List ℕ) (items shelves : ℕ)
     → IsSpelledBut (bare frame growing.records) (lists_of entries unused_items unused_shelves) (left_items growing unused_items (suc items)) (left_shelves growing unused_shelves (suc shelves))
-    → Each (HasFlag (bare frame growing.records)) entries
+    → AllByRecursion (HasFlag (bare frame growing.records)) entries
     → IsReady frame growing (after_shelf (after_item growing)) entries unused_items unused_shelves items shelves
 ready frame growing entries unused_items unused_shelves items shelves spelled flags =
     let middle : Growing = after_item growing in
@@ -398,7 +399,7 @@ module _ (frame : Frame) (old : ℕ) (growing : Growing) (before after : List En
   -- an empty shelf of a column is put after another one
   inserted : (column across height : ℕ) → IsGrowing frame old growing (before ++ entry ∷ after) unused_items unused_shelves (suc items) (suc shelves)
       → 1 ≤ frame.column_width → across ≡ height_before growing.records.shelves frame.column_width column (shelf_numbers (before ++ entry ∷ []))
-      → Each (λ (other : Entry). along_of growing.records.shelves other.number / frame.column_width ≢ column) after
+      → AllByRecursion (λ (other : Entry). along_of growing.records.shelves other.number / frame.column_width ≢ column) after
       → HasInserted frame old growing before after entry unused_items unused_shelves items shelves column (column * frame.column_width) across height
   inserted column across height is wide ends others =
       let used : Growing = after_shelf (after_item growing) in
@@ -413,7 +414,7 @@ module _ (frame : Frame) (old : ℕ) (growing : Growing) (before after : List En
       let is_added : IsAdded frame used.records new before after entry added rest_items rest_shelves (left_items used rest_items items) (left_shelves used rest_shelves shelves) column height =
       shelf-added frame used.records before after entry shelf item column across height rest_items rest_shelves (left_items used rest_items items) (left_shelves used rest_shelves shelves) wide
       (ends ∙ ap (λ (s : List LinkedShelf). height_before s frame.column_width column (shelf_numbers (before ++ entry ∷ []))) (sym is_ready.same_shelves))
-      (subst (λ (s : List LinkedShelf). Each (λ (other : Entry). along_of s other.number / frame.column_width ≢ column) after) (sym is_ready.same_shelves) others)
+      (subst (λ (s : List LinkedShelf). AllByRecursion (λ (other : Entry). along_of s other.number / frame.column_width ≢ column) after) (sym is_ready.same_shelves) others)
       is_ready.spelled in
       let item_count : length new.items ≡ length growing.records.items = length-changed_by (started (column * frame.column_width) frame.column_width shelf) used.records.items (Some item) ∙ is_ready.count in
       let shelf_count : length new.shelves ≡ length growing.records.shelves =

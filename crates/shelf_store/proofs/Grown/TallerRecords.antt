@@ -3,7 +3,8 @@ use Rattle.std.proofs.Common.{◌≡◌, ◌≢◌, ℕ, ◌+◌, ◌<◌, ◌�
 use Rattle.std.proofs.lemmas.Bool.{cond-false}
 use Rattle.std.proofs.lemmas.List.{append-nil}
 use Rattle.etagere_base.specs.declared.frames.Frame.{Frame}
-use Rattle.etagere_base.specs.Lists.{Each, times}
+use Rattle.std.specs.List.{AllByRecursion}
+use Rattle.etagere_base.specs.Lists.{times}
 use Rattle.etagere_base.proofs.EachLemmas.{Each-append, Each-back, Each-front}
 use Rattle.etagere_base.proofs.TimesLemmas.{times-append}
 use Rattle.etagere_links.specs.declared.records.LinkedShelf.{LinkedShelf}
@@ -70,7 +71,7 @@ module _ (shelves new : List LinkedShelf) (column_width : ℕ) where
   -- shelves of other columns than one that changed stand where they stood
   stacked-others : (changed : ℕ) (before numbers : List ℕ)
       → ((column : ℕ) → changed ≢ column → height_before new column_width column before ≡ height_before shelves column_width column before)
-      → ((k : ℕ) → 1 ≤ times k numbers → SameShelf shelves new k) → Each (λ (n : ℕ). along_of shelves n / column_width ≢ changed) numbers
+      → ((k : ℕ) → 1 ≤ times k numbers → SameShelf shelves new k) → AllByRecursion (λ (n : ℕ). along_of shelves n / column_width ≢ changed) numbers
       → AreStacked shelves column_width before numbers → AreStacked new column_width before numbers
   stacked-others changed before [] heights same others stacked = tt
   stacked-others changed before (n ∷ ns) heights same others stacked =
@@ -93,7 +94,7 @@ module _ (shelves new : List LinkedShelf) (column_width : ℕ) where
   -- shelves stand where they stood after the last one of a column became taller
   stacked-taller : (before after : List ℕ) (number : ℕ) → along_of new number ≡ along_of shelves number → across_of new number ≡ across_of shelves number
       → ((k : ℕ) → 1 ≤ times k before → SameShelf shelves new k) → ((k : ℕ) → 1 ≤ times k after → SameShelf shelves new k)
-      → Each (λ (n : ℕ). along_of shelves n / column_width ≢ along_of shelves number / column_width) after
+      → AllByRecursion (λ (n : ℕ). along_of shelves n / column_width ≢ along_of shelves number / column_width) after
       → AreStacked shelves column_width [] (before ++ number ∷ after) → AreStacked new column_width [] (before ++ number ∷ after)
   stacked-taller before after number along across same_before same_after others stacked =
       let parts = stacked-parts shelves column_width [] before (number ∷ after) stacked in
@@ -142,14 +143,14 @@ pub record IsTallerEnd (frame : Frame) (old : ℕ) (growing new : Growing) (befo
   pub after_spelled : shelves_spelled frame new.records after ≡ shelves_spelled frame growing.records after
 
 -- facts of the numbers of shelves
-each-number : (P : ℕ → Type 0) (entries : List Entry) → Each (λ (entry : Entry). P entry.number) entries → Each P (shelf_numbers entries)
+each-number : (P : ℕ → Type 0) (entries : List Entry) → AllByRecursion (λ (entry : Entry). P entry.number) entries → AllByRecursion P (shelf_numbers entries)
 each-number P [] each = tt
 each-number P (entry ∷ entries) each = (each.0, each-number P entries each.1)
 
 -- the last shelf of a column becomes taller
 pub end-taller : (frame : Frame) (old : ℕ) (growing : Growing) (before after : List Entry) (entry : Entry) (unused_items unused_shelves : List ℕ) (items shelves height : ℕ)
     → IsGrowing frame old growing (before ++ entry ∷ after) unused_items unused_shelves items shelves
-    → Each (λ (other : Entry). along_of growing.records.shelves other.number / frame.column_width ≢ along_of growing.records.shelves entry.number / frame.column_width) after
+    → AllByRecursion (λ (other : Entry). along_of growing.records.shelves other.number / frame.column_width ≢ along_of growing.records.shelves entry.number / frame.column_width) after
     → IsTallerEnd frame old growing
     (record { records = with_tall entry.number (height_of growing.records.shelves entry.number + height) growing.records; made = growing.made })
     before after entry unused_items unused_shelves items shelves height

@@ -19,7 +19,7 @@ use Rattle.etagere_links.proofs.AllLists.LinkedUnused.{IsLoose, lists_of, loose-
 use Rattle.etagere_links.proofs.AllLists.LinkedUses.{but_first}
 use Rattle.etagere_links.proofs.FirstLinks.{field_at-kept}
 use Rattle.etagere_links.proofs.RecordChanges.{length-changed_by}
-use Rattle.shelf_records.specs.AtlasRecords.{AtlasRecords, along_of, height_of, is_allocated_at, item_at, place_of, spelled_shelf, width_of}
+use Rattle.shelf_records.specs.AtlasRecords.{AtlasRecords, along_of, height_of, is_allocated_at, item_at, item_place_of, spelled_shelf, width_of}
 use Rattle.shelf_model.specs.Growing.{ends_free}
 use Rattle.shelf_model.specs.Places.{column_place}
 use Rattle.shelf_records.specs.Private.Kept.{IsPlaced, bare}
@@ -97,10 +97,10 @@ module _ (frame grown : Frame) (old : ℕ) (growing : Growing) (before after : L
           free_list = λ k. placed.free_list k
               ∙ sym (free_count-same old_items new k numbers (λ n stands. field_at-kept (λ (x : LinkedItem). x.allocated) false change old_items last n (λ x. refl)));
         };
-        own = shelf-parts shelf.column shelf.column shelf.height shelf.height (map (item_at new) numbers) (wider_end width shelf.items) (map (place_of new) free)
+        own = shelf-parts shelf.column shelf.column shelf.height shelf.height (map (item_at new) numbers) (wider_end width shelf.items) (map (item_place_of new) free)
             (cond (ends_free shelf.items) shelf.free_list ((column_place frame shelf + frame.column_width) ∷ shelf.free_list)) refl refl
             (wide-spelled old_items new width front last now own unmarked)
-            (map-agrees (place_of new) (place_of old_items) free (λ k stands. field_at-kept (λ (x : LinkedItem). x.x) 0 change old_items last k (λ x. refl))
+            (map-agrees (item_place_of new) (item_place_of old_items) free (λ k stands. field_at-kept (λ (x : LinkedItem). x.x) 0 change old_items last k (λ x. refl))
             ∙ sym (cond-true _ _ _ (ends-spelled old_items front last false unmarked)));
         flag = is_one_free-wider_end width shelf.items (some-end (item_at old_items) front last);
         others = λ k stands. others k (omega (arith, count k, stands));
@@ -170,8 +170,8 @@ module _ (frame grown : Frame) (old : ℕ) (growing : Growing) (before after : L
       let absent : times next free ≡ 0 = omega (arith, entry_is.members next, loose_next.no_used, count next) in
       let same : (k : ℕ) → SameShelf growing.records.shelves (with_end place).records.shelves k = λ k.
       shelves-same growing.records.shelves (with_end place).records.shelves k (free-first number (Some next) growing.records.shelves) in
-      let places : map (place_of new) free ≡ map (place_of old_items) free =
-      map-agrees (place_of new) (place_of old_items) free (λ k stands. (has.others k (own k (omega (arith, stands, entry_is.members k)))).place) in
+      let places : map (item_place_of new) free ≡ map (item_place_of old_items) free =
+      map-agrees (item_place_of new) (item_place_of old_items) free (λ k stands. (has.others k (own k (omega (arith, stands, entry_is.members k)))).place) in
       record {
         number = refl;
         linked = free_inserted_front-linked three before after number next (front ++ last ∷ next ∷ []) free rest unused_shelves held (loose_shelves (after_item growing))
@@ -185,11 +185,11 @@ module _ (frame grown : Frame) (old : ℕ) (growing : Growing) (before after : L
           free_list = λ k. omega (arith, placed.free_list k, end-free old_items new number next place width front last has own marked k);
         };
         own = shelf-parts (along_of (with_end place).records.shelves number / grown.column_width) shelf.column (height_of (with_end place).records.shelves number) shelf.height
-            (map (item_at new) (front ++ last ∷ next ∷ [])) (wider_end width shelf.items) (place_of new next ∷ map (place_of new) free)
+            (map (item_at new) (front ++ last ∷ next ∷ [])) (wider_end width shelf.items) (item_place_of new next ∷ map (item_place_of new) free)
             (cond (ends_free shelf.items) shelf.free_list ((column_place frame shelf + frame.column_width) ∷ shelf.free_list))
             (ap (λ a. a / grown.column_width) (same number).along) (same number).height
             (end-spelled old_items new number next place width front last has own marked)
-            (ap (λ (p : ℕ). p ∷ map (place_of new) free) (has.place ∙ column)
+            (ap (λ (p : ℕ). p ∷ map (item_place_of new) free) (has.place ∙ column)
             ∙ ap (λ (ps : List ℕ). (column_place frame shelf + frame.column_width) ∷ ps) places
             ∙ sym (cond-false _ _ _ (ends-spelled old_items front last true marked)));
         flag = is_one_free-wider_end width shelf.items (some-end (item_at old_items) front last);

@@ -4,7 +4,8 @@ use Rattle.std.proofs.lemmas.Bool.{cond-false, cond-true}
 use Rattle.std.proofs.lemmas.List.{map-append}
 use Rattle.std.specs.Prelude.{not}
 use Rattle.etagere_base.proofs.EachLemmas.{Each-append, Each-back, Each-front}
-use Rattle.etagere_base.specs.Lists.{Each, times}
+use Rattle.std.specs.List.{AllByRecursion}
+use Rattle.etagere_base.specs.Lists.{times}
 use Rattle.etagere_base.proofs.TimesLemmas.{times-append}
 use Rattle.etagere_links.specs.declared.records.LinkedItem.{LinkedItem}
 use Rattle.etagere_links.specs.Edits.{link_at}
@@ -16,7 +17,7 @@ use Rattle.etagere_links.proofs.FirstLinks.{field_at-changed}
 use Rattle.etagere_links.proofs.ListEnds.{times-here}
 use Rattle.etagere_links.proofs.RecordChanges.{get-changed_by-other, length-changed_by}
 use Rattle.etagere_links.proofs.RecordFrames.{length-linked_between, map-linked_between}
-use Rattle.shelf_records.specs.AtlasRecords.{is_allocated_at, item_at, place_of, shelf_of, spelled_item}
+use Rattle.shelf_records.specs.AtlasRecords.{is_allocated_at, item_at, item_place_of, shelf_of, spelled_item}
 use Rattle.shelf_model.specs.Growing.{ends_free}
 use Rattle.shelf_store.specs.Private.RecordsGrown.{Growing, after_item, end_inserted, next_item}
 use Rattle.shelf_records.specs.StandsFor.{LieFrom}
@@ -71,8 +72,8 @@ wide-places items new here wide front last is other lies =
 
 -- they name their shelf
 pub wide-owners : (items new : List LinkedItem) (shelf wide : ℕ) (front : List ℕ) (last : ℕ) → IsWidened items new last wide
-    → ((k : ℕ) → 1 ≤ times k front → last ≢ k) → Each (λ item. shelf_of items item ≡ shelf) (front ++ last ∷ [])
-    → Each (λ item. shelf_of new item ≡ shelf) (front ++ last ∷ [])
+    → ((k : ℕ) → 1 ≤ times k front → last ≢ k) → AllByRecursion (λ item. shelf_of items item ≡ shelf) (front ++ last ∷ [])
+    → AllByRecursion (λ item. shelf_of new item ≡ shelf) (front ++ last ∷ [])
 wide-owners items new shelf wide front last is other owners =
     Each-append (λ item. shelf_of new item ≡ shelf) front (last ∷ [])
     (owners-same items new shelf front (λ k stands. is.others k (other k stands)) (Each-front (λ item. shelf_of items item ≡ shelf) front (last ∷ []) owners))
@@ -102,7 +103,7 @@ ends-spelled items front last allocated is =
 -- what items say once a free one was put after the last one of a shelf
 pub record HasEnd (items new : List LinkedItem) (owner number here width : ℕ) : Type 0 where
   pub item : item_at new number ≡ free_item width
-  pub place : place_of new number ≡ here
+  pub place : item_place_of new number ≡ here
   pub shelf : shelf_of new number ≡ owner
   pub free : is_allocated_at new number ≡ false
   pub others : (k : ℕ) → number ≢ k → SameItem items new k
@@ -158,10 +159,10 @@ end-places items new here shelf number place width front last has other at lies 
 
 -- they name their shelf
 pub end-owners : (items new : List LinkedItem) (shelf number place width : ℕ) (front : List ℕ) (last : ℕ) → HasEnd items new shelf number place width
-    → ((k : ℕ) → 1 ≤ times k (front ++ last ∷ []) → number ≢ k) → Each (λ item. shelf_of items item ≡ shelf) (front ++ last ∷ [])
-    → Each (λ item. shelf_of new item ≡ shelf) (front ++ last ∷ number ∷ [])
+    → ((k : ℕ) → 1 ≤ times k (front ++ last ∷ []) → number ≢ k) → AllByRecursion (λ item. shelf_of items item ≡ shelf) (front ++ last ∷ [])
+    → AllByRecursion (λ item. shelf_of new item ≡ shelf) (front ++ last ∷ number ∷ [])
 end-owners items new shelf number place width front last has other owners =
-    let all : Each (λ item. shelf_of new item ≡ shelf) (front ++ last ∷ []) =
+    let all : AllByRecursion (λ item. shelf_of new item ≡ shelf) (front ++ last ∷ []) =
     owners-same items new shelf (front ++ last ∷ []) (λ k stands. has.others k (other k stands)) owners in
     Each-append (λ item. shelf_of new item ≡ shelf) front (last ∷ number ∷ [])
     (Each-front (λ item. shelf_of new item ≡ shelf) front (last ∷ []) all)

@@ -3,7 +3,8 @@
 use Rattle.std.proofs.Common.{◌≡◌, ℕ, zero, suc, ◌+◌, ◌-◌, ◌≤◌, cond, Option, None, Some, List, [], ◌∷◌, ◌++◌, length, map, refl, ap, arith, subst, sym, append_assoc, ◌∙◌}
 use Rattle.std.proofs.lemmas.List.{map-append}
 use Rattle.etagere_base.specs.declared.frames.Frame.{Frame}
-use Rattle.etagere_base.specs.Lists.{Each, total}
+use Rattle.std.specs.List.{AllByRecursion}
+use Rattle.etagere_base.specs.Lists.{total}
 use Rattle.etagere_links.specs.Edits.{link_at}
 use Rattle.etagere_links.specs.Lists.{first_or}
 use Rattle.etagere_links.specs.RecordLists.{Entry, shelf_numbers}
@@ -20,7 +21,7 @@ use Rattle.shelf_store.specs.Private.RecordsGrown.{CanWidenAll, Growing, shelf_w
 use Rattle.shelf_model.specs.State.{Shelf, total_width}
 use Rattle.shelf_store.proofs.Grown.EditedShelf.{HasEdited}
 use Rattle.shelf_model.proofs.Grown.GrownShelf.{wider_shelf}
-use Rattle.shelf_store.proofs.Grown.GrowthSteps.{widened-none}
+use Rattle.shelf_store.proofs.Grown.GrowSteps.{widened-none}
 use Rattle.shelf_store.proofs.Grown.HalfGrown.{HasGrown, IsGrowing, Widens, shelves_spelled}
 use Rattle.shelf_store.proofs.Grown.MadeLinked.{numbers_from}
 use Rattle.shelf_store.proofs.Grown.WidenedShelf.{Widening, shelf-widening}
@@ -72,8 +73,8 @@ module _ (frame grown : Frame) (old width : ℕ) (some : 1 ≤ frame.column_widt
   -- the shelves after some are widened, as links lead to them
   widens-rest : (steps : ℕ) (at : Option ℕ) (growing : Growing) (before entries : List Entry) (unused_items unused_shelves : List ℕ) (items more : ℕ)
       → length entries ≤ steps → at ≡ first_or None (shelf_numbers entries)
-      → Each (λ (shelf : Shelf). shelf.column ≡ 0) (shelves_spelled grown growing.records entries)
-      → Each (λ (shelf : Shelf). total_width shelf.items ≡ frame.column_width) (shelves_spelled grown growing.records entries)
+      → AllByRecursion (λ (shelf : Shelf). shelf.column ≡ 0) (shelves_spelled grown growing.records entries)
+      → AllByRecursion (λ (shelf : Shelf). total_width shelf.items ≡ frame.column_width) (shelves_spelled grown growing.records entries)
       → IsGrowing grown old growing (before ++ entries) unused_items unused_shelves (allocated_ends (shelves_spelled grown growing.records entries) + items) more
       → WidensRest steps at growing before entries items more
   widens-rest steps at growing before [] unused_items unused_shelves items more few starts columns filled is =
@@ -108,8 +109,8 @@ module _ (frame grown : Frame) (old width : ℕ) (some : 1 ≤ frame.column_widt
       widens-next steps at growing before entries entry unused_shelves items left more starts widening
       (widens-rest steps (link_at shelf_chain.next now.records.shelves entry.number) now (before ++ has.edited ∷ []) entries has.unused_items unused_shelves items more
       (omega (arith, few)) follows
-      (subst (Each (λ (shelf : Shelf). shelf.column ≡ 0)) (sym has.back) columns.1)
-      (subst (Each (λ (shelf : Shelf). total_width shelf.items ≡ frame.column_width)) (sym has.back) filled.1)
+      (subst (AllByRecursion (λ (shelf : Shelf). shelf.column ≡ 0)) (sym has.back) columns.1)
+      (subst (AllByRecursion (λ (shelf : Shelf). total_width shelf.items ≡ frame.column_width)) (sym has.back) filled.1)
       here)
 
 -- all shelves are widened

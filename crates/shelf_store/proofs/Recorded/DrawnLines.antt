@@ -1,7 +1,7 @@
 -- What a picture shows of the state that records spell: what the records of its items say, shelf after shelf.
 use Rattle.std.proofs.Common.{◌≡◌, ℕ, ◌+◌, ◌≤◌, Bool, true, false, List, [], ◌∷◌, ◌++◌, map, refl, ap, sym, ◌∙◌}
 use Rattle.std.specs.Prelude.{◌*◌, not, if◌then◌else◌}
-use Rattle.std.specs.List.{flat_map}
+use Rattle.std.specs.List.{AllByRecursion, flat_map}
 use Rattle.std.proofs.lemmas.Grind.{flat_map-append}
 use Rattle.std.proofs.lemmas.List.{map-append}
 use Rattle.etagere_base.specs.Drawing.{drawn_at, drawn_line, drawn_lines}
@@ -9,11 +9,10 @@ use Rattle.etagere_base.specs.declared.drawing.Colour.{Colour}
 use Rattle.etagere_base.specs.declared.drawing.Colour.TheVariants.{Allocated, Free}
 use Rattle.etagere_base.specs.declared.drawing.Drawn.{Drawn}
 use Rattle.etagere_base.specs.declared.frames.Frame.{Frame}
-use Rattle.etagere_base.specs.Lists.{Each}
 use Rattle.etagere_links.specs.declared.records.LinkedItem.{LinkedItem}
 use Rattle.etagere_links.specs.RecordLists.{Entry, Records, shelf_numbers, shelf_walk, walked_entry, walked_lists}
 use Rattle.etagere_links.proofs.AllLists.LinkedFrames.{shelf_numbers-append}
-use Rattle.shelf_records.specs.AtlasRecords.{AtlasRecords, across_of, along_of, height_of, is_allocated_at, item_at, place_of, spelled_shelf}
+use Rattle.shelf_records.specs.AtlasRecords.{AtlasRecords, across_of, along_of, height_of, is_allocated_at, item_at, item_place_of, spelled_shelf}
 use Rattle.shelf_model.specs.Places.{column_height}
 use Rattle.shelf_store.specs.Private.DrawnRecords.{item_line, recorded_lines, shelf_lines}
 use Rattle.shelf_records.specs.Private.Kept.{AreKept, IsPlaced, atlas_of, state_of}
@@ -42,8 +41,8 @@ module _ (atlas : AtlasRecords) where
       let item = item_at atlas.records.items n in
       let at : Colour → ℕ → List ℕ = λ colour place.
       drawn_line (drawn_at atlas.frame colour place (across_of atlas.records.shelves shelf) item.width (height_of atlas.records.shelves shelf)) in
-      let own : at (if is_allocated_at atlas.records.items n then Allocated else Free) (place_of atlas.records.items n) ≡ at (colour_of item) here =
-      ap (λ c. at c (place_of atlas.records.items n)) (colour-spelled atlas.records.items n) ∙ ap (λ p. at (colour_of item) p) lies.0 in
+      let own : at (if is_allocated_at atlas.records.items n then Allocated else Free) (item_place_of atlas.records.items n) ≡ at (colour_of item) here =
+      ap (λ c. at c (item_place_of atlas.records.items n)) (colour-spelled atlas.records.items n) ∙ ap (λ p. at (colour_of item) p) lies.0 in
       ap (λ l. at (colour_of item) here ++ l) (along-lines shelf (here + item.width) ns lies.1)
       ∙ ap (λ l. l ++ flat_map (item_line atlas.frame atlas.records shelf) ns) (sym own)
 
@@ -52,7 +51,7 @@ module _ (atlas : AtlasRecords) where
   entry_lines entry = flat_map (item_line atlas.frame atlas.records entry.number) entry.items
 
   -- the lines of shelves that stand after others
-  after-lines : (before entries : List Entry) → 1 ≤ atlas.frame.column_width → Each (IsPlaced atlas) entries
+  after-lines : (before entries : List Entry) → 1 ≤ atlas.frame.column_width → AllByRecursion (IsPlaced atlas) entries
       → AreStacked atlas.records.shelves atlas.frame.column_width (shelf_numbers before) (shelf_numbers entries)
       → drawn_lines (drawn_after atlas.frame (map (spelled_shelf atlas) before) (map (spelled_shelf atlas) entries)) ≡ flat_map entry_lines entries
   after-lines before [] wide placed stacked = refl

@@ -8,7 +8,7 @@ use Rattle.etagere_base.specs.Places.{rectangle_at}
 use Rattle.etagere_base.specs.Sides.{swapped_axes}
 use Rattle.etagere_links.specs.RecordLists.{Records}
 use Rattle.etagere_base.proofs.FirstPlace.{first-at}
-use Rattle.shelf_records.specs.AtlasRecords.{across_of, height_of, item_at, place_of, shelf_of}
+use Rattle.shelf_records.specs.AtlasRecords.{across_of, height_of, item_at, item_place_of, shelf_of}
 use Rattle.shelf_model.specs.Places.{column_height, column_place, is_allocated, rectangle_of}
 use Rattle.shelf_records.specs.Private.Kept.{AreKept, state_of}
 use Rattle.shelf_records.specs.Private.Reading.{record_of, recorded_area, recorded_rectangle}
@@ -75,7 +75,7 @@ place-area frame records id number n kept named found =
     let same : lies item.number ≡ recorded_rectangle frame records number = cc in
     let area : width_of shelf.items item.number * shelf.height ≡ recorded_area records number =
     one-area frame (place_at (column_place frame shelf) shelf.items item.number) across (width_of shelf.items item.number) shelf.height
-    (place_of records.items number) (across_of records.shelves (shelf_of records.items number)) (item_at records.items number).width (height_of records.shelves (shelf_of records.items number)) same in
+    (item_place_of records.items number) (across_of records.shelves (shelf_of records.items number)) (item_at records.items number).width (height_of records.shelves (shelf_of records.items number)) same in
     ap (λ (k : ℕ). allocated_space (returned state id) + k) (sym area) ∙ space-returned state id n item.number shelf kept.valid found s.at.get item.found
 
 -- where an id names a record, that record's area is what a return takes

@@ -8,15 +8,15 @@ use Rattle.etagere_links.specs.RecordLists.{Records}
 use Rattle.shelf_model.specs.Atlas.{KeepsPromises, without_id}
 use Rattle.shelf_model.specs.Places.{allocations}
 use Rattle.shelf_records.specs.AtlasRecords.{is_allocated_at, item_at, shelf_of}
-use Rattle.shelf_heights.specs.Private.ByHeight.{AreRanked}
-use Rattle.shelf_store.specs.Private.ItemReturned.{CanReturn, item_returned, put_aside_by}
+use Rattle.shelf_heights.specs.Private.ByHeight.{AreByHeight}
+use Rattle.shelf_store.specs.Private.ItemReturned.{CanReturn, item_returned, unused_by}
 use Rattle.shelf_records.specs.Private.Kept.{AreKept, state_of}
-use Rattle.shelf_store.specs.Private.RankedReturned.{CanReturnRanked, ranked_returned}
+use Rattle.shelf_store.specs.Private.ReturnedByHeight.{CanReturnByHeight, returned_by_height}
 use Rattle.shelf_records.specs.Private.Reading.{record_of, recorded_area}
 use Rattle.shelf_model.specs.Returning.{has_id, returned}
 use Rattle.shelf_model.specs.Space.{allocated_space}
 use Rattle.shelf_model.specs.State.{AtlasState, items_in_use}
-use Rattle.shelf_heights.specs.declared.ranked.RankedShelf.{RankedShelf}
+use Rattle.shelf_heights.specs.declared.by_height.BoundedShelf.{BoundedShelf}
 use Rattle.shelf_model.proofs.Promises.{promises}
 use Rattle.shelf_store.proofs.Recorded.RecordedArea.{kept-area}
 use Rattle.shelf_records.proofs.Recorded.RecordsOfIds.{marked-within, record-marked}
@@ -25,10 +25,10 @@ use Rattle.shelf_store.proofs.Spelled.EntryValues.{id_at}
 use Rattle.shelf_store.proofs.Spelled.ItemReturned.{ReturnsItem, allocated-id, returns-item}
 
 -- what holds after the item of an id was returned, of the records, of how many became unused, and of its area
-pub record AfterReturn (frame : Frame) (records : Records) (id : ℕ) (new : Records) (put_aside area : ℕ) : Type 0 where
+pub record AfterReturn (frame : Frame) (records : Records) (id : ℕ) (new : Records) (made_unused area : ℕ) : Type 0 where
   pub kept : AreKept frame new
   pub state : state_of frame new ≡ returned (state_of frame records) id
-  pub counted : items_in_use (state_of frame new).shelves + put_aside ≡ items_in_use (state_of frame records).shelves
+  pub counted : items_in_use (state_of frame new).shelves + made_unused ≡ items_in_use (state_of frame records).shelves
   pub space : allocated_space (state_of frame new) + area ≡ allocated_space (state_of frame records)
   pub allocated : allocations (state_of frame new) ≡ without_id id (allocations (state_of frame records))
   pub promises_after : KeepsPromises (state_of frame new)
@@ -47,7 +47,7 @@ named-id items id number names = by_test (has_id id (item_at items (id % 65536))
 
 -- what holds after the item of a record was returned
 item_returned-after : (frame : Frame) (records : Records) (id number : ℕ) → AreKept frame records → record_of records.items id ≡ Some number
-    → AfterReturn frame records id (item_returned number records) (put_aside_by number records) (recorded_area records number)
+    → AfterReturn frame records id (item_returned number records) (unused_by number records) (recorded_area records number)
 item_returned-after frame records id number kept named =
     let returns : ReturnsItem frame records number = returns-item frame records number kept (record-marked records.items id number named).0 in
     let state : state_of frame (item_returned number records) ≡ returned (state_of frame records) id =
@@ -62,24 +62,24 @@ item_returned-after frame records id number kept named =
     }
 
 -- what holds after a return, from what its steps answer
-pub after-return : (frame : Frame) (records new : Records) (id number put_aside area : ℕ) → AreKept frame records → record_of records.items id ≡ Some number
-    → new ≡ item_returned number records → put_aside ≡ put_aside_by number records → area ≡ recorded_area records number
-    → AfterReturn frame records id new put_aside area
-after-return frame records new id number put_aside area kept named made counts measures =
-    subst (λ (r : Records). AfterReturn frame records id r put_aside area) (sym made)
+pub after-return : (frame : Frame) (records new : Records) (id number made_unused area : ℕ) → AreKept frame records → record_of records.items id ≡ Some number
+    → new ≡ item_returned number records → made_unused ≡ unused_by number records → area ≡ recorded_area records number
+    → AfterReturn frame records id new made_unused area
+after-return frame records new id number made_unused area kept named made counts measures =
+    subst (λ (r : Records). AfterReturn frame records id r made_unused area) (sym made)
     (subst (λ (n : ℕ). AfterReturn frame records id (item_returned number records) n area) (sym counts)
-    (subst (λ (n : ℕ). AfterReturn frame records id (item_returned number records) (put_aside_by number records) n) (sym measures)
+    (subst (λ (n : ℕ). AfterReturn frame records id (item_returned number records) (unused_by number records) n) (sym measures)
     (item_returned-after frame records id number kept named)))
 
--- the shelves are ranked after a return
-pub ranked-after : (frame : Frame) (records : Records) (ranked : List RankedShelf) (id number : ℕ) → AreKept frame records → AreRanked frame records ranked → record_of records.items id ≡ Some number
-    → AreRanked frame (item_returned number records) (ranked_returned number records ranked)
-ranked-after frame records ranked id number kept are named = (returns-item frame records number kept (record-marked records.items id number named).0).ranked ranked are
+-- the shelves stand by height after a return
+pub by_height-after : (frame : Frame) (records : Records) (by_height : List BoundedShelf) (id number : ℕ) → AreKept frame records → AreByHeight frame records by_height → record_of records.items id ≡ Some number
+    → AreByHeight frame (item_returned number records) (returned_by_height number records by_height)
+by_height-after frame records by_height id number kept are named = (returns-item frame records number kept (record-marked records.items id number named).0).by_height by_height are
 
 -- the item of the record that an id names can be returned
-pub can-return : (frame : Frame) (records : Records) (ranked : List RankedShelf) (id number : ℕ) → AreKept frame records → AreRanked frame records ranked → record_of records.items id ≡ Some number
-    → (number < 65535) × CanReturn number records × CanReturnRanked (shelf_of records.items number) number records ranked
-can-return frame records ranked id number kept are named =
+pub can-return : (frame : Frame) (records : Records) (by_height : List BoundedShelf) (id number : ℕ) → AreKept frame records → AreByHeight frame records by_height → record_of records.items id ≡ Some number
+    → (number < 65535) × CanReturn number records × CanReturnByHeight (shelf_of records.items number) number records by_height
+can-return frame records by_height id number kept are named =
     let marked : is_allocated_at records.items number ≡ true = (record-marked records.items id number named).0 in
     let returns : ReturnsItem frame records number = returns-item frame records number kept marked in
-    (omega (arith, marked-within records.items number marked, kept.counts.items.1), returns.can, returns.can_ranked ranked are)
+    (omega (arith, marked-within records.items number marked, kept.counts.items.1), returns.can, returns.can_by_height by_height are)

@@ -7,15 +7,15 @@ use Rattle.etagere_base.specs.declared.geometry.Size.{Size}
 use Rattle.etagere_base.specs.declared.ids.Allocation.{Allocation}
 use Rattle.etagere_links.specs.RecordLists.{Records}
 use Rattle.shelf_model.specs.Choice.{Placement, area, rectangle_of_placement, splits}
-use Rattle.shelf_heights.specs.Private.ByHeight.{AreRanked}
+use Rattle.shelf_heights.specs.Private.ByHeight.{AreByHeight}
 use Rattle.shelf_records.specs.Private.Kept.{AreKept, state_of}
 use Rattle.shelf_store.specs.Private.PlacementTaken.{id_of, placement_taken}
 use Rattle.shelf_store.specs.Private.Searching.{Finds}
 use Rattle.shelf_model.specs.Space.{allocated_space}
 use Rattle.shelf_model.specs.State.{AtlasState, items_in_use}
 use Rattle.shelf_model.specs.Taking.{taken}
-use Rattle.shelf_heights.specs.declared.ranked.RankedShelf.{RankedShelf}
-use Rattle.shelf_store.proofs.ByHeight.TakenRanked.{Ranks, taken-ranked}
+use Rattle.shelf_heights.specs.declared.by_height.BoundedShelf.{BoundedShelf}
+use Rattle.shelf_store.proofs.ByHeight.TakenByHeight.{HoldsByHeight, taken-by_height}
 use Rattle.shelf_model.proofs.Spaces.SpaceSmall.{space-taken-small}
 use Rattle.shelf_store.proofs.Spelled.TakenKept.{KeepsTaken, placement-kept}
 use Rattle.shelf_model.proofs.Taken.PlacedWithin.{placed-within}
@@ -45,12 +45,12 @@ found-as_placed frame records size found kept finds =
       bottom = omega (arith, ends.bottom, ap (λ (p : Placement). p.across) same, ap (λ (p : Placement). p.height) same);
     }
 
--- what taking what was found needs of the ranked shelves, and what it leaves of them
-pub found-ranked : (frame : Frame) (records : Records) (size : Size) (found : Placement) (ranked : List RankedShelf) → AreKept frame records → Finds frame records size found
-    → AreRanked frame records ranked → Ranks frame records found ranked
-found-ranked frame records size found ranked kept finds are =
+-- what taking what was found needs of the shelves by height, and what it leaves of them
+pub found-by_height : (frame : Frame) (records : Records) (size : Size) (found : Placement) (by_height : List BoundedShelf) → AreKept frame records → Finds frame records size found
+    → AreByHeight frame records by_height → HoldsByHeight frame records found by_height
+found-by_height frame records size found by_height kept finds are =
     let placement : Placement = finds.placement in
-    taken-ranked frame records placement found ranked kept (placement-kept frame records size placement found kept finds.placed finds.located)
+    taken-by_height frame records placement found by_height kept (placement-kept frame records size placement found kept finds.placed finds.located)
     (ap (λ (p : Placement). p.splits_shelf) finds.located.same) are
 
 -- what holds after what was found for a size was taken, of the records and of the id

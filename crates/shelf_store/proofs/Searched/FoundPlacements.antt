@@ -16,7 +16,7 @@ use Rattle.etagere_base.proofs.TimesLemmas.{find-stands}
 use Rattle.etagere_links.specs.declared.records.LinkedShelf.{LinkedShelf}
 use Rattle.etagere_links.specs.RecordLists.{Entry, Records, shelf_numbers, shelf_walk, walked_entry, walked_lists}
 use Rattle.etagere_links.proofs.AllLists.LinkedWalks.{walked-numbers}
-use Rattle.shelf_records.specs.AtlasRecords.{across_of, along_of, height_of, is_empty_at, item_at, place_of, spelled_shelf}
+use Rattle.shelf_records.specs.AtlasRecords.{across_of, along_of, height_of, is_empty_at, item_at, item_place_of, spelled_shelf}
 use Rattle.shelf_model.specs.Choice.{Placement, chosen, fitting_place, is_item_split, placement_in, placement_of, rank, shelf_height, splits, width_at}
 use Rattle.shelf_model.specs.Places.{column_height, column_place}
 use Rattle.shelf_records.specs.Private.Kept.{AreKept, Locates, atlas_of, state_of}
@@ -62,7 +62,7 @@ across-at frame records position number kept at =
 -- a candidate's placement is that of the model, by the numbers of records
 located : (frame : Frame) (records : Records) (width height position : ℕ) (candidate : Candidate) → AreKept frame records → slice_get (shelf_walk records).met position ≡ Some candidate.shelf → first_wide records width candidate.shelf ≡ Some candidate.item
     → Locates records (placement_at records width height candidate)
-    (placement_in frame position (column_height (shelf_at frame records candidate.shelf).column (take position (state_of frame records).shelves)) width height (shelf_at frame records candidate.shelf) (place_of records.items candidate.item))
+    (placement_in frame position (column_height (shelf_at frame records candidate.shelf).column (take position (state_of frame records).shelves)) width height (shelf_at frame records candidate.shelf) (item_place_of records.items candidate.item))
 located frame records width height position candidate kept at wide =
     let entry : Entry = walked_entry records candidate.shelf in
     let shelf : Shelf = shelf_at frame records candidate.shelf in
@@ -76,7 +76,7 @@ located frame records width height position candidate kept at wide =
     record {
       shelf = candidate.shelf;
       item = candidate.item;
-      along = place_of records.items candidate.item;
+      along = item_place_of records.items candidate.item;
       across = across;
       width = if is_item_split width item_width then width else item_width;
       height = if empty && nat_lt (height + 8) own then height else own;
@@ -92,7 +92,7 @@ located frame records width height position candidate kept at wide =
       same =
           ap (λ a. fill a (item_at records.items candidate.item).width (is_empty_at records.shelves candidate.shelf)) across
           ∙ ap (λ w. fill (column_height shelf.column (take position (state_of frame records).shelves)) w (is_empty_at records.shelves candidate.shelf)) (sym item.width)
-          ∙ ap (fill (column_height shelf.column (take position (state_of frame records).shelves)) (width_at (column_place frame shelf) shelf.items (place_of records.items candidate.item))) searched.flag;
+          ∙ ap (fill (column_height shelf.column (take position (state_of frame records).shelves)) (width_at (column_place frame shelf) shelf.items (item_place_of records.items candidate.item))) searched.flag;
     }
 
 -- what was found is the placement that the model finds, or neither found any
@@ -144,9 +144,9 @@ chosen-located frame records sides kept =
         ∙ ap (option_map (spelled_shelf (atlas_of frame records))) (slice_get-map (walked_entry records) (shelf_walk records).met found.number ∙ ap (option_map (walked_entry records)) stands.at) in
         let searched : IsSearched (atlas_of frame records) (walked_entry records candidate.shelf) =
         Each-get (λ number. IsSearched (atlas_of frame records) (walked_entry records number)) (shelf_walk records).met found.number candidate.shelf stands.at (kept-searched frame records kept) in
-        let place : fitting_place frame sides.along shelf ≡ Some (place_of records.items candidate.item) =
-        searched-place frame records candidate.shelf sides.along kept.valid.frame.column_width searched ∙ ap (option_map (place_of records.items)) stands.wide in
-        let model : chosen (state_of frame records) sides ≡ Some (placement_in frame found.number across sides.along height shelf (place_of records.items candidate.item)) =
+        let place : fitting_place frame sides.along shelf ≡ Some (item_place_of records.items candidate.item) =
+        searched-place frame records candidate.shelf sides.along kept.valid.frame.column_width searched ∙ ap (option_map (item_place_of records.items)) stands.wide in
+        let model : chosen (state_of frame records) sides ≡ Some (placement_in frame found.number across sides.along height shelf (item_place_of records.items candidate.item)) =
         chosen-is (state_of frame records) sides found.number shelf (sym (ap (option_map (λ (f : Found). f.number)) least)) at
         ∙ ap (option_map (placement_in frame found.number across sides.along height shelf)) place in
         subst (AreLocated records (Some (placement_at records sides.along height candidate))) (sym model)

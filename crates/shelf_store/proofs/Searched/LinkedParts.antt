@@ -1,6 +1,7 @@
 -- What links spell, list by list, as a search goes along it.
 use Rattle.std.proofs.Common.{◌≡◌, ℕ, ◌<◌, ◌≤◌, List, [], ◌∷◌, ◌++◌, length, map, arith}
-use Rattle.etagere_base.specs.Lists.{Each, times}
+use Rattle.std.specs.List.{AllByRecursion}
+use Rattle.etagere_base.specs.Lists.{times}
 use Rattle.etagere_base.proofs.TimesLemmas.{times-append}
 use Rattle.etagere_links.specs.RecordLists.{HasEachOnce, IsEntry, IsLinked, Records, first_free_of, first_item_of, free_walk, item_numbers, item_walk, shelf_numbers, shelf_walk, walked_entry, walked_lists}
 use Rattle.etagere_links.specs.Records.{free_list, item_chain, shelf_chain}
@@ -34,8 +35,8 @@ shelves-left records linked =
     }
 
 -- the free list of each shelf has records, each once
-free-parts : (count : ℕ) (records : Records) (all : List ℕ) (numbers : List ℕ) → HasEachOnce count all → ((k : ℕ) → times k (item_numbers (map (walked_entry records) numbers)) ≤ times k all) → Each (IsEntry records) (map (walked_entry records) numbers)
-    → Each (λ shelf. IsPart count (free_walk records shelf).met × IsEntry records (walked_entry records shelf)) numbers
+free-parts : (count : ℕ) (records : Records) (all : List ℕ) (numbers : List ℕ) → HasEachOnce count all → ((k : ℕ) → times k (item_numbers (map (walked_entry records) numbers)) ≤ times k all) → AllByRecursion (IsEntry records) (map (walked_entry records) numbers)
+    → AllByRecursion (λ shelf. IsPart count (free_walk records shelf).met × IsEntry records (walked_entry records shelf)) numbers
 free-parts count records all [] once less entries = tt
 free-parts count records all (n ∷ ns) once less entries =
     let own : List ℕ = (walked_entry records n).items in
@@ -71,8 +72,8 @@ free-left records shelf linked stands =
     }
 
 -- the items of each shelf are records, each once, and links spell them
-item-parts : (count : ℕ) (records : Records) (all : List ℕ) (numbers : List ℕ) → HasEachOnce count all → ((k : ℕ) → times k (item_numbers (map (walked_entry records) numbers)) ≤ times k all) → Each (IsEntry records) (map (walked_entry records) numbers)
-    → Each (λ shelf. IsPart count (item_walk records shelf).met × IsEntry records (walked_entry records shelf)) numbers
+item-parts : (count : ℕ) (records : Records) (all : List ℕ) (numbers : List ℕ) → HasEachOnce count all → ((k : ℕ) → times k (item_numbers (map (walked_entry records) numbers)) ≤ times k all) → AllByRecursion (IsEntry records) (map (walked_entry records) numbers)
+    → AllByRecursion (λ shelf. IsPart count (item_walk records shelf).met × IsEntry records (walked_entry records shelf)) numbers
 item-parts count records all [] once less entries = tt
 item-parts count records all (n ∷ ns) once less entries =
     let own : List ℕ = (walked_entry records n).items in

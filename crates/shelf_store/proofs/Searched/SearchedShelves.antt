@@ -2,14 +2,15 @@
 use Rattle.std.proofs.Common.{◌≡◌, ℕ, suc, ◌+◌, ◌≤◌, Bool, true, false, cond, Option, None, Some, option_map, List, [], ◌∷◌, ◌++◌, length, map, refl, ap, arith, sym, ◌∙◌, subst}
 use Rattle.std.proofs.lemmas.Bool.{eq-eqb, ne_eqb}
 use Rattle.std.specs.Prelude.{◌/◌, ◌||◌, ◌==◌, find, nat_le, slice_get, if◌then◌else◌}
-use Rattle.etagere_base.specs.Lists.{Each, times}
+use Rattle.std.specs.List.{AllByRecursion}
+use Rattle.etagere_base.specs.Lists.{times}
 use Rattle.etagere_base.proofs.EachLemmas.{Each-both, Each-weaken}
 use Rattle.etagere_base.proofs.ReplacedLists.{slice_get-append}
 use Rattle.etagere_base.specs.declared.frames.Frame.{Frame}
 use Rattle.etagere_links.specs.declared.records.LinkedItem.{LinkedItem}
 use Rattle.etagere_links.specs.RecordLists.{Entry, IsEntry, Records, shelf_walk, walked_entry, walked_lists}
 use Rattle.etagere_links.proofs.ListEnds.{times-here}
-use Rattle.shelf_records.specs.AtlasRecords.{AtlasRecords, along_of, height_of, is_empty_at, item_at, place_of, spelled_shelf}
+use Rattle.shelf_records.specs.AtlasRecords.{AtlasRecords, along_of, height_of, is_empty_at, item_at, item_place_of, spelled_shelf}
 use Rattle.shelf_model.specs.Choice.{bad_fit_rank, fitting_place, is_good_fit, number_at, rank, width_at}
 use Rattle.shelf_model.specs.Places.{column_place}
 use Rattle.shelf_records.specs.Private.Kept.{AreKept, HasFlag, IsPlaced, atlas_of}
@@ -32,7 +33,7 @@ pub record IsSearched (atlas : AtlasRecords) (entry : Entry) : Type 0 where
   pub shelf : IsShelf atlas.frame (spelled_shelf atlas entry)
 
 -- it is known of each shelf in use where every rule is kept
-pub kept-searched : (frame : Frame) (records : Records) → AreKept frame records → Each (λ number. IsSearched (atlas_of frame records) (walked_entry records number)) (shelf_walk records).met
+pub kept-searched : (frame : Frame) (records : Records) → AreKept frame records → AllByRecursion (λ number. IsSearched (atlas_of frame records) (walked_entry records number)) (shelf_walk records).met
 kept-searched frame records kept =
     let atlas : AtlasRecords = atlas_of frame records in
     let entries : List Entry = (walked_lists records).entries in
@@ -47,18 +48,18 @@ kept-searched frame records kept =
     (Each-unmap (IsShelf frame) (spelled_shelf atlas) entries kept.valid.shelves))))
 
 -- the item that begins where one of a shelf does is that one
-place-found : (frame : Frame) (items : List LinkedItem) (here : ℕ) (front : List ℕ) (n : ℕ) (back : List ℕ) → Each (IsItem frame) (map (item_at items) (front ++ n ∷ back)) → LieFrom items here (front ++ n ∷ back)
-    → (width_at here (map (item_at items) (front ++ n ∷ back)) (place_of items n) ≡ (item_at items n).width)
-    × (number_at here (map (item_at items) (front ++ n ∷ back)) (place_of items n) ≡ length front)
+place-found : (frame : Frame) (items : List LinkedItem) (here : ℕ) (front : List ℕ) (n : ℕ) (back : List ℕ) → AllByRecursion (IsItem frame) (map (item_at items) (front ++ n ∷ back)) → LieFrom items here (front ++ n ∷ back)
+    → (width_at here (map (item_at items) (front ++ n ∷ back)) (item_place_of items n) ≡ (item_at items n).width)
+    × (number_at here (map (item_at items) (front ++ n ∷ back)) (item_place_of items n) ≡ length front)
 place-found frame items here [] n back are lies =
-    let place : ℕ = place_of items n in
+    let place : ℕ = item_place_of items n in
     let width : ℕ = (item_at items n).width in
     let same : (here == place) ≡ true = eq-eqb here place (sym lies.0) in (
       ap (λ b. cond b width (width_at (here + width) (map (item_at items) back) place)) same,
       ap (λ b. cond b 0 (suc (number_at (here + width) (map (item_at items) back) place))) same,
     )
 place-found frame items here (x ∷ front) n back are lies =
-    let place : ℕ = place_of items n in
+    let place : ℕ = item_place_of items n in
     let width : ℕ = (item_at items x).width in
     let rest : List Item = map (item_at items) (front ++ n ∷ back) in
     let begins : place ≡ here + width + widths items front = (LieFrom-back items (here + width) front (n ∷ back) lies.1).0 in
@@ -71,20 +72,20 @@ place-found frame items here (x ∷ front) n back are lies =
 -- an item of a shelf, as the state has it by its place
 pub record IsPlacedItem (atlas : AtlasRecords) (entry : Entry) (number : ℕ) : Type 0 where
   pub width :
-      width_at (column_place atlas.frame (spelled_shelf atlas entry)) (spelled_shelf atlas entry).items (place_of atlas.records.items number)
+      width_at (column_place atlas.frame (spelled_shelf atlas entry)) (spelled_shelf atlas entry).items (item_place_of atlas.records.items number)
       ≡ (item_at atlas.records.items number).width
   pub get :
-      slice_get entry.items (number_at (column_place atlas.frame (spelled_shelf atlas entry)) (spelled_shelf atlas entry).items (place_of atlas.records.items number))
+      slice_get entry.items (number_at (column_place atlas.frame (spelled_shelf atlas entry)) (spelled_shelf atlas entry).items (item_place_of atlas.records.items number))
       ≡ Some number
 
 pub placed-item : (atlas : AtlasRecords) (entry : Entry) (number : ℕ) → 1 ≤ atlas.frame.column_width → IsSearched atlas entry → 1 ≤ times number entry.items → IsPlacedItem atlas entry number
 placed-item atlas entry number wide searched stands =
     let items : List LinkedItem = atlas.records.items in
-    let place : ℕ = place_of items number in
+    let place : ℕ = item_place_of items number in
     let at : IsAmong number entry.items = among number entry.items stands in
     let begins : column_place atlas.frame (spelled_shelf atlas entry) ≡ along_of atlas.records.shelves entry.number = spelled-column atlas entry wide searched.placed.along in
     let found = place-found atlas.frame items (along_of atlas.records.shelves entry.number) at.front number at.back
-    (subst (λ (ns : List ℕ). Each (IsItem atlas.frame) (map (item_at items) ns)) at.whole searched.shelf.items)
+    (subst (λ (ns : List ℕ). AllByRecursion (IsItem atlas.frame) (map (item_at items) ns)) at.whole searched.shelf.items)
     (subst (λ (ns : List ℕ). LieFrom items (along_of atlas.records.shelves entry.number) ns) at.whole searched.placed.places) in
     let number_is : number_at (column_place atlas.frame (spelled_shelf atlas entry)) (spelled_shelf atlas entry).items place ≡ length at.front =
     ap (λ b. number_at b (map (item_at items) entry.items) place) begins
@@ -115,11 +116,11 @@ find-images place test other (n ∷ ns) agree =
 
 -- the fitting place of a shelf is that of the first wide item
 pub searched-place : (frame : Frame) (records : Records) (number width : ℕ) → 1 ≤ frame.column_width → IsSearched (atlas_of frame records) (walked_entry records number)
-    → fitting_place frame width (spelled_shelf (atlas_of frame records) (walked_entry records number)) ≡ option_map (place_of records.items) (first_wide records width number)
+    → fitting_place frame width (spelled_shelf (atlas_of frame records) (walked_entry records number)) ≡ option_map (item_place_of records.items) (first_wide records width number)
 searched-place frame records number width wide searched =
     let entry : Entry = walked_entry records number in
     let shelf : Shelf = spelled_shelf (atlas_of frame records) entry in
-    find-images (place_of records.items) (λ place. nat_le width (width_at (column_place frame shelf) shelf.items place)) (is_wide records width) entry.free_list
+    find-images (item_place_of records.items) (λ place. nat_le width (width_at (column_place frame shelf) shelf.items place)) (is_wide records width) entry.free_list
     (λ k stands. ap (nat_le width) (placed-item (atlas_of frame records) entry k wide searched (omega (arith, stands, searched.members k))).width)
 
 -- the rank of a shelf is that of what it offers
@@ -133,14 +134,14 @@ searched-rank frame records number width height wide searched =
     ∙ ap (λ o. cond (nat_le height (height_of records.shelves number)) (option_map (λ _. rank_of records.shelves height number) o) None) (searched-place frame records number width wide searched)
     ∙ by_parts (nat_le height (height_of records.shelves number)) (first_wide records width number)
   where
-    by_parts : (b : Bool) (o : Option ℕ) → cond b (option_map (λ _. rank_of records.shelves height number) (option_map (place_of records.items) o)) None
+    by_parts : (b : Bool) (o : Option ℕ) → cond b (option_map (λ _. rank_of records.shelves height number) (option_map (item_place_of records.items) o)) None
         ≡ option_map rank_in (cond b (option_map (λ item. record { shelf = number; item = item; rank = rank_of records.shelves height number }) o) None)
     by_parts true None = refl
     by_parts true (Some item) = refl
     by_parts false o = refl
 
 -- the ranks of the shelves are those of what they offer
-pub searched-ranks : (frame : Frame) (records : Records) (width height : ℕ) (numbers : List ℕ) → 1 ≤ frame.column_width → Each (λ number. IsSearched (atlas_of frame records) (walked_entry records number)) numbers
+pub searched-ranks : (frame : Frame) (records : Records) (width height : ℕ) (numbers : List ℕ) → 1 ≤ frame.column_width → AllByRecursion (λ number. IsSearched (atlas_of frame records) (walked_entry records number)) numbers
     → map (rank frame width height) (map (spelled_shelf (atlas_of frame records)) (map (walked_entry records) numbers)) ≡ map (option_map rank_in) (map (offered records width height) numbers)
 searched-ranks frame records width height [] wide searched = refl
 searched-ranks frame records width height (n ∷ ns) wide searched =

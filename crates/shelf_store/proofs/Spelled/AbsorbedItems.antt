@@ -4,9 +4,10 @@ use Rattle.std.proofs.lemmas.List.{map-append}
 use Rattle.std.specs.Prelude.{◌==◌}
 use Rattle.etagere_base.proofs.EachLemmas.{Each-append, Each-front, Each-back}
 use Rattle.etagere_base.proofs.TimesLemmas.{times-append}
-use Rattle.etagere_base.specs.Lists.{Each, times}
+use Rattle.std.specs.List.{AllByRecursion}
+use Rattle.etagere_base.specs.Lists.{times}
 use Rattle.etagere_links.specs.declared.records.LinkedItem.{LinkedItem}
-use Rattle.etagere_links.specs.Edits.{changed_by, unlinked, put_aside}
+use Rattle.etagere_links.specs.Edits.{changed_by, unlinked, made_unused}
 use Rattle.etagere_links.specs.Families.{IsUnchanged}
 use Rattle.etagere_links.specs.RecordLists.{Records}
 use Rattle.etagere_links.specs.RecordMerges.{free_absorbed, allocated_absorbed}
@@ -14,8 +15,8 @@ use Rattle.etagere_links.specs.Records.{item_chain, free_list}
 use Rattle.etagere_links.proofs.ListEnds.{times-here}
 use Rattle.etagere_links.proofs.FirstLinks.{field_at-changed, field_at-kept}
 use Rattle.etagere_links.proofs.RecordChanges.{get-changed_by-other, length-changed_by}
-use Rattle.etagere_links.proofs.RecordFrames.{map-unlinked, map-put_aside, length-unlinked, length-put_aside}
-use Rattle.shelf_records.specs.AtlasRecords.{is_allocated_at, place_of, shelf_of, item_at}
+use Rattle.etagere_links.proofs.RecordFrames.{map-unlinked, map-made_unused, length-unlinked, length-made_unused}
+use Rattle.shelf_records.specs.AtlasRecords.{is_allocated_at, item_place_of, shelf_of, item_at}
 use Rattle.shelf_records.specs.StandsFor.{LieFrom}
 use Rattle.shelf_model.specs.State.{Item}
 use Rattle.shelf_store.proofs.Spelled.EntryValues.{widths, LieFrom-front, LieFrom-back, LieFrom-append, widths-same, free_count, free_count-append, free_count-same, IsWidened, widened}
@@ -24,7 +25,7 @@ use Rattle.shelf_records.proofs.Spelled.RecordValues.{item_values, SameItem, ite
 -- what items say where one became as wide as it and the next together, and all others but the next say the same
 pub record Absorbs (items new : List LinkedItem) (number next : ℕ) : Type 0 where
   pub item : item_at new number ≡ record { width = (item_at items number).width + (item_at items next).width; id = (item_at items number).id }
-  pub place : place_of new number ≡ place_of items number
+  pub place : item_place_of new number ≡ item_place_of items number
   pub shelf : shelf_of new number ≡ shelf_of items number
   pub allocated : is_allocated_at new number ≡ is_allocated_at items number
   pub others : (k : ℕ) → number ≢ k → next ≢ k → SameItem items new k
@@ -76,7 +77,7 @@ absorbed-places items new here front back number next rest absorbs lies =
     LieFrom-append new here front (number ∷ back) (LieFrom-same items new here front same_front (LieFrom-front items here front (number ∷ next ∷ back) lies)) new_back
 
 -- the items still name their shelf
-pub absorbed-owners : (items new : List LinkedItem) (owner : ℕ) (front back : List ℕ) (number next : ℕ) → IsRest front back number next → Absorbs items new number next → Each (λ item. shelf_of items item ≡ owner) (front ++ number ∷ next ∷ back) → Each (λ item. shelf_of new item ≡ owner) (front ++ number ∷ back)
+pub absorbed-owners : (items new : List LinkedItem) (owner : ℕ) (front back : List ℕ) (number next : ℕ) → IsRest front back number next → Absorbs items new number next → AllByRecursion (λ item. shelf_of items item ≡ owner) (front ++ number ∷ next ∷ back) → AllByRecursion (λ item. shelf_of new item ≡ owner) (front ++ number ∷ back)
 absorbed-owners items new owner front back number next rest absorbs each =
     let tail = Each-back (λ item. shelf_of items item ≡ owner) front (number ∷ next ∷ back) each in
     Each-append (λ item. shelf_of new item ≡ owner) front (number ∷ back)
@@ -130,14 +131,14 @@ free-widens records shelf number next within =
     let width : ℕ = (item_at items number).width + (item_at items next).width in
     let one : List LinkedItem = unlinked free_list next items in
     let two : List LinkedItem = unlinked item_chain next one in
-    let three : List LinkedItem = put_aside item_chain records.unused_items next two in
+    let three : List LinkedItem = made_unused item_chain records.unused_items next two in
     let new : List LinkedItem = changed_by (Some number) (λ (x : LinkedItem). record x { width = width }) three in
     let values : map item_values three ≡ map item_values items =
-    map-put_aside item_chain item_values items-keep_values two records.unused_items next
+    map-made_unused item_chain item_values items-keep_values two records.unused_items next
     ∙ map-unlinked item_chain item_values items-keep_values one next
     ∙ map-unlinked free_list item_values frees-keep_values items next in
     let long : length three ≡ length items =
-    length-put_aside item_chain two records.unused_items next ∙ length-unlinked item_chain one next ∙ length-unlinked free_list items next in
+    length-made_unused item_chain two records.unused_items next ∙ length-unlinked item_chain one next ∙ length-unlinked free_list items next in
     let wide : IsWidened three new number width = widened three number width (rw long within) in
     let same : (k : ℕ) → SameItem items three k = λ k. items-same items three k values in
     record {
@@ -161,17 +162,17 @@ allocated-absorbs records shelf number next apart within =
     let unmark : LinkedItem → LinkedItem = λ x. record x { allocated = false } in
     let one : List LinkedItem = unlinked item_chain next items in
     let two : List LinkedItem = changed_by (Some next) unmark one in
-    let three : List LinkedItem = put_aside item_chain records.unused_items next two in
+    let three : List LinkedItem = made_unused item_chain records.unused_items next two in
     let new : List LinkedItem = changed_by (Some number) (λ (x : LinkedItem). record x { width = width }) three in
     let long : length three ≡ length items =
-    length-put_aside item_chain two records.unused_items next ∙ length-changed_by unmark one (Some next) ∙ length-unlinked item_chain items next in
+    length-made_unused item_chain two records.unused_items next ∙ length-changed_by unmark one (Some next) ∙ length-unlinked item_chain items next in
     let wide : IsWidened three new number width = widened three number width (rw long within) in
     let same : (k : ℕ) → next ≢ k → SameItem items three k = λ k other.
     SameItem-then items two three k
     (SameItem-then items one two k
     (items-same items one k (map-unlinked item_chain item_values items-keep_values items next))
     (item-same one two k (get-changed_by-other unmark one (Some next) k (λ e. let eq : next ≡ k = cc in other eq))))
-    (items-same two three k (map-put_aside item_chain item_values items-keep_values two records.unused_items next)) in
+    (items-same two three k (map-made_unused item_chain item_values items-keep_values two records.unused_items next)) in
     let own : SameItem items three number = same number (λ e. apart (sym e)) in
     record {
       item = wide.item ∙ ap (λ (i : Item). record { width = width; id = i.id }) own.item;
@@ -189,7 +190,7 @@ allocated-unmarked records shelf number next width apart within =
     let widen : LinkedItem → LinkedItem = λ x. record x { width = width } in
     let one : List LinkedItem = unlinked item_chain next items in
     let two : List LinkedItem = changed_by (Some next) unmark one in
-    let three : List LinkedItem = put_aside item_chain records.unused_items next two in
+    let three : List LinkedItem = made_unused item_chain records.unused_items next two in
     field_at-kept (λ (x : LinkedItem). x.allocated) false widen three number next (λ x. refl)
-    ∙ (items-same two three next (map-put_aside item_chain item_values items-keep_values two records.unused_items next)).allocated
+    ∙ (items-same two three next (map-made_unused item_chain item_values items-keep_values two records.unused_items next)).allocated
     ∙ field_at-changed (λ (x : LinkedItem). x.allocated) false unmark one next false (rw (length-unlinked item_chain items next) within) (λ x. refl)

@@ -3,7 +3,8 @@ use Rattle.std.proofs.Common.{◌≡◌, ◌≢◌, ℕ, ◌+◌, ◌≤◌, Boo
 use Rattle.std.specs.Prelude.{◌/◌, not, is_none, if◌then◌else◌}
 use Rattle.etagere_base.proofs.EachLemmas.{Each-append, Each-middle}
 use Rattle.etagere_base.proofs.TimesLemmas.{times-append}
-use Rattle.etagere_base.specs.Lists.{Each, times}
+use Rattle.std.specs.List.{AllByRecursion}
+use Rattle.etagere_base.specs.Lists.{times}
 use Rattle.etagere_links.specs.declared.records.LinkedItem.{LinkedItem}
 use Rattle.etagere_links.specs.declared.records.LinkedShelf.{LinkedShelf}
 use Rattle.etagere_links.specs.Chains.{IsChainIn}
@@ -14,7 +15,7 @@ use Rattle.etagere_links.proofs.AllLists.LinkedItems.{IsApart, linked-apart}
 use Rattle.etagere_links.proofs.AllLists.LinkedUnused.{lists_of}
 use Rattle.etagere_links.proofs.FirstLinks.{field_at-changed, field_at-kept, field_at-other}
 use Rattle.etagere_links.proofs.ListEnds.{times-here}
-use Rattle.shelf_records.specs.AtlasRecords.{AtlasRecords, along_of, across_of, height_of, is_empty_at, is_allocated_at, item_at, place_of, spelled_shelf}
+use Rattle.shelf_records.specs.AtlasRecords.{AtlasRecords, along_of, across_of, height_of, is_empty_at, is_allocated_at, item_at, item_place_of, spelled_shelf}
 use Rattle.shelf_store.specs.Private.ItemReturned.{emptiness_said, names_one_free}
 use Rattle.shelf_records.specs.Private.Kept.{HasFlag}
 use Rattle.shelf_records.specs.StandsFor.{AreStacked, height_before}
@@ -27,10 +28,10 @@ use Rattle.shelf_store.proofs.Spelled.SpelledShelves.{still-placed}
 -- records that spell lists, and whose shelves say whether they are empty
 pub record IsFlagged (atlas : AtlasRecords) (lists : Lists) : Type 0 where
   pub spelled : IsSpelled atlas lists
-  pub flags : Each (HasFlag atlas) lists.entries
+  pub flags : AllByRecursion (HasFlag atlas) lists.entries
 
 -- shelves that are spelled as before and say what they said
-pub flags-same : (atlas new : AtlasRecords) (entries : List Entry) → ((k : ℕ) → 1 ≤ times k (shelf_numbers entries) → is_empty_at new.records.shelves k ≡ is_empty_at atlas.records.shelves k) → map (spelled_shelf new) entries ≡ map (spelled_shelf atlas) entries → Each (HasFlag atlas) entries → Each (HasFlag new) entries
+pub flags-same : (atlas new : AtlasRecords) (entries : List Entry) → ((k : ℕ) → 1 ≤ times k (shelf_numbers entries) → is_empty_at new.records.shelves k ≡ is_empty_at atlas.records.shelves k) → map (spelled_shelf new) entries ≡ map (spelled_shelf atlas) entries → AllByRecursion (HasFlag atlas) entries → AllByRecursion (HasFlag new) entries
 flags-same atlas new [] same spelled flags = tt
 flags-same atlas new (entry ∷ entries) same spelled flags =
     let first : spelled_shelf new entry ≡ spelled_shelf atlas entry = cc in
@@ -43,10 +44,10 @@ flags-same atlas new (entry ∷ entries) same spelled flags =
 pub shelf-is : (atlas : AtlasRecords) (lists : Records) (entry : Entry) (height : ℕ) → along_of lists.shelves entry.number ≡ along_of atlas.records.shelves entry.number → height_of lists.shelves entry.number ≡ height → ((k : ℕ) → SameItem atlas.records.items lists.items k) → spelled_shelf (with_lists atlas lists) entry ≡ record { column = (spelled_shelf atlas entry).column; height = height; items = (spelled_shelf atlas entry).items; free_list = (spelled_shelf atlas entry).free_list }
 shelf-is atlas lists entry height along tall same =
     let items : map (item_at lists.items) entry.items ≡ map (item_at atlas.records.items) entry.items = map-agrees (item_at lists.items) (item_at atlas.records.items) entry.items (λ k stands. (same k).item) in
-    let places : map (place_of lists.items) entry.free_list ≡ map (place_of atlas.records.items) entry.free_list = map-agrees (place_of lists.items) (place_of atlas.records.items) entry.free_list (λ k stands. (same k).place) in
-    ap (λ a. record { column = a / atlas.frame.column_width; height = height_of lists.shelves entry.number; items = map (item_at lists.items) entry.items; free_list = map (place_of lists.items) entry.free_list }) along
-    ∙ ap (λ h. record { column = (spelled_shelf atlas entry).column; height = h; items = map (item_at lists.items) entry.items; free_list = map (place_of lists.items) entry.free_list }) tall
-    ∙ ap (λ (is : List Item). record { column = (spelled_shelf atlas entry).column; height = height; items = is; free_list = map (place_of lists.items) entry.free_list }) items
+    let places : map (item_place_of lists.items) entry.free_list ≡ map (item_place_of atlas.records.items) entry.free_list = map-agrees (item_place_of lists.items) (item_place_of atlas.records.items) entry.free_list (λ k stands. (same k).place) in
+    ap (λ a. record { column = a / atlas.frame.column_width; height = height_of lists.shelves entry.number; items = map (item_at lists.items) entry.items; free_list = map (item_place_of lists.items) entry.free_list }) along
+    ∙ ap (λ h. record { column = (spelled_shelf atlas entry).column; height = h; items = map (item_at lists.items) entry.items; free_list = map (item_place_of lists.items) entry.free_list }) tall
+    ∙ ap (λ (is : List Item). record { column = (spelled_shelf atlas entry).column; height = height; items = is; free_list = map (item_place_of lists.items) entry.free_list }) items
     ∙ ap (λ (ps : List ℕ). record { column = (spelled_shelf atlas entry).column; height = height; items = (spelled_shelf atlas entry).items; free_list = ps }) places
 
 -- shelves that begin where they began and are as tall stand where they stood
@@ -85,7 +86,7 @@ keeps-emptiness : (is_empty : Bool) → KeepsShelfLinks (λ (shelf : LinkedShelf
 keeps-emptiness is_empty = record { next = λ x. refl; prev = λ x. refl; first_item = λ x. refl; first_unallocated = λ x. refl }
 
 -- the records after a shelf was made to say whether it is empty: they spell the same, and every shelf says it
-pub emptiness_said-flagged : (atlas : AtlasRecords) (before after : List Entry) (entry : Entry) (unused shelves : List ℕ) → Each (HasFlag atlas) before → Each (HasFlag atlas) after → IsSpelled atlas (lists_of (before ++ entry ∷ after) unused shelves) → IsFlagged (with_lists atlas (emptiness_said entry.number atlas.records)) (lists_of (before ++ entry ∷ after) unused shelves) × (map (spelled_shelf (with_lists atlas (emptiness_said entry.number atlas.records))) (before ++ entry ∷ after) ≡ map (spelled_shelf atlas) (before ++ entry ∷ after))
+pub emptiness_said-flagged : (atlas : AtlasRecords) (before after : List Entry) (entry : Entry) (unused shelves : List ℕ) → AllByRecursion (HasFlag atlas) before → AllByRecursion (HasFlag atlas) after → IsSpelled atlas (lists_of (before ++ entry ∷ after) unused shelves) → IsFlagged (with_lists atlas (emptiness_said entry.number atlas.records)) (lists_of (before ++ entry ∷ after) unused shelves) × (map (spelled_shelf (with_lists atlas (emptiness_said entry.number atlas.records))) (before ++ entry ∷ after) ≡ map (spelled_shelf atlas) (before ++ entry ∷ after))
 emptiness_said-flagged atlas before after entry unused shelves flags_before flags_after spelled =
     let old : List LinkedShelf = atlas.records.shelves in
     let items : List LinkedItem = atlas.records.items in

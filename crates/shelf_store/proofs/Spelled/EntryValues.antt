@@ -9,7 +9,7 @@ use Rattle.etagere_links.specs.RecordLists.{field_at}
 use Rattle.etagere_links.proofs.FirstLinks.{field_at-changed, field_at-kept}
 use Rattle.etagere_links.proofs.ListEnds.{times-here, times-other}
 use Rattle.etagere_links.proofs.RecordChanges.{get-changed_by-other}
-use Rattle.shelf_records.specs.AtlasRecords.{is_allocated_at, place_of, shelf_of, item_at, spelled_item}
+use Rattle.shelf_records.specs.AtlasRecords.{is_allocated_at, item_place_of, shelf_of, item_at, spelled_item}
 use Rattle.shelf_records.specs.StandsFor.{LieFrom}
 use Rattle.shelf_model.specs.State.{Item}
 use Rattle.shelf_records.proofs.Spelled.RecordValues.{SameItem, item-same, filter-agrees, LieFrom-same}
@@ -83,7 +83,7 @@ width-changed (x ∷ xs) label (suc number) width within = width-changed xs labe
 -- what an item says after its width was changed
 pub record IsWidened (items new : List LinkedItem) (number width : ℕ) : Type 0 where
   pub item : item_at new number ≡ record { width = width; id = (item_at items number).id }
-  pub place : place_of new number ≡ place_of items number
+  pub place : item_place_of new number ≡ item_place_of items number
   pub shelf : shelf_of new number ≡ shelf_of items number
   pub allocated : is_allocated_at new number ≡ is_allocated_at items number
   pub others : (k : ℕ) → number ≢ k → SameItem items new k
@@ -120,7 +120,7 @@ marked-changed (x ∷ xs) label (suc number) within = marked-changed xs label nu
 -- what an item says after it became free
 pub record IsFreed (items new : List LinkedItem) (number : ℕ) : Type 0 where
   pub item : item_at new number ≡ record { width = (item_at items number).width; id = None }
-  pub place : place_of new number ≡ place_of items number
+  pub place : item_place_of new number ≡ item_place_of items number
   pub shelf : shelf_of new number ≡ shelf_of items number
   pub allocated : is_allocated_at new number ≡ false
   pub others : (k : ℕ) → number ≢ k → SameItem items new k
@@ -138,31 +138,31 @@ unmarked items number within =
     }
 
 -- the items of a shelf that stand before one of them begin before it
-pub place-before : (items : List LinkedItem) (here : ℕ) (front back : List ℕ) (number k : ℕ) → ((n : ℕ) → 1 ≤ times n (front ++ number ∷ back) → 1 ≤ (item_at items n).width) → LieFrom items here (front ++ number ∷ back) → 1 ≤ times k front → place_of items k < place_of items number
+pub place-before : (items : List LinkedItem) (here : ℕ) (front back : List ℕ) (number k : ℕ) → ((n : ℕ) → 1 ≤ times n (front ++ number ∷ back) → 1 ≤ (item_at items n).width) → LieFrom items here (front ++ number ∷ back) → 1 ≤ times k front → item_place_of items k < item_place_of items number
 place-before items here [] back number k wide lies stands = absurd (omega (arith, stands))
 place-before items here (x ∷ front) back number k wide lies stands = by_test (x == k) refl (place-before items (here + (item_at items x).width) front back number k (λ n among. wide n (omega (arith, among))) lies.1)
   where
-    by_test : (b : Bool) → (x == k) ≡ b → (1 ≤ times k front → place_of items k < place_of items number) → place_of items k < place_of items number
+    by_test : (b : Bool) → (x == k) ≡ b → (1 ≤ times k front → item_place_of items k < item_place_of items number) → item_place_of items k < item_place_of items number
     by_test true e later =
         let same : x ≡ k = grind arith in
-        let own : place_of items k ≡ here = rw (← same) lies.0 in
+        let own : item_place_of items k ≡ here = rw (← same) lies.0 in
         let width : 1 ≤ (item_at items x).width = wide x (omega (arith, times-here x (front ++ number ∷ back))) in
-        let begins : place_of items number ≡ here + (item_at items x).width + widths items front =
+        let begins : item_place_of items number ≡ here + (item_at items x).width + widths items front =
         (LieFrom-back items (here + (item_at items x).width) front (number ∷ back) lies.1).0 in
         omega (arith, own, width, begins)
     by_test false e later = let other : x ≢ k = grind arith in later (omega (arith, stands, times-other k x front other))
 
 -- the items of a shelf that stand after its first begin after it
-after-first : (items : List LinkedItem) (here : ℕ) (xs : List ℕ) (k : ℕ) → LieFrom items here xs → 1 ≤ times k xs → here ≤ place_of items k
+after-first : (items : List LinkedItem) (here : ℕ) (xs : List ℕ) (k : ℕ) → LieFrom items here xs → 1 ≤ times k xs → here ≤ item_place_of items k
 after-first items here [] k lies stands = absurd (omega (arith, stands))
 after-first items here (x ∷ xs) k lies stands = by_test (x == k) refl (after-first items (here + (item_at items x).width) xs k lies.1)
   where
-    by_test : (b : Bool) → (x == k) ≡ b → (1 ≤ times k xs → here + (item_at items x).width ≤ place_of items k) → here ≤ place_of items k
-    by_test true e later = let same : x ≡ k = grind arith in let own : place_of items k ≡ here = rw (← same) lies.0 in omega (arith, own)
+    by_test : (b : Bool) → (x == k) ≡ b → (1 ≤ times k xs → here + (item_at items x).width ≤ item_place_of items k) → here ≤ item_place_of items k
+    by_test true e later = let same : x ≡ k = grind arith in let own : item_place_of items k ≡ here = rw (← same) lies.0 in omega (arith, own)
     by_test false e later = let other : x ≢ k = grind arith in omega (arith, later (omega (arith, stands, times-other k x xs other)))
 
 -- the items of a shelf that stand after one of them begin after it
-pub place-after : (items : List LinkedItem) (here : ℕ) (front back : List ℕ) (number k : ℕ) → ((n : ℕ) → 1 ≤ times n (front ++ number ∷ back) → 1 ≤ (item_at items n).width) → LieFrom items here (front ++ number ∷ back) → 1 ≤ times k back → place_of items number < place_of items k
+pub place-after : (items : List LinkedItem) (here : ℕ) (front back : List ℕ) (number k : ℕ) → ((n : ℕ) → 1 ≤ times n (front ++ number ∷ back) → 1 ≤ (item_at items n).width) → LieFrom items here (front ++ number ∷ back) → 1 ≤ times k back → item_place_of items number < item_place_of items k
 place-after items here front back number k wide lies stands =
     let rest : LieFrom items (here + widths items front) (number ∷ back) = LieFrom-back items here front (number ∷ back) lies in
     let width : 1 ≤ (item_at items number).width = wide number (omega (arith, times-append number front (number ∷ back), times-here number back)) in
@@ -181,7 +181,7 @@ given-changed (x ∷ xs) label (suc number) within = given-changed xs label numb
 -- what an item says after it was given whole
 pub record IsGiven (items new : List LinkedItem) (number : ℕ) : Type 0 where
   pub item : item_at new number ≡ record { width = (item_at items number).width; id = Some (id_at items number) }
-  pub place : place_of new number ≡ place_of items number
+  pub place : item_place_of new number ≡ item_place_of items number
   pub shelf : shelf_of new number ≡ shelf_of items number
   pub allocated : is_allocated_at new number ≡ true
   pub others : (k : ℕ) → number ≢ k → SameItem items new k
@@ -199,7 +199,7 @@ marked items number within =
     }
 
 -- items of which one only changed its mark still lie side by side
-pub remarked-places : (items new : List LinkedItem) (here : ℕ) (front back : List ℕ) (number : ℕ) → ((k : ℕ) → 1 ≤ times k front → SameItem items new k) → ((k : ℕ) → 1 ≤ times k back → SameItem items new k) → place_of new number ≡ place_of items number → (item_at new number).width ≡ (item_at items number).width → LieFrom items here (front ++ number ∷ back) → LieFrom new here (front ++ number ∷ back)
+pub remarked-places : (items new : List LinkedItem) (here : ℕ) (front back : List ℕ) (number : ℕ) → ((k : ℕ) → 1 ≤ times k front → SameItem items new k) → ((k : ℕ) → 1 ≤ times k back → SameItem items new k) → item_place_of new number ≡ item_place_of items number → (item_at new number).width ≡ (item_at items number).width → LieFrom items here (front ++ number ∷ back) → LieFrom new here (front ++ number ∷ back)
 remarked-places items new here front back number same_front same_back place width lies =
     let lie_back : LieFrom items (here + widths items front) (number ∷ back) = LieFrom-back items here front (number ∷ back) lies in
     let moved : LieFrom items (here + widths items front + (item_at new number).width) back = rw width lie_back.1 in

@@ -16,7 +16,7 @@ use Rattle.etagere_links.specs.RecordLists.{Entry, Lists, HasEachOnce, IsEntry, 
 use Rattle.etagere_links.specs.Records.{item_chain, free_list, shelf_chain}
 use Rattle.etagere_links.specs.Walks.{Walked}
 use Rattle.etagere_links.proofs.AllLists.LinkedWalks.{AreWalks, linked-walks}
-use Rattle.shelf_records.specs.AtlasRecords.{AtlasRecords, along_of, height_of, is_allocated_at, item_at, place_of, spelled_shelf}
+use Rattle.shelf_records.specs.AtlasRecords.{AtlasRecords, along_of, height_of, is_allocated_at, item_at, item_place_of, spelled_shelf}
 use Rattle.shelf_model.specs.Fresh.{empty_columns, fresh}
 use Rattle.shelf_store.specs.Private.FreshRecords.{column_after, column_before, fresh_item, fresh_records, fresh_shelf, numbered}
 use Rattle.shelf_records.specs.Private.Kept.{AreKept, HasFlag, IsPlaced, Witnessed, state_of}
@@ -140,10 +140,10 @@ module _ (frame : Frame) where
     fresh-shelf-at column below =
         let height : height_of (fresh_records frame).shelves column ≡ across_side frame =
         numbered-field (λ (s : LinkedShelf). s.height) 0 (fresh_shelf frame) frame.columns column below in
-        let place : place_of (fresh_records frame).items column ≡ column * frame.column_width = fresh-item-field (λ (i : LinkedItem). i.x) 0 column below in
-        ap (λ (c : ℕ). record { column = c; height = height_of (fresh_records frame).shelves column; items = item_at (fresh_records frame).items column ∷ []; free_list = place_of (fresh_records frame).items column ∷ [] }) (fresh-column column below)
-        ∙ ap (λ (h : ℕ). record { column = column; height = h; items = item_at (fresh_records frame).items column ∷ []; free_list = place_of (fresh_records frame).items column ∷ [] }) height
-        ∙ ap (λ (i : Item). record { column = column; height = across_side frame; items = i ∷ []; free_list = place_of (fresh_records frame).items column ∷ [] }) (fresh-item-at column below)
+        let place : item_place_of (fresh_records frame).items column ≡ column * frame.column_width = fresh-item-field (λ (i : LinkedItem). i.x) 0 column below in
+        ap (λ (c : ℕ). record { column = c; height = height_of (fresh_records frame).shelves column; items = item_at (fresh_records frame).items column ∷ []; free_list = item_place_of (fresh_records frame).items column ∷ [] }) (fresh-column column below)
+        ∙ ap (λ (h : ℕ). record { column = column; height = h; items = item_at (fresh_records frame).items column ∷ []; free_list = item_place_of (fresh_records frame).items column ∷ [] }) height
+        ∙ ap (λ (i : Item). record { column = column; height = across_side frame; items = i ∷ []; free_list = item_place_of (fresh_records frame).items column ∷ [] }) (fresh-item-at column below)
         ∙ ap (λ (p : ℕ). record { column = column; height = across_side frame; items = record { width = frame.column_width; id = None } ∷ []; free_list = p ∷ [] }) place
 
     -- the shelves of the columns from one on are empty ones
@@ -192,8 +192,8 @@ module _ (frame : Frame) where
         let item_count : length (fresh_records frame).items ≡ frame.columns = numbered-length (fresh_item frame) 0 frame.columns in
         let few : frame.columns ≤ 65535 = columns-le frame is_frame in
         record {
-          spelled = ap (λ (ss : List Shelf). record { frame = frame; shelves = ss; records = frame.columns }) (sym (fresh-shelves 0 frame.columns (omega arith)))
-              ∙ ap (λ (n : ℕ). record { frame = frame; shelves = map (spelled_shelf (fresh_atlas frame)) (numbered fresh_entry 0 frame.columns); records = n }) (sym item_count);
+          spelled = ap (λ (ss : List Shelf). record { frame = frame; shelves = ss; peak_items = frame.columns }) (sym (fresh-shelves 0 frame.columns (omega arith)))
+              ∙ ap (λ (n : ℕ). record { frame = frame; shelves = map (spelled_shelf (fresh_atlas frame)) (numbered fresh_entry 0 frame.columns); peak_items = n }) (sym item_count);
           counts = record { shelves = rw shelf_count (is_frame.columns.0, few); items = rw item_count (is_frame.columns.0, few) };
           linked = fresh-linked;
           placed = numbered-each (IsPlaced (fresh_atlas frame)) fresh_entry 0 frame.columns (λ k below. fresh-placed k (omega (arith, below)));

@@ -5,7 +5,8 @@ use Rattle.std.specs.Option.{option_map_or}
 use Rattle.std.specs.Prelude.{slice_get}
 use Rattle.etagere_base.proofs.EachLemmas.{Each-append, Each-front, Each-back, Each-middle}
 use Rattle.etagere_base.proofs.TimesLemmas.{times-append}
-use Rattle.etagere_base.specs.Lists.{Each, times}
+use Rattle.std.specs.List.{AllByRecursion}
+use Rattle.etagere_base.specs.Lists.{times}
 use Rattle.etagere_links.specs.declared.records.LinkedItem.{LinkedItem}
 use Rattle.etagere_links.specs.declared.records.LinkedShelf.{LinkedShelf}
 use Rattle.etagere_links.specs.Edits.{first_without, link_at, linked_between, unlinked}
@@ -22,7 +23,7 @@ use Rattle.etagere_links.proofs.AllLists.LinkedUnused.{lists_of}
 use Rattle.etagere_links.proofs.ListEnds.{times-here}
 use Rattle.etagere_links.proofs.RecordChanges.{length-changed_by}
 use Rattle.etagere_links.proofs.RecordFrames.{length-linked_between, length-unlinked}
-use Rattle.shelf_records.specs.AtlasRecords.{AtlasRecords, place_of, item_at, spelled_item, spelled_shelf}
+use Rattle.shelf_records.specs.AtlasRecords.{AtlasRecords, item_place_of, item_at, spelled_item, spelled_shelf}
 use Rattle.shelf_model.specs.Choice.{Placement}
 use Rattle.shelf_records.specs.Private.Kept.{HasFlag}
 use Rattle.shelf_store.specs.Private.PlacementTaken.{id_of, item_record, rest_item}
@@ -43,19 +44,19 @@ pub record IsItemGiven (atlas : AtlasRecords) (new : Records) (before added afte
   pub spelled : IsSpelled (with_lists atlas new) (lists_of (before ++ edited ∷ (added ++ after)) unused_items unused_shelves)
   pub shelves : map (spelled_shelf (with_lists atlas new)) (before ++ edited ∷ (added ++ after)) ≡ map (spelled_shelf atlas) before ++ shelf ∷ (rests ++ map (spelled_shelf atlas) after)
   pub own : spelled_shelf (with_lists atlas new) edited ≡ shelf
-  pub flags_before : Each (HasFlag atlas) before → Each (HasFlag (with_lists atlas new)) before
-  pub flags_after : Each (HasFlag atlas) after → Each (HasFlag (with_lists atlas new)) (added ++ after)
+  pub flags_before : AllByRecursion (HasFlag atlas) before → AllByRecursion (HasFlag (with_lists atlas new)) before
+  pub flags_after : AllByRecursion (HasFlag atlas) after → AllByRecursion (HasFlag (with_lists atlas new)) (added ++ after)
   pub more : length atlas.records.items ≤ length new.items
   pub made : 1 ≤ length unused_items → length new.items ≡ length atlas.records.items
   pub few : length new.shelves ≤ no_link
 
 -- from what an edit of the items of the shelf says: the other shelves are those that they were, and the edited one is this
-given-after : (atlas : AtlasRecords) (split_records new : Records) (before added after : List Entry) (entry edited : Entry) (unused_items unused_shelves loose : List ℕ) (tall : ℕ) (rests : List Shelf) (shelf : Shelf) → Each (IsEntry atlas.records) (before ++ entry ∷ after) → HasShelfSplit atlas split_records before added after entry unused_items unused_shelves loose tall rests → EditsItems (with_lists atlas split_records) new before (added ++ after) unused_items unused_items unused_shelves entry edited → spelled_shelf (with_lists atlas new) edited ≡ shelf → length new.items ≡ length split_records.items → length new.shelves ≡ length split_records.shelves → IsItemGiven atlas new before added after entry unused_items unused_shelves shelf rests
+given-after : (atlas : AtlasRecords) (split_records new : Records) (before added after : List Entry) (entry edited : Entry) (unused_items unused_shelves loose : List ℕ) (tall : ℕ) (rests : List Shelf) (shelf : Shelf) → AllByRecursion (IsEntry atlas.records) (before ++ entry ∷ after) → HasShelfSplit atlas split_records before added after entry unused_items unused_shelves loose tall rests → EditsItems (with_lists atlas split_records) new before (added ++ after) unused_items unused_items unused_shelves entry edited → spelled_shelf (with_lists atlas new) edited ≡ shelf → length new.items ≡ length split_records.items → length new.shelves ≡ length split_records.shelves → IsItemGiven atlas new before added after entry unused_items unused_shelves shelf rests
 given-after atlas split_records new before added after entry edited unused_items unused_shelves loose tall rests shelf are_old is_split edits spelled long long_shelves =
     let base : AtlasRecords = with_lists atlas split_records in
     let last : AtlasRecords = with_lists atlas new in
     let entries : List Entry = before ++ entry ∷ (added ++ after) in
-    let are : Each (IsEntry split_records) entries = is_split.spelled.linked.entries in
+    let are : AllByRecursion (IsEntry split_records) entries = is_split.spelled.linked.entries in
     let done = items-edited-but base new before (added ++ after) unused_items unused_items unused_shelves loose entry edited is_split.spelled edits in
     let apart : IsApart split_records before (added ++ after) unused_items loose entry = linked-apart split_records before (added ++ after) entry unused_items unused_shelves loose [] is_split.spelled.linked in
     let count : (k : ℕ) → times k (item_numbers before ++ item_numbers (added ++ after) ++ unused_items) ≡ times k (item_numbers before) + times k (item_numbers (added ++ after)) + times k unused_items =
@@ -162,7 +163,7 @@ front-shelves records shelf number rest width =
     length-changed_by (λ (x : LinkedShelf). record x { first_unallocated = link }) records.shelves (Some shelf)
 
 -- an item was given whole
-pub item-whole : (atlas : AtlasRecords) (split_records : Records) (before added after : List Entry) (shelf number : ℕ) (front back free_front free_back unused_items unused_shelves : List ℕ) (placement : Placement) (rests : List Shelf) → number < length atlas.records.items → IsPlacedAt atlas.records.items placement front back free_front free_back number → placement.splits_item ≡ false → Each (IsEntry atlas.records) (before ++ entry_of shelf (front ++ number ∷ back) (free_front ++ number ∷ free_back) ∷ after) → HasShelfSplit atlas split_records before added after (entry_of shelf (front ++ number ∷ back) (free_front ++ number ∷ free_back)) unused_items unused_shelves [] placement.height rests → IsItemGiven atlas (item_given shelf number split_records) before added after (entry_of shelf (front ++ number ∷ back) (free_front ++ number ∷ free_back)) unused_items unused_shelves (taken_from false placement (id_of atlas.records.items number) (spelled_shelf atlas (entry_of shelf (front ++ number ∷ back) (free_front ++ number ∷ free_back)))) rests
+pub item-whole : (atlas : AtlasRecords) (split_records : Records) (before added after : List Entry) (shelf number : ℕ) (front back free_front free_back unused_items unused_shelves : List ℕ) (placement : Placement) (rests : List Shelf) → number < length atlas.records.items → IsPlacedAt atlas.records.items placement front back free_front free_back number → placement.splits_item ≡ false → AllByRecursion (IsEntry atlas.records) (before ++ entry_of shelf (front ++ number ∷ back) (free_front ++ number ∷ free_back) ∷ after) → HasShelfSplit atlas split_records before added after (entry_of shelf (front ++ number ∷ back) (free_front ++ number ∷ free_back)) unused_items unused_shelves [] placement.height rests → IsItemGiven atlas (item_given shelf number split_records) before added after (entry_of shelf (front ++ number ∷ back) (free_front ++ number ∷ free_back)) unused_items unused_shelves (taken_from false placement (id_of atlas.records.items number) (spelled_shelf atlas (entry_of shelf (front ++ number ∷ back) (free_front ++ number ∷ free_back)))) rests
 item-whole atlas split_records before added after shelf number front back free_front free_back unused_items unused_shelves placement rests within is no_split are_old is_split =
     let old : List LinkedItem = atlas.records.items in
     let new : Records = item_given shelf number split_records in
@@ -191,7 +192,7 @@ item-whole atlas split_records before added after shelf number front back free_f
     (given-length split_records shelf number) (given-shelves split_records shelf number)
 
 -- the front of an item was given, after the record of the rest was written
-pub item-front : (atlas : AtlasRecords) (split_records : Records) (before added after : List Entry) (shelf number rest generation : ℕ) (front back free_front free_back unused_items unused_shelves : List ℕ) (placement : Placement) (rests : List Shelf) → number < length atlas.records.items → IsPlacedAt atlas.records.items placement front back free_front free_back number → placement.splits_item ≡ true → Each (IsEntry atlas.records) (before ++ entry_of shelf (front ++ number ∷ back) (free_front ++ number ∷ free_back) ∷ after) → HasShelfSplit atlas split_records before added after (entry_of shelf (front ++ number ∷ back) (free_front ++ number ∷ free_back)) unused_items unused_shelves (rest ∷ []) placement.height rests → IsItemGiven atlas (front_given shelf number rest placement.width (item_changed rest (λ _. rest_item (item_record split_records.items number) placement.width shelf generation) split_records)) before added after (entry_of shelf (front ++ number ∷ back) (free_front ++ number ∷ free_back)) unused_items unused_shelves (taken_from true placement (id_of atlas.records.items number) (spelled_shelf atlas (entry_of shelf (front ++ number ∷ back) (free_front ++ number ∷ free_back)))) rests
+pub item-front : (atlas : AtlasRecords) (split_records : Records) (before added after : List Entry) (shelf number rest generation : ℕ) (front back free_front free_back unused_items unused_shelves : List ℕ) (placement : Placement) (rests : List Shelf) → number < length atlas.records.items → IsPlacedAt atlas.records.items placement front back free_front free_back number → placement.splits_item ≡ true → AllByRecursion (IsEntry atlas.records) (before ++ entry_of shelf (front ++ number ∷ back) (free_front ++ number ∷ free_back) ∷ after) → HasShelfSplit atlas split_records before added after (entry_of shelf (front ++ number ∷ back) (free_front ++ number ∷ free_back)) unused_items unused_shelves (rest ∷ []) placement.height rests → IsItemGiven atlas (front_given shelf number rest placement.width (item_changed rest (λ _. rest_item (item_record split_records.items number) placement.width shelf generation) split_records)) before added after (entry_of shelf (front ++ number ∷ back) (free_front ++ number ∷ free_back)) unused_items unused_shelves (taken_from true placement (id_of atlas.records.items number) (spelled_shelf atlas (entry_of shelf (front ++ number ∷ back) (free_front ++ number ∷ free_back)))) rests
 item-front atlas split_records before added after shelf number rest generation front back free_front free_back unused_items unused_shelves placement rests within is split are_old is_split =
     let old : List LinkedItem = atlas.records.items in
     let width : ℕ = placement.width in
@@ -218,11 +219,11 @@ item-front atlas split_records before added after shelf number rest generation f
     omega (arith, apart.loose_within rest rest_stands, length-changed_by (λ _. item) split_records.items (Some rest)) in
     let whole_width : (item_record split_records.items number).width ≡ (item_at old number).width =
     sym (width-read split_records.items number number) ∙ ap (λ (i : Item). i.width) same_split.item in
-    let whole_place : (item_record split_records.items number).x ≡ place_of old number = read-record (λ (x : LinkedItem). x.x) (item_record [] number) split_records.items number ∙ same_split.place in
+    let whole_place : (item_record split_records.items number).x ≡ item_place_of old number = read-record (λ (x : LinkedItem). x.x) (item_record [] number) split_records.items number ∙ same_split.place in
     let rest_is : item_at written.items rest ≡ record { width = (item_at old number).width - width; id = None } =
     field_at-changed (spelled_item rest) (record { width = 0; id = None }) (λ _. item) split_records.items rest (record { width = (item_record split_records.items number).width - width; id = None }) rest_within (λ x. refl)
     ∙ ap (λ w. record { width = w - width; id = None }) whole_width in
-    let rest_place : place_of written.items rest ≡ place_of old number + width =
+    let rest_place : item_place_of written.items rest ≡ item_place_of old number + width =
     field_at-changed (λ (x : LinkedItem). x.x) 0 (λ _. item) split_records.items rest ((item_record split_records.items number).x + width) rest_within (λ x. refl)
     ∙ ap (λ p. p + width) whole_place in
     let narrower : width < (item_at old number).width = is.split split in

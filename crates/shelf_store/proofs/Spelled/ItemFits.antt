@@ -63,7 +63,7 @@ can-merge-item atlas before after shelf number front back free unused shelves is
           let first : first_or None back ≡ Some n =
           sym (next-is (link_at item_chain.next items) front back number (first_item_of atlas.records.shelves shelf) None is.items.forward) ∙ (named-is items (link_at item_chain.next items number) n e).0 in
           omega (arith, low, member-width items back n (first-stands back n first));
-      absorbed = are-there one.records before after shelf number front next.rest next.free_list next.aside shelves next.spelled.linked;
+      absorbed = are-there one.records before after shelf number front next.rest next.free_list next.left_unused shelves next.spelled.linked;
       previous = λ n e.
           let last : last_or None front ≡ Some n =
           sym (previous-is (link_at item_chain.previous new) front next.rest number None still.items.backward) ∙ (named-is new (link_at item_chain.previous new number) n e).0 in

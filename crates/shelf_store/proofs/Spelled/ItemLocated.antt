@@ -3,7 +3,8 @@ use Rattle.std.proofs.Common.{◌≡◌, ℕ, zero, suc, ◌+◌, ◌<◌, ◌�
 use Rattle.std.proofs.lemmas.List.{length-append, length-map}
 use Rattle.std.specs.Prelude.{nat_lt}
 use Rattle.etagere_base.proofs.TimesLemmas.{times-append}
-use Rattle.etagere_base.specs.Lists.{Each, times}
+use Rattle.std.specs.List.{AllByRecursion}
+use Rattle.etagere_base.specs.Lists.{times}
 use Rattle.etagere_links.specs.declared.records.LinkedItem.{LinkedItem}
 use Rattle.etagere_links.specs.RecordLists.{Entry, Lists, HasEachOnce, IsLinked, item_numbers}
 use Rattle.etagere_links.proofs.AllLists.LinkedMerges.{entry_of}
@@ -65,7 +66,7 @@ allocated-within (x ∷ xs) zero e = omega arith
 allocated-within (x ∷ xs) (suc number) e = omega (arith, allocated-within xs number e)
 
 -- an allocated item stands in the lists of shelves
-pub located : (atlas : AtlasRecords) (lists : Lists) (number : ℕ) → IsLinked atlas.records lists → Each (λ item. is_allocated_at atlas.records.items item ≡ false) lists.unused_items → is_allocated_at atlas.records.items number ≡ true → HasItem number lists.entries
+pub located : (atlas : AtlasRecords) (lists : Lists) (number : ℕ) → IsLinked atlas.records lists → AllByRecursion (λ item. is_allocated_at atlas.records.items item ≡ false) lists.unused_items → is_allocated_at atlas.records.items number ≡ true → HasItem number lists.entries
 located atlas lists number linked unmarked allocated = by_count (times number lists.unused_items) refl
   where
     stands : times number (item_numbers lists.entries) + times number lists.unused_items ≡ 1

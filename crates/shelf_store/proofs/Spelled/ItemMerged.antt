@@ -12,7 +12,7 @@ use Rattle.etagere_links.specs.declared.records.LinkedItem.{LinkedItem}
 use Rattle.etagere_links.specs.RecordLists.{Entry}
 use Rattle.etagere_links.proofs.AllLists.LinkedMerges.{entry_of}
 use Rattle.etagere_links.proofs.AllLists.LinkedUnused.{lists_of}
-use Rattle.shelf_records.specs.AtlasRecords.{AtlasRecords, along_of, height_of, is_allocated_at, place_of, item_at, spelled_shelf, width_of}
+use Rattle.shelf_records.specs.AtlasRecords.{AtlasRecords, along_of, height_of, is_allocated_at, item_place_of, item_at, spelled_shelf, width_of}
 use Rattle.shelf_model.specs.Merging.{both_free, combined_items, merged_shelf}
 use Rattle.shelf_model.specs.Places.{column_place}
 use Rattle.shelf_store.specs.Private.ItemReturned.{Step, free_next, free_previous, freed_after, item_merged, next_absorbed}
@@ -34,15 +34,15 @@ use Rattle.shelf_store.proofs.Spelled.SpelledLists.{with_lists, IsSpelled}
 pub record MergesItem (atlas : AtlasRecords) (step : Step) (before after : List Entry) (shelf number : ℕ) (front back free unused shelves : List ℕ) : Type 0 where
   pub numbers : List ℕ
   pub free_list : List ℕ
-  pub aside : List ℕ
-  pub spelled : IsSpelled (with_lists atlas step.records) (lists_of (before ++ entry_of shelf numbers free_list ∷ after) aside shelves)
+  pub left_unused : List ℕ
+  pub spelled : IsSpelled (with_lists atlas step.records) (lists_of (before ++ entry_of shelf numbers free_list ∷ after) left_unused shelves)
   pub before_same : map (spelled_shelf (with_lists atlas step.records)) before ≡ map (spelled_shelf atlas) before
   pub after_same : map (spelled_shelf (with_lists atlas step.records)) after ≡ map (spelled_shelf atlas) after
   pub same : (k : ℕ) → SameShelf atlas.records.shelves step.records.shelves k
   pub returned :
       spelled_shelf (with_lists atlas step.records) (entry_of shelf numbers free_list)
       ≡ merged_shelf (freed_shelf atlas.frame (length front) (spelled_shelf atlas (entry_of shelf (front ++ number ∷ back) free)))
-  pub counted : length aside ≡ step.put_aside + length unused
+  pub counted : length left_unused ≡ step.made_unused + length unused
 
 -- a shelf with its items freed and merged around a number, and its free list edited so
 shelf-returned : (frame : Frame) (n : ℕ) (shelf : Shelf) (along height : ℕ) (items : List Item) (places : List ℕ) → NoNeighbours both_free shelf.items → along / frame.column_width ≡ shelf.column → height ≡ shelf.height → items ≡ merged_before both_free combined_items n (merged_at both_free combined_items n (freed n shelf.items)) → places ≡ returned_free_list (column_place frame shelf) shelf.items n shelf.free_list → record { column = along / frame.column_width; height = height; items = items; free_list = places } ≡ merged_shelf (freed_shelf frame n shelf)
@@ -80,14 +80,14 @@ merges-item atlas before after shelf number front back free unused shelves valid
     merges-next atlas before after shelf number front back free unused shelves (wide-items atlas shelf (front ++ number ∷ back) free valid) allocated spelled in
     let middle : AtlasRecords = with_lists atlas one.records in
     let two : Step = freed_after shelf number (free_previous one.records.items number) one.records in
-    let own : FreesItem middle two before after shelf number front next.rest next.free_list next.aside shelves =
-    frees-item middle before after shelf number front next.rest next.free_list next.aside shelves next.allocated next.spelled in
+    let own : FreesItem middle two before after shelf number front next.rest next.free_list next.left_unused shelves =
+    frees-item middle before after shelf number front next.rest next.free_list next.left_unused shelves next.allocated next.spelled in
     let new : AtlasRecords = with_lists atlas two.records in
     let placed : IsPlaced atlas entry = Each-middle (IsPlaced atlas) before entry after spelled.placed in
     let along : ℕ = along_of atlas.records.shelves shelf in
     let here : along ≡ column_place atlas.frame old = multiple along atlas.frame.column_width placed.along in
     let whole : map (item_at items) (front ++ number ∷ back) ≡ map (item_at items) front ++ item_at items number ∷ map (item_at items) back = map-append (item_at items) front (number ∷ back) in
-    let begins : place_of items number ≡ along + widths items front = (LieFrom-back items along front (number ∷ back) placed.places).0 in
+    let begins : item_place_of items number ≡ along + widths items front = (LieFrom-back items along front (number ∷ back) placed.places).0 in
     let same : (k : ℕ) → SameShelf atlas.records.shelves two.records.shelves k = λ k. SameShelf-then atlas.records.shelves one.records.shelves two.records.shelves k (next.same k) (own.same k) in
     let merged : map (item_at two.records.items) own.numbers ≡ merged_before both_free combined_items (length front) (merged_at both_free combined_items (length front) (freed (length front) old.items)) =
     own.items
@@ -95,23 +95,23 @@ merges-item atlas before after shelf number front back free unused shelves valid
     ∙ ap (λ (is : List Item). merged_before both_free combined_items (length front) (merged_at both_free combined_items (length front) is)) (sym (freed-here (item_at items) front (item_at items number) (map (item_at items) back)))
     ∙ ap (λ (is : List Item). merged_before both_free combined_items (length front) (merged_at both_free combined_items (length front) (freed (length front) is))) (sym whole) in
     let previous_free : Bool = is_free_before (length front) (map (item_at items) front ++ item_at items number ∷ map (item_at items) back) in
-    let two_places : map (place_of two.records.items) own.free_list ≡ (if previous_free then map (place_of one.records.items) next.free_list else place_of one.records.items number ∷ map (place_of one.records.items) next.free_list) =
+    let two_places : map (item_place_of two.records.items) own.free_list ≡ (if previous_free then map (item_place_of one.records.items) next.free_list else item_place_of one.records.items number ∷ map (item_place_of one.records.items) next.free_list) =
     rw (← next.front_same) (own.places (item_at items number ∷ map (item_at items) back)) in
-    let listed : map (place_of two.records.items) own.free_list ≡ returned_free_list (column_place atlas.frame old) old.items (length front) old.free_list =
-    list-edited (is_first_free (map (item_at items) back)) previous_free (along + (widths items front + width_of items number)) (along + widths items front) (place_of one.records.items number)
-    (map (place_of items) free) (map (place_of one.records.items) next.free_list) (map (place_of two.records.items) own.free_list) next.places (next.place ∙ begins) two_places
-    ∙ sym (list-around items along front (item_at items number) (map (item_at items) back) (map (place_of items) free))
-    ∙ ap (λ (is : List Item). returned_free_list along is (length front) (map (place_of items) free)) (sym whole)
+    let listed : map (item_place_of two.records.items) own.free_list ≡ returned_free_list (column_place atlas.frame old) old.items (length front) old.free_list =
+    list-edited (is_first_free (map (item_at items) back)) previous_free (along + (widths items front + width_of items number)) (along + widths items front) (item_place_of one.records.items number)
+    (map (item_place_of items) free) (map (item_place_of one.records.items) next.free_list) (map (item_place_of two.records.items) own.free_list) next.places (next.place ∙ begins) two_places
+    ∙ sym (list-around items along front (item_at items number) (map (item_at items) back) (map (item_place_of items) free))
+    ∙ ap (λ (is : List Item). returned_free_list along is (length front) (map (item_place_of items) free)) (sym whole)
     ∙ ap (λ p. returned_free_list p old.items (length front) old.free_list) here in
     record {
       numbers = own.numbers;
       free_list = own.free_list;
-      aside = own.aside;
+      left_unused = own.left_unused;
       spelled = own.spelled;
       before_same = own.before_same ∙ next.before_same;
       after_same = own.after_same ∙ next.after_same;
       same = same;
-      returned = shelf-returned atlas.frame (length front) old (along_of two.records.shelves shelf) (height_of two.records.shelves shelf) (map (item_at two.records.items) own.numbers) (map (place_of two.records.items) own.free_list)
+      returned = shelf-returned atlas.frame (length front) old (along_of two.records.shelves shelf) (height_of two.records.shelves shelf) (map (item_at two.records.items) own.numbers) (map (item_place_of two.records.items) own.free_list)
           valid.apart (ap (λ a. a / atlas.frame.column_width) (same shelf).along) (same shelf).height merged listed;
       counted = omega (arith, own.counted, next.counted);
     }

@@ -6,7 +6,8 @@ use Rattle.etagere_base.specs.declared.frames.Frame.{Frame}
 use Rattle.etagere_base.proofs.EachLemmas.{Each-front, Each-back, Each-middle, Each-weaken}
 use Rattle.etagere_base.proofs.FrameSides.{sides_low}
 use Rattle.etagere_base.proofs.TimesLemmas.{times-append}
-use Rattle.etagere_base.specs.Lists.{Each, times}
+use Rattle.std.specs.List.{AllByRecursion}
+use Rattle.etagere_base.specs.Lists.{times}
 use Rattle.etagere_base.specs.MergingAt.{merged_at, merged_before}
 use Rattle.etagere_links.specs.declared.records.LinkedItem.{LinkedItem}
 use Rattle.etagere_links.specs.RecordLists.{Records, field_at, Entry, Lists, IsLinked, shelf_numbers, walked_lists}
@@ -18,18 +19,18 @@ use Rattle.etagere_links.proofs.ListEnds.{times-here}
 use Rattle.shelf_records.specs.AtlasRecords.{AtlasRecords, is_allocated_at, item_at, shelf_of, spelled_item, spelled_shelf, spelled_state}
 use Rattle.shelf_model.specs.Merging.{both_empty, combined_shelves, merged_shelf}
 use Rattle.shelf_model.specs.Places.{column_height}
-use Rattle.shelf_store.specs.Private.ItemReturned.{CanMergeItem, CanMergeShelves, CanReturn, IsLinkedBack, IsRemaining, Step, emptiness_said, item_merged, item_returned, merged_width, put_aside_by, shelves_merged}
-use Rattle.shelf_heights.specs.Private.ByHeight.{AreRanked, raised, ranked_numbers}
+use Rattle.shelf_store.specs.Private.ItemReturned.{CanMergeItem, CanMergeShelves, CanReturn, IsLinkedBack, IsRemaining, Step, emptiness_said, item_merged, item_returned, merged_width, unused_by, shelves_merged}
+use Rattle.shelf_heights.specs.Private.ByHeight.{AreByHeight, raised, numbers_by_height}
 use Rattle.shelf_records.specs.Private.Kept.{AreKept, HasFlag, IsPlaced, atlas_of, bare, state_of}
-use Rattle.shelf_store.specs.Private.RankedReturned.{CanReturnRanked, freed_width, ranked_returned, ranks_merged}
+use Rattle.shelf_store.specs.Private.ReturnedByHeight.{CanReturnByHeight, freed_width, returned_by_height, shelves_merged_by_height}
 use Rattle.shelf_model.specs.Returning.{freed_shelf, returned}
 use Rattle.shelf_model.specs.State.{Shelf, AtlasState, items_in_use}
 use Rattle.shelf_records.specs.StandsFor.{HasCounts}
 use Rattle.shelf_model.specs.Valid.{IsShelf, IsValid}
-use Rattle.shelf_heights.specs.declared.ranked.RankedShelf.{RankedShelf}
-use Rattle.shelf_store.proofs.ByHeight.FreedRanks.{FreesRanks, frees-ranks}
-use Rattle.shelf_store.proofs.ByHeight.KeptRanks.{kept-ranks, ranks-kept}
-use Rattle.shelf_store.proofs.ByHeight.MergedRanks.{Ranks}
+use Rattle.shelf_heights.specs.declared.by_height.BoundedShelf.{BoundedShelf}
+use Rattle.shelf_store.proofs.ByHeight.FreedByHeight.{FreesByHeight, frees-by_height}
+use Rattle.shelf_store.proofs.ByHeight.KeptByHeight.{kept-by_height, by_height-kept}
+use Rattle.shelf_store.proofs.ByHeight.MergedByHeight.{HoldsByHeight}
 use Rattle.shelf_model.proofs.Places.Heights.{column_height-append, column_height-none}
 use Rattle.shelf_model.proofs.Returned.ReturnedValid.{returned-valid}
 use Rattle.shelf_store.proofs.Spelled.EmptinessSaid.{IsFlagged, emptiness_said-flagged, flags-same}
@@ -38,26 +39,26 @@ use Rattle.shelf_store.proofs.Spelled.ItemFits.{can-merge-item}
 use Rattle.shelf_store.proofs.Spelled.RemainingItem.{item-remaining}
 use Rattle.shelf_store.proofs.Spelled.ItemLocated.{HasItem, in-use-counted, located}
 use Rattle.shelf_store.proofs.Spelled.ItemMerged.{MergesItem, merges-item}
-use Rattle.shelf_store.proofs.Spelled.NeighboursMerged.{AreLow, MergesShelves, can-merge-ranks, can-merge-shelves, merges-shelves, shelf-before}
+use Rattle.shelf_store.proofs.Spelled.NeighboursMerged.{AreLow, MergesShelves, can-merge-all-by_height, can-merge-shelves, merges-shelves, shelf-before}
 use Rattle.shelf_store.proofs.Spelled.ReturnedAt.{returned-at}
 use Rattle.shelf_store.proofs.Spelled.ReturnedLengths.{SameLengths, returned-lengths}
 use Rattle.shelf_store.proofs.Spelled.SpelledLists.{with_lists}
 use Rattle.shelf_records.proofs.Spelled.Witnesses.{witnessed-kept}
 
 -- records of a shelf whose item was freed and merged, and that says whether it is empty
-record IsFreed (atlas : AtlasRecords) (records : Records) (put_aside : ℕ) (before after : List Entry) (shelf number : ℕ) (front back free unused shelves : List ℕ) : Type 0 where
+record IsFreed (atlas : AtlasRecords) (records : Records) (made_unused : ℕ) (before after : List Entry) (shelf number : ℕ) (front back free unused shelves : List ℕ) : Type 0 where
   numbers : List ℕ
   free_list : List ℕ
-  aside : List ℕ
-  flagged : IsFlagged (with_lists atlas records) (lists_of (before ++ entry_of shelf numbers free_list ∷ after) aside shelves)
+  left_unused : List ℕ
+  flagged : IsFlagged (with_lists atlas records) (lists_of (before ++ entry_of shelf numbers free_list ∷ after) left_unused shelves)
   spelled :
       map (spelled_shelf (with_lists atlas records)) (before ++ entry_of shelf numbers free_list ∷ after)
       ≡ map (spelled_shelf atlas) before ++ merged_shelf (freed_shelf atlas.frame (length front) (spelled_shelf atlas (entry_of shelf (front ++ number ∷ back) free))) ∷ map (spelled_shelf atlas) after
-  counted : length aside ≡ put_aside + length unused
-  ranks : FreesRanks atlas (with_lists atlas records) (item_merged shelf number atlas.records).records.shelves (before ++ entry_of shelf (front ++ number ∷ back) free ∷ after) (before ++ entry_of shelf numbers free_list ∷ after) shelf (freed_width atlas.records.items number)
+  counted : length left_unused ≡ made_unused + length unused
+  in_list : FreesByHeight atlas (with_lists atlas records) (item_merged shelf number atlas.records).records.shelves (before ++ entry_of shelf (front ++ number ∷ back) free ∷ after) (before ++ entry_of shelf numbers free_list ∷ after) shelf (freed_width atlas.records.items number)
 
 -- an item was freed and merged, and its shelf says whether it is empty
-freed-flagged : (atlas : AtlasRecords) (before after : List Entry) (shelf number : ℕ) (front back free unused shelves : List ℕ) → IsShelf atlas.frame (spelled_shelf atlas (entry_of shelf (front ++ number ∷ back) free)) → is_allocated_at atlas.records.items number ≡ true → IsFlagged atlas (lists_of (before ++ entry_of shelf (front ++ number ∷ back) free ∷ after) unused shelves) → IsFreed atlas (emptiness_said shelf (item_merged shelf number atlas.records).records) (item_merged shelf number atlas.records).put_aside before after shelf number front back free unused shelves
+freed-flagged : (atlas : AtlasRecords) (before after : List Entry) (shelf number : ℕ) (front back free unused shelves : List ℕ) → IsShelf atlas.frame (spelled_shelf atlas (entry_of shelf (front ++ number ∷ back) free)) → is_allocated_at atlas.records.items number ≡ true → IsFlagged atlas (lists_of (before ++ entry_of shelf (front ++ number ∷ back) free ∷ after) unused shelves) → IsFreed atlas (emptiness_said shelf (item_merged shelf number atlas.records).records) (item_merged shelf number atlas.records).made_unused before after shelf number front back free unused shelves
 freed-flagged atlas before after shelf number front back free unused shelves valid allocated flagged =
     let entry : Entry = entry_of shelf (front ++ number ∷ back) free in
     let one : Step = item_merged shelf number atlas.records in
@@ -65,14 +66,14 @@ freed-flagged atlas before after shelf number front back free unused shelves val
     merges-item atlas before after shelf number front back free unused shelves valid allocated flagged.spelled in
     let middle : AtlasRecords = with_lists atlas one.records in
     let new : Entry = entry_of shelf merges.numbers merges.free_list in
-    let said = emptiness_said-flagged middle before after new merges.aside shelves
+    let said = emptiness_said-flagged middle before after new merges.left_unused shelves
     (flags-same atlas middle before (λ k stands. (merges.same k).is_empty) merges.before_same (Each-front (HasFlag atlas) before (entry ∷ after) flagged.flags))
     (flags-same atlas middle after (λ k stands. (merges.same k).is_empty) merges.after_same (Each-back (HasFlag atlas) before (entry ∷ after) flagged.flags).1)
     merges.spelled in
     record {
       numbers = merges.numbers;
       free_list = merges.free_list;
-      aside = merges.aside;
+      left_unused = merges.left_unused;
       flagged = said.0;
       spelled = said.1
           ∙ map-append (spelled_shelf middle) before (new ∷ after)
@@ -80,7 +81,7 @@ freed-flagged atlas before after shelf number front back free unused shelves val
           ∙ ap (λ (s : Shelf). map (spelled_shelf atlas) before ++ s ∷ map (spelled_shelf middle) after) merges.returned
           ∙ ap (λ (ss : List Shelf). map (spelled_shelf atlas) before ++ merged_shelf (freed_shelf atlas.frame (length front) (spelled_shelf atlas entry)) ∷ ss) merges.after_same;
       counted = merges.counted;
-      ranks = frees-ranks atlas before after shelf number front back free unused shelves valid flagged.spelled merges said.1;
+      in_list = frees-by_height atlas before after shelf number front back free unused shelves valid flagged.spelled merges said.1;
     }
 
 -- no column of a valid state is taller than 16 bits can say
@@ -98,21 +99,21 @@ pub record ReturnsItem (frame : Frame) (records : Records) (number : ℕ) : Type
   pub can : CanReturn number records
   pub kept : AreKept frame (item_returned number records)
   pub state : state_of frame (item_returned number records) ≡ returned (state_of frame records) (id_at records.items number)
-  pub counted : items_in_use (state_of frame (item_returned number records)).shelves + put_aside_by number records ≡ items_in_use (state_of frame records).shelves
-  pub can_ranked : (ranked : List RankedShelf) → AreRanked frame records ranked → CanReturnRanked (shelf_of records.items number) number records ranked
-  pub ranked : (ranked : List RankedShelf) → AreRanked frame records ranked → AreRanked frame (item_returned number records) (ranked_returned number records ranked)
+  pub counted : items_in_use (state_of frame (item_returned number records)).shelves + unused_by number records ≡ items_in_use (state_of frame records).shelves
+  pub can_by_height : (by_height : List BoundedShelf) → AreByHeight frame records by_height → CanReturnByHeight (shelf_of records.items number) number records by_height
+  pub by_height : (by_height : List BoundedShelf) → AreByHeight frame records by_height → AreByHeight frame (item_returned number records) (returned_by_height number records by_height)
 
 -- records after a return, by the lists that they spell
-record IsReturned (atlas : AtlasRecords) (step : Step) (old : List Entry) (change : List RankedShelf → List RankedShelf) (state : AtlasState) (unused : List ℕ) : Type 0 where
+record IsReturned (atlas : AtlasRecords) (step : Step) (old : List Entry) (change : List BoundedShelf → List BoundedShelf) (state : AtlasState) (unused : List ℕ) : Type 0 where
   lists : Lists
   flagged : IsFlagged (with_lists atlas step.records) lists
   spelled : map (spelled_shelf (with_lists atlas step.records)) lists.entries ≡ state.shelves
-  counted : length lists.unused_items ≡ step.put_aside + length unused
-  ranks : (ranked : List RankedShelf) → Ranks atlas old ranked → Ranks (with_lists atlas step.records) lists.entries (change ranked)
+  counted : length lists.unused_items ≡ step.made_unused + length unused
+  in_list : (by_height : List BoundedShelf) → HoldsByHeight atlas old by_height → HoldsByHeight (with_lists atlas step.records) lists.entries (change by_height)
 
 -- records that spell lists keep every rule again where what they spell is valid
-kept-again : (frame : Frame) (records new : Records) (id aside : ℕ) (change : List RankedShelf → List RankedShelf) → AreKept frame records → SameLengths records new → IsReturned (atlas_of frame records) (record { records = new; put_aside = aside }) (walked_lists records).entries change (returned (state_of frame records) id) (walked_lists records).unused_items → (AreKept frame new × (state_of frame new ≡ returned (state_of frame records) id)) × (items_in_use (state_of frame new).shelves + aside ≡ items_in_use (state_of frame records).shelves) × ((ranked : List RankedShelf) → AreRanked frame records ranked → AreRanked frame new (change ranked))
-kept-again frame records new id aside change kept lengths is =
+kept-again : (frame : Frame) (records new : Records) (id left_unused : ℕ) (change : List BoundedShelf → List BoundedShelf) → AreKept frame records → SameLengths records new → IsReturned (atlas_of frame records) (record { records = new; made_unused = left_unused }) (walked_lists records).entries change (returned (state_of frame records) id) (walked_lists records).unused_items → (AreKept frame new × (state_of frame new ≡ returned (state_of frame records) id)) × (items_in_use (state_of frame new).shelves + left_unused ≡ items_in_use (state_of frame records).shelves) × ((by_height : List BoundedShelf) → AreByHeight frame records by_height → AreByHeight frame new (change by_height))
+kept-again frame records new id left_unused change kept lengths is =
     let lists : Lists = is.lists in
     let linked : IsLinked new lists = is.flagged.spelled.linked in
     let counts : HasCounts (atlas_of frame new) =
@@ -125,8 +126,8 @@ kept-again frame records new id aside change kept lengths is =
     let spelled : state_of frame new ≡ spelled_state (bare frame new) lists.entries = ap (λ (l : Lists). spelled_state (bare frame new) l.entries) walked in
     let state : state_of frame new ≡ after =
     spelled
-    ∙ ap (λ (ss : List Shelf). record { frame = frame; shelves = ss; records = length new.items }) is.spelled
-    ∙ ap (λ n. record { frame = frame; shelves = after.shelves; records = n }) lengths.items in
+    ∙ ap (λ (ss : List Shelf). record { frame = frame; shelves = ss; peak_items = length new.items }) is.spelled
+    ∙ ap (λ n. record { frame = frame; shelves = after.shelves; peak_items = n }) lengths.items in
     let old_count = in-use-counted (atlas_of frame records) (walked_lists records) kept.linked in
     let new_count = in-use-counted (atlas_of frame new) lists linked in
     let in_use : items_in_use (state_of frame new).shelves ≡ items_in_use (map (spelled_shelf (atlas_of frame new)) lists.entries) = ap (λ (s : AtlasState). items_in_use s.shelves) spelled in (
@@ -147,7 +148,7 @@ kept-again frame records new id aside change kept lengths is =
         state,
       ),
       omega (arith, in_use, old_count, new_count, is.counted, lengths.items),
-      λ ranked are. ranks-kept frame records new lists (change ranked) walked (is.ranks ranked (kept-ranks frame records ranked kept are)),
+      λ by_height are. by_height-kept frame records new lists (change by_height) walked (is.in_list by_height (kept-by_height frame records by_height kept are)),
     )
 
 -- the id of an allocated item
@@ -161,25 +162,25 @@ abbrev returned_in : ℕ → ℕ → Records → Step
 returned_in shelf number records =
     let one = item_merged shelf number records in
     let two = shelves_merged shelf (emptiness_said shelf one.records) in
-    record { records = two.records; put_aside = one.put_aside + two.put_aside }
+    record { records = two.records; made_unused = one.made_unused + two.made_unused }
 
--- the ranked shelves after it
-abbrev ranked_in : ℕ → ℕ → Records → List RankedShelf → List RankedShelf
-ranked_in shelf number records ranked =
-    ranks_merged shelf (emptiness_said shelf (item_merged shelf number records).records) (raised shelf (freed_width records.items number) ranked)
+-- the shelves by height after it
+abbrev by_height_in : ℕ → ℕ → Records → List BoundedShelf → List BoundedShelf
+by_height_in shelf number records by_height =
+    shelves_merged_by_height shelf (emptiness_said shelf (item_merged shelf number records).records) (raised shelf (freed_width records.items number) by_height)
 
 -- the shelves of a state whose shelves around one were merged
-shelves-after : (frame : Frame) (records n : ℕ) (after : AtlasState) (middle whole spelled : List Shelf) → after ≡ record { frame = frame; shelves = merged_before both_empty combined_shelves n (merged_at both_empty combined_shelves n whole); records = records } → middle ≡ whole → spelled ≡ merged_before both_empty combined_shelves n (merged_at both_empty combined_shelves n middle) → spelled ≡ after.shelves
-shelves-after frame records n after middle whole spelled at same merged = rw at (rw (← same) merged)
+shelves-after : (frame : Frame) (peak_items n : ℕ) (after : AtlasState) (middle whole spelled : List Shelf) → after ≡ record { frame = frame; shelves = merged_before both_empty combined_shelves n (merged_at both_empty combined_shelves n whole); peak_items = peak_items } → middle ≡ whole → spelled ≡ merged_before both_empty combined_shelves n (merged_at both_empty combined_shelves n middle) → spelled ≡ after.shelves
+shelves-after frame peak_items n after middle whole spelled at same merged = rw at (rw (← same) merged)
 
 -- what is known of a return of an item of this shelf
 record Returns (frame : Frame) (records : Records) (shelf number : ℕ) : Type 0 where
-  after : IsReturned (atlas_of frame records) (returned_in shelf number records) (walked_lists records).entries (ranked_in shelf number records) (returned (state_of frame records) (id_at records.items number)) (walked_lists records).unused_items
+  after : IsReturned (atlas_of frame records) (returned_in shelf number records) (walked_lists records).entries (by_height_in shelf number records) (returned (state_of frame records) (id_at records.items number)) (walked_lists records).unused_items
   can_item : CanMergeItem shelf number records
   remains : IsRemaining shelf number records
   can_shelves : CanMergeShelves shelf (emptiness_said shelf (item_merged shelf number records).records)
   linked : IsLinkedBack shelf (emptiness_said shelf (item_merged shelf number records).records).shelves
-  can_ranked : (ranked : List RankedShelf) → AreRanked frame records ranked → CanReturnRanked shelf number records ranked
+  can_by_height : (by_height : List BoundedShelf) → AreByHeight frame records by_height → CanReturnByHeight shelf number records by_height
 
 -- an allocated item was returned that stands there
 returned-there : (frame : Frame) (records : Records) (number : ℕ) (has : HasItem number (walked_lists records).entries) → AreKept frame records → is_allocated_at records.items number ≡ true → IsFlagged (atlas_of frame records) (lists_of (has.before ++ entry_of has.shelf (has.front ++ number ∷ has.back) has.free ∷ has.after) (walked_lists records).unused_items (walked_lists records).unused_shelves) → Returns frame records has.shelf number
@@ -195,14 +196,14 @@ returned-there frame records number has kept allocated flagged =
     let old : Shelf = spelled_shelf atlas entry in
     let new : Shelf = merged_shelf (freed_shelf frame (length has.front) old) in
     let shelves : state.shelves ≡ front ++ old ∷ back = ap (map (spelled_shelf atlas)) has.whole ∙ map-append (spelled_shelf atlas) has.before (entry ∷ has.after) in
-    let valid : IsShelf frame old = Each-middle (IsShelf frame) front old back (subst (λ (ss : List Shelf). Each (IsShelf frame) ss) shelves kept.valid.shelves) in
+    let valid : IsShelf frame old = Each-middle (IsShelf frame) front old back (subst (λ (ss : List Shelf). AllByRecursion (IsShelf frame) ss) shelves kept.valid.shelves) in
     let three : Records = emptiness_said shelf (item_merged shelf number records).records in
-    let freed : IsFreed atlas three (item_merged shelf number records).put_aside has.before has.after shelf number has.front has.back has.free unused gone =
+    let freed : IsFreed atlas three (item_merged shelf number records).made_unused has.before has.after shelf number has.front has.back has.free unused gone =
     freed-flagged atlas has.before has.after shelf number has.front has.back has.free unused gone valid allocated flagged in
     let middle : AtlasRecords = with_lists atlas three in
     let edited : Entry = entry_of shelf freed.numbers freed.free_list in
     let two : Step = shelves_merged shelf three in
-    let merges : MergesShelves middle two (ranks_merged shelf three) has.before has.after edited freed.aside gone = merges-shelves middle has.before has.after edited freed.aside gone freed.flagged in
+    let merges : MergesShelves middle two (shelves_merged_by_height shelf three) has.before has.after edited freed.left_unused gone = merges-shelves middle has.before has.after edited freed.left_unused gone freed.flagged in
     let at = returned-at state (id_at records.items number) (length has.before) (length has.front) front back old (map (item_at records.items) has.front) (map (item_at records.items) has.back) (item_at records.items number)
     (length-map has.before (spelled_shelf atlas)) (length-map has.front (item_at records.items)) kept.valid shelves
     (map-append (item_at records.items) has.front (number ∷ has.back)) (allocated-id records.items number number allocated) in
@@ -211,28 +212,28 @@ returned-there frame records number has kept allocated flagged =
     rw freed.spelled (omega (arith, same, column_height-append column front (new ∷ back), column_height-append column front (old ∷ back), low-valid state kept.valid column, ap (column_height column) shelves)) in
     let remaining : IsRemaining shelf number records × (merged_width shelf number records ≡ freed_width records.items number) =
     item-remaining atlas has.before has.after shelf number has.front has.back has.free unused gone valid allocated flagged in
-    let start : (ranked : List RankedShelf) → Ranks atlas (walked_lists records).entries ranked → Ranks atlas (has.before ++ entry ∷ has.after) ranked = λ ranked ranks.
-    subst (λ (es : List Entry). Ranks atlas es ranked) has.whole ranks in
+    let start : (by_height : List BoundedShelf) → HoldsByHeight atlas (walked_lists records).entries by_height → HoldsByHeight atlas (has.before ++ entry ∷ has.after) by_height = λ by_height in_list.
+    subst (λ (es : List Entry). HoldsByHeight atlas es by_height) has.whole in_list in
     record {
       after =
           record {
-            lists = lists_of merges.entries merges.aside merges.gone;
+            lists = lists_of merges.entries merges.left_unused merges.gone;
             flagged = merges.flagged;
-            spelled = shelves-after frame state.records (length has.before) (returned state (id_at records.items number)) (map (spelled_shelf middle) (has.before ++ edited ∷ has.after)) (front ++ new ∷ back)
+            spelled = shelves-after frame state.peak_items (length has.before) (returned state (id_at records.items number)) (map (spelled_shelf middle) (has.before ++ edited ∷ has.after)) (front ++ new ∷ back)
                 (map (spelled_shelf (with_lists atlas two.records)) merges.entries) at freed.spelled merges.merged;
             counted = omega (arith, merges.counted, freed.counted);
-            ranks = λ ranked ranks. merges.ranks (raised shelf (freed_width records.items number) ranked) (freed.ranks.ranks ranked (start ranked ranks));
+            in_list = λ by_height in_list. merges.in_list (raised shelf (freed_width records.items number) by_height) (freed.in_list.in_list by_height (start by_height in_list));
           };
       remains = remaining.0;
       can_item = can-merge-item atlas has.before has.after shelf number has.front has.back has.free unused gone kept.valid.frame valid allocated flagged.spelled;
-      linked = shelf-before middle has.before has.after edited freed.aside gone freed.flagged;
-      can_shelves = can-merge-shelves middle has.before has.after edited freed.aside gone low freed.flagged;
-      can_ranked = λ ranked are.
-          let ranks : Ranks atlas (has.before ++ entry ∷ has.after) ranked = start ranked (kept-ranks frame records ranked kept are) in
-          let stands : 1 ≤ times shelf (ranked_numbers ranked) =
+      linked = shelf-before middle has.before has.after edited freed.left_unused gone freed.flagged;
+      can_shelves = can-merge-shelves middle has.before has.after edited freed.left_unused gone low freed.flagged;
+      can_by_height = λ by_height are.
+          let in_list : HoldsByHeight atlas (has.before ++ entry ∷ has.after) by_height = start by_height (kept-by_height frame records by_height kept are) in
+          let stands : 1 ≤ times shelf (numbers_by_height by_height) =
           omega (
             arith,
-            ranks.once shelf,
+            in_list.once shelf,
             ap (times shelf) (shelf_numbers-append has.before (entry ∷ has.after)),
             times-append shelf (shelf_numbers has.before) (shelf ∷ shelf_numbers has.after),
             times-here shelf (shelf_numbers has.after),
@@ -240,8 +241,8 @@ returned-there frame records number has kept allocated flagged =
           record {
             width = remaining.1;
             stands = stands;
-            order = freed.ranks.order ranked ranks.order;
-            shelves = can-merge-ranks middle has.before has.after edited freed.aside gone (raised shelf (freed_width records.items number) ranked) freed.flagged (freed.ranks.ranks ranked ranks);
+            order = freed.in_list.order by_height in_list.order;
+            shelves = can-merge-all-by_height middle has.before has.after edited freed.left_unused gone (raised shelf (freed_width records.items number) by_height) freed.flagged (freed.in_list.in_list by_height in_list);
           };
     }
 
@@ -260,12 +261,12 @@ returns-item frame records number kept allocated =
     let own : shelf_of records.items number ≡ has.shelf = (Each-back (λ item. shelf_of records.items item ≡ has.shelf) has.front (number ∷ has.back) placed.owners).0 in
     let there : Returns frame records (shelf_of records.items number) number =
     subst (λ shelf. Returns frame records shelf number) (sym own) (returned-there frame records number has kept allocated flagged) in
-    let again = kept-again frame records (item_returned number records) (id_at records.items number) (put_aside_by number records) (ranked_returned number records) kept (returned-lengths number records) there.after in
+    let again = kept-again frame records (item_returned number records) (id_at records.items number) (unused_by number records) (returned_by_height number records) kept (returned-lengths number records) there.after in
     record {
       can = record { item = there.can_item; remaining = there.remains; shelves = there.can_shelves; linked = there.linked };
       kept = again.0.0;
       state = again.0.1;
       counted = again.1;
-      can_ranked = there.can_ranked;
-      ranked = again.2;
+      can_by_height = there.can_by_height;
+      by_height = again.2;
     }

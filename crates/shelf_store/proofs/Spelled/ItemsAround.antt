@@ -4,12 +4,13 @@ use Rattle.std.proofs.lemmas.Bool.{eqb-true}
 use Rattle.std.proofs.lemmas.List.{length-append, length-map}
 use Rattle.std.specs.Prelude.{not}
 use Rattle.etagere_base.proofs.TimesLemmas.{times-append}
-use Rattle.etagere_base.specs.Lists.{Each, times}
+use Rattle.std.specs.List.{AllByRecursion}
+use Rattle.etagere_base.specs.Lists.{times}
 use Rattle.etagere_base.specs.MergingAt.{merged_at, merged_before}
 use Rattle.etagere_links.specs.declared.records.LinkedItem.{LinkedItem}
 use Rattle.etagere_links.specs.RecordLists.{field_at}
 use Rattle.etagere_links.proofs.ListEnds.{times-other}
-use Rattle.shelf_records.specs.AtlasRecords.{is_allocated_at, place_of, item_at, spelled_item}
+use Rattle.shelf_records.specs.AtlasRecords.{is_allocated_at, item_place_of, item_at, spelled_item}
 use Rattle.shelf_model.specs.Merging.{both_free, combined_items}
 use Rattle.shelf_model.specs.Returning.{freed, is_free_at, is_free_before, place_at}
 use Rattle.shelf_records.specs.StandsFor.{LieFrom}
@@ -38,7 +39,7 @@ member-of n (x ∷ xs) stands = by_test (x == n) refl (member-of n xs)
         behind n x xs (later (omega (arith, stands, times-other n x xs other)))
 
 -- a fact of each element is one of each member
-pub each-member : (P : ℕ → Type 0) (xs : List ℕ) (k : ℕ) → Each P xs → 1 ≤ times k xs → P k
+pub each-member : (P : ℕ → Type 0) (xs : List ℕ) (k : ℕ) → AllByRecursion P xs → 1 ≤ times k xs → P k
 each-member P [] k each stands = absurd (omega (arith, stands))
 each-member P (x ∷ xs) k each stands = by_test (x == k) refl (each-member P xs k each.1)
   where
@@ -160,7 +161,7 @@ module _ (f : ℕ → Item) where
       (subst (λ n. merged_at both_free combined_items n (map f front ++ f last ∷ free_item width ∷ others) ≡ map f front ++ f last ∷ free_item width ∷ others) (length-map front f) (merged-previous-none (map f front) others (f last) width e))
 
 -- the items of a shelf begin at places that differ
-pub place-apart : (items : List LinkedItem) (here : ℕ) (front back : List ℕ) (number k : ℕ) → ((n : ℕ) → 1 ≤ times n (front ++ number ∷ back) → 1 ≤ (item_at items n).width) → LieFrom items here (front ++ number ∷ back) → 1 ≤ times k (front ++ number ∷ back) → number ≢ k → place_of items k ≢ place_of items number
+pub place-apart : (items : List LinkedItem) (here : ℕ) (front back : List ℕ) (number k : ℕ) → ((n : ℕ) → 1 ≤ times n (front ++ number ∷ back) → 1 ≤ (item_at items n).width) → LieFrom items here (front ++ number ∷ back) → 1 ≤ times k (front ++ number ∷ back) → number ≢ k → item_place_of items k ≢ item_place_of items number
 place-apart items here front back number k wide lies stands other same = by_count (times k front) refl
   where
     by_count : (m : ℕ) → times k front ≡ m → ⊥

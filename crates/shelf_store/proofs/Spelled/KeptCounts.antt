@@ -2,7 +2,7 @@
 use Rattle.std.proofs.Common.{◌≡◌, suc, ◌≤◌, List, [], ◌∷◌, length, arith, ap, refl}
 use Rattle.std.proofs.lemmas.List.{length-map}
 use Rattle.etagere_base.specs.declared.frames.Frame.{Frame}
-use Rattle.etagere_base.specs.Lists.{Each}
+use Rattle.std.specs.List.{AllByRecursion}
 use Rattle.etagere_links.specs.RecordLists.{Records, Entry, shelf_numbers, walked_lists}
 use Rattle.etagere_links.proofs.AllLists.LinkedUnused.{three-count}
 use Rattle.etagere_links.proofs.AllLists.LinkedWalks.{IsPart, part-of}
@@ -19,7 +19,7 @@ some-items [] wide = absurd (omega arith)
 some-items (item ∷ items) wide = omega arith
 
 -- each shelf has an item
-shelves-le-items : (frame : Frame) → 1 ≤ frame.column_width → (shelves : List Shelf) → Each (IsShelf frame) shelves → length shelves ≤ items_in_use shelves
+shelves-le-items : (frame : Frame) → 1 ≤ frame.column_width → (shelves : List Shelf) → AllByRecursion (IsShelf frame) shelves → length shelves ≤ items_in_use shelves
 shelves-le-items frame wide [] are = omega arith
 shelves-le-items frame wide (shelf ∷ shelves) are =
     let first : 1 ≤ length shelf.items = some-items shelf.items (omega (arith, are.0.width)) in
@@ -53,5 +53,5 @@ kept-item_records frame records kept =
       arith,
       columns-le-shelves (state_of frame records) kept.valid,
       shelves-le-items frame kept.valid.frame.column_width (state_of frame records).shelves kept.valid.shelves,
-      kept.valid.records.0,
+      kept.valid.peak_items.0,
     )

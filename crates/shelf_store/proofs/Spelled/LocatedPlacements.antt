@@ -6,7 +6,8 @@ use Rattle.std.specs.Prelude.{◌/◌, ◌%◌, is_none, not, option_map, slice_
 use Rattle.etagere_base.proofs.EachLemmas.{Each-get}
 use Rattle.etagere_base.proofs.ReplacedLists.{IsAt, split-at}
 use Rattle.etagere_base.proofs.TimesLemmas.{times-append}
-use Rattle.etagere_base.specs.Lists.{Each, times}
+use Rattle.std.specs.List.{AllByRecursion}
+use Rattle.etagere_base.specs.Lists.{times}
 use Rattle.etagere_base.specs.declared.frames.Frame.{Frame}
 use Rattle.etagere_base.specs.declared.geometry.Size.{Size}
 use Rattle.etagere_links.specs.declared.records.LinkedItem.{LinkedItem}
@@ -64,7 +65,7 @@ takes-split : (atlas : AtlasRecords) (placement : Placement) (entry split : Entr
 takes-split atlas placement entry split same takes = subst (λ (e : Entry). IsTaking atlas.frame placement (spelled_shelf atlas e)) same takes
 
 -- items of which each is wide
-items-wide : (frame : Frame) (items : List LinkedItem) (xs : List ℕ) → Each (IsItem frame) (map (item_at items) xs) → Each (λ k. 1 ≤ (item_at items k).width) xs
+items-wide : (frame : Frame) (items : List LinkedItem) (xs : List ℕ) → AllByRecursion (IsItem frame) (map (item_at items) xs) → AllByRecursion (λ k. 1 ≤ (item_at items k).width) xs
 items-wide frame items [] each = tt
 items-wide frame items (x ∷ xs) each = (each.0.width, items-wide frame items xs each.1)
 
@@ -132,7 +133,7 @@ located frame records size placement found kept h locates =
     (subst (λ (es : List Entry). IsLinkedExcept records (lists_of es lists.unused_items lists.unused_shelves) [] []) at.whole kept.linked) in
     let is_entry : IsEntry records entry = Each-get (IsEntry records) lists.entries placement.shelf entry locates.at kept.linked.entries in
     let once : (k : ℕ) → times k (free_member.front ++ number ∷ free_member.back) ≤ 1 = λ k. omega (arith, apart.free_once k, times-same k entry.free_list places free_member.whole) in
-    let wide : Each (λ k. 1 ≤ (item_at items k).width) (front ++ number ∷ back) = subst (Each (λ k. 1 ≤ (item_at items k).width)) whole (items-wide frame items entry.items takes.valid.items) in
+    let wide : AllByRecursion (λ k. 1 ≤ (item_at items k).width) (front ++ number ∷ back) = subst (AllByRecursion (λ k. 1 ≤ (item_at items k).width)) whole (items-wide frame items entry.items takes.valid.items) in
     record {
       before = at.front;
       after = at.back;

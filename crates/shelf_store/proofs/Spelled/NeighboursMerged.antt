@@ -14,12 +14,12 @@ use Rattle.etagere_links.proofs.ListEnds.{last-append}
 use Rattle.shelf_records.specs.AtlasRecords.{AtlasRecords, height_of, spelled_shelf}
 use Rattle.shelf_model.specs.Merging.{both_empty, combined_shelves}
 use Rattle.shelf_model.specs.Places.{column_height}
-use Rattle.shelf_heights.specs.Private.ByHeight.{ranked_numbers}
+use Rattle.shelf_heights.specs.Private.ByHeight.{numbers_by_height}
 use Rattle.shelf_store.specs.Private.ItemReturned.{Step, CanMergeShelves, HeightsFit, IsLinkedBack, are_both_empty, empty_named, empty_next, named_shelf_merged, shelf_merged, shelves_merged}
-use Rattle.shelf_store.specs.Private.RankedReturned.{CanMergeNamedRank, CanMergeRank, CanMergeRanks, named_rank_merged, rank_merged, ranks_merged}
+use Rattle.shelf_store.specs.Private.ReturnedByHeight.{CanMergeNamedByHeight, CanMergeByHeight, CanMergeAllByHeight, named_shelf_merged_by_height, shelf_merged_by_height, shelves_merged_by_height}
 use Rattle.shelf_model.specs.State.{Shelf}
-use Rattle.shelf_heights.specs.declared.ranked.RankedShelf.{RankedShelf}
-use Rattle.shelf_store.proofs.ByHeight.MergedRanks.{IsPair, Ranks, ranked-pair}
+use Rattle.shelf_heights.specs.declared.by_height.BoundedShelf.{BoundedShelf}
+use Rattle.shelf_store.proofs.ByHeight.MergedByHeight.{IsPair, HoldsByHeight, by_height-pair}
 use Rattle.shelf_model.proofs.Places.Heights.{column_height-merged_at, heights-le}
 use Rattle.shelf_store.proofs.Spelled.EmptinessSaid.{IsFlagged}
 use Rattle.shelf_store.proofs.Spelled.ItemsAround.{by_end}
@@ -27,17 +27,17 @@ use Rattle.shelf_store.proofs.Spelled.ShelvesMerged.{AreNeighbours, MergesShelf,
 use Rattle.shelf_store.proofs.Spelled.SpelledLists.{with_lists}
 
 -- what a step that merges a shelf with its neighbours makes of the lists of shelves, and what these spell
-pub record MergesShelves (atlas : AtlasRecords) (step : Step) (change : List RankedShelf → List RankedShelf) (before after : List Entry) (entry : Entry) (unused shelves : List ℕ) : Type 0 where
+pub record MergesShelves (atlas : AtlasRecords) (step : Step) (change : List BoundedShelf → List BoundedShelf) (before after : List Entry) (entry : Entry) (unused shelves : List ℕ) : Type 0 where
   pub entries : List Entry
-  pub aside : List ℕ
+  pub left_unused : List ℕ
   pub gone : List ℕ
-  pub flagged : IsFlagged (with_lists atlas step.records) (lists_of entries aside gone)
+  pub flagged : IsFlagged (with_lists atlas step.records) (lists_of entries left_unused gone)
   pub merged :
       map (spelled_shelf (with_lists atlas step.records)) entries
       ≡ merged_before both_empty combined_shelves (length before)
       (merged_at both_empty combined_shelves (length before) (map (spelled_shelf atlas) (before ++ entry ∷ after)))
-  pub counted : length aside ≡ step.put_aside + length unused
-  pub ranks : (ranked : List RankedShelf) → Ranks atlas (before ++ entry ∷ after) ranked → Ranks (with_lists atlas step.records) entries (change ranked)
+  pub counted : length left_unused ≡ step.made_unused + length unused
+  pub in_list : (by_height : List BoundedShelf) → HoldsByHeight atlas (before ++ entry ∷ after) by_height → HoldsByHeight (with_lists atlas step.records) entries (change by_height)
 
 -- one more than the elements of a front
 one-more : {X : Type 0} (front : List X) (x : X) → length (front ++ x ∷ []) ≡ suc (length front)
@@ -51,9 +51,9 @@ last-named atlas before after last entry unused shelves flagged =
     ∙ last-append (shelf_numbers before) last.number None
 
 -- a shelf was merged with its neighbours, where they are empty and stand in one column
-pub merges-shelves : (atlas : AtlasRecords) (before after : List Entry) (entry : Entry) (unused shelves : List ℕ) → IsFlagged atlas (lists_of (before ++ entry ∷ after) unused shelves) → MergesShelves atlas (shelves_merged entry.number atlas.records) (ranks_merged entry.number atlas.records) before after entry unused shelves
+pub merges-shelves : (atlas : AtlasRecords) (before after : List Entry) (entry : Entry) (unused shelves : List ℕ) → IsFlagged atlas (lists_of (before ++ entry ∷ after) unused shelves) → MergesShelves atlas (shelves_merged entry.number atlas.records) (shelves_merged_by_height entry.number atlas.records) before after entry unused shelves
 merges-shelves atlas before after entry unused shelves flagged =
-    by_end (λ (xs : List Entry). MergesShelf atlas (shelf_merged entry.number atlas.records) (rank_merged entry.number atlas.records) xs after entry unused shelves → MergesShelves atlas (shelves_merged entry.number atlas.records) (ranks_merged entry.number atlas.records) xs after entry unused shelves)
+    by_end (λ (xs : List Entry). MergesShelf atlas (shelf_merged entry.number atlas.records) (shelf_merged_by_height entry.number atlas.records) xs after entry unused shelves → MergesShelves atlas (shelves_merged entry.number atlas.records) (shelves_merged_by_height entry.number atlas.records) xs after entry unused shelves)
     first some before (merges-shelf atlas before after entry unused shelves flagged)
   where
     one : Step
@@ -66,28 +66,28 @@ merges-shelves atlas before after entry unused shelves flagged =
     link = link_at shelf_chain.previous one.records.shelves entry.number
 
     whole : Option ℕ → Step
-    whole named = record { records = (named_shelf_merged named one.records).records; put_aside = one.put_aside + (named_shelf_merged named one.records).put_aside }
+    whole named = record { records = (named_shelf_merged named one.records).records; made_unused = one.made_unused + (named_shelf_merged named one.records).made_unused }
 
-    change : Option ℕ → List RankedShelf → List RankedShelf
-    change named ranked = named_rank_merged named one.records (rank_merged entry.number atlas.records ranked)
+    change : Option ℕ → List BoundedShelf → List BoundedShelf
+    change named by_height = named_shelf_merged_by_height named one.records (shelf_merged_by_height entry.number atlas.records by_height)
 
-    first : MergesShelf atlas one (rank_merged entry.number atlas.records) [] after entry unused shelves → MergesShelves atlas (whole link) (change link) [] after entry unused shelves
+    first : MergesShelf atlas one (shelf_merged_by_height entry.number atlas.records) [] after entry unused shelves → MergesShelves atlas (whole link) (change link) [] after entry unused shelves
     first merges =
-        let none : link ≡ None = previous-link middle [] merges.rest entry merges.aside merges.gone merges.flagged.spelled in
+        let none : link ≡ None = previous-link middle [] merges.rest entry merges.left_unused merges.gone merges.flagged.spelled in
         subst (λ (o : Option ℕ). MergesShelves atlas (whole o) (change o) [] after entry unused shelves) (sym none)
-        (record { entries = entry ∷ merges.rest; aside = merges.aside; gone = merges.gone; flagged = merges.flagged; merged = merges.merged; counted = omega (arith, merges.counted); ranks = merges.ranks })
+        (record { entries = entry ∷ merges.rest; left_unused = merges.left_unused; gone = merges.gone; flagged = merges.flagged; merged = merges.merged; counted = omega (arith, merges.counted); in_list = merges.in_list })
 
-    some : (xs : List Entry) (last : Entry) → MergesShelf atlas one (rank_merged entry.number atlas.records) (xs ++ last ∷ []) after entry unused shelves → MergesShelves atlas (whole link) (change link) (xs ++ last ∷ []) after entry unused shelves
+    some : (xs : List Entry) (last : Entry) → MergesShelf atlas one (shelf_merged_by_height entry.number atlas.records) (xs ++ last ∷ []) after entry unused shelves → MergesShelves atlas (whole link) (change link) (xs ++ last ∷ []) after entry unused shelves
     some xs last merges =
-        let named : link ≡ Some last.number = last-named middle xs merges.rest last entry merges.aside merges.gone merges.flagged in
+        let named : link ≡ Some last.number = last-named middle xs merges.rest last entry merges.left_unused merges.gone merges.flagged in
         let regrouped : (xs ++ last ∷ []) ++ entry ∷ merges.rest ≡ xs ++ last ∷ entry ∷ merges.rest = append_assoc xs (last ∷ []) (entry ∷ merges.rest) in
-        let two : MergesShelf middle (shelf_merged last.number one.records) (rank_merged last.number one.records) xs (entry ∷ merges.rest) last merges.aside merges.gone =
-        merges-shelf middle xs (entry ∷ merges.rest) last merges.aside merges.gone
-        (subst (λ (es : List Entry). IsFlagged middle (lists_of es merges.aside merges.gone)) regrouped merges.flagged) in
+        let two : MergesShelf middle (shelf_merged last.number one.records) (shelf_merged_by_height last.number one.records) xs (entry ∷ merges.rest) last merges.left_unused merges.gone =
+        merges-shelf middle xs (entry ∷ merges.rest) last merges.left_unused merges.gone
+        (subst (λ (es : List Entry). IsFlagged middle (lists_of es merges.left_unused merges.gone)) regrouped merges.flagged) in
         subst (λ (o : Option ℕ). MergesShelves atlas (whole o) (change o) (xs ++ last ∷ []) after entry unused shelves) (sym named)
         (record {
           entries = xs ++ last ∷ two.rest;
-          aside = two.aside;
+          left_unused = two.left_unused;
           gone = two.gone;
           flagged = two.flagged;
           merged = two.merged
@@ -95,8 +95,8 @@ merges-shelves atlas before after entry unused shelves flagged =
               ∙ ap (merged_at both_empty combined_shelves (length xs)) merges.merged
               ∙ ap (λ n. merged_before both_empty combined_shelves n (merged_at both_empty combined_shelves (length (xs ++ last ∷ [])) (map (spelled_shelf atlas) ((xs ++ last ∷ []) ++ entry ∷ after)))) (sym (one-more xs last));
           counted = omega (arith, two.counted, merges.counted);
-          ranks = λ ranked ranks. two.ranks (rank_merged entry.number atlas.records ranked)
-              (subst (λ (es : List Entry). Ranks middle es (rank_merged entry.number atlas.records ranked)) regrouped (merges.ranks ranked ranks));
+          in_list = λ by_height in_list. two.in_list (shelf_merged_by_height entry.number atlas.records by_height)
+              (subst (λ (es : List Entry). HoldsByHeight middle es (shelf_merged_by_height entry.number atlas.records by_height)) regrouped (merges.in_list by_height in_list));
         })
 
 -- two neighbours, read by their numbers
@@ -158,7 +158,7 @@ can-merge-shelves atlas before after entry unused shelves low flagged =
     record {
       next = heights-fit atlas before after entry unused shelves low flagged;
       previous =
-          by_end (λ (xs : List Entry). AreLow (map (spelled_shelf atlas) (xs ++ entry ∷ after)) → MergesShelf atlas one (rank_merged entry.number atlas.records) xs after entry unused shelves → (n : ℕ) → link ≡ Some n → HeightsFit n one.records.shelves)
+          by_end (λ (xs : List Entry). AreLow (map (spelled_shelf atlas) (xs ++ entry ∷ after)) → MergesShelf atlas one (shelf_merged_by_height entry.number atlas.records) xs after entry unused shelves → (n : ℕ) → link ≡ Some n → HeightsFit n one.records.shelves)
           first some before low (merges-shelf atlas before after entry unused shelves flagged);
     }
   where
@@ -171,14 +171,14 @@ can-merge-shelves atlas before after entry unused shelves low flagged =
     link : Option ℕ
     link = link_at shelf_chain.previous one.records.shelves entry.number
 
-    first : AreLow (map (spelled_shelf atlas) (entry ∷ after)) → MergesShelf atlas one (rank_merged entry.number atlas.records) [] after entry unused shelves → (n : ℕ) → link ≡ Some n → HeightsFit n one.records.shelves
+    first : AreLow (map (spelled_shelf atlas) (entry ∷ after)) → MergesShelf atlas one (shelf_merged_by_height entry.number atlas.records) [] after entry unused shelves → (n : ℕ) → link ≡ Some n → HeightsFit n one.records.shelves
     first low_ merges n e =
-        let none : link ≡ None = previous-link middle [] merges.rest entry merges.aside merges.gone merges.flagged.spelled in
+        let none : link ≡ None = previous-link middle [] merges.rest entry merges.left_unused merges.gone merges.flagged.spelled in
         absurd (cc (none, e))
 
-    some : (xs : List Entry) (last : Entry) → AreLow (map (spelled_shelf atlas) ((xs ++ last ∷ []) ++ entry ∷ after)) → MergesShelf atlas one (rank_merged entry.number atlas.records) (xs ++ last ∷ []) after entry unused shelves → (n : ℕ) → link ≡ Some n → HeightsFit n one.records.shelves
+    some : (xs : List Entry) (last : Entry) → AreLow (map (spelled_shelf atlas) ((xs ++ last ∷ []) ++ entry ∷ after)) → MergesShelf atlas one (shelf_merged_by_height entry.number atlas.records) (xs ++ last ∷ []) after entry unused shelves → (n : ℕ) → link ≡ Some n → HeightsFit n one.records.shelves
     some xs last low_ merges n e =
-        let named : link ≡ Some last.number = last-named middle xs merges.rest last entry merges.aside merges.gone merges.flagged in
+        let named : link ≡ Some last.number = last-named middle xs merges.rest last entry merges.left_unused merges.gone merges.flagged in
         let same : last.number ≡ n = cc (named, e) in
         let regrouped : (xs ++ last ∷ []) ++ entry ∷ merges.rest ≡ xs ++ last ∷ entry ∷ merges.rest = append_assoc xs (last ∷ []) (entry ∷ merges.rest) in
         let still_low : AreLow (map (spelled_shelf middle) (xs ++ last ∷ entry ∷ merges.rest)) = λ column.
@@ -186,16 +186,16 @@ can-merge-shelves atlas before after entry unused shelves low flagged =
         ap (map (spelled_shelf middle)) (sym regrouped) ∙ merges.merged in
         rw all (omega (arith, low_ column, column_height-merged_at column (length (xs ++ last ∷ [])) (map (spelled_shelf atlas) ((xs ++ last ∷ []) ++ entry ∷ after)))) in
         subst (λ m. HeightsFit m one.records.shelves) same
-        (heights-fit middle xs (entry ∷ merges.rest) last merges.aside merges.gone still_low
-        (subst (λ (es : List Entry). IsFlagged middle (lists_of es merges.aside merges.gone)) regrouped merges.flagged))
+        (heights-fit middle xs (entry ∷ merges.rest) last merges.left_unused merges.gone still_low
+        (subst (λ (es : List Entry). IsFlagged middle (lists_of es merges.left_unused merges.gone)) regrouped merges.flagged))
 
--- a shelf and the next one, if both are empty, are ranked
-can-merge-rank : (atlas : AtlasRecords) (before after : List Entry) (entry : Entry) (unused shelves : List ℕ) (ranked : List RankedShelf) → IsFlagged atlas (lists_of (before ++ entry ∷ after) unused shelves) → Ranks atlas (before ++ entry ∷ after) ranked → CanMergeRank entry.number atlas.records ranked
-can-merge-rank atlas before [] entry unused shelves ranked flagged ranks =
+-- a shelf and the next one, if both are empty, stand by height
+can-merge-by_height : (atlas : AtlasRecords) (before after : List Entry) (entry : Entry) (unused shelves : List ℕ) (by_height : List BoundedShelf) → IsFlagged atlas (lists_of (before ++ entry ∷ after) unused shelves) → HoldsByHeight atlas (before ++ entry ∷ after) by_height → CanMergeByHeight entry.number atlas.records by_height
+can-merge-by_height atlas before [] entry unused shelves by_height flagged in_list =
     let none : empty_next atlas.records.shelves entry.number ≡ None = ap (empty_named atlas.records.shelves entry.number) (next-link atlas before [] entry unused shelves flagged.spelled) in
-    record { order = ranks.order; few = ranks.few; both = λ n e. absurd (cc (none, e)) }
-can-merge-rank atlas before (next ∷ after) entry unused shelves ranked flagged ranks =
-    record { order = ranks.order; few = ranks.few; both = λ n e. both n (named n e (are_both_empty atlas.records.shelves entry.number next.number) refl) }
+    record { order = in_list.order; few = in_list.few; both = λ n e. absurd (cc (none, e)) }
+can-merge-by_height atlas before (next ∷ after) entry unused shelves by_height flagged in_list =
+    record { order = in_list.order; few = in_list.few; both = λ n e. both n (named n e (are_both_empty atlas.records.shelves entry.number next.number) refl) }
   where
     near : AreNeighbours atlas entry next
     near = neighbours atlas before after entry next unused shelves flagged
@@ -208,22 +208,22 @@ can-merge-rank atlas before (next ∷ after) entry unused shelves ranked flagged
         let some : empty_named atlas.records.shelves entry.number (Some next.number) ≡ Some next.number = simp t refl in
         cc (near.named, some, e)
 
-    pair : IsPair entry.number next.number ranked
-    pair = ranked-pair atlas before after entry next ranked ranks
+    pair : IsPair entry.number next.number by_height
+    pair = by_height-pair atlas before after entry next by_height in_list
 
-    both : (n : ℕ) → next.number ≡ n → (1 ≤ times entry.number (ranked_numbers ranked)) × (1 ≤ times n (ranked_numbers ranked)) × (entry.number ≢ n)
+    both : (n : ℕ) → next.number ≡ n → (1 ≤ times entry.number (numbers_by_height by_height)) × (1 ≤ times n (numbers_by_height by_height)) × (entry.number ≢ n)
     both n same =
-        subst (λ m. (1 ≤ times entry.number (ranked_numbers ranked)) × (1 ≤ times m (ranked_numbers ranked)) × (entry.number ≢ m)) same
+        subst (λ m. (1 ≤ times entry.number (numbers_by_height by_height)) × (1 ≤ times m (numbers_by_height by_height)) × (entry.number ≢ m)) same
         (omega (arith, pair.own), omega (arith, pair.other), pair.differ)
 
 -- and so are they all when it is merged with its neighbours
-pub can-merge-ranks : (atlas : AtlasRecords) (before after : List Entry) (entry : Entry) (unused shelves : List ℕ) (ranked : List RankedShelf) → IsFlagged atlas (lists_of (before ++ entry ∷ after) unused shelves) → Ranks atlas (before ++ entry ∷ after) ranked → CanMergeRanks entry.number atlas.records ranked
-can-merge-ranks atlas before after entry unused shelves ranked flagged ranks =
+pub can-merge-all-by_height : (atlas : AtlasRecords) (before after : List Entry) (entry : Entry) (unused shelves : List ℕ) (by_height : List BoundedShelf) → IsFlagged atlas (lists_of (before ++ entry ∷ after) unused shelves) → HoldsByHeight atlas (before ++ entry ∷ after) by_height → CanMergeAllByHeight entry.number atlas.records by_height
+can-merge-all-by_height atlas before after entry unused shelves by_height flagged in_list =
     record {
-      next = can-merge-rank atlas before after entry unused shelves ranked flagged ranks;
+      next = can-merge-by_height atlas before after entry unused shelves by_height flagged in_list;
       previous =
-          by_end (λ (xs : List Entry). Ranks atlas (xs ++ entry ∷ after) ranked → MergesShelf atlas one (rank_merged entry.number atlas.records) xs after entry unused shelves → CanMergeNamedRank link one.records (rank_merged entry.number atlas.records ranked))
-          first some before ranks (merges-shelf atlas before after entry unused shelves flagged);
+          by_end (λ (xs : List Entry). HoldsByHeight atlas (xs ++ entry ∷ after) by_height → MergesShelf atlas one (shelf_merged_by_height entry.number atlas.records) xs after entry unused shelves → CanMergeNamedByHeight link one.records (shelf_merged_by_height entry.number atlas.records by_height))
+          first some before in_list (merges-shelf atlas before after entry unused shelves flagged);
     }
   where
     one : Step
@@ -235,17 +235,17 @@ can-merge-ranks atlas before after entry unused shelves ranked flagged ranks =
     link : Option ℕ
     link = link_at shelf_chain.previous one.records.shelves entry.number
 
-    first : Ranks atlas (entry ∷ after) ranked → MergesShelf atlas one (rank_merged entry.number atlas.records) [] after entry unused shelves → CanMergeNamedRank link one.records (rank_merged entry.number atlas.records ranked)
-    first ranks_ merges n e =
-        let none : link ≡ None = previous-link middle [] merges.rest entry merges.aside merges.gone merges.flagged.spelled in
+    first : HoldsByHeight atlas (entry ∷ after) by_height → MergesShelf atlas one (shelf_merged_by_height entry.number atlas.records) [] after entry unused shelves → CanMergeNamedByHeight link one.records (shelf_merged_by_height entry.number atlas.records by_height)
+    first in_list_ merges n e =
+        let none : link ≡ None = previous-link middle [] merges.rest entry merges.left_unused merges.gone merges.flagged.spelled in
         absurd (cc (none, e))
 
-    some : (xs : List Entry) (last : Entry) → Ranks atlas ((xs ++ last ∷ []) ++ entry ∷ after) ranked → MergesShelf atlas one (rank_merged entry.number atlas.records) (xs ++ last ∷ []) after entry unused shelves → CanMergeNamedRank link one.records (rank_merged entry.number atlas.records ranked)
-    some xs last ranks_ merges n e =
-        let named : link ≡ Some last.number = last-named middle xs merges.rest last entry merges.aside merges.gone merges.flagged in
+    some : (xs : List Entry) (last : Entry) → HoldsByHeight atlas ((xs ++ last ∷ []) ++ entry ∷ after) by_height → MergesShelf atlas one (shelf_merged_by_height entry.number atlas.records) (xs ++ last ∷ []) after entry unused shelves → CanMergeNamedByHeight link one.records (shelf_merged_by_height entry.number atlas.records by_height)
+    some xs last in_list_ merges n e =
+        let named : link ≡ Some last.number = last-named middle xs merges.rest last entry merges.left_unused merges.gone merges.flagged in
         let same : last.number ≡ n = cc (named, e) in
         let regrouped : (xs ++ last ∷ []) ++ entry ∷ merges.rest ≡ xs ++ last ∷ entry ∷ merges.rest = append_assoc xs (last ∷ []) (entry ∷ merges.rest) in
-        subst (λ m. CanMergeRank m one.records (rank_merged entry.number atlas.records ranked)) same
-        (can-merge-rank middle xs (entry ∷ merges.rest) last merges.aside merges.gone (rank_merged entry.number atlas.records ranked)
-        (subst (λ (es : List Entry). IsFlagged middle (lists_of es merges.aside merges.gone)) regrouped merges.flagged)
-        (subst (λ (es : List Entry). Ranks middle es (rank_merged entry.number atlas.records ranked)) regrouped (merges.ranks ranked ranks_)))
+        subst (λ m. CanMergeByHeight m one.records (shelf_merged_by_height entry.number atlas.records by_height)) same
+        (can-merge-by_height middle xs (entry ∷ merges.rest) last merges.left_unused merges.gone (shelf_merged_by_height entry.number atlas.records by_height)
+        (subst (λ (es : List Entry). IsFlagged middle (lists_of es merges.left_unused merges.gone)) regrouped merges.flagged)
+        (subst (λ (es : List Entry). HoldsByHeight middle es (shelf_merged_by_height entry.number atlas.records by_height)) regrouped (merges.in_list by_height in_list_)))

@@ -14,11 +14,11 @@ use Rattle.etagere_links.proofs.Chains.{next-is}
 use Rattle.etagere_links.proofs.AllLists.LinkedItems.{IsApart, linked-apart}
 use Rattle.etagere_links.proofs.AllLists.LinkedMerges.{entry_of}
 use Rattle.etagere_links.proofs.AllLists.LinkedUnused.{lists_of}
-use Rattle.shelf_records.specs.AtlasRecords.{AtlasRecords, is_allocated_at, place_of, along_of, item_at, spelled_shelf, width_of}
+use Rattle.shelf_records.specs.AtlasRecords.{AtlasRecords, is_allocated_at, item_place_of, along_of, item_at, spelled_shelf, width_of}
 use Rattle.shelf_model.specs.Merging.{both_free, combined_items}
 use Rattle.shelf_store.specs.Private.ItemReturned.{Step, free_named, free_next, next_absorbed}
 use Rattle.shelf_records.specs.Private.Kept.{IsPlaced}
-use Rattle.shelf_store.specs.Private.RankedReturned.{named_width}
+use Rattle.shelf_store.specs.Private.ReturnedByHeight.{named_width}
 use Rattle.shelf_model.specs.State.{Item}
 use Rattle.shelf_store.proofs.Spelled.AbsorbedItems.{Absorbs, IsRest, rest-of, free-widens, widened-absorbs}
 use Rattle.shelf_store.proofs.Spelled.EntryValues.{IsWidened, LieFrom-back, free_count, free_count-append, free_count-free, widths}
@@ -32,34 +32,34 @@ use Rattle.shelf_store.proofs.Spelled.SpelledMerges.{free_absorbed-spelled}
 pub record MergesNext (atlas : AtlasRecords) (step : Step) (before after : List Entry) (shelf number : ℕ) (front back free unused shelves : List ℕ) : Type 0 where
   pub rest : List ℕ
   pub free_list : List ℕ
-  pub aside : List ℕ
-  pub spelled : IsSpelled (with_lists atlas step.records) (lists_of (before ++ entry_of shelf (front ++ number ∷ rest) free_list ∷ after) aside shelves)
+  pub left_unused : List ℕ
+  pub spelled : IsSpelled (with_lists atlas step.records) (lists_of (before ++ entry_of shelf (front ++ number ∷ rest) free_list ∷ after) left_unused shelves)
   pub before_same : map (spelled_shelf (with_lists atlas step.records)) before ≡ map (spelled_shelf atlas) before
   pub after_same : map (spelled_shelf (with_lists atlas step.records)) after ≡ map (spelled_shelf atlas) after
   pub same : (k : ℕ) → SameShelf atlas.records.shelves step.records.shelves k
   pub allocated : is_allocated_at step.records.items number ≡ true
-  pub place : place_of step.records.items number ≡ place_of atlas.records.items number
+  pub place : item_place_of step.records.items number ≡ item_place_of atlas.records.items number
   pub front_same : map (item_at step.records.items) front ≡ map (item_at atlas.records.items) front
   pub kept : (k : ℕ) → 1 ≤ times k front → SameItem atlas.records.items step.records.items k
   pub items :
       merged_at both_free combined_items (length front) (map (item_at atlas.records.items) front ++ free_item (width_of atlas.records.items number) ∷ map (item_at atlas.records.items) back)
       ≡ map (item_at step.records.items) front ++ free_item (width_of step.records.items number) ∷ map (item_at step.records.items) rest
   pub places :
-      map (place_of step.records.items) free_list
+      map (item_place_of step.records.items) free_list
       ≡ (if is_first_free (map (item_at atlas.records.items) back)
-      then remove_place (along_of atlas.records.shelves shelf + (widths atlas.records.items front + width_of atlas.records.items number)) (map (place_of atlas.records.items) free)
-      else map (place_of atlas.records.items) free)
+      then remove_place (along_of atlas.records.shelves shelf + (widths atlas.records.items front + width_of atlas.records.items number)) (map (item_place_of atlas.records.items) free)
+      else map (item_place_of atlas.records.items) free)
   pub width : width_of step.records.items number ≡ width_of atlas.records.items number + named_width atlas.records.items (free_next atlas.records.items number)
   pub wide : width_of step.records.items number ≤ width_of atlas.records.items number + widths atlas.records.items back
-  pub counted : length aside ≡ step.put_aside + length unused
+  pub counted : length left_unused ≡ step.made_unused + length unused
 
 -- the next item is not free: nothing changes
-next-kept : (atlas : AtlasRecords) (before after : List Entry) (shelf number : ℕ) (front back free unused shelves : List ℕ) → is_allocated_at atlas.records.items number ≡ true → is_first_free (map (item_at atlas.records.items) back) ≡ false → free_next atlas.records.items number ≡ None → IsSpelled atlas (lists_of (before ++ entry_of shelf (front ++ number ∷ back) free ∷ after) unused shelves) → MergesNext atlas (record { records = atlas.records; put_aside = 0 }) before after shelf number front back free unused shelves
+next-kept : (atlas : AtlasRecords) (before after : List Entry) (shelf number : ℕ) (front back free unused shelves : List ℕ) → is_allocated_at atlas.records.items number ≡ true → is_first_free (map (item_at atlas.records.items) back) ≡ false → free_next atlas.records.items number ≡ None → IsSpelled atlas (lists_of (before ++ entry_of shelf (front ++ number ∷ back) free ∷ after) unused shelves) → MergesNext atlas (record { records = atlas.records; made_unused = 0 }) before after shelf number front back free unused shelves
 next-kept atlas before after shelf number front back free unused shelves allocated none unnamed spelled =
     record {
       rest = back;
       free_list = free;
-      aside = unused;
+      left_unused = unused;
       spelled = spelled;
       before_same = refl;
       after_same = refl;
@@ -76,11 +76,11 @@ next-kept atlas before after shelf number front back free unused shelves allocat
     }
 
 -- an item that becomes wider begins where it began, and so do the others
-widened-places : (items new : List LinkedItem) (number width k : ℕ) → IsWidened items new number width → place_of new k ≡ place_of items k
+widened-places : (items new : List LinkedItem) (number width k : ℕ) → IsWidened items new number width → item_place_of new k ≡ item_place_of items k
 widened-places items new number width k widened = by_test (number == k) refl
   where
-    by_test : (b : Bool) → (number == k) ≡ b → place_of new k ≡ place_of items k
-    by_test true e = let own : number ≡ k = grind arith in subst (λ (n : ℕ). place_of new n ≡ place_of items n) own widened.place
+    by_test : (b : Bool) → (number == k) ≡ b → item_place_of new k ≡ item_place_of items k
+    by_test true e = let own : number ≡ k = grind arith in subst (λ (n : ℕ). item_place_of new n ≡ item_place_of items n) own widened.place
     by_test false e = (widened.others k (grind arith)).place
 
 -- the next item is free: it is absorbed
@@ -114,22 +114,22 @@ next-taken atlas before after shelf number next front back free_front free_back 
     let width : width_of new.items number ≡ width_of items number + width_of items next = ap (λ (i : Item). i.width) absorbs.item in
     let free_next : is_first_free (map (item_at items) (next ∷ back)) ≡ true = free-item items next false is_free in
     let whole : (front ++ number ∷ []) ++ next ∷ back ≡ numbers = append_assoc front (number ∷ []) (next ∷ back) in
-    let begins : place_of items next ≡ along_of atlas.records.shelves shelf + (widths items front + width_of items number) =
+    let begins : item_place_of items next ≡ along_of atlas.records.shelves shelf + (widths items front + width_of items number) =
     (LieFrom-back items (along_of atlas.records.shelves shelf) (front ++ number ∷ []) (next ∷ back) (rw whole placed.places)).0
     ∙ ap (λ w. along_of atlas.records.shelves shelf + w) (omega (arith, widths-append items front (number ∷ []))) in
-    let others_apart : (k : ℕ) → 1 ≤ times k (free_front ++ free_back) → place_of items k ≢ place_of items next = λ k stands.
+    let others_apart : (k : ℕ) → 1 ≤ times k (free_front ++ free_back) → item_place_of items k ≢ item_place_of items next = λ k stands.
     place-apart items (along_of atlas.records.shelves shelf) (front ++ number ∷ []) back next k (rw whole wide) (rw whole placed.places)
     (rw whole (omega (arith, stands, is.members k, times-append k free_front (next ∷ free_back), times-append k free_front free_back)))
     (λ e.
     let here : times k (next ∷ free_back) ≡ 1 + times k free_back = rw e (times-here k free_back) in
     omega (arith, stands, apart.free_once k, here, times-append k free_front (next ∷ free_back), times-append k free_front free_back)) in
-    let kept : map (place_of new.items) (free_front ++ free_back) ≡ map (place_of items) (free_front ++ free_back) =
-    map-agrees (place_of new.items) (place_of items) (free_front ++ free_back)
+    let kept : map (item_place_of new.items) (free_front ++ free_back) ≡ map (item_place_of items) (free_front ++ free_back) =
+    map-agrees (item_place_of new.items) (item_place_of items) (free_front ++ free_back)
     (λ k stands. widened-places items new.items number (width_of items number + width_of items next) k widened) in
     record {
       rest = back;
       free_list = free_front ++ free_back;
-      aside = next ∷ unused;
+      left_unused = next ∷ unused;
       spelled = edited.0;
       before_same = others.0;
       after_same = others.1;
@@ -142,7 +142,7 @@ next-taken atlas before after shelf number next front back free_front free_back 
           ∙ ap (λ (is : List Item). is ++ free_item (width_of items number + width_of items next) ∷ map (item_at items) back) (sym front_same)
           ∙ ap (λ (is : List Item). map (item_at new.items) front ++ free_item (width_of items number + width_of items next) ∷ is) (sym back_same)
           ∙ ap (λ w. map (item_at new.items) front ++ free_item w ∷ map (item_at new.items) back) (sym width);
-      places = rw free_next (kept ∙ sym (remove-mapped (place_of items) free_front free_back next others_apart) ∙ ap (λ p. remove_place p (map (place_of items) free)) begins);
+      places = rw free_next (kept ∙ sym (remove-mapped (item_place_of items) free_front free_back next others_apart) ∙ ap (λ p. remove_place p (map (item_place_of items) free)) begins);
       width = rw named width;
       wide = omega (arith, width);
       counted = omega arith;

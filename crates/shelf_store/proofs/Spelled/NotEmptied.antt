@@ -8,8 +8,8 @@ use Rattle.etagere_links.specs.RecordLists.{Records}
 use Rattle.etagere_links.specs.Records.{shelf_chain}
 use Rattle.shelf_records.specs.AtlasRecords.{along_of, is_empty_at}
 use Rattle.shelf_store.specs.Private.ItemReturned.{IsLinkedBack, IsRemaining, Step, are_both_empty, emptiness_said, has_one_free, item_merged, empty_named, empty_next, named_shelf_merged, shelf_merged, shelf_next_absorbed, shelves_merged}
-use Rattle.shelf_store.specs.Private.RankedReturned.{named_rank_merged, rank_merged, rank_next_absorbed, ranks_merged}
-use Rattle.shelf_heights.specs.declared.ranked.RankedShelf.{RankedShelf}
+use Rattle.shelf_store.specs.Private.ReturnedByHeight.{named_shelf_merged_by_height, shelf_merged_by_height, next_absorbed_by_height, shelves_merged_by_height}
+use Rattle.shelf_heights.specs.declared.by_height.BoundedShelf.{BoundedShelf}
 
 -- a shelf that says again what it says
 same-said : (shelf : ℕ) (is_empty : Bool) (shelves : List LinkedShelf) → is_empty_at shelves shelf ≡ is_empty → with_empty shelf is_empty shelves ≡ shelves
@@ -42,32 +42,32 @@ none-before shelves shelf before link e =
     ap (empty_named shelves before) link ∙ named
 
 -- where a shelf isn't empty, no shelves merge
-shelves-stay : (shelf : ℕ) (records : Records) → IsLinkedBack shelf records.shelves → is_empty_at records.shelves shelf ≡ false → shelves_merged shelf records ≡ record { records = records; put_aside = 0 }
+shelves-stay : (shelf : ℕ) (records : Records) → IsLinkedBack shelf records.shelves → is_empty_at records.shelves shelf ≡ false → shelves_merged shelf records ≡ record { records = records; made_unused = 0 }
 shelves-stay shelf records linked e =
-    let one : shelf_merged shelf records ≡ record { records = records; put_aside = 0 } = ap (λ (o : Option ℕ). shelf_next_absorbed shelf o records) (none-named records.shelves shelf (link_at shelf_chain.next records.shelves shelf) e) in
+    let one : shelf_merged shelf records ≡ record { records = records; made_unused = 0 } = ap (λ (o : Option ℕ). shelf_next_absorbed shelf o records) (none-named records.shelves shelf (link_at shelf_chain.next records.shelves shelf) e) in
     rw (one, by_link (link_at shelf_chain.previous records.shelves shelf) (λ n named. none-before records.shelves shelf n (linked n named) e)) refl
   where
-    by_link : (link : Option ℕ) → ((n : ℕ) → link ≡ Some n → empty_next records.shelves n ≡ None) → named_shelf_merged link records ≡ record { records = records; put_aside = 0 }
+    by_link : (link : Option ℕ) → ((n : ℕ) → link ≡ Some n → empty_next records.shelves n ≡ None) → named_shelf_merged link records ≡ record { records = records; made_unused = 0 }
     by_link None none = refl
     by_link (Some n) none = ap (λ (o : Option ℕ). shelf_next_absorbed n o records) (none n refl)
 
--- and the ranked shelves stay as they are
-ranks-stay : (shelf : ℕ) (records : Records) (ranked : List RankedShelf) → IsLinkedBack shelf records.shelves → is_empty_at records.shelves shelf ≡ false → ranks_merged shelf records ranked ≡ ranked
-ranks-stay shelf records ranked linked e =
+-- and the shelves by height stay as they are
+by_height-stay : (shelf : ℕ) (records : Records) (by_height : List BoundedShelf) → IsLinkedBack shelf records.shelves → is_empty_at records.shelves shelf ≡ false → shelves_merged_by_height shelf records by_height ≡ by_height
+by_height-stay shelf records by_height linked e =
     let none : empty_next records.shelves shelf ≡ None = none-named records.shelves shelf (link_at shelf_chain.next records.shelves shelf) e in
-    let one : shelf_merged shelf records ≡ record { records = records; put_aside = 0 } = ap (λ (o : Option ℕ). shelf_next_absorbed shelf o records) none in
-    let rank : rank_merged shelf records ranked ≡ ranked = ap (λ (o : Option ℕ). rank_next_absorbed shelf o records ranked) none in
+    let one : shelf_merged shelf records ≡ record { records = records; made_unused = 0 } = ap (λ (o : Option ℕ). shelf_next_absorbed shelf o records) none in
+    let rank : shelf_merged_by_height shelf records by_height ≡ by_height = ap (λ (o : Option ℕ). next_absorbed_by_height shelf o records by_height) none in
     rw (one, rank) (by_link (link_at shelf_chain.previous records.shelves shelf) (λ n named. none-before records.shelves shelf n (linked n named) e))
   where
-    by_link : (link : Option ℕ) → ((n : ℕ) → link ≡ Some n → empty_next records.shelves n ≡ None) → named_rank_merged link records ranked ≡ ranked
+    by_link : (link : Option ℕ) → ((n : ℕ) → link ≡ Some n → empty_next records.shelves n ≡ None) → named_shelf_merged_by_height link records by_height ≡ by_height
     by_link None none = refl
-    by_link (Some n) none = ap (λ (o : Option ℕ). rank_next_absorbed n o records ranked) (none n refl)
+    by_link (Some n) none = ap (λ (o : Option ℕ). next_absorbed_by_height n o records by_height) (none n refl)
 
 -- what a return leaves of a shelf that isn't empty then: nothing but the item changes
 pub record StaysInUse (shelf : ℕ) (merged : Records) : Type 0 where
   pub records : (shelves_merged shelf (emptiness_said shelf merged)).records ≡ merged
-  pub put_aside : (shelves_merged shelf (emptiness_said shelf merged)).put_aside ≡ 0
-  pub ranks : (ranked : List RankedShelf) → ranks_merged shelf (emptiness_said shelf merged) ranked ≡ ranked
+  pub made_unused : (shelves_merged shelf (emptiness_said shelf merged)).made_unused ≡ 0
+  pub in_list : (by_height : List BoundedShelf) → shelves_merged_by_height shelf (emptiness_said shelf merged) by_height ≡ by_height
 
 pub stays-in-use : (shelf number : ℕ) (records : Records) → IsRemaining shelf number records → IsLinkedBack shelf (emptiness_said shelf (item_merged shelf number records).records).shelves → has_one_free shelf (item_merged shelf number records).records ≡ false → StaysInUse shelf (item_merged shelf number records).records
 stays-in-use shelf number records remaining linked in_use =
@@ -75,10 +75,10 @@ stays-in-use shelf number records remaining linked in_use =
     let said : emptiness_said shelf merged ≡ merged =
     ap (λ (shelves : List LinkedShelf). record merged { shelves = shelves }) (same-said shelf (has_one_free shelf merged) merged.shelves (remaining.in_use ∙ sym in_use)) in
     let busy : is_empty_at (emptiness_said shelf merged).shelves shelf ≡ false = ap (λ (r : Records). is_empty_at r.shelves shelf) said ∙ remaining.in_use in
-    let stay : shelves_merged shelf (emptiness_said shelf merged) ≡ record { records = emptiness_said shelf merged; put_aside = 0 } =
+    let stay : shelves_merged shelf (emptiness_said shelf merged) ≡ record { records = emptiness_said shelf merged; made_unused = 0 } =
     shelves-stay shelf (emptiness_said shelf merged) linked busy in
     record {
       records = ap (λ (s : Step). s.records) stay ∙ said;
-      put_aside = ap (λ (s : Step). s.put_aside) stay;
-      ranks = λ ranked. ranks-stay shelf (emptiness_said shelf merged) ranked linked busy;
+      made_unused = ap (λ (s : Step). s.made_unused) stay;
+      in_list = λ by_height. by_height-stay shelf (emptiness_said shelf merged) by_height linked busy;
     }

@@ -2,7 +2,8 @@
 use Rattle.std.proofs.Common.{◌≡◌, ℕ, zero, suc, ◌+◌, ◌-◌, ◌<◌, ◌≤◌, Option, Some, List, [], ◌∷◌, ◌++◌, length, take, refl, ap, arith, append_assoc, append-nil, ◌∙◌, sym, subst, Bool, true, false, ◌==◌, ◌≢◌}
 use Rattle.std.proofs.lemmas.Bool.{eqb-true, eqb-false}
 use Rattle.std.specs.Prelude.{slice_get}
-use Rattle.etagere_base.specs.Lists.{Each, times}
+use Rattle.std.specs.List.{AllByRecursion}
+use Rattle.etagere_base.specs.Lists.{times}
 use Rattle.etagere_links.specs.Edits.{changed_at, link_at}
 use Rattle.etagere_links.specs.RecordLists.{field_at}
 use Rattle.etagere_links.proofs.ListEnds.{times-here, times-other}
@@ -33,7 +34,7 @@ numbered-length make from zero = refl
 numbered-length make from (suc n) = ap suc (numbered-length make (suc from) n)
 
 -- a fact of what each number makes
-pub numbered-each : {T : Type 0} (P : T → Type 0) (make : ℕ → T) (from n : ℕ) → ((k : ℕ) → k < from + n → P (make k)) → Each P (numbered make from n)
+pub numbered-each : {T : Type 0} (P : T → Type 0) (make : ℕ → T) (from n : ℕ) → ((k : ℕ) → k < from + n → P (make k)) → AllByRecursion P (numbered make from n)
 numbered-each P make from zero each = tt
 numbered-each P make from (suc n) each = (each from (omega arith), numbered-each P make (suc from) n (λ k below. each k (omega arith)))
 

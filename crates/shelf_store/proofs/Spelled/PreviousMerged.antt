@@ -17,11 +17,11 @@ use Rattle.etagere_links.proofs.AllLists.LinkedItems.{IsApart, linked-apart}
 use Rattle.etagere_links.proofs.AllLists.LinkedMerges.{entry_of}
 use Rattle.etagere_links.proofs.AllLists.LinkedUnused.{lists_of}
 use Rattle.etagere_links.proofs.ListEnds.{last-append}
-use Rattle.shelf_records.specs.AtlasRecords.{AtlasRecords, is_allocated_at, place_of, item_at, spelled_shelf, width_of}
+use Rattle.shelf_records.specs.AtlasRecords.{AtlasRecords, is_allocated_at, item_place_of, item_at, spelled_shelf, width_of}
 use Rattle.shelf_model.specs.Merging.{both_free, combined_items}
 use Rattle.shelf_store.specs.Private.ItemReturned.{Step, free_named, free_previous, freed_after, remaining_item}
 use Rattle.shelf_records.specs.Private.Kept.{IsPlaced}
-use Rattle.shelf_store.specs.Private.RankedReturned.{named_width}
+use Rattle.shelf_store.specs.Private.ReturnedByHeight.{named_width}
 use Rattle.shelf_model.specs.Returning.{is_free_before}
 use Rattle.shelf_model.specs.State.{Item}
 use Rattle.shelf_store.proofs.Spelled.AbsorbedItems.{Absorbs, IsRest, rest-of, absorbed-items, allocated-absorbs}
@@ -37,8 +37,8 @@ use Rattle.shelf_store.proofs.Spelled.SpelledMerges.{allocated_absorbed-spelled,
 pub record FreesItem (atlas : AtlasRecords) (step : Step) (before after : List Entry) (shelf number : ℕ) (front back free unused shelves : List ℕ) : Type 0 where
   pub numbers : List ℕ
   pub free_list : List ℕ
-  pub aside : List ℕ
-  pub spelled : IsSpelled (with_lists atlas step.records) (lists_of (before ++ entry_of shelf numbers free_list ∷ after) aside shelves)
+  pub left_unused : List ℕ
+  pub spelled : IsSpelled (with_lists atlas step.records) (lists_of (before ++ entry_of shelf numbers free_list ∷ after) left_unused shelves)
   pub before_same : map (spelled_shelf (with_lists atlas step.records)) before ≡ map (spelled_shelf atlas) before
   pub after_same : map (spelled_shelf (with_lists atlas step.records)) after ≡ map (spelled_shelf atlas) after
   pub same : (k : ℕ) → SameShelf atlas.records.shelves step.records.shelves k
@@ -48,11 +48,11 @@ pub record FreesItem (atlas : AtlasRecords) (step : Step) (before after : List E
       (map (item_at atlas.records.items) front ++ free_item (width_of atlas.records.items number) ∷ map (item_at atlas.records.items) back)
   pub places :
       (others : List Item)
-      → map (place_of step.records.items) free_list
+      → map (item_place_of step.records.items) free_list
       ≡ (if is_free_before (length front) (map (item_at atlas.records.items) front ++ others)
-      then map (place_of atlas.records.items) free
-      else place_of atlas.records.items number ∷ map (place_of atlas.records.items) free)
-  pub counted : length aside ≡ step.put_aside + length unused
+      then map (item_place_of atlas.records.items) free
+      else item_place_of atlas.records.items number ∷ map (item_place_of atlas.records.items) free)
+  pub counted : length left_unused ≡ step.made_unused + length unused
   pub remaining_front : List ℕ
   pub stands : numbers ≡ remaining_front ++ remaining_item number (free_previous atlas.records.items number) ∷ back
   pub is_free : is_allocated_at step.records.items (remaining_item number (free_previous atlas.records.items number)) ≡ false
@@ -86,12 +86,12 @@ item-freed atlas before after shelf number front back free unused shelves alloca
     map-agrees (item_at new.items) (item_at items) front (λ k stands. (freed.others k (around-other front back number apart.once k (omega (arith, stands)))).item) in
     let back_same : map (item_at new.items) back ≡ map (item_at items) back =
     map-agrees (item_at new.items) (item_at items) back (λ k stands. (freed.others k (around-other front back number apart.once k (omega (arith, stands)))).item) in
-    let kept : map (place_of new.items) free ≡ map (place_of items) free =
-    map-agrees (place_of new.items) (place_of items) free (λ k stands. (freed.others k (λ e. let again : 1 ≤ times number free = rw e stands in omega (arith, again, absent))).place) in
+    let kept : map (item_place_of new.items) free ≡ map (item_place_of items) free =
+    map-agrees (item_place_of new.items) (item_place_of items) free (λ k stands. (freed.others k (λ e. let again : 1 ≤ times number free = rw e stands in omega (arith, again, absent))).place) in
     record {
       numbers = numbers;
       free_list = number ∷ free;
-      aside = unused;
+      left_unused = unused;
       spelled = edited.0;
       before_same = others.0;
       after_same = others.1;
@@ -101,7 +101,7 @@ item-freed atlas before after shelf number front back free unused shelves alloca
           ∙ ap (λ (i : Item). map (item_at items) front ++ i ∷ map (item_at new.items) back) freed.item
           ∙ ap (λ (is : List Item). map (item_at items) front ++ free_item (width_of items number) ∷ is) back_same
           ∙ sym stays;
-      places = λ before_items. rw (none before_items) (ap (λ p. p ∷ map (place_of new.items) free) freed.place ∙ ap (λ ps. place_of items number ∷ ps) kept);
+      places = λ before_items. rw (none before_items) (ap (λ p. p ∷ map (item_place_of new.items) free) freed.place ∙ ap (λ ps. item_place_of items number ∷ ps) kept);
       counted = omega arith;
       remaining_front = front;
       stands = rw unnamed refl;
@@ -130,12 +130,12 @@ item-taken atlas before after shelf number previous front back free unused shelv
     allocated-absorbs atlas.records shelf previous number differ (apart.within previous (omega (arith, count, times-here previous (number ∷ back)))) in
     let absent : times number free ≡ 0 = placed.free_list number ∙ free_count-none items number numbers allocated in
     let last_free = free-item items previous false is_free in
-    let places_same : (k : ℕ) → 1 ≤ times k free → place_of new.items k ≡ place_of items k = λ k stands.
+    let places_same : (k : ℕ) → 1 ≤ times k free → item_place_of new.items k ≡ item_place_of items k = λ k stands.
     absorbed-place items new.items previous number k absorbs (λ e. let again : 1 ≤ times number free = rw e stands in omega (arith, again, absent)) in
     record {
       numbers = front ++ previous ∷ back;
       free_list = free;
-      aside = number ∷ unused;
+      left_unused = number ∷ unused;
       spelled = edited.0;
       before_same = others.0;
       after_same = others.1;
@@ -143,7 +143,7 @@ item-taken atlas before after shelf number previous front back free unused shelv
       items = absorbed-items items new.items front back previous number rest absorbs
           ∙ ap (λ (o : Option ℕ). map (item_at items) front ++ record { width = width_of items previous + width_of items number; id = o } ∷ map (item_at items) back) (ap (λ (i : Item). i.id) (free-none (item_at items previous) last_free))
           ∙ sym (previous-merged (item_at items) front previous (width_of items number) (map (item_at items) back) last_free);
-      places = λ before_items. rw (free-before (item_at items) front previous before_items ∙ last_free) (map-agrees (place_of new.items) (place_of items) free places_same);
+      places = λ before_items. rw (free-before (item_at items) front previous before_items ∙ last_free) (map-agrees (item_place_of new.items) (item_place_of items) free places_same);
       counted = omega arith;
       remaining_front = front;
       stands = rw named refl;
@@ -151,11 +151,11 @@ item-taken atlas before after shelf number previous front back free unused shelv
       width = rw named (omega (arith, ap (λ (i : Item). i.width) absorbs.item));
     }
   where
-    absorbed-place : (old new : List LinkedItem) (one next k : ℕ) → Absorbs old new one next → next ≢ k → place_of new k ≡ place_of old k
+    absorbed-place : (old new : List LinkedItem) (one next k : ℕ) → Absorbs old new one next → next ≢ k → item_place_of new k ≡ item_place_of old k
     absorbed-place old new one next k absorbs other = by_test (one == k) refl
       where
-        by_test : (b : Bool) → (one == k) ≡ b → place_of new k ≡ place_of old k
-        by_test true e = let own : one ≡ k = grind arith in subst (λ (n : ℕ). place_of new n ≡ place_of old n) own absorbs.place
+        by_test : (b : Bool) → (one == k) ≡ b → item_place_of new k ≡ item_place_of old k
+        by_test true e = let own : one ≡ k = grind arith in subst (λ (n : ℕ). item_place_of new n ≡ item_place_of old n) own absorbs.place
         by_test false e = (absorbs.others k (grind arith) other).place
 
 -- an allocated item became free, and was merged with the previous one where that is free

@@ -20,7 +20,7 @@ use Rattle.etagere_links.proofs.ListEnds.{last-stands-in}
 use Rattle.shelf_records.specs.AtlasRecords.{AtlasRecords, is_allocated_at, is_empty_at, item_at, spelled_shelf, width_of}
 use Rattle.shelf_store.specs.Private.ItemReturned.{IsRemaining, Step, free_named, free_next, free_previous, freed_after, is_alone, item_merged, remaining_in, names_one_free, next_absorbed}
 use Rattle.shelf_records.specs.Private.Kept.{HasFlag}
-use Rattle.shelf_store.specs.Private.RankedReturned.{freed_width, named_width}
+use Rattle.shelf_store.specs.Private.ReturnedByHeight.{freed_width, named_width}
 use Rattle.shelf_model.specs.State.{Item, is_one_free}
 use Rattle.shelf_model.specs.Valid.{IsShelf}
 use Rattle.shelf_store.proofs.Spelled.EmptinessSaid.{IsFlagged}
@@ -83,8 +83,8 @@ item-remaining atlas before after shelf number front back free unused shelves va
     merges-next atlas before after shelf number front back free unused shelves (wide-items atlas shelf (front ++ number ∷ back) free valid) allocated spelled in
     let middle : AtlasRecords = with_lists atlas one.records in
     let two : Step = freed_after shelf number (free_previous one.records.items number) one.records in
-    let own : FreesItem middle two before after shelf number front next.rest next.free_list next.aside shelves =
-    frees-item middle before after shelf number front next.rest next.free_list next.aside shelves next.allocated next.spelled in
+    let own : FreesItem middle two before after shelf number front next.rest next.free_list next.left_unused shelves =
+    frees-item middle before after shelf number front next.rest next.free_list next.left_unused shelves next.allocated next.spelled in
     let new : Records = two.records in
     let remaining : ℕ = remaining_in shelf number atlas.records in
     let old_entry : Entry = entry_of shelf (front ++ number ∷ back) free in
@@ -93,7 +93,7 @@ item-remaining atlas before after shelf number front back free unused shelves va
     let was : IsEntry atlas.records old_entry = Each-middle (IsEntry atlas.records) before old_entry after spelled.linked.entries in
     let still : IsEntry one.records entry = Each-middle (IsEntry one.records) before entry after next.spelled.linked.entries in
     let is : IsEntry new new_entry = Each-middle (IsEntry new) before new_entry after own.spelled.linked.entries in
-    let apart : IsApart new before after own.aside [] new_entry = linked-apart new before after new_entry own.aside shelves [] [] own.spelled.linked in
+    let apart : IsApart new before after own.left_unused [] new_entry = linked-apart new before after new_entry own.left_unused shelves [] [] own.spelled.linked in
     let stands : 1 ≤ times remaining own.numbers =
     omega (arith, ap (times remaining) own.stands, times-append remaining own.remaining_front (remaining ∷ next.rest), times-here remaining next.rest) in
     let chain : IsChainIn item_chain new.items (first_item_of new.shelves shelf) (own.remaining_front ++ remaining ∷ next.rest) =

@@ -4,7 +4,7 @@ use Rattle.etagere_links.specs.declared.records.LinkedItem.{LinkedItem}
 use Rattle.etagere_links.specs.declared.records.LinkedShelf.{LinkedShelf}
 use Rattle.etagere_links.specs.RecordLists.{Records, walked_lists}
 use Rattle.shelf_records.specs.AtlasRecords.{height_of, is_empty_at, width_of}
-use Rattle.shelf_store.specs.Private.ItemReturned.{item_returned, put_aside_by}
+use Rattle.shelf_store.specs.Private.ItemReturned.{item_returned, unused_by}
 
 -- a shelf of 8 that begins there across, between two others
 abbrev shelf_at : ℕ → Option ℕ → Option ℕ → ℕ → Option ℕ → Bool → LinkedShelf
@@ -77,8 +77,8 @@ row_between_free = refl
 row_height : height_of (item_returned 2 between_free).shelves 0 ≡ 24
 row_height = refl
 
-row_put_aside : put_aside_by 2 between_free ≡ 4
-row_put_aside = refl
+row_made_unused : unused_by 2 between_free ≡ 4
+row_made_unused = refl
 
 -- item 1 is allocated between two allocated ones; item 3 is free
 abbrev between_allocated : Records

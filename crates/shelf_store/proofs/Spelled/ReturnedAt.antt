@@ -36,12 +36,12 @@ number-behind id front item back none e =
     position-behind (λ (x : Item). has_id id x.id) front item back fails passes
 
 -- the state after a return, by its shelves
-returned-is : (state : AtlasState) (id : ℕ) (shelves : List Shelf) → IsValid state → merged_shelves (at_first (is_allocated_in id) (returned_shelf state.frame id) state.shelves) ≡ shelves → returned state id ≡ record { frame = state.frame; shelves = shelves; records = state.records }
+returned-is : (state : AtlasState) (id : ℕ) (shelves : List Shelf) → IsValid state → merged_shelves (at_first (is_allocated_in id) (returned_shelf state.frame id) state.shelves) ≡ shelves → returned state id ≡ record { frame = state.frame; shelves = shelves; peak_items = state.peak_items }
 returned-is state id shelves valid e =
-    returned-near state id valid ∙ ap (λ (ss : List Shelf). record { frame = state.frame; shelves = ss; records = state.records }) e
+    returned-near state id valid ∙ ap (λ (ss : List Shelf). record { frame = state.frame; shelves = ss; peak_items = state.peak_items }) e
 
 -- a return frees the item that stands there, and merges around it
-at-lengths : (state : AtlasState) (id : ℕ) (before after : List Shelf) (shelf : Shelf) (front back : List Item) (item : Item) → IsValid state → state.shelves ≡ before ++ shelf ∷ after → shelf.items ≡ front ++ item ∷ back → item.id ≡ Some id → returned state id ≡ record { frame = state.frame; shelves = merged_before both_empty combined_shelves (length before) (merged_at both_empty combined_shelves (length before) (before ++ merged_shelf (freed_shelf state.frame (length front) shelf) ∷ after)); records = state.records }
+at-lengths : (state : AtlasState) (id : ℕ) (before after : List Shelf) (shelf : Shelf) (front back : List Item) (item : Item) → IsValid state → state.shelves ≡ before ++ shelf ∷ after → shelf.items ≡ front ++ item ∷ back → item.id ≡ Some id → returned state id ≡ record { frame = state.frame; shelves = merged_before both_empty combined_shelves (length before) (merged_at both_empty combined_shelves (length before) (before ++ merged_shelf (freed_shelf state.frame (length front) shelf) ∷ after)); peak_items = state.peak_items }
 at-lengths state id before after shelf front back item valid whole items owner =
     let test : Shelf → Bool = is_allocated_in id in
     let new : Shelf = merged_shelf (freed_shelf state.frame (length front) shelf) in
@@ -66,6 +66,6 @@ at-lengths state id before after shelf front back item valid whole items owner =
     returned-is state id (merged_before both_empty combined_shelves (length before) (merged_at both_empty combined_shelves (length before) (before ++ new ∷ after))) valid (ap merged_shelves changed ∙ merged)
 
 -- the same, by the numbers of its shelf and of the item in it
-pub returned-at : (state : AtlasState) (id n m : ℕ) (before after : List Shelf) (shelf : Shelf) (front back : List Item) (item : Item) → length before ≡ n → length front ≡ m → IsValid state → state.shelves ≡ before ++ shelf ∷ after → shelf.items ≡ front ++ item ∷ back → item.id ≡ Some id → returned state id ≡ record { frame = state.frame; shelves = merged_before both_empty combined_shelves n (merged_at both_empty combined_shelves n (before ++ merged_shelf (freed_shelf state.frame m shelf) ∷ after)); records = state.records }
+pub returned-at : (state : AtlasState) (id n m : ℕ) (before after : List Shelf) (shelf : Shelf) (front back : List Item) (item : Item) → length before ≡ n → length front ≡ m → IsValid state → state.shelves ≡ before ++ shelf ∷ after → shelf.items ≡ front ++ item ∷ back → item.id ≡ Some id → returned state id ≡ record { frame = state.frame; shelves = merged_before both_empty combined_shelves n (merged_at both_empty combined_shelves n (before ++ merged_shelf (freed_shelf state.frame m shelf) ∷ after)); peak_items = state.peak_items }
 returned-at state id n m before after shelf front back item number item_number valid whole items owner =
     rw (← number, ← item_number) (at-lengths state id before after shelf front back item valid whole items owner)

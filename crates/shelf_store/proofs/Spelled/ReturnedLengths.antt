@@ -3,12 +3,12 @@ use Rattle.std.proofs.Common.{◌≡◌, ℕ, ◌+◌, false, Option, None, Some
 use Rattle.etagere_links.specs.declared.records.LinkedItem.{LinkedItem}
 use Rattle.etagere_links.specs.declared.records.LinkedShelf.{LinkedShelf}
 use Rattle.etagere_links.specs.Edits.{link_at, first_without}
-use Rattle.etagere_links.specs.RecordEdits.{item_changed, item_unlinked, free_unlinked, free_inserted_front, item_put_aside, shelf_changed, shelf_put_aside, shelf_unlinked}
+use Rattle.etagere_links.specs.RecordEdits.{item_changed, item_unlinked, free_unlinked, free_inserted_front, item_made_unused, shelf_changed, shelf_made_unused, shelf_unlinked}
 use Rattle.etagere_links.specs.RecordLists.{Records, first_item_of, first_free_of}
 use Rattle.etagere_links.specs.Records.{item_chain, free_list, shelf_chain}
 use Rattle.etagere_links.proofs.FirstLinks.{to_first_item, to_first_free}
 use Rattle.etagere_links.proofs.RecordChanges.{length-changed_by}
-use Rattle.etagere_links.proofs.RecordFrames.{length-linked_between, length-put_aside, length-unlinked}
+use Rattle.etagere_links.proofs.RecordFrames.{length-linked_between, length-made_unused, length-unlinked}
 use Rattle.shelf_records.specs.AtlasRecords.{height_of, shelf_of, width_of}
 use Rattle.shelf_store.specs.Private.ItemReturned.{empty_next, emptiness_said, free_next, free_previous, freed_after, item_merged, item_returned, named_shelf_merged, names_one_free, next_absorbed, shelf_merged, shelf_next_absorbed, shelf_of_item_absorbed}
 
@@ -54,16 +54,16 @@ free-inserted shelf number records =
     }
 
 -- an item record becomes unused
-put-aside : (number : ℕ) (records : Records) → SameLengths records (item_put_aside number records)
-put-aside number records = record { items = length-put_aside item_chain records.items records.unused_items number; shelves = refl }
+made-unused : (number : ℕ) (records : Records) → SameLengths records (item_made_unused number records)
+made-unused number records = record { items = length-made_unused item_chain records.items records.unused_items number; shelves = refl }
 
 -- a shelf is taken out of the chain of shelves
 shelf-unlinked : (shelf : ℕ) (records : Records) → SameLengths records (shelf_unlinked shelf records)
 shelf-unlinked shelf records = record { items = refl; shelves = length-unlinked shelf_chain records.shelves shelf }
 
 -- a shelf record becomes unused
-shelf-put-aside : (shelf : ℕ) (records : Records) → SameLengths records (shelf_put_aside shelf records)
-shelf-put-aside shelf records = record { items = refl; shelves = length-put_aside shelf_chain records.shelves records.unused_shelves shelf }
+shelf-made-unused : (shelf : ℕ) (records : Records) → SameLengths records (shelf_made_unused shelf records)
+shelf-made-unused shelf records = record { items = refl; shelves = length-made_unused shelf_chain records.shelves records.unused_shelves shelf }
 
 -- an item absorbs the next one
 next-lengths : (shelf number : ℕ) (next : Option ℕ) (records : Records) → SameLengths records (next_absorbed shelf number next records).records
@@ -72,10 +72,10 @@ next-lengths shelf number (Some next) records =
     let width : ℕ = width_of records.items number + width_of records.items next in
     let one : Records = free_unlinked shelf next records in
     let two : Records = item_unlinked shelf next one in
-    let three : Records = item_put_aside next two in
+    let three : Records = item_made_unused next two in
     let new : Records = (next_absorbed shelf number (Some next) records).records in
     then records three new
-    (then records two three (then records one two (free-unlinked shelf next records) (unlinked shelf next one)) (put-aside next two))
+    (then records two three (then records one two (free-unlinked shelf next records) (unlinked shelf next one)) (made-unused next two))
     (changed number (λ (item : LinkedItem). record item { width = width }) three)
 
 -- an item becomes free, or the previous one absorbs it
@@ -89,10 +89,10 @@ freed-lengths shelf number (Some previous) records =
     let unmark : LinkedItem → LinkedItem = λ item. record item { allocated = false } in
     let one : Records = item_unlinked shelf number records in
     let two : Records = item_changed number unmark one in
-    let three : Records = item_put_aside number two in
+    let three : Records = item_made_unused number two in
     let new : Records = (freed_after shelf number (Some previous) records).records in
     then records three new
-    (then records two three (then records one two (unlinked shelf number records) (changed number unmark one)) (put-aside number two))
+    (then records two three (then records one two (unlinked shelf number records) (changed number unmark one)) (made-unused number two))
     (changed previous (λ (item : LinkedItem). record item { width = width }) three)
 
 -- a shelf absorbs the next one, whose item is named
@@ -101,11 +101,11 @@ shelf-of-item-lengths shelf next None records = stay records
 shelf-of-item-lengths shelf next (Some item) records =
     let height : ℕ = height_of records.shelves shelf + height_of records.shelves next in
     let one : Records = shelf_unlinked next records in
-    let two : Records = item_put_aside item one in
-    let three : Records = shelf_put_aside next two in
+    let two : Records = item_made_unused item one in
+    let three : Records = shelf_made_unused next two in
     let new : Records = (shelf_of_item_absorbed shelf next (Some item) records).records in
     then records three new
-    (then records two three (then records one two (shelf-unlinked next records) (put-aside item one)) (shelf-put-aside next two))
+    (then records two three (then records one two (shelf-unlinked next records) (made-unused item one)) (shelf-made-unused next two))
     (shelf-changed shelf (λ (here : LinkedShelf). record here { height = height }) three)
 
 -- a shelf absorbs the next one

@@ -24,10 +24,10 @@ use Rattle.shelf_records.specs.AtlasRecords.{AtlasRecords, along_of, height_of, 
 use Rattle.shelf_model.specs.Merging.{both_empty, combined_shelves}
 use Rattle.shelf_store.specs.Private.ItemReturned.{Step, are_both_empty, empty_named, empty_next, shelf_merged, shelf_next_absorbed, shelf_of_item_absorbed}
 use Rattle.shelf_records.specs.Private.Kept.{HasFlag, IsPlaced}
-use Rattle.shelf_store.specs.Private.RankedReturned.{rank_merged, rank_next_absorbed, rank_of_item_absorbed}
+use Rattle.shelf_store.specs.Private.ReturnedByHeight.{shelf_merged_by_height, next_absorbed_by_height, shelf_of_item_absorbed_by_height}
 use Rattle.shelf_model.specs.State.{Shelf, is_empty, is_free, is_one_free}
-use Rattle.shelf_heights.specs.declared.ranked.RankedShelf.{RankedShelf}
-use Rattle.shelf_store.proofs.ByHeight.MergedRanks.{Ranks, absorbed-ranks}
+use Rattle.shelf_heights.specs.declared.by_height.BoundedShelf.{BoundedShelf}
+use Rattle.shelf_store.proofs.ByHeight.MergedByHeight.{HoldsByHeight, absorbed-by_height}
 use Rattle.shelf_store.proofs.Spelled.EmptinessSaid.{IsFlagged, flags-same, shelf-is}
 use Rattle.shelf_store.proofs.Spelled.ItemsAround.{free-item}
 use Rattle.shelf_records.proofs.Spelled.RecordValues.{SameItem}
@@ -51,29 +51,29 @@ module _ {X Y : Type 0} (f : Y → X) (touch : X → X → Bool) (combine : X �
   merged-touching (y ∷ front) x next back e = ap (λ (xs : List X). f y ∷ xs) (merged-touching front x next back e)
 
 -- what a step that merges a shelf with the next one makes of the lists of shelves, and what these spell
-pub record MergesShelf (atlas : AtlasRecords) (step : Step) (change : List RankedShelf → List RankedShelf) (before after : List Entry) (entry : Entry) (unused shelves : List ℕ) : Type 0 where
+pub record MergesShelf (atlas : AtlasRecords) (step : Step) (change : List BoundedShelf → List BoundedShelf) (before after : List Entry) (entry : Entry) (unused shelves : List ℕ) : Type 0 where
   pub rest : List Entry
-  pub aside : List ℕ
+  pub left_unused : List ℕ
   pub gone : List ℕ
-  pub flagged : IsFlagged (with_lists atlas step.records) (lists_of (before ++ entry ∷ rest) aside gone)
+  pub flagged : IsFlagged (with_lists atlas step.records) (lists_of (before ++ entry ∷ rest) left_unused gone)
   pub merged :
       map (spelled_shelf (with_lists atlas step.records)) (before ++ entry ∷ rest)
       ≡ merged_at both_empty combined_shelves (length before) (map (spelled_shelf atlas) (before ++ entry ∷ after))
-  pub counted : length aside ≡ step.put_aside + length unused
-  pub ranks : (ranked : List RankedShelf) → Ranks atlas (before ++ entry ∷ after) ranked → Ranks (with_lists atlas step.records) (before ++ entry ∷ rest) (change ranked)
+  pub counted : length left_unused ≡ step.made_unused + length unused
+  pub in_list : (by_height : List BoundedShelf) → HoldsByHeight atlas (before ++ entry ∷ after) by_height → HoldsByHeight (with_lists atlas step.records) (before ++ entry ∷ rest) (change by_height)
 
 -- nothing is merged
-shelf-kept : (atlas : AtlasRecords) (before after : List Entry) (entry : Entry) (unused shelves : List ℕ) → merged_at both_empty combined_shelves (length before) (map (spelled_shelf atlas) before ++ map (spelled_shelf atlas) (entry ∷ after)) ≡ map (spelled_shelf atlas) before ++ map (spelled_shelf atlas) (entry ∷ after) → IsFlagged atlas (lists_of (before ++ entry ∷ after) unused shelves) → MergesShelf atlas (record { records = atlas.records; put_aside = 0 }) (λ ranked. ranked) before after entry unused shelves
+shelf-kept : (atlas : AtlasRecords) (before after : List Entry) (entry : Entry) (unused shelves : List ℕ) → merged_at both_empty combined_shelves (length before) (map (spelled_shelf atlas) before ++ map (spelled_shelf atlas) (entry ∷ after)) ≡ map (spelled_shelf atlas) before ++ map (spelled_shelf atlas) (entry ∷ after) → IsFlagged atlas (lists_of (before ++ entry ∷ after) unused shelves) → MergesShelf atlas (record { records = atlas.records; made_unused = 0 }) (λ by_height. by_height) before after entry unused shelves
 shelf-kept atlas before after entry unused shelves stays flagged =
     let whole : map (spelled_shelf atlas) (before ++ entry ∷ after) ≡ map (spelled_shelf atlas) before ++ map (spelled_shelf atlas) (entry ∷ after) = map-append (spelled_shelf atlas) before (entry ∷ after) in
     record {
       rest = after;
-      aside = unused;
+      left_unused = unused;
       gone = shelves;
       flagged = flagged;
       merged = whole ∙ sym stays ∙ ap (merged_at both_empty combined_shelves (length before)) (sym whole);
       counted = omega arith;
-      ranks = λ ranked ranks. ranks;
+      in_list = λ by_height in_list. in_list;
     }
 
 -- two shelves stand in one column where they begin at one place
@@ -108,7 +108,7 @@ one-free-of items (x ∷ []) e =
 one-free-of items (x ∷ y ∷ ys) e = absurd (cc)
 
 -- the next shelf is absorbed with its item
-shelf-taken : (atlas : AtlasRecords) (before after : List Entry) (entry : Entry) (next item : ℕ) (free unused shelves : List ℕ) → both_empty (spelled_shelf atlas entry) (spelled_shelf atlas (entry_of next (item ∷ []) free)) ≡ true → along_of atlas.records.shelves next ≡ along_of atlas.records.shelves entry.number → is_allocated_at atlas.records.items item ≡ false → IsFlagged atlas (lists_of (before ++ entry ∷ entry_of next (item ∷ []) free ∷ after) unused shelves) → MergesShelf atlas (shelf_of_item_absorbed entry.number next (Some item) atlas.records) (rank_of_item_absorbed entry.number next (Some item) atlas.records) before (entry_of next (item ∷ []) free ∷ after) entry unused shelves
+shelf-taken : (atlas : AtlasRecords) (before after : List Entry) (entry : Entry) (next item : ℕ) (free unused shelves : List ℕ) → both_empty (spelled_shelf atlas entry) (spelled_shelf atlas (entry_of next (item ∷ []) free)) ≡ true → along_of atlas.records.shelves next ≡ along_of atlas.records.shelves entry.number → is_allocated_at atlas.records.items item ≡ false → IsFlagged atlas (lists_of (before ++ entry ∷ entry_of next (item ∷ []) free ∷ after) unused shelves) → MergesShelf atlas (shelf_of_item_absorbed entry.number next (Some item) atlas.records) (shelf_of_item_absorbed_by_height entry.number next (Some item) atlas.records) before (entry_of next (item ∷ []) free ∷ after) entry unused shelves
 shelf-taken atlas before after entry next item free unused shelves touch column is_free flagged =
     let old : List LinkedShelf = atlas.records.shelves in
     let items : List LinkedItem = atlas.records.items in
@@ -129,7 +129,7 @@ shelf-taken atlas before after entry next item free unused shelves touch column 
     let tail = Each-back (HasFlag atlas) before (entry ∷ gone ∷ after) flagged.flags in
     record {
       rest = after;
-      aside = item ∷ unused;
+      left_unused = item ∷ unused;
       gone = next ∷ shelves;
       flagged =
           record {
@@ -145,7 +145,7 @@ shelf-taken atlas before after entry next item free unused shelves touch column 
           ∙ sym (merged-touching (spelled_shelf atlas) both_empty combined_shelves before (spelled_shelf atlas entry) (spelled_shelf atlas gone) (map (spelled_shelf atlas) after) touch)
           ∙ ap (merged_at both_empty combined_shelves (length before)) (sym (map-append (spelled_shelf atlas) before (entry ∷ gone ∷ after)));
       counted = omega arith;
-      ranks = λ ranked ranks. absorbed-ranks atlas lists before after entry gone height ranked taller ranks apart.number;
+      in_list = λ by_height in_list. absorbed-by_height atlas lists before after entry gone height by_height taller in_list apart.number;
     }
   where
     others-spelled : (atlas : AtlasRecords) (lists : Records) (es : List Entry) → ((k : ℕ) → along_of lists.shelves k ≡ along_of atlas.records.shelves k) → ((k : ℕ) → 1 ≤ times k (shelf_numbers es) → height_of lists.shelves k ≡ height_of atlas.records.shelves k) → ((k : ℕ) → SameItem atlas.records.items lists.items k) → map (spelled_shelf (with_lists atlas lists)) es ≡ map (spelled_shelf atlas) es
@@ -184,17 +184,17 @@ neighbours atlas before after entry next unused shelves flagged =
     }
 
 -- a shelf was merged with the next one, where both are empty and stand in one column
-pub merges-shelf : (atlas : AtlasRecords) (before after : List Entry) (entry : Entry) (unused shelves : List ℕ) → IsFlagged atlas (lists_of (before ++ entry ∷ after) unused shelves) → MergesShelf atlas (shelf_merged entry.number atlas.records) (rank_merged entry.number atlas.records) before after entry unused shelves
+pub merges-shelf : (atlas : AtlasRecords) (before after : List Entry) (entry : Entry) (unused shelves : List ℕ) → IsFlagged atlas (lists_of (before ++ entry ∷ after) unused shelves) → MergesShelf atlas (shelf_merged entry.number atlas.records) (shelf_merged_by_height entry.number atlas.records) before after entry unused shelves
 merges-shelf atlas before [] entry unused shelves flagged =
     let none : empty_next atlas.records.shelves entry.number ≡ None = ap (empty_named atlas.records.shelves entry.number) (next-link atlas before [] entry unused shelves flagged.spelled) in
-    subst (λ (o : Option ℕ). MergesShelf atlas (shelf_next_absorbed entry.number o atlas.records) (rank_next_absorbed entry.number o atlas.records) before [] entry unused shelves) (sym none)
+    subst (λ (o : Option ℕ). MergesShelf atlas (shelf_next_absorbed entry.number o atlas.records) (next_absorbed_by_height entry.number o atlas.records) before [] entry unused shelves) (sym none)
     (shelf-kept atlas before [] entry unused shelves (merged-end (spelled_shelf atlas) both_empty combined_shelves before (spelled_shelf atlas entry)) flagged)
 merges-shelf atlas before (next ∷ after) entry unused shelves flagged = by_test (are_both_empty atlas.records.shelves entry.number next.number) refl
   where
     near : AreNeighbours atlas entry next
     near = neighbours atlas before after entry next unused shelves flagged
 
-    absorbed : are_both_empty atlas.records.shelves entry.number next.number ≡ true → HasOneFree atlas.records.items next.items → MergesShelf atlas (shelf_next_absorbed entry.number (Some next.number) atlas.records) (rank_next_absorbed entry.number (Some next.number) atlas.records) before (next ∷ after) entry unused shelves
+    absorbed : are_both_empty atlas.records.shelves entry.number next.number ≡ true → HasOneFree atlas.records.items next.items → MergesShelf atlas (shelf_next_absorbed entry.number (Some next.number) atlas.records) (next_absorbed_by_height entry.number (Some next.number) atlas.records) before (next ∷ after) entry unused shelves
     absorbed e one =
         let same : entry_of next.number (one.item ∷ []) next.free_list ≡ next = ap (λ ns. entry_of next.number ns next.free_list) (sym one.alone) in
         let first : first_item_of atlas.records.shelves next.number ≡ Some one.item =
@@ -202,22 +202,22 @@ merges-shelf atlas before (next ∷ after) entry unused shelves flagged = by_tes
         let column : along_of atlas.records.shelves entry.number ≡ along_of atlas.records.shelves next.number =
         eqb-true (along_of atlas.records.shelves entry.number) (along_of atlas.records.shelves next.number)
         (and_parts (along_of atlas.records.shelves entry.number == along_of atlas.records.shelves next.number) (is_empty_at atlas.records.shelves entry.number && is_empty_at atlas.records.shelves next.number) e).0 in
-        subst (λ (o : Option ℕ). MergesShelf atlas (shelf_of_item_absorbed entry.number next.number o atlas.records) (rank_of_item_absorbed entry.number next.number o atlas.records) before (next ∷ after) entry unused shelves) (sym first)
-        (subst (λ (n : Entry). MergesShelf atlas (shelf_of_item_absorbed entry.number next.number (Some one.item) atlas.records) (rank_of_item_absorbed entry.number next.number (Some one.item) atlas.records) before (n ∷ after) entry unused shelves) same
+        subst (λ (o : Option ℕ). MergesShelf atlas (shelf_of_item_absorbed entry.number next.number o atlas.records) (shelf_of_item_absorbed_by_height entry.number next.number o atlas.records) before (next ∷ after) entry unused shelves) (sym first)
+        (subst (λ (n : Entry). MergesShelf atlas (shelf_of_item_absorbed entry.number next.number (Some one.item) atlas.records) (shelf_of_item_absorbed_by_height entry.number next.number (Some one.item) atlas.records) before (n ∷ after) entry unused shelves) same
         (shelf-taken atlas before after entry next.number one.item next.free_list unused shelves
         (subst (λ (n : Entry). both_empty (spelled_shelf atlas entry) (spelled_shelf atlas n) ≡ true) (sym same) (near.touch ∙ e))
         (sym column) one.free
         (subst (λ (n : Entry). IsFlagged atlas (lists_of (before ++ entry ∷ n ∷ after) unused shelves)) (sym same) flagged)))
 
-    by_test : (b : Bool) → are_both_empty atlas.records.shelves entry.number next.number ≡ b → MergesShelf atlas (shelf_merged entry.number atlas.records) (rank_merged entry.number atlas.records) before (next ∷ after) entry unused shelves
+    by_test : (b : Bool) → are_both_empty atlas.records.shelves entry.number next.number ≡ b → MergesShelf atlas (shelf_merged entry.number atlas.records) (shelf_merged_by_height entry.number atlas.records) before (next ∷ after) entry unused shelves
     by_test false e =
         let none : empty_named atlas.records.shelves entry.number (Some next.number) ≡ None = simp e refl in
-        subst (λ (o : Option ℕ). MergesShelf atlas (shelf_next_absorbed entry.number o atlas.records) (rank_next_absorbed entry.number o atlas.records) before (next ∷ after) entry unused shelves) (sym (near.named ∙ none))
+        subst (λ (o : Option ℕ). MergesShelf atlas (shelf_next_absorbed entry.number o atlas.records) (next_absorbed_by_height entry.number o atlas.records) before (next ∷ after) entry unused shelves) (sym (near.named ∙ none))
         (shelf-kept atlas before (next ∷ after) entry unused shelves
         (merged-apart (spelled_shelf atlas) both_empty combined_shelves before (spelled_shelf atlas entry) (spelled_shelf atlas next) (map (spelled_shelf atlas) after) (near.touch ∙ e)) flagged)
     by_test true e =
         let some : empty_named atlas.records.shelves entry.number (Some next.number) ≡ Some next.number = simp e refl in
         let empty = and_parts (is_empty (spelled_shelf atlas entry)) (is_empty (spelled_shelf atlas next))
         (and_parts ((spelled_shelf atlas entry).column == (spelled_shelf atlas next).column) (is_empty (spelled_shelf atlas entry) && is_empty (spelled_shelf atlas next)) (near.touch ∙ e)).1 in
-        subst (λ (o : Option ℕ). MergesShelf atlas (shelf_next_absorbed entry.number o atlas.records) (rank_next_absorbed entry.number o atlas.records) before (next ∷ after) entry unused shelves) (sym (near.named ∙ some))
+        subst (λ (o : Option ℕ). MergesShelf atlas (shelf_next_absorbed entry.number o atlas.records) (next_absorbed_by_height entry.number o atlas.records) before (next ∷ after) entry unused shelves) (sym (near.named ∙ some))
         (absorbed e (one-free-of atlas.records.items next.items empty.1))

@@ -16,7 +16,7 @@ use Rattle.etagere_links.proofs.AllLists.LinkedUnused.{lists_of}
 use Rattle.etagere_links.proofs.ListEnds.{times-here}
 use Rattle.etagere_links.proofs.RecordChanges.{get-changed_by-other}
 use Rattle.etagere_links.proofs.RecordFrames.{length-unlinked, length-linked_between, map-linked_between, map-unlinked}
-use Rattle.shelf_records.specs.AtlasRecords.{AtlasRecords, is_allocated_at, place_of, shelf_of, along_of, item_at, spelled_item}
+use Rattle.shelf_records.specs.AtlasRecords.{AtlasRecords, is_allocated_at, item_place_of, shelf_of, along_of, item_at, spelled_item}
 use Rattle.shelf_records.specs.Private.Kept.{IsPlaced}
 use Rattle.shelf_records.specs.StandsFor.{LieFrom}
 use Rattle.shelf_model.specs.State.{Item}
@@ -35,7 +35,7 @@ front-changed (x ∷ xs) label (suc number) width within = front-changed xs labe
 -- what an item says after its front was given
 pub record IsFront (items new : List LinkedItem) (number width : ℕ) : Type 0 where
   pub item : item_at new number ≡ record { width = width; id = Some (id_at items number) }
-  pub place : place_of new number ≡ place_of items number
+  pub place : item_place_of new number ≡ item_place_of items number
   pub shelf : shelf_of new number ≡ shelf_of items number
   pub allocated : is_allocated_at new number ≡ true
   pub others : (k : ℕ) → number ≢ k → SameItem items new k
@@ -70,7 +70,7 @@ front-values records shelf number rest width within =
 -- what the record of the rest of an item says before the front is given
 pub record IsRestItem (items : List LinkedItem) (owner number rest given : ℕ) : Type 0 where
   pub width : (item_at items number).width ≡ given + (item_at items rest).width
-  pub place : place_of items rest ≡ place_of items number + given
+  pub place : item_place_of items rest ≡ item_place_of items number + given
   pub shelf : shelf_of items rest ≡ owner
   pub free : is_allocated_at items rest ≡ false
 
@@ -86,7 +86,7 @@ front-places items new here front back shelf number rest width apart same_front 
     let ends : middle + (item_at items number).width ≡ middle + (item_at new number).width + (item_at new rest).width =
     omega (arith, own_width, rest_width, is_rest.width) in
     let moved : LieFrom items (middle + (item_at new number).width + (item_at new rest).width) back = rw (← ends) lie_back.1 in
-    let rest_place : place_of new rest ≡ middle + (item_at new number).width =
+    let rest_place : item_place_of new rest ≡ middle + (item_at new number).width =
     omega (arith, rest_same.place, is_rest.place, lie_back.0, own_width) in
     let tail : LieFrom new (here + widths new front) (number ∷ rest ∷ back) =
     rw same_middle (is_front.place ∙ lie_back.0, (rest_place, LieFrom-same items new (middle + (item_at new number).width + (item_at new rest).width) back same_back moved)) in
@@ -141,7 +141,7 @@ front_given-spelled atlas before after shelf number rest width front back free_f
           };
       items = λ k gone. given.others k (not-member front back number k gone);
       shelf = same;
-      aside = unmarked-same items lists.items unused
+      left_unused = unmarked-same items lists.items unused
           (λ k stands. given.others k (not-member front back number k (omega (arith, apart.others k (omega (arith, stands, times-append k (item_numbers before ++ item_numbers after) unused)))))) spelled.unused;
     }
   where

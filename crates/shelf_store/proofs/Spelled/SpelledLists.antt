@@ -4,13 +4,14 @@ use Rattle.std.proofs.lemmas.List.{map-append}
 use Rattle.std.specs.Prelude.{◌/◌, ◌%◌, ◌==◌, if◌then◌else◌}
 use Rattle.etagere_base.proofs.EachLemmas.{Each-append, Each-front, Each-back}
 use Rattle.etagere_base.proofs.TimesLemmas.{times-append}
-use Rattle.etagere_base.specs.Lists.{Each, times}
+use Rattle.std.specs.List.{AllByRecursion}
+use Rattle.etagere_base.specs.Lists.{times}
 use Rattle.etagere_links.specs.declared.records.LinkedShelf.{LinkedShelf}
 use Rattle.etagere_links.specs.RecordLists.{Records, Entry, Lists, shelf_numbers, item_numbers, IsEntry, IsLinkedExcept}
 use Rattle.etagere_links.proofs.AllLists.LinkedEdits.{same-numbers}
 use Rattle.etagere_links.proofs.AllLists.LinkedItems.{IsApart, linked-apart}
 use Rattle.etagere_links.proofs.AllLists.LinkedUnused.{lists_of}
-use Rattle.shelf_records.specs.AtlasRecords.{AtlasRecords, is_allocated_at, place_of, along_of, height_of, item_at, spelled_shelf}
+use Rattle.shelf_records.specs.AtlasRecords.{AtlasRecords, is_allocated_at, item_place_of, along_of, height_of, item_at, spelled_shelf}
 use Rattle.shelf_records.specs.StandsFor.{AreStacked, height_before}
 use Rattle.shelf_model.specs.State.{Shelf}
 use Rattle.shelf_store.proofs.Spelled.EntryValues.{free_count-same}
@@ -41,10 +42,10 @@ with_lists atlas lists = record { frame = atlas.frame; records = lists; allocate
 -- a shelf whose record and items say the same is spelled as before
 pub shelf-same : (atlas : AtlasRecords) (lists : Records) (entry : Entry) → SameShelf atlas.records.shelves lists.shelves entry.number → ((k : ℕ) → 1 ≤ times k entry.items → SameItem atlas.records.items lists.items k) → ((k : ℕ) → times k entry.free_list ≤ times k entry.items) → spelled_shelf (with_lists atlas lists) entry ≡ spelled_shelf atlas entry
 shelf-same atlas lists entry shelf items members =
-    ap (λ a. record { column = a / atlas.frame.column_width; height = height_of lists.shelves entry.number; items = map (item_at lists.items) entry.items; free_list = map (place_of lists.items) entry.free_list }) shelf.along
-    ∙ ap (λ h. record { column = along_of atlas.records.shelves entry.number / atlas.frame.column_width; height = h; items = map (item_at lists.items) entry.items; free_list = map (place_of lists.items) entry.free_list }) shelf.height
-    ∙ ap (λ is. record { column = along_of atlas.records.shelves entry.number / atlas.frame.column_width; height = height_of atlas.records.shelves entry.number; items = is; free_list = map (place_of lists.items) entry.free_list }) (map-agrees (item_at lists.items) (item_at atlas.records.items) entry.items (λ k stands. (items k stands).item))
-    ∙ ap (λ ps. record { column = along_of atlas.records.shelves entry.number / atlas.frame.column_width; height = height_of atlas.records.shelves entry.number; items = map (item_at atlas.records.items) entry.items; free_list = ps }) (map-agrees (place_of lists.items) (place_of atlas.records.items) entry.free_list (λ k stands. (items k (omega (arith, stands, members k))).place))
+    ap (λ a. record { column = a / atlas.frame.column_width; height = height_of lists.shelves entry.number; items = map (item_at lists.items) entry.items; free_list = map (item_place_of lists.items) entry.free_list }) shelf.along
+    ∙ ap (λ h. record { column = along_of atlas.records.shelves entry.number / atlas.frame.column_width; height = h; items = map (item_at lists.items) entry.items; free_list = map (item_place_of lists.items) entry.free_list }) shelf.height
+    ∙ ap (λ is. record { column = along_of atlas.records.shelves entry.number / atlas.frame.column_width; height = height_of atlas.records.shelves entry.number; items = is; free_list = map (item_place_of lists.items) entry.free_list }) (map-agrees (item_at lists.items) (item_at atlas.records.items) entry.items (λ k stands. (items k stands).item))
+    ∙ ap (λ ps. record { column = along_of atlas.records.shelves entry.number / atlas.frame.column_width; height = height_of atlas.records.shelves entry.number; items = map (item_at atlas.records.items) entry.items; free_list = ps }) (map-agrees (item_place_of lists.items) (item_place_of atlas.records.items) entry.free_list (λ k stands. (items k (omega (arith, stands, members k))).place))
 
 -- a shelf whose record and items say the same is placed as before
 pub placed-same : (atlas : AtlasRecords) (lists : Records) (entry : Entry) → along_of lists.shelves entry.number ≡ along_of atlas.records.shelves entry.number → ((k : ℕ) → 1 ≤ times k entry.items → SameItem atlas.records.items lists.items k) → IsPlaced atlas entry → IsPlaced (with_lists atlas lists) entry
@@ -60,9 +61,9 @@ placed-same atlas lists entry along items placed =
 -- that they spell
 pub record IsSpelledBut (atlas : AtlasRecords) (lists : Lists) (loose_items loose_shelves : List ℕ) : Type 0 where
   pub linked : IsLinkedExcept atlas.records lists loose_items loose_shelves
-  pub placed : Each (IsPlaced atlas) lists.entries
+  pub placed : AllByRecursion (IsPlaced atlas) lists.entries
   pub stacked : AreStacked atlas.records.shelves atlas.frame.column_width [] (shelf_numbers lists.entries)
-  pub unused : Each (λ item. is_allocated_at atlas.records.items item ≡ false) lists.unused_items
+  pub unused : AllByRecursion (λ item. is_allocated_at atlas.records.items item ≡ false) lists.unused_items
 
 -- records that spell lists, while an edit goes on, each in one of them
 abbrev pub IsSpelled : AtlasRecords → Lists → Type 0
@@ -75,10 +76,10 @@ pub record EditsItems (atlas : AtlasRecords) (lists : Records) (before after : L
   pub placed : IsPlaced (with_lists atlas lists) edited
   pub items : (k : ℕ) → times k entry.items ≡ 0 → SameItem atlas.records.items lists.items k
   pub shelf : (k : ℕ) → SameShelf atlas.records.shelves lists.shelves k
-  pub aside : Each (λ item. is_allocated_at lists.items item ≡ false) unused'
+  pub left_unused : AllByRecursion (λ item. is_allocated_at lists.items item ≡ false) unused'
 
 -- shelves whose items are untouched are placed and spelled as before
-untouched : (atlas : AtlasRecords) (lists : Records) (entries : List Entry) → ((k : ℕ) → SameShelf atlas.records.shelves lists.shelves k) → ((k : ℕ) → 1 ≤ times k (item_numbers entries) → SameItem atlas.records.items lists.items k) → Each (IsEntry atlas.records) entries → Each (IsPlaced atlas) entries → Each (IsPlaced (with_lists atlas lists)) entries × (map (spelled_shelf (with_lists atlas lists)) entries ≡ map (spelled_shelf atlas) entries)
+untouched : (atlas : AtlasRecords) (lists : Records) (entries : List Entry) → ((k : ℕ) → SameShelf atlas.records.shelves lists.shelves k) → ((k : ℕ) → 1 ≤ times k (item_numbers entries) → SameItem atlas.records.items lists.items k) → AllByRecursion (IsEntry atlas.records) entries → AllByRecursion (IsPlaced atlas) entries → AllByRecursion (IsPlaced (with_lists atlas lists)) entries × (map (spelled_shelf (with_lists atlas lists)) entries ≡ map (spelled_shelf atlas) entries)
 untouched atlas lists [] shelf items are placed = (tt, refl)
 untouched atlas lists (entry ∷ entries) shelf items are placed =
     let own : (k : ℕ) → 1 ≤ times k entry.items → SameItem atlas.records.items lists.items k = λ k stands. items k (omega (arith, stands, times-append k entry.items (item_numbers entries))) in
@@ -109,7 +110,7 @@ items-edited-but atlas lists before after unused unused' shelves loose entry edi
         linked = edits.linked;
         placed = Each-append (IsPlaced new) before (edited ∷ after) front.0 (edits.placed, back.0);
         stacked = rw numbers (stacked-same atlas.records.shelves lists.shelves atlas.frame.column_width edits.shelf [] (shelf_numbers (before ++ entry ∷ after)) spelled.stacked);
-        unused = edits.aside;
+        unused = edits.left_unused;
       },
       map-append (spelled_shelf new) before (edited ∷ after)
           ∙ ap (λ (ss : List Shelf). ss ++ spelled_shelf new edited ∷ map (spelled_shelf new) after) front.1

@@ -3,7 +3,8 @@ use Rattle.std.proofs.Common.{◌≡◌, ◌≢◌, ℕ, ◌+◌, ◌<◌, ◌�
 use Rattle.std.specs.Prelude.{◌%◌}
 use Rattle.etagere_base.proofs.EachLemmas.{Each-append, Each-front, Each-back, Each-middle}
 use Rattle.etagere_base.proofs.TimesLemmas.{times-append}
-use Rattle.etagere_base.specs.Lists.{Each, times}
+use Rattle.std.specs.List.{AllByRecursion}
+use Rattle.etagere_base.specs.Lists.{times}
 use Rattle.etagere_links.specs.declared.records.LinkedItem.{LinkedItem}
 use Rattle.etagere_links.specs.declared.records.LinkedShelf.{LinkedShelf}
 use Rattle.etagere_links.specs.Edits.{changed_by, link_at, first_without, linked_between, unlinked}
@@ -34,7 +35,7 @@ pub free-first : (shelf : ℕ) (link : Option ℕ) (shelves : List LinkedShelf) 
 free-first shelf link shelves = map-changed_by shelf_values (λ (x : LinkedShelf). record x { first_unallocated = link }) shelves (Some shelf) (λ x. refl)
 
 -- items that are not marked allocated stay so where they say the same
-pub unmarked-same : (items new : List LinkedItem) (xs : List ℕ) → ((k : ℕ) → 1 ≤ times k xs → SameItem items new k) → Each (λ item. is_allocated_at items item ≡ false) xs → Each (λ item. is_allocated_at new item ≡ false) xs
+pub unmarked-same : (items new : List LinkedItem) (xs : List ℕ) → ((k : ℕ) → 1 ≤ times k xs → SameItem items new k) → AllByRecursion (λ item. is_allocated_at items item ≡ false) xs → AllByRecursion (λ item. is_allocated_at new item ≡ false) xs
 unmarked-same items new [] same each = tt
 unmarked-same items new (x ∷ xs) same each =
     ((same x (omega (arith, times-here x xs))).allocated ∙ each.0, unmarked-same items new xs (λ k stands. same k (omega (arith, stands))) each.1)
@@ -86,7 +87,7 @@ free_absorbed-spelled atlas before after shelf number next front back free_front
           (λ k. omega (arith, times-append k free_front (next ∷ free_back), times-append k free_front free_back, free_count-free items k next [] is_free)) placed;
       items = λ k absent. absorbs.others k (neither front back number next k absent).0 (neither front back number next k absent).1;
       shelf = same;
-      aside = (
+      left_unused = (
         (wide.others next differ).allocated ∙ is_free,
         unmarked-same items lists.items unused
             (λ k stands. wide.others k (neither front back number next k (omega (arith, apart.others k (omega (arith, stands, times-append k (item_numbers before ++ item_numbers after) unused))))).0) spelled.unused,
@@ -122,7 +123,7 @@ allocated_absorbed-spelled atlas before after shelf number next front back free 
           (λ k. omega (arith, free_count-allocated items k next [] is_allocated)) placed;
       items = λ k absent_. absorbs.others k (neither front back number next k absent_).0 (neither front back number next k absent_).1;
       shelf = same;
-      aside = (
+      left_unused = (
         allocated-unmarked atlas.records shelf number next width differ next_within,
         unmarked-same items lists.items unused
             (λ k stands.
@@ -209,7 +210,7 @@ item_freed-spelled atlas before after shelf number front back free unused shelve
           };
       items = λ k gone. freed.others k (not-member front back number k gone);
       shelf = same;
-      aside = unmarked-same items lists.items unused
+      left_unused = unmarked-same items lists.items unused
           (λ k stands. freed.others k (not-member front back number k (omega (arith, apart.others k (omega (arith, stands, times-append k (item_numbers before ++ item_numbers after) unused)))))) spelled.unused;
     }
 
@@ -280,6 +281,6 @@ item_given-spelled atlas before after shelf number front back free_front free_ba
           };
       items = λ k gone. given.others k (not-member front back number k gone);
       shelf = same;
-      aside = unmarked-same items lists.items unused
+      left_unused = unmarked-same items lists.items unused
           (λ k stands. given.others k (not-member front back number k (omega (arith, apart.others k (omega (arith, stands, times-append k (item_numbers before ++ item_numbers after) unused)))))) spelled.unused;
     }

@@ -2,10 +2,11 @@
 use Rattle.std.proofs.Common.{◌≡◌, ◌≢◌, ℕ, ◌+◌, ◌<◌, false, Some, List, [], ◌∷◌, ◌++◌, length, map, refl, arith, ◌∙◌}
 use Rattle.etagere_base.proofs.EachLemmas.{Each-append, Each-front, Each-back}
 use Rattle.etagere_base.proofs.TimesLemmas.{times-append}
-use Rattle.etagere_base.specs.Lists.{Each, times}
+use Rattle.std.specs.List.{AllByRecursion}
+use Rattle.etagere_base.specs.Lists.{times}
 use Rattle.etagere_links.specs.declared.records.LinkedItem.{LinkedItem}
 use Rattle.etagere_links.specs.declared.records.LinkedShelf.{LinkedShelf}
-use Rattle.etagere_links.specs.Edits.{unlinked, put_aside}
+use Rattle.etagere_links.specs.Edits.{unlinked, made_unused}
 use Rattle.etagere_links.specs.Families.{IsUnchanged}
 use Rattle.etagere_links.specs.RecordLists.{Records, Entry, shelf_numbers}
 use Rattle.etagere_links.specs.RecordMerges.{shelf_absorbed}
@@ -16,7 +17,7 @@ use Rattle.etagere_links.proofs.AllLists.LinkedMerges.{entry_of, shelf_absorbed-
 use Rattle.etagere_links.proofs.AllLists.LinkedFrames.{shelf_numbers-append}
 use Rattle.etagere_links.proofs.AllLists.LinkedUnused.{lists_of}
 use Rattle.etagere_links.proofs.RecordChanges.{length-changed_by}
-use Rattle.etagere_links.proofs.RecordFrames.{map-unlinked, map-put_aside, length-unlinked, length-put_aside}
+use Rattle.etagere_links.proofs.RecordFrames.{map-unlinked, map-made_unused, length-unlinked, length-made_unused}
 use Rattle.shelf_records.specs.AtlasRecords.{AtlasRecords, is_allocated_at, is_empty_at, along_of, across_of, height_of}
 use Rattle.shelf_store.proofs.Spelled.AbsorbedItems.{items-keep_values}
 use Rattle.shelf_records.proofs.Spelled.RecordValues.{item_values, shelf_values, SameItem, SameShelf, items-same, shelves-same, shelf-other}
@@ -30,7 +31,7 @@ pub shelves-keep_values : IsUnchanged shelf_chain shelf_values
 shelves-keep_values = record { next = λ link x. refl; previous = λ link x. refl }
 
 -- shelves whose items say the same, and that begin along where they began, are placed as before
-pub still-placed : (atlas : AtlasRecords) (lists : Records) (entries : List Entry) → ((k : ℕ) → along_of lists.shelves k ≡ along_of atlas.records.shelves k) → ((k : ℕ) → SameItem atlas.records.items lists.items k) → Each (IsPlaced atlas) entries → Each (IsPlaced (with_lists atlas lists)) entries
+pub still-placed : (atlas : AtlasRecords) (lists : Records) (entries : List Entry) → ((k : ℕ) → along_of lists.shelves k ≡ along_of atlas.records.shelves k) → ((k : ℕ) → SameItem atlas.records.items lists.items k) → AllByRecursion (IsPlaced atlas) entries → AllByRecursion (IsPlaced (with_lists atlas lists)) entries
 still-placed atlas lists [] along items placed = tt
 still-placed atlas lists (entry ∷ entries) along items placed =
     (placed-same atlas lists entry (along entry.number) (λ k stands. items k) placed.0, still-placed atlas lists entries along items placed.1)
@@ -50,10 +51,10 @@ shelf_absorbed-values records number next item height within =
     let old : List LinkedShelf = records.shelves in
     let change : LinkedShelf → LinkedShelf = λ x. record x { height = height } in
     let one : List LinkedShelf = unlinked shelf_chain next old in
-    let two : List LinkedShelf = put_aside shelf_chain records.unused_shelves next one in
+    let two : List LinkedShelf = made_unused shelf_chain records.unused_shelves next one in
     let values : map shelf_values two ≡ map shelf_values old =
-    map-put_aside shelf_chain shelf_values shelves-keep_values one records.unused_shelves next ∙ map-unlinked shelf_chain shelf_values shelves-keep_values old next in
-    let long : length two ≡ length old = length-put_aside shelf_chain one records.unused_shelves next ∙ length-unlinked shelf_chain old next in
+    map-made_unused shelf_chain shelf_values shelves-keep_values one records.unused_shelves next ∙ map-unlinked shelf_chain shelf_values shelves-keep_values old next in
+    let long : length two ≡ length old = length-made_unused shelf_chain one records.unused_shelves next ∙ length-unlinked shelf_chain old next in
     let middle : (k : ℕ) → SameShelf old two k = λ k. shelves-same old two k values in
     record {
       along = λ k. field_at-kept (λ (x : LinkedShelf). x.x) 0 change two number k (λ x. refl) ∙ (middle k).along;
@@ -61,7 +62,7 @@ shelf_absorbed-values records number next item height within =
       is_empty = λ k. field_at-kept (λ (x : LinkedShelf). x.is_empty) false change two number k (λ x. refl) ∙ (middle k).is_empty;
       own = field_at-changed (λ (x : LinkedShelf). x.height) 0 change two number height (rw long within) (λ x. refl);
       others = λ k other. shelf-other old two change number k other (middle k);
-      items = λ k. items-same records.items (shelf_absorbed number next item height records).items k (map-put_aside item_chain item_values items-keep_values records.items records.unused_items item);
+      items = λ k. items-same records.items (shelf_absorbed number next item height records).items k (map-made_unused item_chain item_values items-keep_values records.items records.unused_items item);
       as_many = length-changed_by change two (Some number) ∙ long;
     }
 

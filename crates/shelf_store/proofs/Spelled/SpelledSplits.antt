@@ -4,7 +4,8 @@ use Rattle.std.proofs.lemmas.Nat.{div-add-mod'}
 use Rattle.std.specs.Prelude.{◌/◌, ◌%◌, slice_get}
 use Rattle.etagere_base.proofs.EachLemmas.{Each-append, Each-front, Each-back, Each-middle}
 use Rattle.etagere_base.proofs.TimesLemmas.{times-append}
-use Rattle.etagere_base.specs.Lists.{Each, times}
+use Rattle.std.specs.List.{AllByRecursion}
+use Rattle.etagere_base.specs.Lists.{times}
 use Rattle.etagere_links.specs.declared.records.LinkedItem.{LinkedItem}
 use Rattle.etagere_links.specs.declared.records.LinkedShelf.{LinkedShelf}
 use Rattle.etagere_links.specs.Edits.{changed_by, link_at, linked_between}
@@ -22,7 +23,7 @@ use Rattle.etagere_links.proofs.AllLists.LinkedSplits.{shelf_split-linked}
 use Rattle.etagere_links.proofs.AllLists.LinkedUnused.{lists_of, IsLoose, loose-of}
 use Rattle.etagere_links.proofs.RecordChanges.{get-changed_by-other, length-changed_by}
 use Rattle.etagere_links.proofs.RecordFrames.{map-linked_between, length-linked_between}
-use Rattle.shelf_records.specs.AtlasRecords.{AtlasRecords, is_allocated_at, place_of, shelf_of, along_of, across_of, height_of, is_empty_at, item_at, spelled_item, spelled_shelf}
+use Rattle.shelf_records.specs.AtlasRecords.{AtlasRecords, is_allocated_at, item_place_of, shelf_of, along_of, across_of, height_of, is_empty_at, item_at, spelled_item, spelled_shelf}
 use Rattle.shelf_records.specs.Private.Kept.{HasFlag, IsPlaced}
 use Rattle.shelf_store.specs.Private.PlacementTaken.{free_item, item_record, rest_shelf, shelf_record}
 use Rattle.shelf_model.specs.State.{Item, Shelf, empty_shelf, is_empty}
@@ -41,7 +42,7 @@ read-record field other (x ∷ xs) zero = refl
 read-record field other (x ∷ xs) (suc k) = read-record field other xs k
 
 -- shelves that begin along where they began, of items that say the same, are placed as before
-placed-entries : (atlas : AtlasRecords) (lists : Records) (entries : List Entry) → ((k : ℕ) → 1 ≤ times k (shelf_numbers entries) → along_of lists.shelves k ≡ along_of atlas.records.shelves k) → ((k : ℕ) → 1 ≤ times k (item_numbers entries) → SameItem atlas.records.items lists.items k) → Each (IsPlaced atlas) entries → Each (IsPlaced (with_lists atlas lists)) entries
+placed-entries : (atlas : AtlasRecords) (lists : Records) (entries : List Entry) → ((k : ℕ) → 1 ≤ times k (shelf_numbers entries) → along_of lists.shelves k ≡ along_of atlas.records.shelves k) → ((k : ℕ) → 1 ≤ times k (item_numbers entries) → SameItem atlas.records.items lists.items k) → AllByRecursion (IsPlaced atlas) entries → AllByRecursion (IsPlaced (with_lists atlas lists)) entries
 placed-entries atlas lists [] along items placed = tt
 placed-entries atlas lists (entry ∷ entries) along items placed = (
   placed-same atlas lists entry (along entry.number (grind arith)) (λ k stands. items k (omega (arith, stands, times-append k entry.items (item_numbers entries)))) placed.0,
@@ -64,7 +65,7 @@ pub record HasShelfSplit (atlas : AtlasRecords) (new : Records) (before added af
   pub along : along_of new.shelves entry.number ≡ along_of atlas.records.shelves entry.number
   pub height : height_of new.shelves entry.number ≡ tall
   pub rests : map (spelled_shelf (with_lists atlas new)) added ≡ pieces
-  pub flags : Each (HasFlag (with_lists atlas new)) added
+  pub flags : AllByRecursion (HasFlag (with_lists atlas new)) added
   pub more : length atlas.records.items ≤ length new.items
   pub made : 1 ≤ length unused_items → length new.items ≡ length atlas.records.items
   pub few : length new.shelves ≤ no_link
@@ -91,7 +92,7 @@ record IsRestOf (frame_width : ℕ) (items : List LinkedItem) (shelves old : Lis
   pub height : height_of shelves number ≡ tall
   pub is_empty : is_empty_at shelves rest ≡ true
   pub item : item_at items rest_item ≡ record { width = frame_width; id = None }
-  pub place : place_of items rest_item ≡ along_of shelves rest
+  pub place : item_place_of items rest_item ≡ along_of shelves rest
   pub owner : shelf_of items rest_item ≡ rest
   pub free : is_allocated_at items rest_item ≡ false
   pub others : (k : ℕ) → number ≢ k → rest ≢ k → SameShelf old shelves k
@@ -178,7 +179,7 @@ split-shelf atlas used before after entry rest rest_item height unused_items unu
     (field_at-kept (λ (x : LinkedShelf). x.x) 0 (λ (x : LinkedShelf). record x { height = height }) (linked_between shelf_chain (Some number) (link_at shelf_chain.next (changed_by (Some rest) (λ _. rest_record) used.shelves) number) rest (changed_by (Some rest) (λ _. rest_record) used.shelves)) number k (λ x. refl))
     ∙ (shelves-same (changed_by (Some rest) (λ _. rest_record) used.shelves) (linked_between shelf_chain (Some number) (link_at shelf_chain.next (changed_by (Some rest) (λ _. rest_record) used.shelves) number) rest (changed_by (Some rest) (λ _. rest_record) used.shelves)) k (map-linked_between shelf_chain shelf_values shelves-keep_values (changed_by (Some rest) (λ _. rest_record) used.shelves) (Some number) (link_at shelf_chain.next (changed_by (Some rest) (λ _. rest_record) used.shelves) number) rest)).along
     ∙ (shelf-other used.shelves used.shelves (λ _. rest_record) rest k (λ e. let same : rest ≡ k = cc in rest_other k stands same) (same-shelf used.shelves k)).along in
-    let all : Each (IsPlaced (with_lists atlas new)) entries = placed-entries middle new entries along (λ k stands. item-same used.items new.items k (kept k stands)) spelled.placed in
+    let all : AllByRecursion (IsPlaced (with_lists atlas new)) entries = placed-entries middle new entries along (λ k stands. item-same used.items new.items k (kept k stands)) spelled.placed in
     let own_column : along_of used.shelves number % cw ≡ 0 = (Each-middle (IsPlaced middle) before entry after spelled.placed).along in
     let rest_along : along_of new.shelves rest ≡ along_of used.shelves number = is.splits.rest_along in
     let added_placed : IsPlaced (with_lists atlas new) added =
@@ -190,13 +191,13 @@ split-shelf atlas used before after entry rest rest_item height unused_items unu
     } in
     let base : along_of used.shelves number ≡ along_of atlas.records.shelves number = (is_used.shelves number).along in
     let column : along_of new.shelves rest / cw ≡ along_of atlas.records.shelves number / cw = ap (λ a. a / cw) (rest_along ∙ base) in
-    let place : place_of new.items rest_item ≡ along_of atlas.records.shelves number / cw * cw =
+    let place : item_place_of new.items rest_item ≡ along_of atlas.records.shelves number / cw * cw =
     is.place ∙ rest_along ∙ base ∙ multiple (along_of atlas.records.shelves number) cw (ap (λ a. a % cw) (sym base) ∙ own_column) in
     let rest_height : height_of new.shelves rest ≡ height_of atlas.records.shelves number - height =
     omega (arith, is.splits.height, is.height, (is_used.shelves number).height) in
     let added_spelled : spelled_shelf (with_lists atlas new) added ≡ empty_shelf atlas.frame (along_of atlas.records.shelves number / cw) (height_of atlas.records.shelves number - height) =
     shelf-parts (along_of new.shelves rest / cw) (along_of atlas.records.shelves number / cw) (height_of new.shelves rest) (height_of atlas.records.shelves number - height)
-    (item_at new.items rest_item ∷ []) (record { width = cw; id = None } ∷ []) (place_of new.items rest_item ∷ []) (along_of atlas.records.shelves number / cw * cw ∷ [])
+    (item_at new.items rest_item ∷ []) (record { width = cw; id = None } ∷ []) (item_place_of new.items rest_item ∷ []) (along_of atlas.records.shelves number / cw * cw ∷ [])
     column rest_height (ap (λ (i : Item). i ∷ []) is.item) (ap (λ p. p ∷ []) place) in
     let tail = Each-back (IsPlaced (with_lists atlas new)) before (entry ∷ after) all in
     let more_numbers : shelf_numbers (before ++ entry ∷ added ∷ after) ≡ shelf_numbers before ++ number ∷ rest ∷ shelf_numbers after = shelf_numbers-append before (entry ∷ added ∷ after) in

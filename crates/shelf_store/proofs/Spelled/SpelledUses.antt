@@ -2,7 +2,8 @@
 use Rattle.std.proofs.Common.{◌≡◌, ◌≢◌, ℕ, zero, suc, ◌+◌, ◌<◌, ◌≤◌, true, false, Option, None, Some, List, [], ◌∷◌, ◌++◌, length, map, refl, ap, arith, ◌∙◌, sym}
 use Rattle.std.specs.Prelude.{slice_get}
 use Rattle.etagere_base.proofs.TimesLemmas.{times-append}
-use Rattle.etagere_base.specs.Lists.{Each, times}
+use Rattle.std.specs.List.{AllByRecursion}
+use Rattle.etagere_base.specs.Lists.{times}
 use Rattle.etagere_links.specs.declared.records.LinkedShelf.{LinkedShelf}
 use Rattle.etagere_links.specs.Links.{no_link}
 use Rattle.etagere_links.specs.RecordLists.{Records, Entry, field_at, shelf_numbers, item_numbers, IsEntry}
@@ -19,12 +20,12 @@ use Rattle.shelf_store.proofs.Spelled.SpelledMerges.{unmarked-same}
 
 -- shelves that say what they said
 pub record SameEntries (atlas : AtlasRecords) (lists : Records) (entries : List Entry) : Type 0 where
-  pub placed : Each (IsPlaced atlas) entries → Each (IsPlaced (with_lists atlas lists)) entries
+  pub placed : AllByRecursion (IsPlaced atlas) entries → AllByRecursion (IsPlaced (with_lists atlas lists)) entries
   pub spelled : map (spelled_shelf (with_lists atlas lists)) entries ≡ map (spelled_shelf atlas) entries
-  pub flags : Each (HasFlag atlas) entries → Each (HasFlag (with_lists atlas lists)) entries
+  pub flags : AllByRecursion (HasFlag atlas) entries → AllByRecursion (HasFlag (with_lists atlas lists)) entries
 
 -- shelves whose records and items say the same
-pub same-entries : (atlas : AtlasRecords) (lists : Records) (entries : List Entry) → ((k : ℕ) → 1 ≤ times k (shelf_numbers entries) → SameShelf atlas.records.shelves lists.shelves k) → ((k : ℕ) → 1 ≤ times k (item_numbers entries) → SameItem atlas.records.items lists.items k) → Each (IsEntry atlas.records) entries → SameEntries atlas lists entries
+pub same-entries : (atlas : AtlasRecords) (lists : Records) (entries : List Entry) → ((k : ℕ) → 1 ≤ times k (shelf_numbers entries) → SameShelf atlas.records.shelves lists.shelves k) → ((k : ℕ) → 1 ≤ times k (item_numbers entries) → SameItem atlas.records.items lists.items k) → AllByRecursion (IsEntry atlas.records) entries → SameEntries atlas lists entries
 same-entries atlas lists [] shelf items are = record { placed = λ p. tt; spelled = refl; flags = λ p. tt }
 same-entries atlas lists (entry ∷ entries) shelf items are =
     let own_shelf : SameShelf atlas.records.shelves lists.shelves entry.number = shelf entry.number (grind arith) in
@@ -67,7 +68,7 @@ SameShelf-then shelves middle new k one two =
     record { along = two.along ∙ one.along; across = two.across ∙ one.across; height = two.height ∙ one.height; is_empty = two.is_empty ∙ one.is_empty }
 
 -- a fact of each is one of each but the first
-pub Each-but_first : (P : ℕ → Type 0) (xs : List ℕ) → Each P xs → Each P (but_first xs)
+pub Each-but_first : (P : ℕ → Type 0) (xs : List ℕ) → AllByRecursion P xs → AllByRecursion P (but_first xs)
 Each-but_first P [] each = tt
 Each-but_first P (x ∷ xs) each = each.1
 

@@ -80,7 +80,7 @@ small_state =
             items = record { width = 8; id = Some 65536 } ∷ record { width = 12; id = None } ∷ [];
             free_list = 8 ∷ [];
           } ∷ [];
-      records = 2;
+      peak_items = 2;
     }
 
 -- the walks through the records spell the state

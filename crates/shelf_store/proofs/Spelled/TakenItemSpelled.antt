@@ -6,7 +6,7 @@ use Rattle.etagere_base.specs.Lists.{times, remove_place, replace_place, replace
 use Rattle.etagere_links.specs.declared.records.LinkedItem.{LinkedItem}
 use Rattle.etagere_links.specs.RecordLists.{Records}
 use Rattle.etagere_links.proofs.AllLists.LinkedMerges.{entry_of}
-use Rattle.shelf_records.specs.AtlasRecords.{AtlasRecords, is_allocated_at, place_of, along_of, height_of, item_at, spelled_shelf}
+use Rattle.shelf_records.specs.AtlasRecords.{AtlasRecords, is_allocated_at, item_place_of, along_of, height_of, item_at, spelled_shelf}
 use Rattle.shelf_model.specs.Choice.{Placement}
 use Rattle.shelf_model.specs.State.{Item, Shelf}
 use Rattle.shelf_store.proofs.Spelled.MergedAround.{remove-mapped, replace-mapped}
@@ -34,18 +34,18 @@ replaced-mapped f pieces (x ∷ front) back number = ap (λ ys. f x ∷ ys) (rep
 -- an item of a shelf as a placement names it: free, among these items and in this free list
 pub record IsPlacedAt (items : List LinkedItem) (placement : Placement) (front back free_front free_back : List ℕ) (number : ℕ) : Type 0 where
   pub at : placement.item ≡ length front
-  pub along : placement.along ≡ place_of items number
+  pub along : placement.along ≡ item_place_of items number
   pub free : is_allocated_at items number ≡ false
   pub split : placement.splits_item ≡ true → placement.width < (item_at items number).width
   pub whole : placement.splits_item ≡ false → placement.width ≡ (item_at items number).width
-  pub apart : (k : ℕ) → 1 ≤ times k (free_front ++ free_back) → place_of items k ≢ place_of items number
+  pub apart : (k : ℕ) → 1 ≤ times k (free_front ++ free_back) → item_place_of items k ≢ item_place_of items number
 
 -- the items and places of others are those that they were
 pub record KeepsOthers (items new : List LinkedItem) (front back free_front free_back : List ℕ) : Type 0 where
   pub before : (k : ℕ) → 1 ≤ times k front → item_at new k ≡ item_at items k
   pub after : (k : ℕ) → 1 ≤ times k back → item_at new k ≡ item_at items k
-  pub free_before : (k : ℕ) → 1 ≤ times k free_front → place_of new k ≡ place_of items k
-  pub free_after : (k : ℕ) → 1 ≤ times k free_back → place_of new k ≡ place_of items k
+  pub free_before : (k : ℕ) → 1 ≤ times k free_front → item_place_of new k ≡ item_place_of items k
+  pub free_after : (k : ℕ) → 1 ≤ times k free_back → item_place_of new k ≡ item_place_of items k
 
 -- the items that are spelled around some
 around : (items new : List LinkedItem) (front middle back : List ℕ) → ((k : ℕ) → 1 ≤ times k front → item_at new k ≡ item_at items k) → ((k : ℕ) → 1 ≤ times k back → item_at new k ≡ item_at items k) → map (item_at new) (front ++ (middle ++ back)) ≡ map (item_at items) front ++ (map (item_at new) middle ++ map (item_at items) back)
@@ -56,12 +56,12 @@ around items new front middle back same_front same_back =
     ∙ ap (λ (is : List Item). map (item_at items) front ++ (map (item_at new) middle ++ is)) (map-agrees (item_at new) (item_at items) back same_back)
 
 -- the places around some
-places-around : (items new : List LinkedItem) (front middle back : List ℕ) → ((k : ℕ) → 1 ≤ times k front → place_of new k ≡ place_of items k) → ((k : ℕ) → 1 ≤ times k back → place_of new k ≡ place_of items k) → map (place_of new) (front ++ (middle ++ back)) ≡ map (place_of items) front ++ (map (place_of new) middle ++ map (place_of items) back)
+places-around : (items new : List LinkedItem) (front middle back : List ℕ) → ((k : ℕ) → 1 ≤ times k front → item_place_of new k ≡ item_place_of items k) → ((k : ℕ) → 1 ≤ times k back → item_place_of new k ≡ item_place_of items k) → map (item_place_of new) (front ++ (middle ++ back)) ≡ map (item_place_of items) front ++ (map (item_place_of new) middle ++ map (item_place_of items) back)
 places-around items new front middle back same_front same_back =
-    map-append (place_of new) front (middle ++ back)
-    ∙ ap (λ (is : List ℕ). is ++ map (place_of new) (middle ++ back)) (map-agrees (place_of new) (place_of items) front same_front)
-    ∙ ap (λ (is : List ℕ). map (place_of items) front ++ is) (map-append (place_of new) middle back)
-    ∙ ap (λ (is : List ℕ). map (place_of items) front ++ (map (place_of new) middle ++ is)) (map-agrees (place_of new) (place_of items) back same_back)
+    map-append (item_place_of new) front (middle ++ back)
+    ∙ ap (λ (is : List ℕ). is ++ map (item_place_of new) (middle ++ back)) (map-agrees (item_place_of new) (item_place_of items) front same_front)
+    ∙ ap (λ (is : List ℕ). map (item_place_of items) front ++ is) (map-append (item_place_of new) middle back)
+    ∙ ap (λ (is : List ℕ). map (item_place_of items) front ++ (map (item_place_of new) middle ++ is)) (map-agrees (item_place_of new) (item_place_of items) back same_back)
 
 -- the shelf after an item was given whole
 pub whole-spelled : (atlas : AtlasRecords) (lists : Records) (placement : Placement) (id shelf number : ℕ) (front back free_front free_back : List ℕ) → IsPlacedAt atlas.records.items placement front back free_front free_back number → KeepsOthers atlas.records.items lists.items front back free_front free_back → along_of lists.shelves shelf ≡ along_of atlas.records.shelves shelf → height_of lists.shelves shelf ≡ placement.height → item_at lists.items number ≡ record { width = placement.width; id = Some id } → spelled_shelf (with_lists atlas lists) (entry_of shelf (front ++ number ∷ back) (free_front ++ free_back)) ≡ taken_from false placement id (spelled_shelf atlas (entry_of shelf (front ++ number ∷ back) (free_front ++ number ∷ free_back)))
@@ -75,18 +75,18 @@ whole-spelled atlas lists placement id shelf number front back free_front free_b
     ∙ ap (λ (i : Item). map (item_at old) front ++ i ∷ map (item_at old) back) item
     ∙ sym (replaced-mapped (item_at old) pieces front back number)
     ∙ ap (λ n. replaced_at n pieces (map (item_at old) (front ++ number ∷ back))) (sym is.at) in
-    let places : map (place_of new) (free_front ++ free_back) ≡ remove_place placement.along (map (place_of old) (free_front ++ number ∷ free_back)) =
+    let places : map (item_place_of new) (free_front ++ free_back) ≡ remove_place placement.along (map (item_place_of old) (free_front ++ number ∷ free_back)) =
     places-around old new free_front [] free_back keeps.free_before keeps.free_after
-    ∙ sym (map-append (place_of old) free_front free_back)
-    ∙ sym (remove-mapped (place_of old) free_front free_back number is.apart)
-    ∙ ap (λ a. remove_place a (map (place_of old) (free_front ++ number ∷ free_back))) (sym is.along) in
+    ∙ sym (map-append (item_place_of old) free_front free_back)
+    ∙ sym (remove-mapped (item_place_of old) free_front free_back number is.apart)
+    ∙ ap (λ a. remove_place a (map (item_place_of old) (free_front ++ number ∷ free_back))) (sym is.along) in
     shelf-parts (along_of lists.shelves shelf / cw) (along_of atlas.records.shelves shelf / cw) (height_of lists.shelves shelf) placement.height
     (map (item_at new) (front ++ number ∷ back)) (replaced_at placement.item pieces (map (item_at old) (front ++ number ∷ back)))
-    (map (place_of new) (free_front ++ free_back)) (remove_place placement.along (map (place_of old) (free_front ++ number ∷ free_back)))
+    (map (item_place_of new) (free_front ++ free_back)) (remove_place placement.along (map (item_place_of old) (free_front ++ number ∷ free_back)))
     (ap (λ a. a / cw) along) height items places
 
 -- the shelf after the front of an item was given
-pub front-spelled : (atlas : AtlasRecords) (lists : Records) (placement : Placement) (id shelf number rest : ℕ) (front back free_front free_back : List ℕ) → IsPlacedAt atlas.records.items placement front back free_front free_back number → KeepsOthers atlas.records.items lists.items front back free_front free_back → along_of lists.shelves shelf ≡ along_of atlas.records.shelves shelf → height_of lists.shelves shelf ≡ placement.height → item_at lists.items number ≡ record { width = placement.width; id = Some id } → item_at lists.items rest ≡ record { width = (item_at atlas.records.items number).width - placement.width; id = None } → place_of lists.items rest ≡ placement.along + placement.width → spelled_shelf (with_lists atlas lists) (entry_of shelf (front ++ number ∷ rest ∷ back) (free_front ++ rest ∷ free_back)) ≡ taken_from true placement id (spelled_shelf atlas (entry_of shelf (front ++ number ∷ back) (free_front ++ number ∷ free_back)))
+pub front-spelled : (atlas : AtlasRecords) (lists : Records) (placement : Placement) (id shelf number rest : ℕ) (front back free_front free_back : List ℕ) → IsPlacedAt atlas.records.items placement front back free_front free_back number → KeepsOthers atlas.records.items lists.items front back free_front free_back → along_of lists.shelves shelf ≡ along_of atlas.records.shelves shelf → height_of lists.shelves shelf ≡ placement.height → item_at lists.items number ≡ record { width = placement.width; id = Some id } → item_at lists.items rest ≡ record { width = (item_at atlas.records.items number).width - placement.width; id = None } → item_place_of lists.items rest ≡ placement.along + placement.width → spelled_shelf (with_lists atlas lists) (entry_of shelf (front ++ number ∷ rest ∷ back) (free_front ++ rest ∷ free_back)) ≡ taken_from true placement id (spelled_shelf atlas (entry_of shelf (front ++ number ∷ back) (free_front ++ number ∷ free_back)))
 front-spelled atlas lists placement id shelf number rest front back free_front free_back is keeps along height item rest_item rest_place =
     let old : List LinkedItem = atlas.records.items in
     let new : List LinkedItem = lists.items in
@@ -98,12 +98,12 @@ front-spelled atlas lists placement id shelf number rest front back free_front f
     ∙ ap (λ (i : Item). map (item_at old) front ++ record { width = placement.width; id = Some id } ∷ i ∷ map (item_at old) back) rest_item
     ∙ sym (replaced-mapped (item_at old) pieces front back number)
     ∙ ap (λ n. replaced_at n pieces (map (item_at old) (front ++ number ∷ back))) (sym is.at) in
-    let places : map (place_of new) (free_front ++ rest ∷ free_back) ≡ replace_place placement.along (placement.along + placement.width) (map (place_of old) (free_front ++ number ∷ free_back)) =
+    let places : map (item_place_of new) (free_front ++ rest ∷ free_back) ≡ replace_place placement.along (placement.along + placement.width) (map (item_place_of old) (free_front ++ number ∷ free_back)) =
     places-around old new free_front (rest ∷ []) free_back keeps.free_before keeps.free_after
-    ∙ ap (λ p. map (place_of old) free_front ++ p ∷ map (place_of old) free_back) rest_place
-    ∙ sym (replace-mapped (place_of old) free_front free_back number (placement.along + placement.width) is.apart)
-    ∙ ap (λ a. replace_place a (placement.along + placement.width) (map (place_of old) (free_front ++ number ∷ free_back))) (sym is.along) in
+    ∙ ap (λ p. map (item_place_of old) free_front ++ p ∷ map (item_place_of old) free_back) rest_place
+    ∙ sym (replace-mapped (item_place_of old) free_front free_back number (placement.along + placement.width) is.apart)
+    ∙ ap (λ a. replace_place a (placement.along + placement.width) (map (item_place_of old) (free_front ++ number ∷ free_back))) (sym is.along) in
     shelf-parts (along_of lists.shelves shelf / cw) (along_of atlas.records.shelves shelf / cw) (height_of lists.shelves shelf) placement.height
     (map (item_at new) (front ++ number ∷ rest ∷ back)) (replaced_at placement.item pieces (map (item_at old) (front ++ number ∷ back)))
-    (map (place_of new) (free_front ++ rest ∷ free_back)) (replace_place placement.along (placement.along + placement.width) (map (place_of old) (free_front ++ number ∷ free_back)))
+    (map (item_place_of new) (free_front ++ rest ∷ free_back)) (replace_place placement.along (placement.along + placement.width) (map (item_place_of old) (free_front ++ number ∷ free_back)))
     (ap (λ a. a / cw) along) height items places

@@ -3,7 +3,8 @@ use Rattle.std.proofs.Common.{◌≡◌, ℕ, zero, suc, ◌+◌, ◌<◌, ◌�
 use Rattle.std.proofs.lemmas.List.{length-append, map-append}
 use Rattle.std.specs.Prelude.{max}
 use Rattle.etagere_base.proofs.EachLemmas.{Each-back, Each-front, Each-weaken}
-use Rattle.etagere_base.specs.Lists.{Each, replaced_at, times}
+use Rattle.std.specs.List.{AllByRecursion}
+use Rattle.etagere_base.specs.Lists.{replaced_at, times}
 use Rattle.etagere_base.specs.declared.frames.Frame.{Frame}
 use Rattle.etagere_base.specs.declared.geometry.Size.{Size}
 use Rattle.etagere_links.specs.RecordLists.{Records, Entry, Lists, item_numbers, shelf_numbers, walked_lists}
@@ -75,7 +76,7 @@ pub record KeepsTaken (frame : Frame) (records : Records) (placement found : Pla
   pub kept : AreKept frame (placement_taken frame.column_width found records)
   pub spells : SpellsTaken frame records (placement_taken frame.column_width found records) placement found
   pub fresh : times (record_number (id_of records.items found.item)) (allocated_numbers (state_of frame records)) ≡ 0
-  pub below : record_number (id_of records.items found.item) < (taken (state_of frame records) placement (id_of records.items found.item)).records
+  pub below : record_number (id_of records.items found.item) < (taken (state_of frame records) placement (id_of records.items found.item)).peak_items
 
 -- a placement of a size that was located in kept records is taken
 pub placement-kept : (frame : Frame) (records : Records) (size : Size) (placement found : Placement) → AreKept frame records → placement_of (state_of frame records) size ≡ Some placement → Locates records found placement → KeepsTaken frame records placement found
@@ -94,8 +95,8 @@ placement-kept frame records size placement found kept h locates =
     let place : Placement = record placement { shelf = shelf; item = number } in
     let new : Records = placement_taken frame.column_width place records in
     let last : AtlasRecords = with_lists atlas new in
-    let flags : Each (HasFlag atlas) entries =
-    subst (Each (HasFlag atlas)) is.entries (Each-weaken (HasFlag (atlas_of frame records)) (HasFlag atlas) lists.entries (λ entry flag. flag) kept.flags) in
+    let flags : AllByRecursion (HasFlag atlas) entries =
+    subst (AllByRecursion (HasFlag atlas)) is.entries (Each-weaken (HasFlag (atlas_of frame records)) (HasFlag atlas) lists.entries (λ entry flag. flag) kept.flags) in
     let within : number < length records.items = is_ready.within in
     let takes : IsTakenBy atlas new is.before is.after shelf (spelled_shelf atlas entry) placement id =
     taken-spelled atlas is.before is.after shelf number is.front is.back is.free_front is.free_back lists.unused_items lists.unused_shelves placement within is.item
@@ -117,7 +118,7 @@ placement-kept frame records size placement found kept h locates =
       length-append (item_numbers takes.lists.entries ++ takes.lists.unused_items) [],
       length-append (item_numbers takes.lists.entries) takes.lists.unused_items,
     ) in
-    let count : new_state.records ≡ length new.items = records-count (length records.items) (length new.items) (items_in_use new_state.shelves) (length takes.lists.unused_items) total takes.more takes.made in
+    let count : new_state.peak_items ≡ length new.items = records-count (length records.items) (length new.items) (items_in_use new_state.shelves) (length takes.lists.unused_items) total takes.more takes.made in
     let some_shelf : 1 ≤ length new.shelves =
     omega (
       arith,
@@ -130,16 +131,16 @@ placement-kept frame records size placement found kept h locates =
     let generation : ℕ = (item_record records.items number).generation in
     let new_number : times (record_number id) (allocated_numbers state) ≡ 0 =
     new-number (atlas_of frame records) lists.entries number generation kept.counts.items.1 small is.item.free in
-    let low : record_number id < new_state.records = omega (arith, number-of_record number generation small, count, within, takes.more) in
+    let low : record_number id < new_state.peak_items = omega (arith, number-of_record number generation small, count, within, takes.more) in
     let valid : IsValid new_state = taken-valid state size placement id kept.valid h new_number low in
     let witnessed : Witnessed last takes.lists new_state =
     record {
-      spelled = ap (λ (ss : List Shelf). record { frame = frame; shelves = ss; records = new_state.records }) shelves
-          ∙ ap (λ n. record { frame = frame; shelves = map (spelled_shelf last) takes.lists.entries; records = n }) count;
+      spelled = ap (λ (ss : List Shelf). record { frame = frame; shelves = ss; peak_items = new_state.peak_items }) shelves
+          ∙ ap (λ n. record { frame = frame; shelves = map (spelled_shelf last) takes.lists.entries; peak_items = n }) count;
       counts =
           record {
             shelves = (some_shelf, takes.few);
-            items = (omega (arith, within, takes.more), omega (arith, valid.records.1, count));
+            items = (omega (arith, within, takes.more), omega (arith, valid.peak_items.1, count));
           };
       linked = takes.flagged.spelled.linked;
       placed = takes.flagged.spelled.placed;

@@ -5,7 +5,8 @@ use Rattle.std.proofs.lemmas.List.{length-append}
 use Rattle.std.specs.Prelude.{nat_lt, if◌then◌else◌}
 use Rattle.etagere_base.proofs.EachLemmas.{Each-weaken}
 use Rattle.etagere_base.proofs.TimesLemmas.{times-append}
-use Rattle.etagere_base.specs.Lists.{Each, times}
+use Rattle.std.specs.List.{AllByRecursion}
+use Rattle.etagere_base.specs.Lists.{times}
 use Rattle.etagere_base.specs.declared.frames.Frame.{Frame}
 use Rattle.etagere_base.specs.declared.geometry.Size.{Size}
 use Rattle.etagere_links.specs.Links.{no_link}
@@ -36,7 +37,7 @@ each-length count xs once =
     at_test k false e below = absurd (grind arith)
 
 -- shelves are no more than their items
-pub shelves-few : (atlas : AtlasRecords) (entries : List Entry) → 1 ≤ atlas.frame.column_width → Each (IsShelf atlas.frame) (map (spelled_shelf atlas) entries) → length (shelf_numbers entries) ≤ items_in_use (map (spelled_shelf atlas) entries)
+pub shelves-few : (atlas : AtlasRecords) (entries : List Entry) → 1 ≤ atlas.frame.column_width → AllByRecursion (IsShelf atlas.frame) (map (spelled_shelf atlas) entries) → length (shelf_numbers entries) ≤ items_in_use (map (spelled_shelf atlas) entries)
 shelves-few atlas [] wide each = omega arith
 shelves-few atlas (entry ∷ entries) wide each =
     omega (arith, some (spelled_shelf atlas entry).items each.0.width, shelves-few atlas entries wide each.1)
@@ -46,7 +47,7 @@ shelves-few atlas (entry ∷ entries) wide each =
     some (item ∷ items) width = omega arith
 
 -- an atlas that says that another space is allocated has its shelves placed alike
-pub other-space : (one two : AtlasRecords) (entries : List Entry) → one.frame ≡ two.frame → one.records ≡ two.records → Each (IsPlaced one) entries → Each (IsPlaced two) entries
+pub other-space : (one two : AtlasRecords) (entries : List Entry) → one.frame ≡ two.frame → one.records ≡ two.records → AllByRecursion (IsPlaced one) entries → AllByRecursion (IsPlaced two) entries
 other-space one two entries frame lists each =
     Each-weaken (IsPlaced one) (IsPlaced two) entries
     (λ entry placed. record {
@@ -95,7 +96,7 @@ ready frame records size placement found kept h locates =
       spelled = λ space.
           record {
             linked = linked;
-            placed = subst (Each (IsPlaced (record { frame = frame; records = records; allocated_space = space }))) is.entries
+            placed = subst (AllByRecursion (IsPlaced (record { frame = frame; records = records; allocated_space = space }))) is.entries
                 (other-space (atlas_of frame records) (record { frame = frame; records = records; allocated_space = space }) lists.entries refl refl kept.placed);
             stacked = subst (λ (es : List Entry). AreStacked records.shelves frame.column_width [] (shelf_numbers es)) is.entries kept.stacked;
             unused = kept.unused;

@@ -2,7 +2,7 @@
 use Rattle.std.proofs.Common.{◌≡◌, ℕ, ◌+◌, ◌-◌, ◌<◌, ◌≤◌, Bool, true, false, Option, Some, List, [], ◌∷◌, ◌++◌, length, map, refl, ap, arith, ◌∙◌, sym, subst}
 use Rattle.std.specs.Prelude.{if◌then◌else◌}
 use Rattle.etagere_base.proofs.EachLemmas.{Each-middle}
-use Rattle.etagere_base.specs.Lists.{Each}
+use Rattle.std.specs.List.{AllByRecursion}
 use Rattle.etagere_links.specs.declared.records.LinkedShelf.{LinkedShelf}
 use Rattle.etagere_links.specs.Links.{no_link}
 use Rattle.etagere_links.specs.RecordEdits.{shelf_changed}
@@ -27,7 +27,7 @@ use Rattle.shelf_store.proofs.Spelled.TakenItemSpelled.{IsPlacedAt, taken_from}
 use Rattle.shelf_store.proofs.Spelled.TakenRests.{AreRests, added_where, are-rests, split-where, link_where, list_where}
 
 -- the item of a placement was given: its front or all of it
-given-where : (of_item : Bool) (atlas : AtlasRecords) (split_records : Records) (before added after : List Entry) (shelf number rest : ℕ) (front back free_front free_back unused_items unused_shelves : List ℕ) (placement : Placement) (rests : List Shelf) → placement.splits_item ≡ of_item → number < length atlas.records.items → IsPlacedAt atlas.records.items placement front back free_front free_back number → Each (IsEntry atlas.records) (before ++ entry_of shelf (front ++ number ∷ back) (free_front ++ number ∷ free_back) ∷ after) → HasShelfSplit atlas split_records before added after (entry_of shelf (front ++ number ∷ back) (free_front ++ number ∷ free_back)) unused_items unused_shelves (list_where of_item rest) placement.height rests → IsItemGiven atlas (with_item_given (record placement { shelf = shelf; item = number }) (link_where of_item rest) split_records) before added after (entry_of shelf (front ++ number ∷ back) (free_front ++ number ∷ free_back)) unused_items unused_shelves (taken_from of_item placement (id_of atlas.records.items number) (spelled_shelf atlas (entry_of shelf (front ++ number ∷ back) (free_front ++ number ∷ free_back)))) rests
+given-where : (of_item : Bool) (atlas : AtlasRecords) (split_records : Records) (before added after : List Entry) (shelf number rest : ℕ) (front back free_front free_back unused_items unused_shelves : List ℕ) (placement : Placement) (rests : List Shelf) → placement.splits_item ≡ of_item → number < length atlas.records.items → IsPlacedAt atlas.records.items placement front back free_front free_back number → AllByRecursion (IsEntry atlas.records) (before ++ entry_of shelf (front ++ number ∷ back) (free_front ++ number ∷ free_back) ∷ after) → HasShelfSplit atlas split_records before added after (entry_of shelf (front ++ number ∷ back) (free_front ++ number ∷ free_back)) unused_items unused_shelves (list_where of_item rest) placement.height rests → IsItemGiven atlas (with_item_given (record placement { shelf = shelf; item = number }) (link_where of_item rest) split_records) before added after (entry_of shelf (front ++ number ∷ back) (free_front ++ number ∷ free_back)) unused_items unused_shelves (taken_from of_item placement (id_of atlas.records.items number) (spelled_shelf atlas (entry_of shelf (front ++ number ∷ back) (free_front ++ number ∷ free_back)))) rests
 given-where false atlas split_records before added after shelf number rest front back free_front free_back unused_items unused_shelves placement rests whole within is are split_is =
     item-whole atlas split_records before added after shelf number front back free_front free_back unused_items unused_shelves placement rests within is whole are split_is
 given-where true atlas split_records before added after shelf number rest front back free_front free_back unused_items unused_shelves placement rests split within is are split_is =
@@ -38,7 +38,7 @@ abbrev cleared : ℕ → Bool → Records → Records
 cleared shelf value records = shelf_changed shelf (λ (here : LinkedShelf). record here { is_empty = value }) records
 
 -- a shelf that is not empty was marked so
-flag-cleared : (atlas : AtlasRecords) (given : Records) (before after : List Entry) (edited : Entry) (shelf : ℕ) (unused_items unused_shelves : List ℕ) → edited.number ≡ shelf → Each (HasFlag (with_lists atlas given)) before → Each (HasFlag (with_lists atlas given)) after → IsSpelled (with_lists atlas given) (lists_of (before ++ edited ∷ after) unused_items unused_shelves) → is_empty (spelled_shelf (with_lists atlas given) edited) ≡ false → IsFlagged (with_lists atlas (cleared shelf false given)) (lists_of (before ++ edited ∷ after) unused_items unused_shelves) × (map (spelled_shelf (with_lists atlas (cleared shelf false given))) (before ++ edited ∷ after) ≡ map (spelled_shelf (with_lists atlas given)) (before ++ edited ∷ after))
+flag-cleared : (atlas : AtlasRecords) (given : Records) (before after : List Entry) (edited : Entry) (shelf : ℕ) (unused_items unused_shelves : List ℕ) → edited.number ≡ shelf → AllByRecursion (HasFlag (with_lists atlas given)) before → AllByRecursion (HasFlag (with_lists atlas given)) after → IsSpelled (with_lists atlas given) (lists_of (before ++ edited ∷ after) unused_items unused_shelves) → is_empty (spelled_shelf (with_lists atlas given) edited) ≡ false → IsFlagged (with_lists atlas (cleared shelf false given)) (lists_of (before ++ edited ∷ after) unused_items unused_shelves) × (map (spelled_shelf (with_lists atlas (cleared shelf false given))) (before ++ edited ∷ after) ≡ map (spelled_shelf (with_lists atlas given)) (before ++ edited ∷ after))
 flag-cleared atlas given before after edited shelf unused_items unused_shelves number flags_before flags_after spelled full =
     let is : IsEntry given edited = Each-middle (IsEntry given) before edited after spelled.linked.entries in
     let value : names_one_free given.items (first_item_of given.shelves edited.number) ≡ false =
@@ -69,7 +69,7 @@ pub record IsTakenBy (atlas : AtlasRecords) (new : Records) (before after : List
   pub few : length new.shelves ≤ no_link
 
 -- a placement was taken in records that spell lists, of which one names its shelf, and that its item
-pub taken-spelled : (atlas : AtlasRecords) (before after : List Entry) (shelf number : ℕ) (front back free_front free_back unused_items unused_shelves : List ℕ) (placement : Placement) → number < length atlas.records.items → IsPlacedAt atlas.records.items placement front back free_front free_back number → (placement.splits_shelf ≡ true → placement.height ≤ height_of atlas.records.shelves shelf) → (placement.splits_shelf ≡ false → placement.height ≡ height_of atlas.records.shelves shelf) → length atlas.records.shelves ≤ no_link → (placement.splits_shelf ≡ true → unused_shelves ≡ [] → length atlas.records.shelves + 1 ≤ no_link) → is_empty (taken_from placement.splits_item placement (id_of atlas.records.items number) (spelled_shelf atlas (entry_of shelf (front ++ number ∷ back) (free_front ++ number ∷ free_back)))) ≡ false → Each (HasFlag atlas) before → Each (HasFlag atlas) after → IsSpelled atlas (lists_of (before ++ entry_of shelf (front ++ number ∷ back) (free_front ++ number ∷ free_back) ∷ after) unused_items unused_shelves) → IsTakenBy atlas (placement_taken atlas.frame.column_width (record placement { shelf = shelf; item = number }) atlas.records) before after shelf (spelled_shelf atlas (entry_of shelf (front ++ number ∷ back) (free_front ++ number ∷ free_back))) placement (id_of atlas.records.items number)
+pub taken-spelled : (atlas : AtlasRecords) (before after : List Entry) (shelf number : ℕ) (front back free_front free_back unused_items unused_shelves : List ℕ) (placement : Placement) → number < length atlas.records.items → IsPlacedAt atlas.records.items placement front back free_front free_back number → (placement.splits_shelf ≡ true → placement.height ≤ height_of atlas.records.shelves shelf) → (placement.splits_shelf ≡ false → placement.height ≡ height_of atlas.records.shelves shelf) → length atlas.records.shelves ≤ no_link → (placement.splits_shelf ≡ true → unused_shelves ≡ [] → length atlas.records.shelves + 1 ≤ no_link) → is_empty (taken_from placement.splits_item placement (id_of atlas.records.items number) (spelled_shelf atlas (entry_of shelf (front ++ number ∷ back) (free_front ++ number ∷ free_back)))) ≡ false → AllByRecursion (HasFlag atlas) before → AllByRecursion (HasFlag atlas) after → IsSpelled atlas (lists_of (before ++ entry_of shelf (front ++ number ∷ back) (free_front ++ number ∷ free_back) ∷ after) unused_items unused_shelves) → IsTakenBy atlas (placement_taken atlas.frame.column_width (record placement { shelf = shelf; item = number }) atlas.records) before after shelf (spelled_shelf atlas (entry_of shelf (front ++ number ∷ back) (free_front ++ number ∷ free_back))) placement (id_of atlas.records.items number)
 taken-spelled atlas before after shelf number front back free_front free_back unused_items unused_shelves placement within is tall full few room not_empty flags_before flags_after spelled =
     let of_shelf : Bool = placement.splits_shelf in
     let of_item : Bool = placement.splits_item in

@@ -7,7 +7,7 @@ use Rattle.etagere_base.specs.declared.drawing.Colour.TheVariants.{Allocated, Fr
 use Rattle.etagere_base.specs.declared.drawing.Drawn.{Drawn}
 use Rattle.etagere_base.specs.declared.frames.Frame.{Frame}
 use Rattle.etagere_links.specs.RecordLists.{Records, item_walk, shelf_walk}
-use Rattle.shelf_records.specs.AtlasRecords.{across_of, height_of, is_allocated_at, item_at, place_of}
+use Rattle.shelf_records.specs.AtlasRecords.{across_of, height_of, is_allocated_at, item_at, item_place_of}
 
 -- the colour of an item, by whether it is allocated
 abbrev pub recorded_colour : Bool → Colour
@@ -17,7 +17,7 @@ recorded_colour allocated = if allocated then Allocated else Free
 abbrev pub recorded_drawn : Frame → Records → ℕ → ℕ → Drawn
 recorded_drawn frame records shelf number =
     drawn_at frame (recorded_colour (is_allocated_at records.items number))
-    (place_of records.items number) (across_of records.shelves shelf)
+    (item_place_of records.items number) (across_of records.shelves shelf)
     (item_at records.items number).width (height_of records.shelves shelf)
 
 -- the line of an item

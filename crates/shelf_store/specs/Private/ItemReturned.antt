@@ -1,5 +1,5 @@
 -- A return on linked records, step by step: what merges keeps the record of the earlier place, and
--- puts the other aside.
+-- makes the other unused.
 use Rattle.std.specs.Prelude.{◌≡◌, ℕ, ◌+◌, ◌<◌, ◌==◌, Bool, false, ◌&&◌, not, Option, None, Some, is_none, List, length, if◌then◌else◌}
 use Rattle.etagere_links.specs.declared.records.LinkedItem.{LinkedItem}
 use Rattle.etagere_links.specs.declared.records.LinkedShelf.{LinkedShelf}
@@ -14,7 +14,7 @@ use Rattle.shelf_records.specs.AtlasRecords.{along_of, height_of, is_allocated_a
 -- records after a step, and how many item records became unused
 pub record Step : Type 0 where
   pub records : Records
-  pub put_aside : ℕ
+  pub made_unused : ℕ
 
 -- the item that a link names, where that is free
 abbrev pub free_named : List LinkedItem → Option ℕ → Option ℕ
@@ -31,25 +31,25 @@ free_previous items number = free_named items (link_at item_chain.previous items
 
 -- an allocated item takes the place of the next one, if any
 abbrev pub next_absorbed : ℕ → ℕ → Option ℕ → Records → Step
-next_absorbed shelf number None records = record { records = records; put_aside = 0 }
+next_absorbed shelf number None records = record { records = records; made_unused = 0 }
 next_absorbed shelf number (Some next) records =
     record {
       records =
           free_absorbed shelf number next
           (width_of records.items number + width_of records.items next) records;
-      put_aside = 1;
+      made_unused = 1;
     }
 
 -- the previous item, if any, takes the place of an allocated one, which becomes free otherwise
 abbrev pub freed_after : ℕ → ℕ → Option ℕ → Records → Step
 freed_after shelf number None records =
-    record { records = item_freed shelf number records; put_aside = 0 }
+    record { records = item_freed shelf number records; made_unused = 0 }
 freed_after shelf number (Some previous) records =
     record {
       records =
           allocated_absorbed shelf previous number
           (width_of records.items previous + width_of records.items number) records;
-      put_aside = 1;
+      made_unused = 1;
     }
 
 -- what remains of a freed item: the free one before it, if there is one, or else itself
@@ -93,18 +93,18 @@ empty_next shelves shelf = empty_named shelves shelf (link_at shelf_chain.next s
 
 -- an empty shelf takes the place of the next one, if any, whose item is the one named
 abbrev pub shelf_of_item_absorbed : ℕ → ℕ → Option ℕ → Records → Step
-shelf_of_item_absorbed shelf next None records = record { records = records; put_aside = 0 }
+shelf_of_item_absorbed shelf next None records = record { records = records; made_unused = 0 }
 shelf_of_item_absorbed shelf next (Some item) records =
     record {
       records =
           shelf_absorbed shelf next item
           (height_of records.shelves shelf + height_of records.shelves next) records;
-      put_aside = 1;
+      made_unused = 1;
     }
 
 -- an empty shelf takes the place of the next one, if any
 abbrev pub shelf_next_absorbed : ℕ → Option ℕ → Records → Step
-shelf_next_absorbed shelf None records = record { records = records; put_aside = 0 }
+shelf_next_absorbed shelf None records = record { records = records; made_unused = 0 }
 shelf_next_absorbed shelf (Some next) records =
     shelf_of_item_absorbed shelf next (first_item_of records.shelves next) records
 
@@ -115,7 +115,7 @@ shelf_merged shelf records = shelf_next_absorbed shelf (empty_next records.shelv
 -- a shelf that a link names takes the place of the next one, where both are empty and stand in one
 -- column
 abbrev pub named_shelf_merged : Option ℕ → Records → Step
-named_shelf_merged None records = record { records = records; put_aside = 0 }
+named_shelf_merged None records = record { records = records; made_unused = 0 }
 named_shelf_merged (Some shelf) records = shelf_merged shelf records
 
 -- the item becomes free, and it and its free neighbours become one
@@ -123,7 +123,7 @@ abbrev pub item_merged : ℕ → ℕ → Records → Step
 item_merged shelf number records =
     let one = next_absorbed shelf number (free_next records.items number) records in
     let two = freed_after shelf number (free_previous one.records.items number) one.records in
-    record { records = two.records; put_aside = one.put_aside + two.put_aside }
+    record { records = two.records; made_unused = one.made_unused + two.made_unused }
 
 -- the item that remains where one was freed and merged
 abbrev pub remaining_in : ℕ → ℕ → Records → ℕ
@@ -148,7 +148,7 @@ shelves_merged shelf records =
     let one = shelf_merged shelf records in
     let two =
     named_shelf_merged (link_at shelf_chain.previous one.records.shelves shelf) one.records in
-    record { records = two.records; put_aside = one.put_aside + two.put_aside }
+    record { records = two.records; made_unused = one.made_unused + two.made_unused }
 
 -- a return: the item is freed and merged, and then its shelf is
 abbrev pub after_return : ℕ → Records → Step
@@ -156,15 +156,15 @@ after_return number records =
     let shelf = shelf_of records.items number in
     let one = item_merged shelf number records in
     let two = shelves_merged shelf (emptiness_said shelf one.records) in
-    record { records = two.records; put_aside = one.put_aside + two.put_aside }
+    record { records = two.records; made_unused = one.made_unused + two.made_unused }
 
 -- the records after the item of a number was returned
 abbrev pub item_returned : ℕ → Records → Records
 item_returned number records = (after_return number records).records
 
--- how many item records a return puts aside
-abbrev pub put_aside_by : ℕ → Records → ℕ
-put_aside_by number records = (after_return number records).put_aside
+-- how many item records a return makes unused
+abbrev pub unused_by : ℕ → Records → ℕ
+unused_by number records = (after_return number records).made_unused
 
 -- the width of an item and of another one, if any, fit 16 bits together
 abbrev pub WidthsFit : ℕ → Option ℕ → List LinkedItem → Type 0

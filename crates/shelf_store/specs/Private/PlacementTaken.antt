@@ -12,8 +12,8 @@ use Rattle.etagere_links.specs.Records.{shelf_chain}
 use Rattle.etagere_links.specs.RecordMerges.{item_given, front_given, shelf_split}
 use Rattle.etagere_links.specs.RecordUses.{missing, new_item, new_shelf, rests_of, rests_used}
 use Rattle.shelf_model.specs.Choice.{Placement}
-use Rattle.shelf_heights.specs.Private.ByHeight.{AreInOrder, bound_of, put_in, ranked_numbers, taken_out}
-use Rattle.shelf_heights.specs.declared.ranked.RankedShelf.{RankedShelf}
+use Rattle.shelf_heights.specs.Private.ByHeight.{AreInOrder, bound_of, put_in, numbers_by_height, taken_out}
+use Rattle.shelf_heights.specs.declared.by_height.BoundedShelf.{BoundedShelf}
 
 -- the item record of this number
 abbrev pub item_record : List LinkedItem → ℕ → LinkedItem
@@ -102,27 +102,27 @@ placement_taken column_width found records =
     (with_item_given found (rests_of found.splits_shelf found.splits_item records).item
     (shelf_split_for column_width found records))
 
--- the list of ranked shelves without the shelf of this number, and with it where it stands by these
+-- the list of shelves by height without the shelf of this number, and with it where it stands by these
 -- records, with the bound that it had
-abbrev pub put_back : ℕ → List LinkedShelf → List RankedShelf → List RankedShelf
-put_back shelf shelves ranked =
-    put_in shelves (record { widest = bound_of shelf ranked; shelf = shelf })
-    (taken_out shelf ranked)
+abbrev pub put_back : ℕ → List LinkedShelf → List BoundedShelf → List BoundedShelf
+put_back shelf shelves by_height =
+    put_in shelves (record { widest = bound_of shelf by_height; shelf = shelf })
+    (taken_out shelf by_height)
 
 -- the list once the shelf of a placement was split, where these are the numbers of the rest and of its
 -- item, and these the records; the rest is as wide as its column
-abbrev pub with_rest_ranked : ℕ → ℕ → Option ℕ → Option ℕ → List LinkedShelf → List RankedShelf → List RankedShelf
-with_rest_ranked column_width shelf None item shelves ranked = ranked
-with_rest_ranked column_width shelf (Some rest) None shelves ranked = ranked
-with_rest_ranked column_width shelf (Some rest) (Some item) shelves ranked =
-    put_in shelves (record { widest = column_width; shelf = rest }) (put_back shelf shelves ranked)
+abbrev pub with_rest_by_height : ℕ → ℕ → Option ℕ → Option ℕ → List LinkedShelf → List BoundedShelf → List BoundedShelf
+with_rest_by_height column_width shelf None item shelves by_height = by_height
+with_rest_by_height column_width shelf (Some rest) None shelves by_height = by_height
+with_rest_by_height column_width shelf (Some rest) (Some item) shelves by_height =
+    put_in shelves (record { widest = column_width; shelf = rest }) (put_back shelf shelves by_height)
 
 -- the list after a placement was taken
-abbrev pub ranked_taken : ℕ → Placement → Records → List RankedShelf → List RankedShelf
-ranked_taken column_width found records ranked =
+abbrev pub taken_by_height : ℕ → Placement → Records → List BoundedShelf → List BoundedShelf
+taken_by_height column_width found records by_height =
     let rests = rests_of found.splits_shelf found.splits_item records in
-    with_rest_ranked column_width found.shelf rests.shelf rests.shelf_item
-    (shelf_split_for column_width found records).shelves ranked
+    with_rest_by_height column_width found.shelf rests.shelf rests.shelf_item
+    (shelf_split_for column_width found records).shelves by_height
 
 -- the id under which the item of this number is given
 abbrev pub id_of : List LinkedItem → ℕ → ℕ
@@ -151,34 +151,34 @@ pub record CanTakeFrom (column_width : ℕ) (found : Placement) (records : Recor
   pub splits_shelf : IsShelfSplittable found (rests_used_for found records)
   pub splits_item : IsItemSplittable found (shelf_split_for column_width found records)
 
--- what ranking its shelf and the rest of it needs, by the records before the split and after it: the
+-- what putting in its shelf and the rest of it needs, by the records before the split and after it: the
 -- shelves stand in their order, and so they do with the shelf in its new place
-pub record IsShelfRankable (shelf rest : ℕ) (shelves new : List LinkedShelf) (ranked : List RankedShelf)
+pub record CanPutShelfIn (shelf rest : ℕ) (shelves new : List LinkedShelf) (by_height : List BoundedShelf)
     : Type 0 where
-  pub order : AreInOrder shelves ranked
-  pub stands : 1 ≤ times shelf (ranked_numbers ranked)
+  pub order : AreInOrder shelves by_height
+  pub stands : 1 ≤ times shelf (numbers_by_height by_height)
   pub within : shelf < length new
   pub rest_within : rest < length new
-  pub others : AreInOrder new (taken_out shelf ranked)
-  pub lower : AreInOrder new (put_back shelf new ranked)
+  pub others : AreInOrder new (taken_out shelf by_height)
+  pub lower : AreInOrder new (put_back shelf new by_height)
 
 -- what that needs where these are the numbers of the rest and of its item
-abbrev pub IsRestRankable : ℕ → Placement → Option ℕ → Option ℕ → Records → List RankedShelf → Type 0
-IsRestRankable column_width found rest item records ranked =
+abbrev pub CanPutRestIn : ℕ → Placement → Option ℕ → Option ℕ → Records → List BoundedShelf → Type 0
+CanPutRestIn column_width found rest item records by_height =
     IfSome rest
     (λ rest. IfSome item
-    (λ item. IsShelfRankable found.shelf rest records.shelves
-    (with_shelf_rest column_width found (Some rest) (Some item) records).shelves ranked))
+    (λ item. CanPutShelfIn found.shelf rest records.shelves
+    (with_shelf_rest column_width found (Some rest) (Some item) records).shelves by_height))
 
--- so many shelves are ranked that the records, with what is missing for one more, are enough for all of them and one more
-abbrev pub HasSpare : Records → List RankedShelf → Type 0
-HasSpare records ranked =
-    length ranked
+-- so many shelves stand by height that the records, with what is missing for one more, are enough for all of them and one more
+abbrev pub HasSpare : Records → List BoundedShelf → Type 0
+HasSpare records by_height =
+    length by_height
     < length records.shelves + missing shelf_chain 1 records.unused_shelves records.shelves
 
--- what taking a placement needs of the ranked shelves
-abbrev pub CanRank : ℕ → Placement → Records → List RankedShelf → Type 0
-CanRank column_width found records ranked =
+-- what taking a placement needs of the shelves by height
+abbrev pub CanTakeByHeight : ℕ → Placement → Records → List BoundedShelf → Type 0
+CanTakeByHeight column_width found records by_height =
     let rests = rests_of found.splits_shelf found.splits_item records in
-    IsRestRankable column_width found rests.shelf rests.shelf_item (rests_used_for found records)
-    ranked
+    CanPutRestIn column_width found rests.shelf rests.shelf_item (rests_used_for found records)
+    by_height

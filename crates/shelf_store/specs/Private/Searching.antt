@@ -2,15 +2,15 @@
 -- that is wide enough.
 use Rattle.std.specs.Prelude.{◌≡◌, ℕ, ◌+◌, ◌/◌, ◌≤◌, Bool, ◌&&◌, ◌||◌, Option, None, Some, option_map, List, [], ◌∷◌, drop, find, length, map, nat_le, nat_lt, take, if◌then◌else◌}
 use Rattle.std.specs.Option.{option_map_or}
-use Rattle.etagere_base.specs.Lists.{Each}
+use Rattle.std.specs.List.{AllByRecursion}
 use Rattle.etagere_base.specs.declared.frames.Frame.{Frame}
 use Rattle.etagere_base.specs.declared.geometry.Size.{Size}
 use Rattle.etagere_base.specs.declared.sides.Sides.{Sides}
 use Rattle.etagere_links.specs.declared.records.LinkedShelf.{LinkedShelf}
 use Rattle.etagere_links.specs.RecordLists.{Records, free_walk, shelf_walk}
-use Rattle.shelf_records.specs.AtlasRecords.{across_of, height_of, is_empty_at, item_at, place_of}
+use Rattle.shelf_records.specs.AtlasRecords.{across_of, height_of, is_empty_at, item_at, item_place_of}
 use Rattle.shelf_model.specs.Choice.{Placement, bad_fit_rank, is_item_split, placement_of, shelf_height, shelf_slack}
-use Rattle.shelf_heights.specs.Private.ByHeight.{place_number}
+use Rattle.shelf_heights.specs.Private.ByHeight.{chain_order}
 use Rattle.shelf_records.specs.Private.Kept.{Locates, state_of}
 use Rattle.shelf_store.specs.declared.choosing.Candidate.{Candidate}
 use Rattle.shelf_store.specs.declared.choosing.FirstGood.{FirstGood}
@@ -73,7 +73,7 @@ first_offer offers (shelf ∷ shelves) =
 -- each of these shelves is too tall for a good fit, unless it is empty
 abbrev pub AreTooTall : List LinkedShelf → ℕ → List ℕ → Type 0
 AreTooTall shelves height numbers =
-    Each (λ shelf. height + height / 2 + 1 ≤ height_of shelves shelf) numbers
+    AllByRecursion (λ shelf. height + height / 2 + 1 ≤ height_of shelves shelf) numbers
 
 -- what a search for a good fit comes to from a position on: the first one; else a position before which no shelf
 -- offers a place, and from which on each is too tall for a good fit that isn't empty
@@ -83,7 +83,7 @@ IsFirstGood records width height start shelves (Found candidate) =
 IsFirstGood records width height start shelves (Rest rest) =
     (start ≤ rest)
     × (rest ≤ length shelves)
-    × Each (λ shelf. offered records width height shelf ≡ None) (drop start (take rest shelves))
+    × AllByRecursion (λ shelf. offered records width height shelf ≡ None) (drop start (take rest shelves))
     × AreTooTall records.shelves height (drop rest shelves)
 
 -- of two candidates the one whose shelf has the earlier place
@@ -91,7 +91,7 @@ abbrev pub earlier : List LinkedShelf → Option Candidate → Option Candidate 
 earlier shelves None other = other
 earlier shelves (Some one) None = Some one
 earlier shelves (Some one) (Some other) =
-    if nat_lt (place_number shelves one.shelf) (place_number shelves other.shelf)
+    if nat_lt (chain_order shelves one.shelf) (chain_order shelves other.shelf)
     then Some one
     else Some other
 
@@ -120,7 +120,7 @@ placement_at records width height candidate =
     record {
       shelf = candidate.shelf;
       item = candidate.item;
-      along = place_of records.items candidate.item;
+      along = item_place_of records.items candidate.item;
       across = across_of records.shelves candidate.shelf;
       width = if is_item_split width item_width then width else item_width;
       height = if splits_shelf then height else height_of records.shelves candidate.shelf;

@@ -9,7 +9,7 @@ ghost use Rattle.shelf_store.specs.Private.RecordsGrown as spec;
 ghost use Rattle.shelf_store.specs.Private.RecordsGrown.{CanAppend};
 
 use crate::growing::Made;
-use crate::growing::inserting::{ShelfPlace, insert_shelf};
+use crate::growing::inserting::{NewShelf, insert_shelf};
 use etagere_base::Frame;
 use etagere_links::{Chain, LinkedShelf, Records, next_of};
 
@@ -32,13 +32,13 @@ pub fn append_columns(records: &mut Records, made: &mut Made, frame: &Frame, fir
     };
     let mut previous = last;
     for column in first..frame.columns {
-        let place = ShelfPlace {
+        let added = NewShelf {
             along: (column * frame.column_width) as u16,
             across: 0,
             width: frame.column_width as u16,
             height: frame.across_side() as u16,
         };
-        previous = insert_shelf(records, made, previous, place);
+        previous = insert_shelf(records, made, previous, added);
     }
 }
 

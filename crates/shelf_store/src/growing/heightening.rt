@@ -8,7 +8,7 @@ ghost use Rattle.shelf_store.specs.Private.RecordsGrown.{CanHeighten, CanHeighte
 
 use crate::growing::Made;
 use crate::growing::counting::ends_column;
-use crate::growing::inserting::{ShelfPlace, insert_shelf};
+use crate::growing::inserting::{NewShelf, insert_shelf};
 use etagere_links::{Chain, LinkedShelf, Records, next_of};
 use shelf_records::fields;
 
@@ -73,11 +73,11 @@ fn heighten_shelf(records: &mut Records, made: &mut Made, width: u16, shelf: usi
     }
     let along = fields::along(records.shelves(), shelf);
     let across = fields::across(records.shelves(), shelf) + own;
-    let place = ShelfPlace {
+    let added = NewShelf {
         along,
         across,
         width,
         height,
     };
-    insert_shelf(records, made, shelf, place);
+    insert_shelf(records, made, shelf, added);
 }

@@ -12,7 +12,7 @@ use etagere_links::{Link, LinkedShelf, Records};
 
 /// Where a shelf begins along and across, and how wide and tall it is.
 #[derive(Clone, Copy)]
-pub struct ShelfPlace {
+pub struct NewShelf {
     pub along: u16,
     pub across: u16,
     pub width: u16,
@@ -62,7 +62,7 @@ pub fn insert_shelf(
     records: &mut Records,
     made: &mut Made,
     previous: usize,
-    place: ShelfPlace,
+    added: NewShelf,
 ) -> usize
     requires { CanInsert previous (record { records = records.old; made = made.old }) }
     ensures number { result
@@ -70,30 +70,30 @@ pub fn insert_shelf(
         (spec.after_item (record { records = records.old; made = made.old })) }
     ensures small { result < no_link }
     ensures records { records.new
-        ≡ (spec.shelf_inserted place.width previous place.along place.across place.height
+        ≡ (spec.shelf_inserted added.width previous added.along added.across added.height
         (record { records = records.old; made = made.old })).records }
     ensures made { made.new
-        ≡ (spec.shelf_inserted place.width previous place.along place.across place.height
+        ≡ (spec.shelf_inserted added.width previous added.along added.across added.height
         (record { records = records.old; made = made.old })).made }
 {
     let item = use_item(records, made);
     let shelf = use_shelf(records, made);
-    records.start_item(item, place.along, place.width, shelf as u16);
-    records.write_shelf(shelf, empty_shelf(&place, item));
+    records.start_item(item, added.along, added.width, shelf as u16);
+    records.write_shelf(shelf, empty_shelf(&added, item));
     records.insert_shelf_after(previous, shelf);
     shelf
 }
 
 /// The record of an empty shelf at a place, with this item.
-fn empty_shelf(place: &ShelfPlace, item: usize) -> LinkedShelf
+fn empty_shelf(added: &NewShelf, item: usize) -> LinkedShelf
     requires { item < no_link }
     ensures { result
-        ≡ spec.empty_shelf_record place.now.along place.now.across place.now.height item }
+        ≡ spec.empty_shelf_record added.now.along added.now.across added.now.height item }
 {
     LinkedShelf {
-        x: place.along,
-        y: place.across,
-        height: place.height,
+        x: added.along,
+        y: added.across,
+        height: added.height,
         prev: Link::none(),
         next: Link::none(),
         first_item: Link::to(item),

@@ -3,7 +3,7 @@ use Rattle.std.specs.Prelude.{◌*◌, nat_lt}
 use Rattle.std.proofs.lemmas.Bool.Decides.{nat_tests}
 use Rattle.etagere_links.specs.declared.records.LinkedShelf.{LinkedShelf}
 use Rattle.shelf_records.specs.AtlasRecords.{across_of, along_of, height_of}
-use Rattle.shelf_heights.specs.Private.ByHeight.{order_at, place_number}
+use Rattle.shelf_heights.specs.Private.ByHeight.{order_at, chain_order}
 use Rattle.shelf_records.proofs.Recorded.RecordsOfIds.{field_at-read}
 use Rattle.shelf_heights.proofs.heights.comes_before.Goals as goal
 
@@ -30,7 +30,7 @@ returns-else-own-height c =
     c.from-own.ensures ∙ sym (field_at-read (λ (shelf : LinkedShelf). shelf.height) 0 c.args.shelves.now c.args.shelf record_is c.requires c.index-shelves-shelf.is) in
     let along : along_of c.args.shelves.now c.args.shelf ≡ record_is.x = field_at-read (λ (shelf : LinkedShelf). shelf.x) 0 c.args.shelves.now c.args.shelf record_is c.requires c.index-shelves-shelf.is in
     let across : across_of c.args.shelves.now c.args.shelf ≡ record_is.y = field_at-read (λ (shelf : LinkedShelf). shelf.y) 0 c.args.shelves.now c.args.shelf record_is c.requires c.index-shelves-shelf.is in
-    let within : place_number c.args.shelves.now c.args.shelf < 65536 * 65536 = omega (arith, along, across, c.place_number-here.ensures) in
+    let within : chain_order c.args.shelves.now c.args.shelf < 65536 * 65536 = omega (arith, along, across, c.chain_order-here.ensures) in
     let below : c.args.place < 65536 * 65536 = omega arith in
-    heights-decide c.from-own.result c.args.height (place_number c.args.shelves.now c.args.shelf) c.args.place c.if-own-height.false within below
-    ∙ ap (λ n. nat_lt (order_at n (place_number c.args.shelves.now c.args.shelf)) (order_at c.args.height c.args.place)) own
+    heights-decide c.from-own.result c.args.height (chain_order c.args.shelves.now c.args.shelf) c.args.place c.if-own-height.false within below
+    ∙ ap (λ n. nat_lt (order_at n (chain_order c.args.shelves.now c.args.shelf)) (order_at c.args.height c.args.place)) own

@@ -1,8 +1,8 @@
 use Rattle.std.proofs.Common.{ℕ, ◌-◌, ◌<◌, ◌≤◌, length, take, drop}
 use Rattle.std.specs.Prelude.{◌^◌}
-use Rattle.etagere_base.specs.Lists.{Each}
+use Rattle.std.specs.List.{AllByRecursion}
 use Rattle.shelf_heights.specs.Private.ByHeight.{order_at, order_of}
-use Rattle.shelf_heights.specs.declared.ranked.RankedShelf.{RankedShelf}
+use Rattle.shelf_heights.specs.declared.by_height.BoundedShelf.{BoundedShelf}
 use Rattle.shelf_heights.proofs.ByHeight.Positions.{HasDigits}
 use Rattle.shelf_heights.proofs.heights.first_from.Given as goal
 
@@ -10,11 +10,11 @@ use Rattle.shelf_heights.proofs.heights.first_from.Given as goal
 abbrev pub invariant-loop-start : goal.invariant-loop-start
 invariant-loop-start l = record {
   bounds : l.start.index ≤ l.end;
-  few : length l.ranked.items < 2 ^ 64;
-  within : l.end ≤ length l.ranked.items;
-  before : Each (λ (one : RankedShelf). order_of l.shelves one.shelf < order_at l.height l.place) (take l.start.index l.ranked.items);
-  after : Each (λ (one : RankedShelf). order_at l.height l.place ≤ order_of l.shelves one.shelf) (drop l.end l.ranked.items);
-  digits : (digits : ℕ) → length l.ranked.items < 2 ^ digits → HasDigits (l.end - l.start.index) l.start.probes digits;
+  few : length l.by_height.items < 2 ^ 64;
+  within : l.end ≤ length l.by_height.items;
+  before : AllByRecursion (λ (one : BoundedShelf). order_of l.shelves one.shelf < order_at l.height l.place) (take l.start.index l.by_height.items);
+  after : AllByRecursion (λ (one : BoundedShelf). order_at l.height l.place ≤ order_of l.shelves one.shelf) (drop l.end l.by_height.items);
+  digits : (digits : ℕ) → length l.by_height.items < 2 ^ digits → HasDigits (l.end - l.start.index) l.start.probes digits;
 }
 
 abbrev pub decreases-loop-start : goal.decreases-loop-start

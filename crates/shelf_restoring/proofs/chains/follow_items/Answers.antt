@@ -1,5 +1,5 @@
 use Rattle.std.proofs.Common.{◌≡◌, ℕ, ◌+◌, List, length, subst, sym, ap, refl, ◌∙◌, [], ◌++◌, map}
-use Rattle.etagere_base.specs.Lists.{Each}
+use Rattle.std.specs.List.{AllByRecursion}
 use Rattle.etagere_links.specs.Links.{bits_of, link_of}
 use Rattle.etagere_links.specs.Marks.{IsMarkedBy}
 use Rattle.etagere_links.specs.RecordLists.{Entry, HasEachOnce, item_numbers, item_walk, shelf_walk, unused_item_walk}
@@ -79,7 +79,7 @@ returns-clause-ok c =
     record {
       met = entries;
       unused_met = unused_met;
-      chains = subst (Each (HasChain atlas.records)) c.requires.numbers c.in_ok-shelves.ensures.chains;
+      chains = subst (AllByRecursion (HasChain atlas.records)) c.requires.numbers c.in_ok-shelves.ensures.chains;
       unused_end = sym (ap (λ (w : Walked). w.end) walks) ∙ c.in-Ok.ensures.end;
       once = subst (λ (ns : List ℕ). HasEachOnce (length atlas.records.items) (item_numbers c.in_ok-shelves.shelves.items ++ ns)) (sym unused_met)
           (subst (λ (es : List Entry). HasEachOnce (length atlas.records.items) (item_numbers es ++ unused)) (sym entries)
@@ -139,7 +139,7 @@ returns-then-not-all_marked-clause-until c =
     λ more. all
     ∙ ap (λ (n : ℕ). c.args.steps.now + n)
     (none-further atlas.records more (item_walks atlas.records) c.walk_chains.new.marks (length atlas.records.items)
-    (sym (ap (λ (w : Walked). w.end) walks) ∙ c.in-Ok.ensures.end, chains-end atlas.records numbers (subst (Each (HasChain atlas.records)) c.requires.numbers c.in_ok-shelves.ensures.chains))
+    (sym (ap (λ (w : Walked). w.end) walks) ∙ c.in-Ok.ensures.end, chains-end atlas.records numbers (subst (AllByRecursion (HasChain atlas.records)) c.requires.numbers c.in_ok-shelves.ensures.chains))
     count marked (c.if-not-all_marked.ensures.missing refl (met_by (item_walks atlas.records)) marked))
 
 pub returns-clause-all : goal.returns-clause-all

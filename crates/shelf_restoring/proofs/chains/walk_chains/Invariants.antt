@@ -1,5 +1,5 @@
 use Rattle.std.proofs.Common.{◌≡◌, ◌+◌, ◌++◌, length, map, take}
-use Rattle.etagere_base.specs.Lists.{Each}
+use Rattle.std.specs.List.{AllByRecursion}
 use Rattle.etagere_links.specs.Marks.{IsMarkedBy}
 use Rattle.etagere_links.specs.RecordLists.{item_numbers, unused_item_walk}
 use Rattle.shelf_records.specs.Private.Restoring.{HasChain, chain_entry}
@@ -9,7 +9,7 @@ abbrev pub invariant-loop-number : goal.invariant-loop-number
 invariant-loop-number l = record {
   walked : l.shelves.items ≡ map (chain_entry l.atlas.records) (take l.number-index l.numbers);
   marked : IsMarkedBy l.marks ((unused_item_walk l.atlas.records).met ++ item_numbers (map (chain_entry l.atlas.records) (take l.number-index l.numbers)));
-  chains : Each (HasChain l.atlas.records) (take l.number-index l.numbers);
+  chains : AllByRecursion (HasChain l.atlas.records) (take l.number-index l.numbers);
   room : l.room ≡ l.fn.room;
   steps : l.steps ≡ l.fn.steps + length (item_numbers (map (chain_entry l.atlas.records) (take l.number-index l.numbers)));
 }

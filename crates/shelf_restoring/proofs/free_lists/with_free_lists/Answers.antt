@@ -2,7 +2,7 @@ use Rattle.std.proofs.Common.{◌≡◌, ℕ, ◌+◌, ◌<◌, List, length, ge
 use Rattle.std.proofs.lemmas.List.{length-append, length-map, take_all}
 use Rattle.std.proofs.lemmas.Iterator.Consumers.{YieldsList-end, YieldsList-turn}
 use Rattle.std.proofs.lemmas.Iterator.Adapters.{YieldsList-from_vec}
-use Rattle.etagere_base.specs.Lists.{Each}
+use Rattle.std.specs.List.{AllByRecursion}
 use Rattle.etagere_links.specs.Links.{bits_of, link_of}
 use Rattle.etagere_links.specs.Marks.{IsMarkedBy}
 use Rattle.etagere_links.specs.RecordLists.{Entry, first_free_of, free_walk, shelf_walk, walked_entry}
@@ -173,5 +173,5 @@ returns-clause-all c =
 pub returns-clause-own : goal.returns-clause-own
 returns-clause-own c =
     let lists = c.args.atlas.now.records in
-    frees-go lists (shelf_walk lists).met c.loop-shelf.marks (subst (Each (HasFree lists)) (walked-all c) c.loop-shelf.invariant.free)
+    frees-go lists (shelf_walk lists).met c.loop-shelf.marks (subst (AllByRecursion (HasFree lists)) (walked-all c) c.loop-shelf.invariant.free)
     (subst (λ (ns : List ℕ). IsMarkedBy c.loop-shelf.marks (free_numbers (map (walked_entry lists) ns))) (walked-all c) c.loop-shelf.invariant.marked)

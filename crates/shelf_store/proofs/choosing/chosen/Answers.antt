@@ -1,14 +1,14 @@
 use Rattle.std.proofs.Common.{None, Some, ap, arith, ◌∙◌}
 use Rattle.etagere_base.proofs.FrameSides.{column_width-le, sides_low}
-use Rattle.shelf_heights.proofs.ByHeight.Edited.{ranked-in_order}
-use Rattle.shelf_store.proofs.ByHeight.SearchableShelves.{chosen-found, found-within, kept-whole, ranked-searchable, searchable-ranked}
+use Rattle.shelf_heights.proofs.ByHeight.Edited.{by_height-in_order}
+use Rattle.shelf_store.proofs.ByHeight.SearchableShelves.{chosen-found, found-within, kept-whole, by_height-searchable, searchable-by_height}
 use Rattle.shelf_store.proofs.choosing.chosen.Goals as goal
 
 pub best_candidate-requires-clause-order : goal.best_candidate-requires-clause-order
-best_candidate-requires-clause-order c = ranked-in_order c.args.frame.now c.args.records.now c.args.ranked.now.items c.requires.kept c.requires.ranked
+best_candidate-requires-clause-order c = by_height-in_order c.args.frame.now c.args.records.now c.args.by_height.now.items c.requires.kept c.requires.by_height
 
-pub best_candidate-requires-clause-ranked : goal.best_candidate-requires-clause-ranked
-best_candidate-requires-clause-ranked c = ranked-searchable c.args.frame.now c.args.records.now c.requires.kept c.args.ranked.now.items c.requires.ranked
+pub best_candidate-requires-clause-by_height : goal.best_candidate-requires-clause-by_height
+best_candidate-requires-clause-by_height c = by_height-searchable c.args.frame.now c.args.records.now c.requires.kept c.args.by_height.now.items c.requires.by_height
 
 pub best_candidate-requires-clause-whole : goal.best_candidate-requires-clause-whole
 best_candidate-requires-clause-whole c = kept-whole c.args.frame.now c.args.records.now c.requires.kept
@@ -20,26 +20,26 @@ best_candidate-requires-clause-column c =
 
 pub placement_at-requires-clause-shelf : goal.placement_at-requires-clause-shelf
 placement_at-requires-clause-shelf c =
-    (found-within c.args.frame.now c.args.records.now c.requires.kept c.args.ranked.now.items c.args.sides.along c.shelf_height-height.result c.in_ok-candidate.candidate c.requires.ranked c.in_ok-candidate.ensures.value).0
+    (found-within c.args.frame.now c.args.records.now c.requires.kept c.args.by_height.now.items c.args.sides.along c.shelf_height-height.result c.in_ok-candidate.candidate c.requires.by_height c.in_ok-candidate.ensures.value).0
 
 pub placement_at-requires-clause-item : goal.placement_at-requires-clause-item
 placement_at-requires-clause-item c =
-    (found-within c.args.frame.now c.args.records.now c.requires.kept c.args.ranked.now.items c.args.sides.along c.shelf_height-height.result c.in_ok-candidate.candidate c.requires.ranked c.in_ok-candidate.ensures.value).1
+    (found-within c.args.frame.now c.args.records.now c.requires.kept c.args.by_height.now.items c.args.sides.along c.shelf_height-height.result c.in_ok-candidate.candidate c.requires.by_height c.in_ok-candidate.ensures.value).1
 
 pub returns-in_err-candidate-clause-value : goal.returns-in_err-candidate-clause-value
 returns-in_err-candidate-clause-value c =
     c.from_residual.ensures
-    ∙ chosen-found c.args.frame.now c.args.records.now c.requires.kept c.args.ranked.now.items c.args.sides c.shelf_height-height.result None c.requires.ranked c.shelf_height-height.ensures.value c.in_err-candidate.ensures.value
+    ∙ chosen-found c.args.frame.now c.args.records.now c.requires.kept c.args.by_height.now.items c.args.sides c.shelf_height-height.result None c.requires.by_height c.shelf_height-height.ensures.value c.in_err-candidate.ensures.value
 
-pub returns-in_err-candidate-clause-ranked : goal.returns-in_err-candidate-clause-ranked
-returns-in_err-candidate-clause-ranked c =
-    searchable-ranked c.args.frame.now c.args.records.now c.requires.kept c.args.ranked.now.items c.best_candidate.new.ranked.items c.requires.ranked c.best_candidate.ensures.numbers c.best_candidate.ensures.ranked
+pub returns-in_err-candidate-clause-by_height : goal.returns-in_err-candidate-clause-by_height
+returns-in_err-candidate-clause-by_height c =
+    searchable-by_height c.args.frame.now c.args.records.now c.requires.kept c.args.by_height.now.items c.best_candidate.new.by_height.items c.requires.by_height c.best_candidate.ensures.numbers c.best_candidate.ensures.by_height
 
 pub returns-clause-value : goal.returns-clause-value
 returns-clause-value c =
     ap Some c.placement_at.ensures
-    ∙ chosen-found c.args.frame.now c.args.records.now c.requires.kept c.args.ranked.now.items c.args.sides c.shelf_height-height.result (Some c.in_ok-candidate.candidate) c.requires.ranked c.shelf_height-height.ensures.value c.in_ok-candidate.ensures.value
+    ∙ chosen-found c.args.frame.now c.args.records.now c.requires.kept c.args.by_height.now.items c.args.sides c.shelf_height-height.result (Some c.in_ok-candidate.candidate) c.requires.by_height c.shelf_height-height.ensures.value c.in_ok-candidate.ensures.value
 
-pub returns-clause-ranked : goal.returns-clause-ranked
-returns-clause-ranked c =
-    searchable-ranked c.args.frame.now c.args.records.now c.requires.kept c.args.ranked.now.items c.best_candidate.new.ranked.items c.requires.ranked c.best_candidate.ensures.numbers c.best_candidate.ensures.ranked
+pub returns-clause-by_height : goal.returns-clause-by_height
+returns-clause-by_height c =
+    searchable-by_height c.args.frame.now c.args.records.now c.requires.kept c.args.by_height.now.items c.best_candidate.new.by_height.items c.requires.by_height c.best_candidate.ensures.numbers c.best_candidate.ensures.by_height

@@ -5,7 +5,7 @@ use Rattle.shelf_store.proofs.choosing.earliest_wide.Goals as goal
 
 pub loop-index-preserved : goal.loop-index-preserved
 loop-index-preserved c =
-    let old = c.loop-index.ranked.items in
+    let old = c.loop-index.by_height.items in
     let first = c.in-Some.ensures.first in
     let next : IsBehind c.args.shelves.now old c.in-Some.index c.behind_height-from.result = rw c.first_as_wide.ensures.items at c.behind_height-from.ensures in
     let earlier = rw c.first_as_wide.ensures.items at c.earlier.ensures in
@@ -21,4 +21,4 @@ loop-index-preserved c =
 pub returns-clause-value : goal.returns-clause-value
 returns-clause-value c =
     rw c.loop-index.invariant.same at
-    (ended-earliest c.args.shelves.now c.loop-index.ranked.items c.args.start c.loop-index.from c.args.width c.loop-index.first c.loop-index.invariant.within c.loop-index.invariant.earliest (rw c.in_default.is at c.first_as_wide.ensures.first))
+    (ended-earliest c.args.shelves.now c.loop-index.by_height.items c.args.start c.loop-index.from c.args.width c.loop-index.first c.loop-index.invariant.within c.loop-index.invariant.earliest (rw c.in_default.is at c.first_as_wide.ensures.first))

@@ -5,12 +5,12 @@ use Rattle.shelf_store.proofs.choosing.earliest_wide.Given as goal
 -- what was found is the shelf in the first place up to here
 abbrev pub invariant-loop-index : goal.invariant-loop-index
 invariant-loop-index l = record {
-  same : l.ranked.items ≡ l.fn.ranked.items;
+  same : l.by_height.items ≡ l.fn.by_height.items;
   after : l.start ≤ l.from;
-  within : l.from ≤ length l.ranked.items;
-  earliest : IsEarliest l.shelves l.ranked.items l.start l.from l.width l.first;
-  capacity : l.fn.ranked.capacity ≤ l.ranked.capacity;
+  within : l.from ≤ length l.by_height.items;
+  earliest : IsEarliest l.shelves l.by_height.items l.start l.from l.width l.first;
+  capacity : l.fn.by_height.capacity ≤ l.by_height.capacity;
 }
 
 abbrev pub decreases-loop-index : goal.decreases-loop-index
-decreases-loop-index l = length l.ranked.items - l.from
+decreases-loop-index l = length l.by_height.items - l.from

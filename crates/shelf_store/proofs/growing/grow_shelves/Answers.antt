@@ -2,13 +2,13 @@ use Rattle.std.proofs.Common.{ap, arith, length, sym, ◌∙◌}
 use Rattle.etagere_links.specs.RecordLists.{Records, shelf_walk}
 use Rattle.etagere_links.proofs.AllLists.LinkedWalks.{walked-numbers}
 use Rattle.shelf_store.specs.Private.RecordsGrown.{records_grown}
-use Rattle.shelf_store.proofs.ByHeight.RankedRoom.{shelves-count}
+use Rattle.shelf_store.proofs.ByHeight.RoomByHeight.{shelves-count}
 use Rattle.shelf_store.proofs.Grown.GrownLengths.{grown-count}
-use Rattle.shelf_store.proofs.Grown.GrownNothing.{nothing-grown, ranked-elsewhere}
+use Rattle.shelf_store.proofs.Grown.GrownNothing.{nothing-grown, by_height-elsewhere}
 use Rattle.shelf_store.proofs.growing.grow_shelves.Goals as goal
 
-pub rank_shelves-requires-clause-room : goal.rank_shelves-requires-clause-room
-rank_shelves-requires-clause-room c =
+pub sort_shelves-requires-clause-room : goal.sort_shelves-requires-clause-room
+sort_shelves-requires-clause-room c =
     let new : Records = (records_grown c.args.frame.now c.args.grown.now c.args.needed c.args.records.now).records in
     omega (
       arith,
@@ -16,7 +16,7 @@ rank_shelves-requires-clause-room c =
       ap length (walked-numbers new (shelf_walk new).met),
       shelves-count c.args.grown.now new c.requires.kept,
       grown-count c.args.frame.now c.args.grown.now c.args.needed c.args.records.now,
-      c.in_ok-reserve_ranks.ensures.room,
+      c.in_ok-reserve_by_height.ensures.room,
     )
 
 pub returns-then-is_extended-clause-room : goal.returns-then-is_extended-clause-room
@@ -25,8 +25,8 @@ returns-then-is_extended-clause-room c =
       arith,
       ap (λ (r : Records). length r.shelves) c.in_ok-grow_records.ensures.ok,
       grown-count c.args.frame.now c.args.grown.now c.args.needed c.args.records.now,
-      c.in_ok-reserve_ranks.ensures.room,
-      c.rank_shelves.ensures.capacity,
+      c.in_ok-reserve_by_height.ensures.room,
+      c.sort_shelves.ensures.capacity,
     )
 
 pub returns-else-is_extended-clause-room : goal.returns-else-is_extended-clause-room
@@ -35,14 +35,14 @@ returns-else-is_extended-clause-room c =
       arith,
       ap (λ (r : Records). length r.shelves) c.in_ok-grow_records.ensures.ok,
       grown-count c.args.frame.now c.args.grown.now c.args.needed c.args.records.now,
-      c.in_ok-reserve_ranks.ensures.room,
+      c.in_ok-reserve_by_height.ensures.room,
     )
 
-pub returns-else-is_extended-clause-ranked : goal.returns-else-is_extended-clause-ranked
-returns-else-is_extended-clause-ranked c =
+pub returns-else-is_extended-clause-by_height : goal.returns-else-is_extended-clause-by_height
+returns-else-is_extended-clause-by_height c =
     let frame = c.args.frame.now in
     let grown = c.args.grown.now in
     let records = c.args.records.now in
-    ranked-elsewhere frame grown records c.grow_records.new.records c.args.ranked.now.items c.reserve_ranks.new.ranked.items
+    by_height-elsewhere frame grown records c.grow_records.new.records c.args.by_height.now.items c.reserve_by_height.new.by_height.items
     (c.in_ok-grow_records.ensures.ok ∙ nothing-grown frame grown c.args.needed records c.requires.needed (sym c.is_extended.ensures ∙ c.if-is_extended.false))
-    c.reserve_ranks.ensures.items c.requires.ranked
+    c.reserve_by_height.ensures.items c.requires.by_height

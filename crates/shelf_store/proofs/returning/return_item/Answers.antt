@@ -6,7 +6,7 @@ use Rattle.etagere_links.specs.RecordLists.{Records}
 use Rattle.shelf_records.specs.AtlasRecords.{shelf_of, width_of}
 use Rattle.shelf_heights.specs.Private.ByHeight.{raised}
 use Rattle.shelf_store.specs.Private.ItemReturned.{emptiness_said, has_one_free, item_merged, merged_width}
-use Rattle.shelf_store.specs.Private.RankedReturned.{freed_width}
+use Rattle.shelf_store.specs.Private.ReturnedByHeight.{freed_width}
 use Rattle.shelf_store.proofs.Spelled.NotEmptied.{StaysInUse, stays-in-use}
 use Rattle.shelf_store.proofs.returning.return_item.Goals as goal
 use Rattle.shelf_store.proofs.returning.return_item.Goals.{After-raise, After-is_alone, After-set_empty}
@@ -19,27 +19,27 @@ width_of-width-requires c =
     rw (c.items.ensures, c.merge_item-merged.ensures.records, c.merge_item-merged.ensures.item, c.requires.shelf) (c.requires.fits.remaining.there)
 
 pub raise-requires-clause-order : goal.raise-requires-clause-order
-raise-requires-clause-order c = rw (c.shelves.ensures, c.merge_item-merged.ensures.records, c.requires.shelf) (c.requires.ranked.order)
+raise-requires-clause-order c = rw (c.shelves.ensures, c.merge_item-merged.ensures.records, c.requires.shelf) (c.requires.by_height.order)
 
 pub raise-requires-clause-stands : goal.raise-requires-clause-stands
-raise-requires-clause-stands c = rw c.requires.shelf (c.requires.ranked.stands)
+raise-requires-clause-stands c = rw c.requires.shelf (c.requires.by_height.stands)
 
 pub is_alone-requires : goal.is_alone-requires
 is_alone-requires c =
     rw (c.items-2.ensures, c.merge_item-merged.ensures.records, c.merge_item-merged.ensures.item, c.requires.shelf) (c.requires.fits.remaining.there)
 
 -- the bound that rises is that of the item's shelf, and it rises to what becomes free
-rises : (c : After-raise) → c.raise.new.ranked.items ≡ raised (shelf_of c.args.records.now.items c.args.number) (freed_width c.args.records.now.items c.args.number) c.args.ranked.now.items
+rises : (c : After-raise) → c.raise.new.by_height.items ≡ raised (shelf_of c.args.records.now.items c.args.number) (freed_width c.args.records.now.items c.args.number) c.args.by_height.now.items
 rises c =
     let items : List LinkedItem = c.args.records.now.items in
     let wide : c.width_of-width.result ≡ merged_width c.args.shelf c.args.number c.args.records.now =
     c.width_of-width.ensures
     ∙ ap (λ (is : List LinkedItem). width_of is c.merge_item-merged.result.item) (c.items.ensures ∙ ap (λ (r : Records). r.items) c.merge_item-merged.ensures.records)
     ∙ ap (width_of (item_merged c.args.shelf c.args.number c.args.records.now).records.items) c.merge_item-merged.ensures.item in
-    c.raise.ensures.ranked
-    ∙ ap (λ s. raised s c.width_of-width.result c.args.ranked.now.items) c.requires.shelf
-    ∙ ap (λ w. raised (shelf_of items c.args.number) w c.args.ranked.now.items)
-    (wide ∙ ap (λ s. merged_width s c.args.number c.args.records.now) c.requires.shelf ∙ c.requires.ranked.width)
+    c.raise.ensures.by_height
+    ∙ ap (λ s. raised s c.width_of-width.result c.args.by_height.now.items) c.requires.shelf
+    ∙ ap (λ w. raised (shelf_of items c.args.number) w c.args.by_height.now.items)
+    (wide ∙ ap (λ s. merged_width s c.args.number c.args.records.now) c.requires.shelf ∙ c.requires.by_height.width)
 
 -- the item that remains stands alone just where its shelf is empty
 emptied : (c : After-is_alone) → (let shelf = shelf_of c.args.records.now.items c.args.number in has_one_free shelf (item_merged shelf c.args.number c.args.records.now).records ≡ c.is_alone.result)
@@ -60,32 +60,32 @@ merge_shelves-requires-clause-fits c =
     let at = goal.at.merge_shelves-requires-clause-fits c in
     rw (said at.After-set_empty (emptied at.After-is_alone ∙ c.if-is_alone.true), c.requires.shelf) (c.requires.fits.shelves)
 
-pub merge_shelves-requires-clause-ranked : goal.merge_shelves-requires-clause-ranked
-merge_shelves-requires-clause-ranked c =
-    let at = goal.at.merge_shelves-requires-clause-ranked c in
-    rw (said at.After-set_empty (emptied at.After-is_alone ∙ c.if-is_alone.true), rises at.After-raise, c.requires.shelf) (c.requires.ranked.shelves)
+pub merge_shelves-requires-clause-by_height : goal.merge_shelves-requires-clause-by_height
+merge_shelves-requires-clause-by_height c =
+    let at = goal.at.merge_shelves-requires-clause-by_height c in
+    rw (said at.After-set_empty (emptied at.After-is_alone ∙ c.if-is_alone.true), rises at.After-raise, c.requires.shelf) (c.requires.by_height.shelves)
 
 pub returns-then-is_alone-clause-records : goal.returns-then-is_alone-clause-records
 returns-then-is_alone-clause-records c =
     let at = goal.at.returns-then-is_alone-clause-records c in
     rw (c.merge_shelves.ensures.records, said at.After-set_empty (emptied at.After-is_alone ∙ c.if-is_alone.true), c.requires.shelf) refl
 
-pub returns-then-is_alone-clause-ranked : goal.returns-then-is_alone-clause-ranked
-returns-then-is_alone-clause-ranked c =
-    let at = goal.at.returns-then-is_alone-clause-ranked c in
+pub returns-then-is_alone-clause-by_height : goal.returns-then-is_alone-clause-by_height
+returns-then-is_alone-clause-by_height c =
+    let at = goal.at.returns-then-is_alone-clause-by_height c in
     rw (
-      c.merge_shelves.ensures.ranked,
+      c.merge_shelves.ensures.by_height,
       said at.After-set_empty (emptied at.After-is_alone ∙ c.if-is_alone.true),
       rises at.After-raise,
       c.requires.shelf,
     ) refl
 
-pub returns-then-is_alone-clause-put_aside : goal.returns-then-is_alone-clause-put_aside
-returns-then-is_alone-clause-put_aside c =
-    let at = goal.at.returns-then-is_alone-clause-put_aside c in
+pub returns-then-is_alone-clause-made_unused : goal.returns-then-is_alone-clause-made_unused
+returns-then-is_alone-clause-made_unused c =
+    let at = goal.at.returns-then-is_alone-clause-made_unused c in
     rw (
-      c.merge_shelves.ensures.put_aside,
-      c.merge_item-merged.ensures.put_aside,
+      c.merge_shelves.ensures.made_unused,
+      c.merge_item-merged.ensures.made_unused,
       said at.After-set_empty (emptied at.After-is_alone ∙ c.if-is_alone.true),
       c.requires.shelf,
     ) refl
@@ -101,15 +101,15 @@ returns-else-is_alone-clause-records c =
     let still = stays (goal.at.returns-else-is_alone-clause-records c).After-is_alone c.if-is_alone.false in
     rw (c.merge_item-merged.ensures.records, c.requires.shelf) (sym still.records)
 
-pub returns-else-is_alone-clause-ranked : goal.returns-else-is_alone-clause-ranked
-returns-else-is_alone-clause-ranked c =
-    let at = goal.at.returns-else-is_alone-clause-ranked c in
+pub returns-else-is_alone-clause-by_height : goal.returns-else-is_alone-clause-by_height
+returns-else-is_alone-clause-by_height c =
+    let at = goal.at.returns-else-is_alone-clause-by_height c in
     let still = stays at.After-is_alone c.if-is_alone.false in
     rises at.After-raise
-    ∙ sym (still.ranks (raised (shelf_of c.args.records.now.items c.args.number) (freed_width c.args.records.now.items c.args.number) c.args.ranked.now.items))
+    ∙ sym (still.in_list (raised (shelf_of c.args.records.now.items c.args.number) (freed_width c.args.records.now.items c.args.number) c.args.by_height.now.items))
 
-pub returns-else-is_alone-clause-put_aside : goal.returns-else-is_alone-clause-put_aside
-returns-else-is_alone-clause-put_aside c =
-    let still = stays (goal.at.returns-else-is_alone-clause-put_aside c).After-is_alone c.if-is_alone.false in
-    let one : c.merge_item-merged.result.put_aside ≡ (item_merged (shelf_of c.args.records.now.items c.args.number) c.args.number c.args.records.now).put_aside = rw (c.merge_item-merged.ensures.put_aside, c.requires.shelf) refl in
-    omega (arith, one, still.put_aside)
+pub returns-else-is_alone-clause-made_unused : goal.returns-else-is_alone-clause-made_unused
+returns-else-is_alone-clause-made_unused c =
+    let still = stays (goal.at.returns-else-is_alone-clause-made_unused c).After-is_alone c.if-is_alone.false in
+    let one : c.merge_item-merged.result.made_unused ≡ (item_merged (shelf_of c.args.records.now.items c.args.number) c.args.number c.args.records.now).made_unused = rw (c.merge_item-merged.ensures.made_unused, c.requires.shelf) refl in
+    omega (arith, one, still.made_unused)

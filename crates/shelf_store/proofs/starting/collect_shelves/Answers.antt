@@ -12,11 +12,11 @@ loop-step-init c = record {
   capacity = omega (arith, c.clear.ensures.capacity);
 }
 
-pub newly_ranked-requires-clause-shelf : goal.newly_ranked-requires-clause-shelf
-newly_ranked-requires-clause-shelf c =
+pub newly_bounded-requires-clause-shelf : goal.newly_bounded-requires-clause-shelf
+newly_bounded-requires-clause-shelf c =
     omega (
       arith,
-      collects-here c.args.frame.now c.args.records.now c.loop-step.ranked.items c.loop-step.at c.in-Some.shelf c.loop-step._step c.loop-step.invariant.collects c.in-Some.is,
+      collects-here c.args.frame.now c.args.records.now c.loop-step.by_height.items c.loop-step.at c.in-Some.shelf c.loop-step._step c.loop-step.invariant.collects c.in-Some.is,
       c.requires.kept.counts.shelves.1,
     )
 
@@ -24,7 +24,7 @@ pub push-requires : goal.push-requires
 push-requires c = record {
   room = omega (
     arith,
-    collects-fewer c.args.frame.now c.args.records.now c.loop-step.ranked.items c.loop-step.at c.in-Some.shelf c.loop-step._step c.loop-step.invariant.collects c.in-Some.is,
+    collects-fewer c.args.frame.now c.args.records.now c.loop-step.by_height.items c.loop-step.at c.in-Some.shelf c.loop-step._step c.loop-step.invariant.collects c.in-Some.is,
     c.loop-step.invariant.room,
   );
 }
@@ -32,13 +32,13 @@ push-requires c = record {
 pub loop-step-preserved : goal.loop-step-preserved
 loop-step-preserved c = record {
   collects =
-      collects-more c.args.frame.now c.args.records.now c.loop-step.ranked.items c.push.new.self.items c.loop-step.at c.number-at-in-loop-step.result c.in-Some.shelf c.loop-step._step c.loop-step.invariant.collects c.in-Some.is
-      (c.push.ensures.items ∙ ap (λ one. c.loop-step.ranked.items ++ one ∷ []) c.newly_ranked.ensures)
+      collects-more c.args.frame.now c.args.records.now c.loop-step.by_height.items c.push.new.self.items c.loop-step.at c.number-at-in-loop-step.result c.in-Some.shelf c.loop-step._step c.loop-step.invariant.collects c.in-Some.is
+      (c.push.ensures.items ∙ ap (λ one. c.loop-step.by_height.items ++ one ∷ []) c.newly_bounded.ensures)
       (c.number-at-in-loop-step.ensures.value ∙ c.next_of.ensures ∙ ap (λ shelves. link_at shelf_chain.next shelves c.in-Some.shelf) c.shelves.ensures);
   room = omega (arith, c.loop-step.invariant.room, c.push.ensures.capacity);
   capacity = omega (arith, c.loop-step.invariant.capacity, c.push.ensures.capacity);
 }
 
-pub returns-in_default-clause-ranked : goal.returns-in_default-clause-ranked
-returns-in_default-clause-ranked c =
-    collects-end c.args.frame.now c.args.records.now c.loop-step.ranked.items c.loop-step.at c.loop-step._step c.loop-step.invariant.collects c.in_default.is
+pub returns-in_default-clause-by_height : goal.returns-in_default-clause-by_height
+returns-in_default-clause-by_height c =
+    collects-end c.args.frame.now c.args.records.now c.loop-step.by_height.items c.loop-step.at c.loop-step._step c.loop-step.invariant.collects c.in_default.is

@@ -4,19 +4,19 @@ use Rattle.etagere_links.specs.RecordUses.{missing}
 use Rattle.etagere_links.specs.Records.{shelf_chain}
 use Rattle.shelf_model.specs.Choice.{Placement}
 use Rattle.shelf_store.specs.Private.PlacementTaken.{placement_taken}
-use Rattle.shelf_store.proofs.ByHeight.RankedRoom.{taken-count}
+use Rattle.shelf_store.proofs.ByHeight.RoomByHeight.{taken-count}
 use Rattle.shelf_store.proofs.taking.take_placement.Goals as goal
-use Rattle.shelf_store.proofs.taking.take_placement.Goals.{then-found+in_ok-reserve_ranks, else-found}
+use Rattle.shelf_store.proofs.taking.take_placement.Goals.{then-found+in_ok-reserve_by_height, else-found}
 
 pub returns-clause-room : goal.returns-clause-room
 returns-clause-room c =
     let records = c.args.records.now in
     let made : c.set_empty.new.self ≡ placement_taken c.args.column_width c.args.found.now records = search rules in
     let split = sym (ap (λ (p : Placement). p.splits_shelf) c.found.view_is) in
-    let room : length records.shelves + missing shelf_chain (if c.args.found.now.splits_shelf then 1 else 0) records.unused_shelves records.shelves ≤ c.if-found.ranked.capacity =
+    let room : length records.shelves + missing shelf_chain (if c.args.found.now.splits_shelf then 1 else 0) records.unused_shelves records.shelves ≤ c.if-found.by_height.capacity =
     elim c.if-found.branch [
-      | then-found+in_ok-reserve_ranks w ↦ rw (w.ranked-is, split, w.if-found.true) w.in_ok-reserve_ranks.ensures.room
-      | else-found w ↦ rw (w.ranked-is, split, w.if-found.false) (omega (arith, c.requires.room))
+      | then-found+in_ok-reserve_by_height w ↦ rw (w.by_height-is, split, w.if-found.true) w.in_ok-reserve_by_height.ensures.room
+      | else-found w ↦ rw (w.by_height-is, split, w.if-found.false) (omega (arith, c.requires.room))
     ] in
     omega (
       arith,

@@ -7,16 +7,16 @@ use Rattle.shelf_model.specs.Choice.{Placement}
 use Rattle.shelf_model.specs.ById.{IsClear, KeepsRectangles}
 use Rattle.shelf_model.specs.Places.{allocations}
 use Rattle.etagere.specs.Private.Consistent.{state_in}
-use Rattle.shelf_heights.specs.Private.ByHeight.{AreRanked}
+use Rattle.shelf_heights.specs.Private.ByHeight.{AreByHeight}
 use Rattle.shelf_records.specs.Private.Kept.{state_of}
-use Rattle.shelf_store.specs.Private.PlacementTaken.{ranked_taken}
+use Rattle.shelf_store.specs.Private.PlacementTaken.{taken_by_height}
 use Rattle.shelf_model.specs.State.{AtlasState}
-use Rattle.shelf_heights.specs.declared.ranked.RankedShelf.{RankedShelf}
+use Rattle.shelf_heights.specs.declared.by_height.BoundedShelf.{BoundedShelf}
 use Rattle.shelf_model.proofs.Allocations.SeenById.{added-clear, keeps-rectangles}
-use Rattle.shelf_store.proofs.ByHeight.RankedRoom.{items-short, ranked-spare}
-use Rattle.shelf_store.proofs.ByHeight.TakenRanked.{Ranks}
+use Rattle.shelf_store.proofs.ByHeight.RoomByHeight.{items-short, by_height-spare}
+use Rattle.shelf_store.proofs.ByHeight.TakenByHeight.{HoldsByHeight}
 use Rattle.shelf_model.proofs.Promises.{promises}
-use Rattle.shelf_store.proofs.Recorded.RecordedTaking.{AfterTaking, after-taking, found-as_placed, found-ranked}
+use Rattle.shelf_store.proofs.Recorded.RecordedTaking.{AfterTaking, after-taking, found-as_placed, found-by_height}
 use Rattle.shelf_store.proofs.Spelled.TakenPremises.{can-take}
 use Rattle.etagere.proofs.atlas.AtlasAllocator.allocate.Goals as goal
 
@@ -39,10 +39,10 @@ take_placement-requires-clause-takes c =
     let finds = c.in-Some.ensures.some in
     can-take inside.frame inside.records c.args.size finds.placement c.in-Some.placement c.self.invariant.kept finds.placed finds.located
 
-pub take_placement-requires-clause-ranks : goal.take_placement-requires-clause-ranks
-take_placement-requires-clause-ranks c =
+pub take_placement-requires-clause-by_height : goal.take_placement-requires-clause-by_height
+take_placement-requires-clause-by_height c =
     let inside = c.self.inside in
-    (found-ranked inside.frame inside.records c.args.size c.in-Some.placement c.placement_of-found.new.ranked.items c.self.invariant.kept c.in-Some.ensures.some c.placement_of-found.ensures.ranked).can
+    (found-by_height inside.frame inside.records c.args.size c.in-Some.placement c.placement_of-found.new.by_height.items c.self.invariant.kept c.in-Some.ensures.some c.placement_of-found.ensures.by_height).can
 
 pub take_placement-requires-clause-room : goal.take_placement-requires-clause-room
 take_placement-requires-clause-room c = omega (arith, c.self.invariant.room, c.placement_of-found.ensures.capacity)
@@ -50,7 +50,7 @@ take_placement-requires-clause-room c = omega (arith, c.self.invariant.room, c.p
 pub take_placement-requires-clause-spare : goal.take_placement-requires-clause-spare
 take_placement-requires-clause-spare c =
     let inside = c.self.inside in
-    ranked-spare inside.frame inside.records c.placement_of-found.new.ranked.items c.self.invariant.kept c.placement_of-found.ensures.ranked
+    by_height-spare inside.frame inside.records c.placement_of-found.new.by_height.items c.self.invariant.kept c.placement_of-found.ensures.by_height
 
 pub returns-in_err-id-clause-split : goal.returns-in_err-id-clause-split
 returns-in_err-id-clause-split c =
@@ -94,20 +94,20 @@ after c =
     after-taking inside.frame inside.records c.take_placement.new.records c.args.size c.in-Some.placement c.in_ok-id.id c.rectangle-rectangle.result
     c.self.invariant.kept c.in-Some.ensures.some c.in_ok-id.ensures.ok c.in_ok-id.ensures.id c.rectangle-rectangle.ensures
 
--- and of the ranked shelves
-ranked-after : (c : goal.After-self-2-1) → AreRanked c.self.inside.frame c.take_placement.new.records c.take_placement.new.ranked.items
-ranked-after c =
+-- and of the shelves by height
+by_height-after : (c : goal.After-self-2-1) → AreByHeight c.self.inside.frame c.take_placement.new.records c.take_placement.new.by_height.items
+by_height-after c =
     let inside = c.self.inside in
-    let ranked : List RankedShelf = c.placement_of-found.new.ranked.items in
-    let ranks : Ranks inside.frame inside.records c.in-Some.placement ranked =
-    found-ranked inside.frame inside.records c.args.size c.in-Some.placement ranked c.self.invariant.kept c.in-Some.ensures.some c.placement_of-found.ensures.ranked in
-    subst (AreRanked inside.frame c.take_placement.new.records) (sym c.in_ok-id.ensures.ranked)
-    (subst (λ (r : Records). AreRanked inside.frame r (ranked_taken inside.frame.column_width c.in-Some.placement inside.records ranked)) (sym c.in_ok-id.ensures.ok) ranks.after)
+    let by_height : List BoundedShelf = c.placement_of-found.new.by_height.items in
+    let in_list : HoldsByHeight inside.frame inside.records c.in-Some.placement by_height =
+    found-by_height inside.frame inside.records c.args.size c.in-Some.placement by_height c.self.invariant.kept c.in-Some.ensures.some c.placement_of-found.ensures.by_height in
+    subst (AreByHeight inside.frame c.take_placement.new.records) (sym c.in_ok-id.ensures.by_height)
+    (subst (λ (r : Records). AreByHeight inside.frame r (taken_by_height inside.frame.column_width c.in-Some.placement inside.records by_height)) (sym c.in_ok-id.ensures.ok) in_list.after)
 
 pub invariant_of-self-2 : goal.invariant_of-self-2
 invariant_of-self-2 c = record {
   kept = (after c).kept;
-  ranked = ranked-after c;
+  by_height = by_height-after c;
   room = c.in_ok-id.ensures.room;
   counted = omega (arith, (after c).counted, c.splits.ensures.value, c.self.invariant.counted);
   space = omega (arith, (after c).space, c.area.ensures, c.self.invariant.space);

@@ -3,12 +3,12 @@ use Rattle.etagere_links.specs.RecordLists.{Records}
 use Rattle.shelf_model.specs.Atlas.{KeepsPromises}
 use Rattle.shelf_model.specs.Fresh.{fresh}
 use Rattle.shelf_model.specs.Places.{allocations}
-use Rattle.shelf_heights.specs.Private.ByHeight.{AreRanked}
+use Rattle.shelf_heights.specs.Private.ByHeight.{AreByHeight}
 use Rattle.shelf_store.specs.Private.FreshRecords.{fresh_shelf}
 use Rattle.shelf_records.specs.Private.Kept.{AreKept, state_of}
 use Rattle.shelf_model.specs.Space.{allocated_space}
 use Rattle.shelf_model.specs.State.{AtlasState, items_in_use}
-use Rattle.shelf_store.proofs.ByHeight.NewlyRanked.{columns-ranked}
+use Rattle.shelf_store.proofs.ByHeight.NewByHeight.{columns-by_height}
 use Rattle.shelf_model.proofs.Places.FreshLemmas.{fresh-allocated, fresh-valid, items_in_use-empty_columns, space-fresh}
 use Rattle.shelf_model.proofs.Promises.{promises}
 use Rattle.shelf_store.proofs.Spelled.FreshKept.{fresh-kept}
@@ -29,7 +29,7 @@ reset_records-requires c =
 pub reset_by_height-requires-clause-many : goal.reset_by_height-requires-clause-many
 reset_by_height-requires-clause-many c =
     let inside = c.self.inside in
-    columns-ranked inside.frame inside.records inside.ranked.items c.self.invariant.kept c.self.invariant.ranked
+    columns-by_height inside.frame inside.records inside.by_height.items c.self.invariant.kept c.self.invariant.by_height
 
 -- the state that the fields stand for at the end
 made : (c : goal.After-self-2-1) → state_of c.self.inside.frame c.reset_records.new.records ≡ fresh c.self.inside.frame
@@ -44,7 +44,7 @@ invariant_of-self c =
     let valid = c.self.invariant.kept.valid in
     record {
       kept = subst (AreKept frame) (sym c.reset_records.ensures) (fresh-kept frame valid.frame valid.columns).1;
-      ranked = subst (λ (records : Records). AreRanked frame records c.reset_by_height.new.ranked.items) (sym c.reset_records.ensures) c.reset_by_height.ensures.ranked;
+      by_height = subst (λ (records : Records). AreByHeight frame records c.reset_by_height.new.by_height.items) (sym c.reset_records.ensures) c.reset_by_height.ensures.by_height;
       room = omega (
         arith,
         ap (λ (r : Records). length r.shelves) c.reset_records.ensures,

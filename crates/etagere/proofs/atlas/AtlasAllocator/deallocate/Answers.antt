@@ -12,7 +12,7 @@ use Rattle.shelf_model.specs.State.{AtlasState}
 use Rattle.shelf_model.proofs.Allocations.SeenById.{takes-away, undoes}
 use Rattle.shelf_model.proofs.Promises.{promises}
 use Rattle.shelf_store.proofs.Recorded.RecordedArea.{kept-area}
-use Rattle.shelf_store.proofs.Recorded.RecordedReturn.{AfterReturn, after-return, can-return, ranked-after}
+use Rattle.shelf_store.proofs.Recorded.RecordedReturn.{AfterReturn, after-return, can-return, by_height-after}
 use Rattle.shelf_records.proofs.Recorded.RecordsOfIds.{kept-allocated, kept-shelf, marked-within, record-marked}
 use Rattle.shelf_model.proofs.Returned.Restored.{returned-restores}
 use Rattle.shelf_store.proofs.Spelled.ReturnedLengths.{returned-lengths}
@@ -51,14 +51,14 @@ overflow_sub-self c =
 pub return_item-requires : goal.return_item-requires
 return_item-requires c =
     let inside = c.self.inside in
-    let can = can-return inside.frame inside.records inside.ranked.items c.args.id c.in-Some.number c.self.invariant.kept c.self.invariant.ranked (sym c.number_of.ensures ∙ c.in-Some.is) in
-    record { shelf = c.recorded_shelf-shelf.ensures; number = can.0; fits = can.1; ranked = can.2 }
+    let can = can-return inside.frame inside.records inside.by_height.items c.args.id c.in-Some.number c.self.invariant.kept c.self.invariant.by_height (sym c.number_of.ensures ∙ c.in-Some.is) in
+    record { shelf = c.recorded_shelf-shelf.ensures; number = can.0; fits = can.1; by_height = can.2 }
 
 -- what is known once the item was returned
 after : (c : After-return_item) → AfterReturn c.self.inside.frame c.self.inside.records c.args.id c.return_item.new.records c.return_item.result c.recorded_area-area.result
 after c =
     after-return c.self.inside.frame c.self.inside.records c.return_item.new.records c.args.id c.in-Some.number c.return_item.result c.recorded_area-area.result
-    c.self.invariant.kept (sym c.number_of.ensures ∙ c.in-Some.is) c.return_item.ensures.records c.return_item.ensures.put_aside c.recorded_area-area.ensures
+    c.self.invariant.kept (sym c.number_of.ensures ∙ c.in-Some.is) c.return_item.ensures.records c.return_item.ensures.made_unused c.recorded_area-area.ensures
 
 pub overflow_sub-self-2 : goal.overflow_sub-self-2
 overflow_sub-self-2 c = omega (arith, (after c).counted, c.self.invariant.counted)
@@ -68,8 +68,8 @@ invariant_of-self c =
     let done = after (goal.at.invariant_of-self c).After-return_item in
     record {
       kept = done.kept;
-      ranked = rw (c.return_item.ensures.records, c.return_item.ensures.ranked)
-          (ranked-after c.self.inside.frame c.self.inside.records c.self.inside.ranked.items c.args.id c.in-Some.number c.self.invariant.kept c.self.invariant.ranked (sym c.number_of.ensures ∙ c.in-Some.is));
+      by_height = rw (c.return_item.ensures.records, c.return_item.ensures.by_height)
+          (by_height-after c.self.inside.frame c.self.inside.records c.self.inside.by_height.items c.args.id c.in-Some.number c.self.invariant.kept c.self.invariant.by_height (sym c.number_of.ensures ∙ c.in-Some.is));
       room = omega (
         arith,
         ap (λ (r : Records). length r.shelves) c.return_item.ensures.records,

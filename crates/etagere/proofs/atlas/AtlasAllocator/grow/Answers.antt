@@ -8,7 +8,7 @@ use Rattle.shelf_store.specs.declared.growing.Needed.{Needed}
 use Rattle.shelf_model.specs.Atlas.{KeepsPromises}
 use Rattle.shelf_model.specs.Growing.{atlas_grown, grow_fault, grown_frame, records_needed, size_fault}
 use Rattle.shelf_model.specs.Places.{allocations}
-use Rattle.shelf_heights.specs.Private.ByHeight.{AreRanked}
+use Rattle.shelf_heights.specs.Private.ByHeight.{AreByHeight}
 use Rattle.etagere.specs.Private.Consistent.{IsConsistent, state_in}
 use Rattle.shelf_records.specs.Private.Kept.{AreKept, state_of}
 use Rattle.shelf_store.specs.Private.RecordsGrown.{needed_of, records_grown}
@@ -45,7 +45,7 @@ grows-inside : (inside : Inside) (size : Size) (grown : Frame) (needed : Needed)
     → GrowsAtlas inside.frame size inside.records grown needed
 grows-inside inside size grown needed keeps none is_grown is_needed few =
     grows-atlas (grows-kept widens (heightens inserts) appends) inside.frame size inside.records grown needed keeps.kept none is_grown is_needed
-    (omega (arith, few, keeps.counted, keeps.kept.valid.records))
+    (omega (arith, few, keeps.counted, keeps.kept.valid.peak_items))
 
 pub returns-in-Some-clause-promises : goal.returns-in-Some-clause-promises
 returns-in-Some-clause-promises c = subst KeepsPromises c.self.view_is (promises (state_in c.self.inside) c.self.invariant.kept.valid)
@@ -98,12 +98,12 @@ pub invariant_of-self : goal.invariant_of-self
 invariant_of-self c =
     let inside = c.self.inside in
     let same : inside.records ≡ c.grow_shelves-done.new.records = sym (same_records c) in
-    let ranked : c.grow_shelves-done.new.ranked.items ≡ inside.ranked.items =
+    let by_height : c.grow_shelves-done.new.by_height.items ≡ inside.by_height.items =
     on_err c.grow_shelves-done.result (sym c.is_err.ensures.value ∙ c.if-is_err.true) c.grow_shelves-done.ensures.same in
     record {
       kept = subst (AreKept inside.frame) same c.self.invariant.kept;
-      ranked = subst (λ (r : Records). AreRanked inside.frame r c.grow_shelves-done.new.ranked.items) same
-          (subst (AreRanked inside.frame inside.records) (sym ranked) c.self.invariant.ranked);
+      by_height = subst (λ (r : Records). AreByHeight inside.frame r c.grow_shelves-done.new.by_height.items) same
+          (subst (AreByHeight inside.frame inside.records) (sym by_height) c.self.invariant.by_height);
       room = c.grow_shelves-done.ensures.room;
       counted = c.self.invariant.counted ∙ ap (λ (r : Records). items_in_use (state_of inside.frame r).shelves) same;
       space = c.self.invariant.space ∙ ap (λ (r : Records). allocated_space (state_of inside.frame r)) same;
@@ -146,7 +146,7 @@ invariant_of-self-2 c =
     let space = ap (λ (r : Records). allocated_space (state_of grown r)) (grown_records c) in
     record {
       kept = subst (AreKept grown) (grown_records c) (done c).kept;
-      ranked = on_ok c.grow_shelves-done.result (sym c.is_err.ensures.value ∙ c.if-is_err.false) c.grow_shelves-done.ensures.ranked;
+      by_height = on_ok c.grow_shelves-done.result (sym c.is_err.ensures.value ∙ c.if-is_err.false) c.grow_shelves-done.ensures.by_height;
       room = c.grow_shelves-done.ensures.room;
       counted = omega (arith, items, (done c).counted, c.self.invariant.counted);
       space = c.self.invariant.space ∙ sym (done c).space ∙ space;

@@ -4,7 +4,7 @@ use Rattle.std.proofs.lemmas.Int.{to_z-of_z}
 use Rattle.etagere_base.specs.Sides.{side}
 use Rattle.shelf_records.specs.AtlasRecords.{AtlasRecords}
 use Rattle.shelf_model.specs.Atlas.{KeepsPromises}
-use Rattle.shelf_heights.specs.Private.ByHeight.{AreRanked}
+use Rattle.shelf_heights.specs.Private.ByHeight.{AreByHeight}
 use Rattle.shelf_records.specs.Private.Kept.{AreKept}
 use Rattle.shelf_records.specs.Snapshots.{state_spelled}
 use Rattle.shelf_model.specs.Space.{space_in}
@@ -19,8 +19,8 @@ invariant_of-result c =
     let sum : ℕ = c.args.items_in_use in
     record {
       kept = subst (λ (atlas : AtlasRecords). AreKept atlas.frame atlas.records) same c.requires.kept;
-      ranked = subst (λ (atlas : AtlasRecords). AreRanked atlas.frame atlas.records c.args.ranked.items) same c.requires.ranked;
-      room = subst (λ (atlas : AtlasRecords). length atlas.records.shelves ≤ c.args.ranked.capacity) same c.requires.room;
+      by_height = subst (λ (atlas : AtlasRecords). AreByHeight atlas.frame atlas.records c.args.by_height.items) same c.requires.by_height;
+      room = subst (λ (atlas : AtlasRecords). length atlas.records.shelves ≤ c.args.by_height.capacity) same c.requires.room;
       counted = subst (λ (atlas : AtlasRecords). sum ≡ items_in_use (state_spelled atlas).shelves) same c.requires.items;
       space = c.side-allocated_space.ensures.value ∙ ap side (to_z-of_z w32 c.atlas.inside.allocated_space fits)
           ∙ ap side (subst (λ (atlas : AtlasRecords). atlas.allocated_space ≡ pos (space_in (state_spelled atlas).shelves)) same c.requires.space);

@@ -4,7 +4,7 @@ use Rattle.etagere_links.specs.RecordLists.{Records}
 use Rattle.shelf_model.specs.Atlas.{KeepsPromises}
 use Rattle.shelf_model.specs.Fresh.{fresh}
 use Rattle.shelf_model.specs.Places.{allocations}
-use Rattle.shelf_heights.specs.Private.ByHeight.{AreRanked}
+use Rattle.shelf_heights.specs.Private.ByHeight.{AreByHeight}
 use Rattle.shelf_store.specs.Private.FreshRecords.{fresh_shelf}
 use Rattle.shelf_records.specs.Private.Kept.{AreKept, state_of}
 use Rattle.shelf_model.specs.Space.{allocated_space}
@@ -30,7 +30,7 @@ invariant_of-result c =
     let frame = c.atlas_frame-frame.result in
     record {
       kept = subst (AreKept frame) (sym c.in-Ok.ensures) (fresh-kept frame c.atlas_frame-frame.ensures.frame (columns c)).1;
-      ranked = subst (λ (records : Records). AreRanked frame records c.in-Ok-fresh_by_height.ranked.items) (sym c.in-Ok.ensures) c.in-Ok-fresh_by_height.ensures.ranked;
+      by_height = subst (λ (records : Records). AreByHeight frame records c.in-Ok-fresh_by_height.by_height.items) (sym c.in-Ok.ensures) c.in-Ok-fresh_by_height.ensures.by_height;
       room = omega (arith, ap (λ (r : Records). length r.shelves) c.in-Ok.ensures, numbered-length (fresh_shelf frame) 0 frame.columns, c.in-Ok-fresh_by_height.ensures.room);
       counted = sym (ap (λ (s : AtlasState). items_in_use s.shelves) (made c) ∙ items_in_use-empty_columns frame 0 frame.columns);
       space = sym (ap allocated_space (made c) ∙ space-fresh frame);

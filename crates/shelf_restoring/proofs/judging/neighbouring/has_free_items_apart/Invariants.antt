@@ -1,5 +1,6 @@
 use Rattle.std.proofs.Common.{List, map}
-use Rattle.etagere_base.specs.Lists.{Each, NoNeighbours}
+use Rattle.std.specs.List.{AllByRecursion}
+use Rattle.etagere_base.specs.Lists.{NoNeighbours}
 use Rattle.etagere_base.proofs.DecidingLemmas.{IsLeft}
 use Rattle.etagere_links.specs.RecordLists.{Entry}
 use Rattle.shelf_records.specs.AtlasRecords.{item_at}
@@ -9,5 +10,5 @@ use Rattle.shelf_restoring.proofs.judging.neighbouring.has_free_items_apart.Give
 -- the shelves that are left keep the fact where all do
 abbrev pub invariant-loop-entry : goal.invariant-loop-entry
 invariant-loop-entry l =
-    let Rest : List Entry → Type 0 = λ rest. Each (λ (entry : Entry). NoNeighbours both_free (map (item_at l.items) entry.items)) rest in
+    let Rest : List Entry → Type 0 = λ rest. AllByRecursion (λ (entry : Entry). NoNeighbours both_free (map (item_at l.items) entry.items)) rest in
     IsLeft (Rest l.entries) Rest l.entry-index l.entries

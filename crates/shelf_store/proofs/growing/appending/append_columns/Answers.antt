@@ -1,7 +1,7 @@
 use Rattle.std.proofs.Common.{◌≡◌, ◌+◌, ◌-◌, ◌*◌, ap, ◌∙◌, arith}
 use Rattle.etagere_base.specs.Frames.{across_side}
 use Rattle.shelf_store.specs.Private.RecordsGrown as spec
-use Rattle.shelf_store.proofs.Grown.GrowthSteps.{appended-next, can-append-next, growing-is}
+use Rattle.shelf_store.proofs.Grown.GrowSteps.{appended-next, can-append-next, growing-is}
 use Rattle.shelf_store.proofs.growing.appending.append_columns.Goals as goal
 
 pub loop-column-preserved : goal.loop-column-preserved

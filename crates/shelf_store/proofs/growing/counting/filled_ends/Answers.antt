@@ -2,7 +2,7 @@ use Rattle.std.proofs.Common.{◌≡◌, ℕ, ◌+◌, ◌-◌, Bool, cond, leng
 use Rattle.etagere_links.specs.Edits.{link_at}
 use Rattle.etagere_links.specs.Records.{shelf_chain}
 use Rattle.shelf_store.specs.Private.RecordsGrown as spec
-use Rattle.shelf_store.proofs.Grown.GrowthSteps.{bit-le, counted-next}
+use Rattle.shelf_store.proofs.Grown.GrowSteps.{bit-le, counted-next}
 use Rattle.shelf_store.proofs.growing.counting.filled_ends.Goals as goal
 
 pub loop-step-preserved : goal.loop-step-preserved

@@ -1,7 +1,7 @@
 use Rattle.std.proofs.Common.{◌≡◌, ◌+◌, ◌-◌, Some, length, ap, sym, ◌∙◌, arith}
 use Rattle.etagere_links.specs.Edits.{link_at}
 use Rattle.etagere_links.specs.Records.{item_chain}
-use Rattle.shelf_store.proofs.Grown.GrowthSteps.{last-next}
+use Rattle.shelf_store.proofs.Grown.GrowSteps.{last-next}
 use Rattle.shelf_store.proofs.growing.counting.last_item.Goals as goal
 
 pub loop-step-preserved : goal.loop-step-preserved

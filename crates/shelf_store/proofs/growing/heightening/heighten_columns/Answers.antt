@@ -2,7 +2,7 @@ use Rattle.std.proofs.Common.{◌≡◌, ◌+◌, ◌-◌, length, ap, ◌∙◌
 use Rattle.etagere_links.specs.Edits.{link_at}
 use Rattle.etagere_links.specs.Records.{shelf_chain}
 use Rattle.shelf_store.specs.Private.RecordsGrown as spec
-use Rattle.shelf_store.proofs.Grown.GrowthSteps.{can-heighten, can-heighten-next, growing-is, heightened-next}
+use Rattle.shelf_store.proofs.Grown.GrowSteps.{can-heighten, can-heighten-next, growing-is, heightened-next}
 use Rattle.shelf_store.proofs.growing.heightening.heighten_columns.Goals as goal
 
 pub heighten_end-requires : goal.heighten_end-requires

@@ -1,6 +1,6 @@
 use Rattle.std.proofs.Common.{◌+◌, ap, sym, ◌∙◌}
 use Rattle.shelf_records.specs.AtlasRecords.{is_allocated_at, width_of}
-use Rattle.shelf_store.proofs.Grown.GrowthSteps.{widened-free}
+use Rattle.shelf_store.proofs.Grown.GrowSteps.{widened-free}
 use Rattle.shelf_store.proofs.growing.widening.widen_shelf.Goals as goal
 
 pub returns-then-not-is_allocated-clause-records : goal.returns-then-not-is_allocated-clause-records

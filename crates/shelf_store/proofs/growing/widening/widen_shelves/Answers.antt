@@ -2,7 +2,7 @@ use Rattle.std.proofs.Common.{◌≡◌, ◌+◌, ◌-◌, length, ap, ◌∙◌
 use Rattle.etagere_links.specs.Edits.{link_at}
 use Rattle.etagere_links.specs.Records.{shelf_chain}
 use Rattle.shelf_store.specs.Private.RecordsGrown as spec
-use Rattle.shelf_store.proofs.Grown.GrowthSteps.{can-widen, can-widen-next, growing-is, widened-next}
+use Rattle.shelf_store.proofs.Grown.GrowSteps.{can-widen, can-widen-next, growing-is, widened-next}
 use Rattle.shelf_store.proofs.growing.widening.widen_shelves.Goals as goal
 
 pub widen_shelf-requires : goal.widen_shelf-requires

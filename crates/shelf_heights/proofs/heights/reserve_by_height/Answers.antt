@@ -1,0 +1,10 @@
+use Rattle.std.proofs.Common.{rules}
+use Rattle.etagere_links.specs.Records.{shelf_chain}
+use Rattle.etagere_links.proofs.MissingRecords.{missing-le}
+use Rattle.shelf_heights.proofs.heights.reserve_by_height.Goals as goal
+
+pub overflow_add-shelves : goal.overflow_add-shelves
+overflow_add-shelves c =
+    let records = c.args.records.now in
+    let few = missing-le shelf_chain c.args.wanted records.unused_shelves records.shelves in
+    search (rules, few)

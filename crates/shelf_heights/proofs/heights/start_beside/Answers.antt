@@ -1,0 +1,73 @@
+use Rattle.std.proofs.Common.{◌≡◌, ℕ, suc, ◌+◌, ◌-◌, ◌<◌, ◌≤◌, List, drop, length, ap, arith, subst, sym, take}
+use Rattle.std.specs.Prelude.{◌/◌, remove}
+use Rattle.std.specs.List.{AllByRecursion}
+use Rattle.shelf_heights.specs.Private.ByHeight.{order_of, bounded_at}
+use Rattle.shelf_heights.specs.declared.by_height.BoundedShelf.{BoundedShelf}
+use Rattle.shelf_heights.proofs.ByHeight.Positions.{after-probed, before-probed, read-number}
+use Rattle.shelf_heights.proofs.heights.start_beside.Goals as goal
+
+-- a shelf of zeros
+abbrev none : BoundedShelf
+none = record { widest = 0; shelf = 0 }
+
+-- the middle is before the end
+below : (from end : ℕ) → from < end → from + (end - from) / 2 < end
+below from end less = omega (arith, less)
+
+pub order_of-requires : goal.order_of-requires
+order_of-requires c =
+    let from : ℕ = c.loop-from.from in
+    let end : ℕ = c.loop-from.end in
+    let others : List BoundedShelf = remove c.args.by_height.now.items c.args.left_out in
+    subst (λ (n : ℕ). n < length c.args.shelves.now) (sym c.shelf_beside.ensures)
+    (read-number (λ n. n < length c.args.shelves.now) (from + (end - from) / 2) others none (omega (arith, below from end c.loop-from-test.true, c.loop-from.invariant.within)) c.requires.order.within)
+
+pub loop-from-preserved-then-order_of-order : goal.loop-from-preserved-then-order_of-order
+loop-from-preserved-then-order_of-order c =
+    let from : ℕ = c.loop-from.from in
+    let end : ℕ = c.loop-from.end in
+    let middle : ℕ = from + (end - from) / 2 in
+    let others : List BoundedShelf = remove c.args.by_height.now.items c.args.left_out in
+    let order : ℕ = c.order_of-order.result in
+    let within : middle < length others = omega (arith, below from end c.loop-from-test.true, c.loop-from.invariant.within) in
+    let less : order_of c.args.shelves.now (bounded_at others middle).shelf < order =
+    omega (arith, c.if-order_of-order.true, c.order_of.ensures, ap (order_of c.args.shelves.now) c.shelf_beside.ensures) in
+    let next : suc middle ≡ middle + 1 = omega arith in
+    record {
+      bounds = omega (arith, below from end c.loop-from-test.true);
+      few = c.loop-from.invariant.few;
+      within = c.loop-from.invariant.within;
+      before = subst (λ (n : ℕ). AllByRecursion (λ (one : BoundedShelf). order_of c.args.shelves.now one.shelf < order) (take n others)) next
+          (before-probed c.args.shelves.now 0 order middle others none within c.requires.order.rising less);
+      after = c.loop-from.invariant.after;
+    }
+
+pub loop-from-preserved : goal.loop-from-preserved
+loop-from-preserved c =
+    let from : ℕ = c.loop-from.from in
+    let end : ℕ = c.loop-from.end in
+    let middle : ℕ = from + (end - from) / 2 in
+    let others : List BoundedShelf = remove c.args.by_height.now.items c.args.left_out in
+    let order : ℕ = c.order_of-order.result in
+    let within : middle < length others = omega (arith, below from end c.loop-from-test.true, c.loop-from.invariant.within) in
+    let more : order ≤ order_of c.args.shelves.now (bounded_at others middle).shelf =
+    omega (arith, c.if-order_of-order.false, c.order_of.ensures, ap (order_of c.args.shelves.now) c.shelf_beside.ensures) in
+    record {
+      bounds = omega arith;
+      few = c.loop-from.invariant.few;
+      within = omega (arith, within);
+      before = c.loop-from.invariant.before;
+      after = after-probed c.args.shelves.now 0 order middle others none within c.requires.order.rising more;
+    }
+
+pub returns-clause-before : goal.returns-clause-before
+returns-clause-before c =
+    subst (λ (n : ℕ). AllByRecursion (λ (one : BoundedShelf). order_of c.args.shelves.now one.shelf < n) (take c.loop-from.from (remove c.args.by_height.now.items c.args.left_out)))
+    c.order_of-order.ensures c.loop-from.invariant.before
+
+pub returns-clause-after : goal.returns-clause-after
+returns-clause-after c =
+    let same : c.loop-from.end ≡ c.loop-from.from = omega (arith, c.loop-from.invariant.bounds, c.loop-from-test.false) in
+    subst (λ (n : ℕ). AllByRecursion (λ (one : BoundedShelf). n ≤ order_of c.args.shelves.now one.shelf) (drop c.loop-from.from (remove c.args.by_height.now.items c.args.left_out)))
+    c.order_of-order.ensures
+    (subst (λ (n : ℕ). AllByRecursion (λ (one : BoundedShelf). c.order_of-order.result ≤ order_of c.args.shelves.now one.shelf) (drop n (remove c.args.by_height.now.items c.args.left_out))) same c.loop-from.invariant.after)

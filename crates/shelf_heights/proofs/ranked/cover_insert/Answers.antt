@@ -1,8 +1,0 @@
-use Rattle.std.proofs.Common.{arith}
-use Rattle.shelf_heights.proofs.ByHeight.WideBounds.{insert-covered}
-use Rattle.shelf_heights.proofs.ranked.cover_insert.Goals as goal
-
-pub returns-clause-covered : goal.returns-clause-covered
-returns-clause-covered c =
-    insert-covered c.args.widest.now c.loop-block.widest c.args.bounds.now c.args.index c.args.bound c.requires.within c.requires.covered c.loop-block.invariant.raised
-    c.loop-block.invariant.bound (λ block after before. c.loop-block.invariant.moved block after (omega (arith, before)))
