@@ -5,7 +5,7 @@ use Rattle.std.specs.Bool.{MatchBool}
 use Rattle.std.specs.Str.{bytes_eq}
 use Rattle.std.proofs.lemmas.Slice.Eq.{bytes_eq-Decides}
 use Rattle.json.specs.Json.{Json, Members, no_members, member}
-use Rattle.saved_json.specs.Fields.{the_only, values_named}
+use Rattle.saved_json.specs.JsonFields.{the_only, values_named}
 use Rattle.saved_json.specs.Private.Held.{AreMembers, Arrays, IsArray, IsMember}
 use Rattle.saved_json.specs.Snapshots.{IsArrayOf}
 

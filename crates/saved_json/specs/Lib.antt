@@ -1,4 +1,4 @@
-pub mod Fields
+pub mod JsonFields
 pub mod Records
 pub mod Snapshots
 pub mod Private

@@ -1,11 +1,11 @@
 -- How a JSON value spells each record of a snapshot.
 use Rattle.std.specs.Prelude.{◌≡◌, List, [], ◌∷◌, Some, codes}
 use Rattle.json.specs.Json.{Json, boolean, Items, no_items, item}
-use Rattle.etagere_bucketed.specs.declared.snapshots.BucketRecord.{BucketRecord}
-use Rattle.etagere_bucketed.specs.declared.snapshots.BucketShelfRecord.{BucketShelfRecord}
+use Rattle.bucketed_records.specs.declared.snapshots.BucketRecord.{BucketRecord}
+use Rattle.bucketed_records.specs.declared.snapshots.BucketShelfRecord.{BucketShelfRecord}
 use Rattle.shelf_records.specs.declared.snapshots.ItemRecord.{ItemRecord}
 use Rattle.shelf_records.specs.declared.snapshots.ShelfRecord.{ShelfRecord}
-use Rattle.saved_json.specs.Fields.{field, natural}
+use Rattle.saved_json.specs.JsonFields.{field, natural}
 
 pub record IsItem (json : Json) (item : ItemRecord) : Type 0 where
   pub x : field 9 0 (codes "x") json ≡ Some (natural item.x)

@@ -2,11 +2,11 @@
 use Rattle.std.specs.Prelude.{◌≡◌, ℕ, Bool, List, Option, Some, IsUtf8, codes}
 use Rattle.json.specs.Json.{Json, array, boolean, document, member, no_members, object, Items}
 use Rattle.etagere_base.specs.declared.geometry.Size.{Size}
-use Rattle.etagere_bucketed.specs.declared.snapshots.BucketedSnapshot.{BucketedSnapshot}
+use Rattle.bucketed_records.specs.declared.snapshots.BucketedSnapshot.{BucketedSnapshot}
 use Rattle.shelf_records.specs.declared.snapshots.AtlasSnapshot.{AtlasSnapshot}
 use Rattle.saved_json.specs.declared.saved.Saved.{Saved}
 use Rattle.saved_json.specs.declared.saved.Saved.TheVariants.{Atlas, Bucketed}
-use Rattle.saved_json.specs.Fields.{field, natural, whole}
+use Rattle.saved_json.specs.JsonFields.{field, natural, whole}
 use Rattle.saved_json.specs.Records.{AreRecords, IsBucket, IsBucketShelf, IsItem, IsShelf}
 
 -- a field is an array of these records

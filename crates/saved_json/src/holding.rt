@@ -8,7 +8,7 @@ ghost use Rattle.json.specs.Value.{members_view, value_view};
 ghost use Rattle.saved_json.specs.Private.Held.{IsArray, IsMember, Opens, Passes, PassesItem, PassesMembers, arrays_of};
 ghost use Rattle.saved_json.specs.Snapshots.{IsAtlas, IsBucketed, IsSaved, Spells};
 
-use crate::fields::field;
+use crate::json_fields::field;
 use crate::records::Spelled;
 use crate::saved::{ReadFault, Saved};
 use crate::snapshots::{has_atlas_fields, has_bucketed_fields};

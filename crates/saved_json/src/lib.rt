@@ -1,12 +1,14 @@
 //! Saved atlases as JSON text.
 #![tactic(auto)]
 
-mod fields;
 mod holding;
+mod json_fields;
 mod reading;
 mod records;
 mod saved;
 mod snapshots;
+mod writing;
 
 pub use reading::read_saved;
 pub use saved::{ReadFault, Saved};
+pub use writing::write_saved;

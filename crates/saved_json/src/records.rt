@@ -1,13 +1,13 @@
 //! Whether a JSON value spells a record.
 //!
-//! Definitions: `Records`. A record's type is in `shelf_records` or `etagere_bucketed`, with its fields in their order.
+//! Definitions: `Records`. A record's type is in `shelf_records` or `bucketed_records`, with its fields in their order.
 
 ghost use Rattle.std.specs.Prelude.{IsTrue};
 ghost use Rattle.json.specs.Json.{Json};
 ghost use Rattle.json.specs.Value.{value_view};
 ghost use Rattle.saved_json.specs.Records.{IsBucket, IsBucketShelf, IsItem, IsShelf};
 
-use crate::fields::{holds_boolean, holds_natural};
+use crate::json_fields::{holds_boolean, holds_natural};
 use etagere::{BucketRecord, BucketShelfRecord, ItemRecord, ShelfRecord};
 use json::Value;
 

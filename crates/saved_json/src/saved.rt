@@ -8,11 +8,11 @@ ghost use Rattle.json.specs.Value.{value_view};
 use crate::records::Spelled;
 use etagere::{AtlasSnapshot, BucketedSnapshot};
 use json::{Scratch, Value};
-use serde::Deserialize;
+use serde::{Deserialize, Serialize};
 use std::alloc::Global;
 
 /// What a JSON text may hold, under its one key.
-#[derive(Drop, Deserialize)]
+#[derive(Drop, Serialize, Deserialize)]
 pub enum Saved {
     #[serde(rename = "atlas")]
     Atlas(AtlasSnapshot),

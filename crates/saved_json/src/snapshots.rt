@@ -1,14 +1,14 @@
 //! Whether a JSON value spells a snapshot.
 //!
-//! Definitions: `Snapshots`. A snapshot's type is in `etagere` or `etagere_bucketed`, with its fields in their order.
+//! Definitions: `Snapshots`. A snapshot's type is in `shelf_records` or `bucketed_records`, with its fields in their order.
 
 ghost use Rattle.std.specs.Prelude.{IsTrue};
 ghost use Rattle.json.specs.Value.{items_view, value_view};
-ghost use Rattle.saved_json.specs.Fields.{field};
+ghost use Rattle.saved_json.specs.JsonFields.{field};
 ghost use Rattle.saved_json.specs.Records.{AreRecords};
 ghost use Rattle.saved_json.specs.Snapshots.{HasAtlasFields, HasBucketedFields, HasColumns, HasSides, HasStarts, IsArrayOf, IsAtlas, IsBucketed};
 
-use crate::fields::{field, holds_boolean, holds_natural, holds_whole};
+use crate::json_fields::{field, holds_boolean, holds_natural, holds_whole};
 use crate::records::Spelled;
 use etagere::{AtlasSnapshot, BucketedSnapshot, Size};
 use json::Value;
@@ -103,13 +103,13 @@ fn has_sides(json: &Value<'_>, count: usize, size: Size, alignment: Size, vertic
 fn holds_records<R: Spelled>(
     json: &Value<'_>,
     count: usize,
-    place: usize,
+    position: usize,
     name: &str,
     records: &[R],
 ) -> bool
-    ensures { IsTrue result → IsArrayOf R.spells (field count place name.now (value_view json.now)) records.now }
+    ensures { IsTrue result → IsArrayOf R.spells (field count position name.now (value_view json.now)) records.now }
 {
-    match field(json, count, place, name) {
+    match field(json, count, position, name) {
         Some(Value::Array(items)) => are_spelled(records, items.as_slice()),
         _ => false,
     }

@@ -1,41 +1,53 @@
 //! Whether the fields of a record hold what they should.
 //!
-//! Definitions: `Fields`.
+//! Definitions: `JsonFields`.
 
 ghost use Rattle.std.specs.Prelude.{◌≡◌, Some, None, IfSome, IsTrue, option_map};
 ghost use Rattle.json.specs.Json.{boolean};
 ghost use Rattle.json.specs.Value.{value_view, members_view};
-ghost use Rattle.saved_json.specs.Fields.{field, natural, the_only, values_named, whole};
+ghost use Rattle.saved_json.specs.JsonFields.{field, natural, the_only, values_named, whole};
 
 use json::Value;
 
 /// Whether a field holds this number.
-pub fn holds_natural(json: &Value<'_>, count: usize, place: usize, name: &str, number: u16) -> bool
-    ensures { IsTrue result → field count place name.now (value_view json.now) ≡ Some (natural number) }
+pub fn holds_natural(
+    json: &Value<'_>,
+    count: usize,
+    position: usize,
+    name: &str,
+    number: u16,
+) -> bool
+    ensures { IsTrue result → field count position name.now (value_view json.now) ≡ Some (natural number) }
 {
     let mut digits = itoa::Buffer::new();
-    match field(json, count, place, name) {
+    match field(json, count, position, name) {
         Some(Value::Number(text)) => *text == digits.format(number),
         _ => false,
     }
 }
 
 /// Whether a field holds this number, which may have a minus sign.
-pub fn holds_whole(json: &Value<'_>, count: usize, place: usize, name: &str, number: i32) -> bool
-    ensures { IsTrue result → field count place name.now (value_view json.now) ≡ Some (whole number) }
+pub fn holds_whole(json: &Value<'_>, count: usize, position: usize, name: &str, number: i32) -> bool
+    ensures { IsTrue result → field count position name.now (value_view json.now) ≡ Some (whole number) }
 {
     let mut digits = itoa::Buffer::new();
-    match field(json, count, place, name) {
+    match field(json, count, position, name) {
         Some(Value::Number(text)) => *text == digits.format(number),
         _ => false,
     }
 }
 
 /// Whether a field holds this truth.
-pub fn holds_boolean(json: &Value<'_>, count: usize, place: usize, name: &str, truth: bool) -> bool
-    ensures { IsTrue result → field count place name.now (value_view json.now) ≡ Some (boolean truth) }
+pub fn holds_boolean(
+    json: &Value<'_>,
+    count: usize,
+    position: usize,
+    name: &str,
+    truth: bool,
+) -> bool
+    ensures { IsTrue result → field count position name.now (value_view json.now) ≡ Some (boolean truth) }
 {
-    match field(json, count, place, name) {
+    match field(json, count, position, name) {
         Some(Value::Bool(found)) => *found == truth,
         _ => false,
     }
@@ -45,15 +57,15 @@ pub fn holds_boolean(json: &Value<'_>, count: usize, place: usize, name: &str, t
 pub fn field<'v, 'a>(
     json: &'v Value<'a>,
     count: usize,
-    place: usize,
+    position: usize,
     name: &str,
 ) -> Option<&'v Value<'a>>
     ensures { IfSome result (λ value.
-        field count place name.now (value_view json.now) ≡ Some (value_view value.now)) }
+        field count position name.now (value_view json.now) ≡ Some (value_view value.now)) }
 {
     match json {
         Value::Object(members) => only_named(members.as_slice(), name),
-        Value::Array(items) if items.len() == count => json.at(place),
+        Value::Array(items) if items.len() == count => json.at(position),
         _ => None,
     }
 }

@@ -1,8 +1,8 @@
 use Rattle.std.proofs.Common.{◌≡◌, ◌++◌, drop, option_map, List, [], ◌∷◌, Option, Some, None}
 use Rattle.json.specs.Json.{Json}
 use Rattle.json.specs.Value.{value_view, members_view}
-use Rattle.saved_json.specs.Fields.{values_named}
-use Rattle.saved_json.proofs.fields.only_named.Given as goal
+use Rattle.saved_json.specs.JsonFields.{values_named}
+use Rattle.saved_json.proofs.json_fields.only_named.Given as goal
 
 abbrev listed : Option Json → List Json
 listed None = []

@@ -24,12 +24,12 @@ the_only (value ∷ other ∷ values) = None
 -- A field of a record with so many fields: the value of the only member of its name, or, of an array with as many
 -- items as the record has fields, the item at its place.
 abbrev pub field : ℕ → ℕ → List ℕ → Json → Option Json
-field count place name (object members) = the_only (values_named name members)
-field count place name (array items) = if item_count items == count then get_item place items else None
-field count place name null = None
-field count place name (boolean value) = None
-field count place name (number text) = None
-field count place name (string text) = None
+field count position name (object members) = the_only (values_named name members)
+field count position name (array items) = if item_count items == count then get_item position items else None
+field count position name null = None
+field count position name (boolean value) = None
+field count position name (number text) = None
+field count position name (string text) = None
 
 -- the number with these digits, and a minus sign before them where it is below 0
 abbrev pub natural : ℕ → Json
