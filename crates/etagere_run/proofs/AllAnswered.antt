@@ -2,9 +2,9 @@
 use Rattle.std.proofs.Common.{◌≡◌, List, Result, Ok, Err, OnOk, subst, sym}
 use Rattle.std.specs.Prelude.{All, IfOk, []}
 use Rattle.etagere_base.specs.declared.frames.Frame.{Frame}
-use Rattle.etagere_run.specs.declared.commands.Reply.{Reply}
+use Rattle.run_commands.specs.declared.commands.Reply.{Reply}
 use Rattle.etagere_run.specs.Drawing.{HasMemory, LeadsTo}
-use Rattle.etagere_run.specs.Runs.{Kind, Runs, RunKeepsPromisesThroughout}
+use Rattle.run_answers.specs.Runs.{Kind, Runs, RunKeepsPromisesThroughout}
 
 pub all-answered : {S C E : Type 0} (kind : Kind S C) (frame : Frame) (commands : List C) (replies shown : List Reply)
     (last : S) (answer : Result S E)

@@ -3,16 +3,16 @@ use Rattle.std.proofs.Common.{◌≡◌, List, refl, subst, sym}
 use Rattle.etagere_base.specs.Frames.{IsAccepted, atlas_frame, longest_side}
 use Rattle.shelf_model.specs.State.{AtlasState}
 use Rattle.shelf_model.specs.Svg as shelves
-use Rattle.etagere_bucketed.specs.Frames.{bucketed_frame, longest_bucketed_side}
-use Rattle.etagere_bucketed.specs.State.{BucketedState}
-use Rattle.etagere_bucketed.specs.Svg as buckets
-use Rattle.etagere_run.specs.declared.commands.AtlasCommand.{AtlasCommand}
-use Rattle.etagere_run.specs.declared.commands.BucketedCommand.{BucketedCommand}
-use Rattle.etagere_run.specs.AtlasRuns.{shelf_atlas}
-use Rattle.etagere_run.specs.BucketedRuns.{bucketed_atlas}
+use Rattle.bucketed_model.specs.Frames.{bucketed_frame, longest_bucketed_side}
+use Rattle.bucketed_model.specs.State.{BucketedState}
+use Rattle.bucketed_model.specs.Svg as buckets
+use Rattle.run_commands.specs.declared.commands.AtlasCommand.{AtlasCommand}
+use Rattle.run_commands.specs.declared.commands.BucketedCommand.{BucketedCommand}
+use Rattle.run_answers.specs.AtlasRuns.{shelf_atlas}
+use Rattle.run_answers.specs.BucketedRuns.{bucketed_atlas}
 use Rattle.etagere_run.specs.Drawing.{IsPictureOf, LeadsTo, ShowsEnd}
 use Rattle.etagere_run.specs.Replaying.{longest_asked}
-use Rattle.etagere_run.specs.Script.{Commands, OfBuckets, OfShelves, Request}
+use Rattle.run_scripts.specs.Script.{Commands, OfBuckets, OfShelves, Request}
 
 -- a shelf atlas that commands led to
 pub shelves-picture : (request : Request) (commands : List AtlasCommand) (atlas : AtlasState)

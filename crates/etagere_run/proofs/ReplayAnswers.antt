@@ -8,13 +8,13 @@ use Rattle.etagere_base.specs.declared.faults.OptionsFault.TheVariants as faults
 use Rattle.etagere_base.specs.declared.geometry.Size.{Size}
 use Rattle.etagere_base.specs.declared.options.AllocatorOptions.{AllocatorOptions}
 use Rattle.etagere_base.specs.Frames.{IsAccepted}
-use Rattle.etagere_run.specs.declared.faults.Outcome.{Outcome}
-use Rattle.etagere_run.specs.declared.faults.Outcome.TheVariants.{Done}
-use Rattle.etagere_run.specs.declared.faults.ReplayFault.{ReplayFault}
-use Rattle.etagere_run.specs.declared.faults.ReplayFault.TheVariants.{Read, Write, Memory}
-use Rattle.etagere_run.specs.declared.faults.StreamFault.TheVariants as stream_faults
+use Rattle.run_commands.specs.declared.faults.Outcome.{Outcome}
+use Rattle.run_commands.specs.declared.faults.Outcome.TheVariants.{Done}
+use Rattle.run_commands.specs.declared.faults.ReplayFault.{ReplayFault}
+use Rattle.run_commands.specs.declared.faults.ReplayFault.TheVariants.{Read, Write, Memory}
+use Rattle.run_commands.specs.declared.faults.StreamFault.TheVariants as stream_faults
 use Rattle.etagere_run.specs.Replaying.{Replays, longest_asked}
-use Rattle.etagere_run.specs.Script.{Commands, OfBuckets, OfShelves, Request, script_of}
+use Rattle.run_scripts.specs.Script.{Commands, OfBuckets, OfShelves, Request, script_of}
 use Rattle.etagere_run.specs.Private.ScriptStreaming.{StreamsScript}
 
 -- a request of its parts
@@ -145,9 +145,3 @@ keeps-replays remaining old middle new (Err Read) keeps kept = Keeps-trans old m
 keeps-replays remaining old middle new (Err Write) keeps (outcome, text, answers, (sent, short, out)) =
     (outcome, text, answers, (sent, short, keeps-appends old middle new (take sent text) keeps out))
 keeps-replays remaining old middle new (Err Memory) keeps kept = Keeps-trans old middle new keeps kept
-
--- what is told of options and isn't memory is their first fault
-pub first-fault : (first : Option OptionsFault) (fault : OptionsFault)
-    → MatchOption first (fault ≡ faults.Memory) (λ other. fault ≡ other) → (fault ≡ faults.Memory → ⊥) → first ≡ Some fault
-first-fault None fault is other = absurd (other is)
-first-fault (Some one) fault is other = ap Some (sym is)

@@ -3,10 +3,10 @@ use Rattle.std.proofs.Common.{◌≡◌, ℕ, List, Option, Result, Ok, Err, OnO
 use Rattle.std.specs.Prelude.{OnErr}
 use Rattle.std.specs.Io.KnownBytes.{Appends}
 use Rattle.etagere_base.specs.Sending.{AppendsBeginning}
-use Rattle.etagere_run.specs.declared.faults.Checked.{Checked}
-use Rattle.etagere_run.specs.declared.faults.Checked.TheVariants.{Fine, Broken, Unreadable}
-use Rattle.etagere_run.specs.declared.faults.ReplayFault.{ReplayFault}
-use Rattle.etagere_run.specs.declared.faults.ReplayFault.TheVariants.{Read, Write, Memory}
+use Rattle.run_commands.specs.declared.faults.Checked.{Checked}
+use Rattle.run_commands.specs.declared.faults.Checked.TheVariants.{Fine, Broken, Unreadable}
+use Rattle.run_commands.specs.declared.faults.ReplayFault.{ReplayFault}
+use Rattle.run_commands.specs.declared.faults.ReplayFault.TheVariants.{Read, Write, Memory}
 use Rattle.etagere_run.specs.Private.Drawn.{DrawsSaved, DrawsSnapshot}
 use Rattle.etagere_run.specs.Saved.{ShowsSaved}
 use Rattle.saved_json.specs.declared.saved.Saved.{Saved}

@@ -7,13 +7,13 @@ use Rattle.std.proofs.lemmas.List.{append-nil, take-append-drop}
 use Rattle.etagere_base.specs.declared.frames.Frame.{Frame}
 use Rattle.etagere_base.specs.Sending.{AppendsBeginning, AppendsPart}
 use Rattle.etagere_base.proofs.GatheringLemmas.{appends-both, appends-nothing, begins-behind, begins-first}
-use Rattle.etagere_run.specs.declared.commands.Reply.{Reply}
-use Rattle.etagere_run.specs.Live.{Entry}
-use Rattle.etagere_run.specs.ReplyText.{line_of, replies_text}
-use Rattle.etagere_run.specs.Runs.{Kind, RunKeepsPromisesThroughout}
+use Rattle.run_commands.specs.declared.commands.Reply.{Reply}
+use Rattle.run_answers.specs.Live.{Entry}
+use Rattle.run_scripts.specs.ReplyText.{line_of, replies_text}
+use Rattle.run_answers.specs.Runs.{Kind, RunKeepsPromisesThroughout}
 use Rattle.etagere_run.specs.Streaming.{IsTextOfRun, StopsAt, StreamsBeginning}
-use Rattle.etagere_run.specs.Private.Tied.{IsAnswerOf, SameAlignments, SuitsRuns}
-use Rattle.etagere_run.proofs.RunsOn.{GoesOn, IsUnderWay, can_go_on, ends, goes_on, starts}
+use Rattle.run_answers.specs.Private.Tied.{IsAnswerOf, SameAlignments, SuitsRuns}
+use Rattle.run_answers.proofs.RunsOn.{GoesOn, IsUnderWay, can_go_on, ends, goes_on, starts}
 
 -- the text of a front and a back, and of one reply more
 text-append : (front back : List Reply) → replies_text (front ++ back) ≡ replies_text front ++ replies_text back

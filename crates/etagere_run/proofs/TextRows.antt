@@ -3,9 +3,9 @@ use Rattle.std.proofs.Common.{◌≡◌, ℕ, List, [], ◌∷◌, ◌++◌, ref
 use Rattle.std.specs.Prelude.{codes, flat_map}
 use Rattle.std.specs.Fmt.{digits}
 use Rattle.etagere_base.specs.declared.geometry.Rectangle.{Rectangle}
-use Rattle.etagere_run.specs.declared.commands.Reply.TheVariants.{Placed, Refused, Returned, At, NotLive, Cleared, Grown, GrowRefused, NoMemory}
-use Rattle.etagere_run.specs.ReplyText.{replies_text}
-use Rattle.etagere_run.specs.Replaying.{bad_line_text, options_text}
+use Rattle.run_commands.specs.declared.commands.Reply.TheVariants.{Placed, Refused, Returned, At, NotLive, Cleared, Grown, GrowRefused, NoMemory}
+use Rattle.run_scripts.specs.ReplyText.{replies_text}
+use Rattle.run_scripts.specs.ReplyText.{bad_line_text, options_text}
 
 -- each line with its line feed
 abbrev text : List (List ℕ) → List ℕ
@@ -25,9 +25,9 @@ readme_replies = refl
 other_replies : replies_text (Refused ∷ Cleared ∷ NoMemory ∷ []) ≡ text (codes "refused" ∷ codes "cleared" ∷ codes "no memory" ∷ [])
 other_replies = refl
 
-growth_replies : replies_text (Grown ∷ GrowRefused 2 ∷ []) ≡ text (codes "grown" ∷ codes "grow refused 2" ∷ [])
+grow_replies : replies_text (Grown ∷ GrowRefused 2 ∷ []) ≡ text (codes "grown" ∷ codes "grow refused 2" ∷ [])
 unfolding digits
-growth_replies = refl
+grow_replies = refl
 
 no_bytes_text : bad_line_text 1 ≡ text (codes "line 1: bad" ∷ [])
 unfolding digits

@@ -2,12 +2,12 @@
 use Rattle.std.specs.Prelude.{ℕ, List, [], ◌∷◌, ◌++◌, Option, Result, Ok, Err}
 use Rattle.std.specs.Io.KnownBytes.{Appends, Keeps}
 use Rattle.etagere_base.specs.Sending.{AppendsBeginning}
-use Rattle.etagere_run.specs.declared.faults.Checked.{Checked}
-use Rattle.etagere_run.specs.declared.faults.ReplayFault.{ReplayFault}
-use Rattle.etagere_run.specs.declared.faults.ReplayFault.TheVariants.{Read, Write, Memory}
+use Rattle.run_commands.specs.declared.faults.Checked.{Checked}
+use Rattle.run_commands.specs.declared.faults.ReplayFault.{ReplayFault}
+use Rattle.run_commands.specs.declared.faults.ReplayFault.TheVariants.{Read, Write, Memory}
 use Rattle.etagere_run.specs.Drawing.{OfInput}
-use Rattle.etagere_run.specs.Faults.{checked_words}
-use Rattle.etagere_run.specs.Lines.{line_feed}
+use Rattle.run_commands.specs.Faults.{checked_words}
+use Rattle.run_scripts.specs.Lines.{line_feed}
 use Rattle.etagere_run.specs.Saved.{MayAnswer}
 
 -- the line of an answer

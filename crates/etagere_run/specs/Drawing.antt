@@ -6,25 +6,26 @@ use Rattle.etagere_base.specs.declared.geometry.Size.{Size}
 use Rattle.etagere_base.specs.declared.options.AllocatorOptions.{AllocatorOptions}
 use Rattle.etagere_base.specs.Frames.{IsAccepted, atlas_frame}
 use Rattle.etagere_base.specs.Sending.{AppendsBeginning}
-use Rattle.etagere_bucketed.specs.Frames.{bucketed_frame}
-use Rattle.etagere_bucketed.specs.Svg as buckets
+use Rattle.bucketed_model.specs.Frames.{bucketed_frame}
+use Rattle.bucketed_model.specs.Svg as buckets
 use Rattle.shelf_model.specs.Svg as shelves
-use Rattle.etagere_run.specs.declared.commands.Reply.{Reply}
-use Rattle.etagere_run.specs.declared.commands.Reply.TheVariants.{NoMemory}
-use Rattle.etagere_run.specs.declared.faults.Checked.{Checked}
-use Rattle.etagere_run.specs.declared.faults.Checked.TheVariants.{Fine}
-use Rattle.etagere_run.specs.declared.faults.Drawing.{Drawing}
-use Rattle.etagere_run.specs.declared.faults.Drawing.TheVariants.{OfScript, OfSnapshot}
-use Rattle.etagere_run.specs.declared.faults.Outcome.{Outcome}
-use Rattle.etagere_run.specs.declared.faults.Outcome.TheVariants.{Done, BadLine, Options}
-use Rattle.etagere_run.specs.declared.faults.ReplayFault.{ReplayFault}
-use Rattle.etagere_run.specs.declared.faults.ReplayFault.TheVariants.{Read, Write, Memory}
-use Rattle.etagere_run.specs.AtlasRuns.{shelf_atlas}
-use Rattle.etagere_run.specs.BucketedRuns.{bucketed_atlas}
-use Rattle.etagere_run.specs.Replaying.{HasFault, longest_asked, options_text}
-use Rattle.etagere_run.specs.Runs.{Kind, Runs, RunKeepsPromisesThroughout}
+use Rattle.run_commands.specs.declared.commands.Reply.{Reply}
+use Rattle.run_commands.specs.declared.commands.Reply.TheVariants.{NoMemory}
+use Rattle.run_commands.specs.declared.faults.Checked.{Checked}
+use Rattle.run_commands.specs.declared.faults.Checked.TheVariants.{Fine}
+use Rattle.run_commands.specs.declared.faults.Drawing.{Drawing}
+use Rattle.run_commands.specs.declared.faults.Drawing.TheVariants.{OfScript, OfSnapshot}
+use Rattle.run_commands.specs.declared.faults.Outcome.{Outcome}
+use Rattle.run_commands.specs.declared.faults.Outcome.TheVariants.{Done, BadLine, Options}
+use Rattle.run_commands.specs.declared.faults.ReplayFault.{ReplayFault}
+use Rattle.run_commands.specs.declared.faults.ReplayFault.TheVariants.{Read, Write, Memory}
+use Rattle.run_answers.specs.AtlasRuns.{shelf_atlas}
+use Rattle.run_answers.specs.BucketedRuns.{bucketed_atlas}
+use Rattle.etagere_run.specs.Replaying.{HasFault, longest_asked}
+use Rattle.run_scripts.specs.ReplyText.{options_text}
+use Rattle.run_answers.specs.Runs.{Kind, Runs, RunKeepsPromisesThroughout}
 use Rattle.etagere_run.specs.Saved.{MayAnswer, ShowsSaved}
-use Rattle.etagere_run.specs.Script.{Commands, OfBuckets, OfShelves, Request, script_of}
+use Rattle.run_scripts.specs.Script.{Commands, OfBuckets, OfShelves, Request, script_of}
 use Rattle.saved_json.specs.declared.saved.Saved.{Saved}
 use Rattle.saved_json.specs.Snapshots.{Spells}
 

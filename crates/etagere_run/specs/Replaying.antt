@@ -6,27 +6,18 @@ use Rattle.etagere_base.specs.declared.geometry.Size.{Size}
 use Rattle.etagere_base.specs.declared.options.AllocatorOptions.{AllocatorOptions}
 use Rattle.etagere_base.specs.Faults.{options_fault_number}
 use Rattle.etagere_base.specs.Frames.{IsAccepted, atlas_frame, options_fault, longest_side}
-use Rattle.etagere_bucketed.specs.Frames.{bucketed_frame, longest_bucketed_side}
+use Rattle.bucketed_model.specs.Frames.{bucketed_frame, longest_bucketed_side}
 use Rattle.etagere_base.specs.Sending.{AppendsBeginning}
-use Rattle.etagere_run.specs.declared.commands.Reply.{Reply}
-use Rattle.etagere_run.specs.declared.faults.Outcome.{Outcome}
-use Rattle.etagere_run.specs.declared.faults.Outcome.TheVariants.{Done, BadLine, Options}
-use Rattle.etagere_run.specs.declared.faults.ReplayFault.{ReplayFault}
-use Rattle.etagere_run.specs.declared.faults.ReplayFault.TheVariants.{Read, Write, Memory}
-use Rattle.etagere_run.specs.AtlasRuns.{shelf_atlas}
-use Rattle.etagere_run.specs.BucketedRuns.{bucketed_atlas}
-use Rattle.etagere_run.specs.Faults.{outcome_words}
-use Rattle.etagere_run.specs.Lines.{line_feed}
-use Rattle.etagere_run.specs.ReplyText.{replies_text}
-use Rattle.etagere_run.specs.Runs.{RunKeepsPromisesThroughout, RunsTo}
-use Rattle.etagere_run.specs.Script.{Commands, OfBuckets, OfShelves, Request, script_of}
-
--- the line on the first bad line, and the one on a fault of the options, each with its line feed
-abbrev pub bad_line_text : ℕ → List ℕ
-bad_line_text number = outcome_words (BadLine number) ++ line_feed ∷ []
-
-abbrev pub options_text : ℕ → List ℕ
-options_text number = outcome_words (Options number) ++ line_feed ∷ []
+use Rattle.run_commands.specs.declared.commands.Reply.{Reply}
+use Rattle.run_commands.specs.declared.faults.Outcome.{Outcome}
+use Rattle.run_commands.specs.declared.faults.Outcome.TheVariants.{Done, BadLine, Options}
+use Rattle.run_commands.specs.declared.faults.ReplayFault.{ReplayFault}
+use Rattle.run_commands.specs.declared.faults.ReplayFault.TheVariants.{Read, Write, Memory}
+use Rattle.run_answers.specs.AtlasRuns.{shelf_atlas}
+use Rattle.run_answers.specs.BucketedRuns.{bucketed_atlas}
+use Rattle.run_scripts.specs.ReplyText.{bad_line_text, options_text, replies_text}
+use Rattle.run_answers.specs.Runs.{RunKeepsPromisesThroughout, RunsTo}
+use Rattle.run_scripts.specs.Script.{Commands, OfBuckets, OfShelves, Request, script_of}
 
 -- the longest side that an atlas may have that is asked these
 abbrev pub longest_asked : Commands → ℕ

@@ -2,16 +2,16 @@
 use Rattle.std.specs.Prelude.{◌≡◌, ℕ, ◌≤◌, List}
 use Rattle.etagere_base.specs.declared.faults.RestoreFault.{RestoreFault}
 use Rattle.etagere_base.specs.RestoreFaults.{restore_fault_number}
-use Rattle.etagere_bucketed.specs.Restoring as buckets
-use Rattle.etagere_bucketed.specs.StandsFor as bucket_rules
-use Rattle.etagere_bucketed.specs.State.{BucketedState}
-use Rattle.etagere_bucketed.specs.Svg as bucket_pictures
+use Rattle.bucketed_records.specs.Restoring as buckets
+use Rattle.bucketed_records.specs.StandsFor as bucket_rules
+use Rattle.bucketed_model.specs.State.{BucketedState}
+use Rattle.bucketed_model.specs.Svg as bucket_pictures
 use Rattle.shelf_records.specs.Snapshots as shelves
 use Rattle.shelf_records.specs.StandsFor as shelf_rules
 use Rattle.shelf_model.specs.State.{AtlasState}
 use Rattle.shelf_model.specs.Svg as shelf_pictures
-use Rattle.etagere_run.specs.declared.faults.Checked.{Checked}
-use Rattle.etagere_run.specs.declared.faults.Checked.TheVariants.{Fine, Broken, Unreadable}
+use Rattle.run_commands.specs.declared.faults.Checked.{Checked}
+use Rattle.run_commands.specs.declared.faults.Checked.TheVariants.{Fine, Broken, Unreadable}
 use Rattle.saved_json.specs.declared.saved.Saved.{Saved}
 use Rattle.saved_json.specs.declared.saved.Saved.TheVariants.{Atlas, Bucketed}
 use Rattle.saved_json.specs.Snapshots.{Spells}

@@ -7,11 +7,11 @@ use Rattle.etagere_base.specs.declared.geometry.Size.{Size}
 use Rattle.etagere_base.specs.declared.options.AllocatorOptions.{AllocatorOptions}
 use Rattle.etagere_base.specs.Frames.{IsAccepted, options_fault}
 use Rattle.etagere_base.specs.Sending.{AppendsBeginning}
-use Rattle.etagere_run.specs.declared.commands.Reply.{Reply}
-use Rattle.etagere_run.specs.declared.faults.StreamFault.{StreamFault}
-use Rattle.etagere_run.specs.declared.faults.StreamFault.TheVariants.{Options, Memory, Write}
-use Rattle.etagere_run.specs.ReplyText.{line_of, replies_text}
-use Rattle.etagere_run.specs.Runs.{Kind, Runs, RunKeepsPromisesThroughout}
+use Rattle.run_commands.specs.declared.commands.Reply.{Reply}
+use Rattle.run_commands.specs.declared.faults.StreamFault.{StreamFault}
+use Rattle.run_commands.specs.declared.faults.StreamFault.TheVariants.{Options, Memory, Write}
+use Rattle.run_scripts.specs.ReplyText.{line_of, replies_text}
+use Rattle.run_answers.specs.Runs.{Kind, Runs, RunKeepsPromisesThroughout}
 
 -- a text is that of the replies of a run of a new atlas, which answers all commands, keeps its promises at each moment,
 -- and leads to this state
@@ -55,11 +55,3 @@ Streams kind frame commands old new (Ok done) = StreamsRun kind frame commands o
 Streams kind frame commands old new (Err (Options fault)) = Keeps old new
 Streams kind frame commands old new (Err Memory) = Keeps old new
 Streams kind frame commands old new (Err Write) = StreamsBeginning kind frame commands old new
-
--- why a stream of this size and options may not be whole, where no side may pass the longest: their first fault, or that
--- memory ran out, or where they are accepted that the writer failed
-abbrev pub RefusesStream : ℕ → Size → AllocatorOptions → StreamFault → Type 0
-RefusesStream longest size options (Options fault) =
-    MatchOption (options_fault longest size options) (fault ≡ faults.Memory) (λ first. fault ≡ first)
-RefusesStream longest size options Memory = ⊤
-RefusesStream longest size options Write = IsAccepted longest size options

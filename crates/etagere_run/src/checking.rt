@@ -7,11 +7,11 @@ ghost use Rattle.std.specs.Io.KnownBytes.{IsAtEnd};
 ghost use Rattle.etagere_run.specs.Checking.{Checks};
 ghost use Rattle.etagere_run.specs.Saved.{IsRightOf, MayAnswer};
 
-use crate::faults::{Checked, ReplayFault};
-use crate::reading::read_all;
 use crate::saved::refusal;
 use etagere::{AtlasAllocator, BucketedAtlasAllocator};
 use etagere_base::send;
+use run_commands::faults::{Checked, ReplayFault};
+use run_scripts::reading::read_all;
 use saved_json::{ReadFault, Saved, read_saved};
 use std::alloc::Global;
 use std::io::{Read, Write};
@@ -19,12 +19,11 @@ use std::io::{Read, Write};
 /// Reads the JSON text of one snapshot, restores it, and writes one line: `ok`, `broken N` with the
 /// number of a rule that is broken, from 1 to 10, or `unreadable`.
 ///
-/// The text is an object with one key, `atlas` or `bucketed`, whose value is the `AtlasSnapshot` or
-/// `BucketedSnapshot`, and what is written is of that snapshot. `Unreadable` is an input that is no such text, one that
-/// isn't UTF-8, and one for whose snapshot memory was missing; other missing memory is `Memory`. After `Read` and `Memory`
-/// nothing was written, after `Write` a beginning of the line. The reader is at its end unless it
-/// failed or memory ran out. Takes memory for the input, its snapshot, what `restore` takes, and
-/// the line, and time linear in the bytes and records.
+/// The text is an object with one key, `atlas` or `bucketed`, whose value is the `AtlasSnapshot` or `BucketedSnapshot`
+/// that is checked. `Unreadable` is an input that is no such text, one that isn't UTF-8, and one for whose snapshot
+/// there was no memory; elsewhere refused memory is `Memory`. After `Read` and `Memory` nothing was written, after
+/// `Write` a beginning of the line. The reader is at its end unless it failed or memory ran out. Takes memory for the
+/// input, its snapshot, what `restore` takes, and the line, and time linear in the bytes and records.
 pub fn check<R: Read, W: Write>(
     alloc: Global,
     reader: &mut R,

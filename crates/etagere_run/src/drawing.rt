@@ -6,22 +6,22 @@
 ghost use Rattle.std.specs.Prelude.{◌≡◌, ◌↔◌, ℕ, All, List, Ok, Err, IfErr, IfOk, IsTrue, OnErr, OnOk};
 ghost use Rattle.std.specs.Io.KnownBytes.{IsAtEnd};
 ghost use Rattle.etagere_base.specs.Frames.{IsAccepted, atlas_frame, longest_side};
-ghost use Rattle.etagere_bucketed.specs.Frames.{bucketed_frame, longest_bucketed_side};
-ghost use Rattle.etagere_run.specs.AtlasRuns.{shelf_atlas};
-ghost use Rattle.etagere_run.specs.BucketedRuns.{bucketed_atlas};
+ghost use Rattle.bucketed_model.specs.Frames.{bucketed_frame, longest_bucketed_side};
+ghost use Rattle.run_answers.specs.AtlasRuns.{shelf_atlas};
+ghost use Rattle.run_answers.specs.BucketedRuns.{bucketed_atlas};
 ghost use Rattle.etagere_run.specs.Drawing.{Draws, HasMemory, LeadsTo, is_snapshot};
 ghost use Rattle.etagere_run.specs.Private.Drawn.{DrawsEnd, DrawsInput, DrawsSaved, DrawsScript, DrawsSnapshot};
-ghost use Rattle.etagere_run.specs.Runs.{RefusesRun};
-ghost use Rattle.etagere_run.specs.Script.{script_of};
+ghost use Rattle.run_answers.specs.Runs.{RefusesRun};
+ghost use Rattle.run_scripts.specs.Script.{script_of};
 
-use crate::commands::{AtlasCommand, BucketedCommand, Reply};
-use crate::faults::{Checked, Drawing, Outcome, ReplayFault, RunFault};
-use crate::reading::read_all;
-use crate::running::{Room, answer_all};
 use crate::saved::refusal;
-use crate::script::{Commands, Script, ScriptFault, read_script};
 use etagere::{AllocatorOptions, AtlasAllocator, OptionsFault, Size};
 use etagere_bucketed::BucketedAtlasAllocator;
+use run_answers::running::{Room, answer_all};
+use run_commands::commands::{AtlasCommand, BucketedCommand, Reply};
+use run_commands::faults::{Checked, Drawing, Outcome, ReplayFault, RunFault};
+use run_scripts::reading::read_all;
+use run_scripts::script::{Commands, Script, ScriptFault, read_script};
 use saved_json::{ReadFault, Saved, read_saved};
 use std::alloc::Global;
 use std::io::{self, Read, Write};
@@ -30,12 +30,11 @@ use std::io::{self, Read, Write};
 /// does. An input that begins with `{` is read as a snapshot, as by `check`, and the atlas for which
 /// it stands is drawn.
 ///
-/// Where a line isn't good, the options have a fault, or the snapshot is unreadable or breaks a rule,
-/// the result says so, and nothing is run or written. `Memory` comes where memory was missing, even for
-/// one command; only a snapshot that lacks it while its text is read is `Unreadable`. After `Read` and
-/// `Memory` nothing was written, after `Write` a beginning of the text. The reader is at its end unless
-/// it failed or memory ran out. Takes memory for the input and its commands or snapshot, and what
-/// `run_atlas`, `run_bucketed` or `restore` takes, and none for the text.
+/// Where a line isn't good, the options have a fault, or the snapshot is unreadable or breaks a rule, the result says
+/// so, and nothing is run or written. `Memory` comes where there was no memory, even for one command; only a snapshot
+/// that finds none while its text is read is `Unreadable`. After `Read` and `Memory` nothing was written, after `Write`
+/// a beginning of the text. The reader is at its end unless it failed or memory ran out. Takes memory for the input and
+/// its commands or snapshot, and what `run_atlas`, `run_bucketed` or `restore` takes, and none for the text.
 pub fn draw<R: Read, W: Write>(
     alloc: Global,
     reader: &mut R,

@@ -1,35 +1,20 @@
-//! Runs of commands on an atlas of either kind, streams of their replies, scripts that spell such runs, drawings of
-//! what they leave, and checks of saved atlases. `atlas_running`, `bucketed_running`, `streaming`, `replaying`,
-//! `drawing` and `checking` have the public calls, and `laws` what holds of every run; `parts` hands on what replays of
-//! another kind need. The others serve them.
+//! Streams of the replies of runs, scripts that are replayed, drawings of what runs leave, and checks of saved atlases.
+//! `streaming`, `replaying`, `drawing` and `checking` have the public calls. Runs themselves are those of `run_answers`,
+//! re-exported here with their commands, replies and faults; the text of scripts is read by `run_scripts`.
 #![tactic(auto)]
 
-mod atlas_running;
-mod bucketed_running;
 mod checking;
-mod commands;
 mod drawing;
-mod faults;
-pub mod laws;
-mod ledger;
-mod lines;
-mod numbers;
-pub mod parts;
-mod plain_lines;
-mod reading;
 mod replaying;
-mod reply_text;
-mod running;
 mod saved;
-mod script;
 mod streaming;
-mod words;
 
-pub use atlas_running::run_atlas;
-pub use bucketed_running::run_bucketed;
 pub use checking::check;
-pub use commands::{AtlasCommand, BucketedCommand, Reply};
 pub use drawing::draw;
-pub use faults::{Checked, Drawing, Outcome, ReplayFault, RunFault, StreamFault};
 pub use replaying::replay;
+pub use run_answers::atlas_running::run_atlas;
+pub use run_answers::bucketed_running::run_bucketed;
+pub use run_answers::laws;
+pub use run_commands::commands::{AtlasCommand, BucketedCommand, Reply};
+pub use run_commands::faults::{Checked, Drawing, Outcome, ReplayFault, RunFault, StreamFault};
 pub use streaming::{stream_atlas, stream_bucketed};

@@ -1,22 +1,23 @@
 //! Replays a script: reads all of it, judges it, and runs it, writing each reply's line before the next command runs.
 //!
-//! Definition: `Replaying`, over `Script`, `AtlasRuns`, `BucketedRuns` and `ReplyText`. What is written, and where, is
-//! settled there.
+//! Definition: `Replaying`, over `Script`, `AtlasRuns`, `BucketedRuns` and `ReplyText`. What is written is decided
+//! there.
 
 ghost use Rattle.std.specs.Prelude.{◌≡◌, ℕ, List, Some, Ok, Err, IfErr, IfOk, OnOk, string_bytes};
 ghost use Rattle.std.specs.Io.KnownBytes.{IsAtEnd};
 ghost use Rattle.etagere_base.specs.Frames.{IsAccepted};
-ghost use Rattle.etagere_run.specs.Replaying.{Answers, HasFault, Replays, bad_line_text, longest_asked, options_text};
-ghost use Rattle.etagere_run.specs.Script.{script_of};
-ghost use Rattle.etagere_run.specs.Streaming.{RefusesStream};
+ghost use Rattle.etagere_run.specs.Replaying.{Answers, HasFault, Replays, longest_asked};
+ghost use Rattle.run_scripts.specs.ReplyText.{bad_line_text, options_text};
+ghost use Rattle.run_scripts.specs.Script.{script_of};
+ghost use Rattle.run_commands.specs.Faults.{RefusesStream};
 ghost use Rattle.etagere_run.specs.Private.ScriptStreaming.{StreamsScript};
 
-use crate::faults::{Outcome, ReplayFault, StreamFault};
-use crate::reading::read_all;
-use crate::script::{Commands, Script, ScriptFault, read_script};
 use crate::streaming::{stream_atlas, stream_bucketed};
 use etagere::OptionsFault;
 use etagere_base::send;
+use run_commands::faults::{Outcome, ReplayFault, StreamFault};
+use run_scripts::reading::read_all;
+use run_scripts::script::{Commands, Script, ScriptFault, read_script};
 use std::alloc::Global;
 use std::io::{Read, Write};
 

@@ -5,8 +5,8 @@
 ghost use Rattle.std.specs.Prelude.{◌≡◌};
 ghost use Rattle.etagere_run.specs.Private.Judged.{refusal};
 
-use crate::faults::{Checked, ReplayFault};
 use etagere::RestoreFault;
+use run_commands::faults::{Checked, ReplayFault};
 
 /// The answer where a snapshot isn't restored.
 pub fn refusal(fault: RestoreFault) -> Result<Checked, ReplayFault>

@@ -8,32 +8,34 @@
 ghost use Rattle.std.specs.Prelude.{◌≡◌, ℕ, List, Err, length, IfErr, OnErr, OnOk};
 ghost use Rattle.std.specs.Io.KnownBytes.{Appends};
 ghost use Rattle.etagere_base.specs.Frames.{IsAccepted, atlas_frame, longest_side};
-ghost use Rattle.etagere_bucketed.specs.Frames.{bucketed_frame, longest_bucketed_side};
-ghost use Rattle.etagere_run.specs.AtlasRuns.{shelf_atlas};
-ghost use Rattle.etagere_run.specs.BucketedRuns.{bucketed_atlas};
-ghost use Rattle.etagere_run.specs.Streaming.{IsTextOfRun, RefusesStream, Stops, StopsAt, Streams, StreamsBeginning};
-ghost use Rattle.etagere_run.specs.Private.Rooms.{IsEmptyLedger};
-ghost use Rattle.etagere_run.specs.Private.Tied.{IsNew, SuitsRuns};
+ghost use Rattle.bucketed_model.specs.Frames.{bucketed_frame, longest_bucketed_side};
+ghost use Rattle.run_answers.specs.AtlasRuns.{shelf_atlas};
+ghost use Rattle.run_answers.specs.BucketedRuns.{bucketed_atlas};
+ghost use Rattle.etagere_run.specs.Streaming.{IsTextOfRun, Stops, StopsAt, Streams, StreamsBeginning};
+ghost use Rattle.run_commands.specs.Faults.{RefusesStream};
+ghost use Rattle.run_answers.specs.Private.Rooms.{IsEmptyLedger};
+ghost use Rattle.run_answers.specs.Private.Tied.{IsNew, SuitsRuns};
 
-use crate::commands::{AtlasCommand, BucketedCommand};
-use crate::faults::StreamFault;
-use crate::ledger::Ledger;
-use crate::reply_text::{Line, line_of};
-use crate::running::{Answering, answer_next};
 use etagere::{AllocatorOptions, AtlasAllocator, Size};
 use etagere_base::send;
 use etagere_bucketed::BucketedAtlasAllocator;
+use run_answers::ledger::Ledger;
+use run_answers::running::{Answering, answer_next};
+use run_commands::commands::{AtlasCommand, BucketedCommand};
+use run_commands::faults::StreamFault;
+use run_scripts::reply_text::{Line, line_of};
 use std::alloc::Global;
 use std::io::{self, Write};
 
 /// Runs the commands in order on a new atlas of this size in pixels, and writes a line for each reply.
 ///
 /// Each command is answered, and its line written, before the next one runs: by one call of `write`, or by more where
-/// the writer takes less. The writer isn't flushed. `Options` has the first fault of the size and options; only where
-/// they have none may it be that memory ran out for the atlas. `Memory` comes where it is missing for the ledger; room
-/// for that is taken first. After both nothing was written. After `Write`, which comes where the writer failed or
-/// accepted no byte, the lines before the one at which it failed were written, and a beginning of this one, not all of
-/// it; no further command runs. Takes memory for a place in the ledger for each command, beside what the atlas takes.
+/// the writer takes less. The writer isn't flushed. `Options` has the first fault of the size and options, or
+/// `OptionsFault::Memory` where these have none and there was no memory for the atlas. `Memory` comes where there is
+/// none for the ledger; room for that is taken first. After both nothing was written. After `Write`, which comes where
+/// the writer failed or accepted no byte, the lines before the one at which it failed were written, and a beginning of
+/// this one, not all of it; no further command runs. Takes memory for a slot in the ledger for each command, beside
+/// what the atlas takes.
 pub fn stream_atlas<W: Write>(
     alloc: Global,
     size: Size,
@@ -57,7 +59,7 @@ pub fn stream_atlas<W: Write>(
 
 /// Runs the commands in order on a new bucketed atlas of this size in pixels, and writes a line for each reply.
 ///
-/// As `stream_atlas` does. A position that was returned answers `NotLive`, and the atlas isn't asked.
+/// As `stream_atlas` does. A position that was returned is answered by `NotLive`, without a call of the atlas.
 pub fn stream_bucketed<W: Write>(
     alloc: Global,
     size: Size,

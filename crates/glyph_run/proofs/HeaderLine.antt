@@ -1,12 +1,12 @@
 -- The header of a script, found behind the lines without bytes that stand first.
 use Rattle.std.proofs.Common.{◌≡◌, ◌≢◌, ℕ, ◌+◌, ◌<◌, ◌≤◌, List, [], ◌∷◌, length, take, drop, get_or, Option, Some, None, Result, Ok, Err, arith, refl, ap, ◌∙◌, subst}
 use Rattle.std.specs.Prelude.{All, option_map}
-use Rattle.etagere_run.specs.declared.script.ScriptFault.{ScriptFault}
-use Rattle.etagere_run.specs.declared.script.ScriptFault.TheVariants as faults
-use Rattle.etagere_run.specs.Lines.{lines_of, words_of, filled_from}
-use Rattle.etagere_run.specs.Script.{commands_of, ◌>>=◌}
-use Rattle.etagere_run.specs.ScriptReading.{Fails}
-use Rattle.etagere_run.proofs.HeaderLine.{read-empty, read-first}
+use Rattle.run_scripts.specs.declared.script.ScriptFault.{ScriptFault}
+use Rattle.run_scripts.specs.declared.script.ScriptFault.TheVariants as faults
+use Rattle.run_scripts.specs.Lines.{lines_of, words_of, filled_from}
+use Rattle.run_scripts.specs.Script.{commands_of, ◌>>=◌}
+use Rattle.run_scripts.specs.ScriptReading.{Fails}
+use Rattle.run_scripts.proofs.HeaderLine.{read-empty, read-first}
 use Rattle.glyph_run.specs.declared.commands.GlyphCommand.{GlyphCommand}
 use Rattle.glyph_run.specs.declared.words.Header.{Header}
 use Rattle.glyph_run.specs.Script.{Request, request_of, script_of}

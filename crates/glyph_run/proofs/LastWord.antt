@@ -1,10 +1,10 @@
 -- The last word of a line: bytes with a space spell no key and no capacity.
 use Rattle.std.proofs.Common.{◌≡◌, ℕ, List, ◌∷◌, Some, refl}
-use Rattle.etagere_run.specs.Lines.{words_of, Lacks}
-use Rattle.etagere_run.specs.Words.{direction_of, size_of}
-use Rattle.etagere_run.specs.Numbers.{number_of}
-use Rattle.etagere_run.proofs.DigitsLack.{natural-lacks}
-use Rattle.etagere_run.proofs.LastWord.{bound, last-word}
+use Rattle.run_scripts.specs.Lines.{words_of, Lacks}
+use Rattle.run_scripts.specs.Words.{direction_of, size_of}
+use Rattle.run_scripts.specs.Numbers.{number_of}
+use Rattle.run_scripts.proofs.DigitsLack.{natural-lacks}
+use Rattle.run_scripts.proofs.LastWord.{bound, last-word}
 use Rattle.glyph_run.specs.Words.{Setup, cache_in, cache_of, capacity_of, key_in, key_of}
 
 -- a key has no space

@@ -1,7 +1,7 @@
 -- The text of replies: a line for each.
 use Rattle.std.specs.Prelude.{ℕ, List, [], ◌∷◌, ◌++◌, codes, decimal, flat_map}
-use Rattle.etagere_run.specs.Lines.{line_feed, space}
-use Rattle.etagere_run.specs.ReplyText.{corners_text}
+use Rattle.run_scripts.specs.Lines.{line_feed, space}
+use Rattle.run_scripts.specs.ReplyText.{corners_text}
 use Rattle.glyph_run.specs.declared.commands.GlyphReply.{GlyphReply}
 use Rattle.glyph_run.specs.declared.commands.GlyphReply.TheVariants.{Placed, TooLarge, NoMemory, At, Removed, NotThere, Cleared}
 

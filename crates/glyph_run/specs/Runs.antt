@@ -107,7 +107,7 @@ pub record RunKeepsPromises (frame : Frame) (capacity : ℕ) (commands : List Gl
   pub same_frame : state.atlas.frame ≡ frame
   pub same_capacity : state.capacity ≡ capacity
 
--- that holds at each moment: of each front of the commands and their replies
+-- that holds at each moment: of every prefix of the commands, with the replies to it
 abbrev pub RunKeepsPromisesThroughout : Frame → ℕ → List GlyphCommand → List GlyphReply → Type 0
 RunKeepsPromisesThroughout frame capacity commands replies =
     (n : ℕ) → n ≤ length commands → RunKeepsPromises frame capacity (take n commands) (take n replies)

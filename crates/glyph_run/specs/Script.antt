@@ -1,7 +1,7 @@
 -- What a script stands for: a request, or the number of its first bad line.
 use Rattle.std.specs.Prelude.{ℕ, ◌+◌, List, [], ◌∷◌, length, Result, Ok, Err, ok_or}
-use Rattle.etagere_run.specs.Lines.{lines_of, words_of, filled_from}
-use Rattle.etagere_run.specs.Script.{commands_of, ◌>>=◌}
+use Rattle.run_scripts.specs.Lines.{lines_of, words_of, filled_from}
+use Rattle.run_scripts.specs.Script.{commands_of, ◌>>=◌}
 use Rattle.glyph_run.specs.declared.commands.GlyphCommand.{GlyphCommand}
 use Rattle.glyph_run.specs.Words.{Setup, glyph_command_of, header_of}
 

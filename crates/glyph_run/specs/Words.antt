@@ -2,8 +2,8 @@
 use Rattle.std.specs.Prelude.{ℕ, ◌-◌, ◌^◌, List, [], ◌∷◌, Option, Some, None, bytes_eq, codes, ◌==◌, if◌then◌else◌, option_map}
 use Rattle.etagere_base.specs.declared.geometry.Size.{Size}
 use Rattle.etagere_base.specs.declared.options.AllocatorOptions.{AllocatorOptions}
-use Rattle.etagere_run.specs.Numbers.{natural_of, number_of}
-use Rattle.etagere_run.specs.Words.{command_of, direction_of, size_in, size_of, ◌>>=◌}
+use Rattle.run_scripts.specs.Numbers.{natural_of, number_of}
+use Rattle.run_scripts.specs.Words.{command_of, direction_of, size_in, size_of, ◌>>=◌}
 use Rattle.glyph_run.specs.declared.commands.GlyphCommand.{GlyphCommand}
 use Rattle.glyph_run.specs.declared.commands.GlyphCommand.TheVariants.{Place, Get, Remove, Clear}
 

@@ -1,6 +1,6 @@
 //! The keys and capacities that words spell.
 //!
-//! Definition: `Words`, over `Numbers` of `etagere_run`. A word that spells none, or one out of range, is none.
+//! Definition: `Words`, over `Numbers` of `run_scripts`. A word that spells none, or one out of range, is none.
 
 ghost use Rattle.std.specs.Prelude.{◌≡◌, ◌-◌, ◌*◌, ◌+◌, ◌^◌, ◌&&◌, nat_le, None, option_map, if◌then◌else◌};
 ghost use Rattle.std.specs.Char.{is_ascii_digit};

@@ -5,9 +5,9 @@
 ghost use Rattle.std.specs.Prelude.{◌≡◌, ◌++◌, ◌∷◌, [], ℕ, List, Some, Ok, Err, IfErr, IfOk, OnOk, string_bytes};
 ghost use Rattle.std.specs.Io.KnownBytes.{IsAtEnd};
 ghost use Rattle.etagere_base.specs.Frames.{IsAccepted, atlas_frame, longest_side};
-ghost use Rattle.etagere_run.specs.Faults.{outcome_words};
-ghost use Rattle.etagere_run.specs.Lines.{line_feed};
-ghost use Rattle.etagere_run.specs.Streaming.{RefusesStream};
+ghost use Rattle.run_commands.specs.Faults.{outcome_words};
+ghost use Rattle.run_scripts.specs.Lines.{line_feed};
+ghost use Rattle.run_commands.specs.Faults.{RefusesStream};
 ghost use Rattle.glyph_run.specs.Replaying.{Answers, Replays};
 ghost use Rattle.glyph_run.specs.Script.{script_of};
 ghost use Rattle.glyph_run.specs.Streaming.{Streams};
@@ -16,8 +16,9 @@ use crate::script::{Script, read_script};
 use crate::streaming::stream_cache;
 use etagere::OptionsFault;
 use etagere_base::send;
-use etagere_run::parts::{ScriptFault, read_all};
-use etagere_run::{Outcome, ReplayFault, StreamFault};
+use run_commands::faults::{Outcome, ReplayFault, StreamFault};
+use run_scripts::reading::read_all;
+use run_scripts::script::ScriptFault;
 use std::alloc::Global;
 use std::io::{Read, Write};
 

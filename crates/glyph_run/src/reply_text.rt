@@ -5,16 +5,16 @@
 ghost use Rattle.std.specs.Prelude.{◌≡◌, ◌≤◌, ◌++◌, ◌∷◌, [], OnOk, OnErr, length};
 ghost use Rattle.std.specs.Io.KnownBytes.{Appends};
 ghost use Rattle.etagere_base.specs.Sending.{AppendsPart};
-ghost use Rattle.etagere_run.specs.Lines.{line_feed};
-ghost use Rattle.etagere_run.specs.ReplyText.{corners_text};
+ghost use Rattle.run_scripts.specs.Lines.{line_feed};
+ghost use Rattle.run_scripts.specs.ReplyText.{corners_text};
 ghost use Rattle.glyph_run.specs.ReplyText as spec;
 ghost use Rattle.glyph_run.specs.ReplyText.{evicted_text, key_text, keys_text};
 
 use crate::commands::GlyphReply;
 use etagere::Rectangle;
 use etagere_base::send;
-use etagere_run::parts::Line;
 use itoa::Buffer;
+use run_scripts::reply_text::Line;
 use std::io::{self, Write};
 
 /// Writes the line of a reply. What is of a short length is made in `line`.

@@ -2,12 +2,13 @@
 //!
 //! Definition: `Script`. A new kind of line goes into `Words`.
 
-ghost use Rattle.etagere_run.specs.ScriptReading.{Gives};
+ghost use Rattle.run_scripts.specs.ScriptReading.{Gives};
 ghost use Rattle.glyph_run.specs.Script.{script_of};
 
 use crate::commands::GlyphCommand;
 use crate::words::{Header, header_of};
-use etagere_run::parts::{ScriptFault, blank_lines, commands_of, first_line};
+use run_scripts::lines::{blank_lines, first_line};
+use run_scripts::script::{ScriptFault, commands_of};
 use std::alloc::Global;
 use std::marker::Model;
 

@@ -1,16 +1,18 @@
 //! What the words of a line stand for: a header, or a command for a cache.
 //!
-//! Definitions: `Words`, over `Lines` and `Words` of `etagere_run`. A new command goes into the table here and there.
+//! Definitions: `Words`, over `Lines` and `Words` of `run_scripts`. A new command goes into the table here and there.
 
 ghost use Rattle.std.specs.Prelude.{◌≡◌, option_map};
-ghost use Rattle.etagere_run.specs.Lines.{words_of};
+ghost use Rattle.run_scripts.specs.Lines.{words_of};
 ghost use Rattle.glyph_run.specs.Words as spec;
 ghost use Rattle.glyph_run.specs.Setups.{setup_in};
 
 use crate::commands::GlyphCommand;
 use crate::keys::{capacity_of, key_of};
 use etagere::{AllocatorOptions, Size};
-use etagere_run::parts::{Spelled, direction_of, number_of, size_in, size_of, split_word};
+use run_scripts::lines::split_word;
+use run_scripts::numbers::number_of;
+use run_scripts::words::{Spelled, direction_of, size_in, size_of};
 use std::num::NonZeroUsize;
 
 /// The cache of a script.

@@ -79,12 +79,12 @@ pub fn lines_of(alloc: Global, replies: &[Reply]) -> Result<String> {
 fn add_line(lines: &mut String, reply: Reply) -> Result<()> {
     match reply {
         Reply::Placed(given) => {
-            let (id, place) = (given.id.serialize(), given.rectangle);
-            let (min, max) = (place.min, place.max);
+            let (id, rectangle) = (given.id.serialize(), given.rectangle);
+            let (min, max) = (rectangle.min, rectangle.max);
             write!(lines, "placed {id} {} {} {} {}", min.x, min.y, max.x, max.y)?;
         }
-        Reply::At(place, index) => {
-            let (min, max) = (place.min, place.max);
+        Reply::At(rectangle, index) => {
+            let (min, max) = (rectangle.min, rectangle.max);
             write!(lines, "at {} {} {} {} {index}", min.x, min.y, max.x, max.y)?;
         }
         Reply::GrowRefused(number) => write!(lines, "grow refused {number}")?,

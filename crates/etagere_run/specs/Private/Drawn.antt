@@ -4,17 +4,17 @@ use Rattle.std.specs.Io.KnownBytes.{Appends, Keeps}
 use Rattle.etagere_base.specs.Sending.{AppendsBeginning}
 use Rattle.etagere_run.specs.declared.drawing.DrawFault.{DrawFault}
 use Rattle.etagere_run.specs.declared.drawing.DrawFault.TheVariants as ends
-use Rattle.etagere_run.specs.declared.faults.Checked.{Checked}
-use Rattle.etagere_run.specs.declared.faults.Checked.TheVariants.{Fine}
-use Rattle.etagere_run.specs.declared.faults.Drawing.{Drawing}
-use Rattle.etagere_run.specs.declared.faults.Outcome.{Outcome}
-use Rattle.etagere_run.specs.declared.faults.ReplayFault.{ReplayFault}
-use Rattle.etagere_run.specs.declared.faults.ReplayFault.TheVariants.{Read, Write, Memory}
+use Rattle.run_commands.specs.declared.faults.Checked.{Checked}
+use Rattle.run_commands.specs.declared.faults.Checked.TheVariants.{Fine}
+use Rattle.run_commands.specs.declared.faults.Drawing.{Drawing}
+use Rattle.run_commands.specs.declared.faults.Outcome.{Outcome}
+use Rattle.run_commands.specs.declared.faults.ReplayFault.{ReplayFault}
+use Rattle.run_commands.specs.declared.faults.ReplayFault.TheVariants.{Read, Write, Memory}
 use Rattle.etagere_run.specs.Drawing.{BeginsDrawing, BeginsScript, BeginsSnapshot, EndsDrawing, EndsScript, EndsSnapshot, IsPictureOf}
 use Rattle.etagere_run.specs.Replaying.{longest_asked}
-use Rattle.etagere_run.specs.Runs.{RefusesRun}
+use Rattle.run_answers.specs.Runs.{RefusesRun}
 use Rattle.etagere_run.specs.Saved.{IsRightOf, ShowsSaved}
-use Rattle.etagere_run.specs.Script.{Request}
+use Rattle.run_scripts.specs.Script.{Request}
 use Rattle.saved_json.specs.declared.saved.Saved.{Saved}
 
 -- drawing an input that was read

@@ -3,11 +3,11 @@ use Rattle.std.specs.Prelude.{ℕ, Option, List, Result}
 use Rattle.etagere_base.specs.declared.geometry.Size.{Size}
 use Rattle.etagere_base.specs.declared.options.AllocatorOptions.{AllocatorOptions}
 use Rattle.etagere_base.specs.Frames.{atlas_frame}
-use Rattle.etagere_bucketed.specs.Frames.{bucketed_frame}
-use Rattle.etagere_run.specs.declared.faults.StreamFault.{StreamFault}
-use Rattle.etagere_run.specs.AtlasRuns.{shelf_atlas}
-use Rattle.etagere_run.specs.BucketedRuns.{bucketed_atlas}
-use Rattle.etagere_run.specs.Script.{Commands, OfBuckets, OfShelves}
+use Rattle.bucketed_model.specs.Frames.{bucketed_frame}
+use Rattle.run_commands.specs.declared.faults.StreamFault.{StreamFault}
+use Rattle.run_answers.specs.AtlasRuns.{shelf_atlas}
+use Rattle.run_answers.specs.BucketedRuns.{bucketed_atlas}
+use Rattle.run_scripts.specs.Script.{Commands, OfBuckets, OfShelves}
 use Rattle.etagere_run.specs.Streaming.{Streams}
 
 -- the commands are streamed on a new atlas of this size and options

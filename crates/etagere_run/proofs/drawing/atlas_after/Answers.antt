@@ -3,10 +3,10 @@ use Rattle.etagere_base.specs.declared.frames.Frame.{Frame}
 use Rattle.etagere_base.specs.Frames.{atlas_frame}
 use Rattle.shelf_model.specs.Fresh.{fresh}
 use Rattle.shelf_model.specs.State.{AtlasState}
-use Rattle.etagere_run.specs.AtlasRuns.{shelf_atlas}
+use Rattle.run_answers.specs.AtlasRuns.{shelf_atlas}
 use Rattle.etagere_run.specs.Drawing.{LeadsTo}
 use Rattle.etagere_run.proofs.AllAnswered.{all-answered}
-use Rattle.etagere_run.proofs.AtlasAnswered.{atlas-suits}
+use Rattle.run_answers.proofs.AtlasAnswered.{atlas-suits}
 use Rattle.etagere_run.proofs.drawing.atlas_after.Goals as goal
 
 pub answer_all-replies-requires-clause-suits : goal.answer_all-replies-requires-clause-suits

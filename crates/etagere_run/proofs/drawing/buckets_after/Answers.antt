@@ -1,11 +1,11 @@
 use Rattle.std.proofs.Common.{◌≡◌, IfOk, ap, rules, subst}
 use Rattle.etagere_base.specs.declared.frames.Frame.{Frame}
-use Rattle.etagere_bucketed.specs.Frames.{bucketed_frame}
-use Rattle.etagere_bucketed.specs.State.{BucketedState}
-use Rattle.etagere_run.specs.BucketedRuns.{bucketed_atlas}
+use Rattle.bucketed_model.specs.Frames.{bucketed_frame}
+use Rattle.bucketed_model.specs.State.{BucketedState}
+use Rattle.run_answers.specs.BucketedRuns.{bucketed_atlas}
 use Rattle.etagere_run.specs.Drawing.{LeadsTo}
 use Rattle.etagere_run.proofs.AllAnswered.{all-answered}
-use Rattle.etagere_run.proofs.BucketedAnswered.{bucketed-suits}
+use Rattle.run_answers.proofs.BucketedAnswered.{bucketed-suits}
 use Rattle.etagere_run.proofs.drawing.buckets_after.Goals as goal
 
 pub answer_all-replies-requires-clause-suits : goal.answer_all-replies-requires-clause-suits

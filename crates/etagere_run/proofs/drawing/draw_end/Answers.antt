@@ -1,9 +1,9 @@
 use Rattle.std.proofs.Common.{◌≡◌, rules}
 use Rattle.std.proofs.lemmas.Result.{err_from_is_err_and}
 use Rattle.shelf_model.specs.Svg as shelves
-use Rattle.etagere_bucketed.specs.Svg as buckets
+use Rattle.bucketed_model.specs.Svg as buckets
 use Rattle.etagere_run.specs.Drawing.{IsPictureOf}
-use Rattle.etagere_run.specs.Script.{OfBuckets, OfShelves}
+use Rattle.run_scripts.specs.Script.{OfBuckets, OfShelves}
 use Rattle.etagere_run.proofs.Pictures.{buckets-picture, shelves-picture}
 use Rattle.etagere_run.proofs.drawing.draw_end.Goals as goal
 

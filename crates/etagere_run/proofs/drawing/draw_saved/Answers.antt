@@ -1,6 +1,6 @@
 use Rattle.std.proofs.Common.{◌≡◌, refl, rules}
 use Rattle.shelf_model.specs.Svg as shelves
-use Rattle.etagere_bucketed.specs.Svg as buckets
+use Rattle.bucketed_model.specs.Svg as buckets
 use Rattle.etagere_run.proofs.SavedDrawings.{sent-draws}
 use Rattle.etagere_run.proofs.drawing.draw_saved.Goals as goal
 use Rattle.saved_json.specs.declared.saved.Saved.TheVariants.{Atlas, Bucketed}

@@ -2,9 +2,9 @@ use Rattle.std.proofs.Common.{ℕ, ◌<◌, ◌≤◌, length, refl, arith, rule
 use Rattle.std.specs.Io.KnownBytes.{Appends}
 use Rattle.etagere_base.specs.Sending.{AppendsBeginning, AppendsPart}
 use Rattle.etagere_base.proofs.GatheringLemmas.{on-err}
-use Rattle.etagere_run.specs.ReplyText.{line_of}
-use Rattle.etagere_run.specs.Private.Tables.{entries_of}
-use Rattle.etagere_run.specs.Private.Tied.{IsAnswerOf}
+use Rattle.run_scripts.specs.ReplyText.{line_of}
+use Rattle.run_answers.specs.Private.Tables.{entries_of}
+use Rattle.run_answers.specs.Private.Tied.{IsAnswerOf}
 use Rattle.etagere_run.proofs.StreamsOn.{stream-ends, stream-goes_on, stream-starts, stream-stops, stream-stops_at}
 use Rattle.etagere_run.proofs.streaming.stream_all.Goals as goal
 
@@ -16,7 +16,7 @@ loop-position-init g c =
     c.requires.new.tied in
     record {
       so_far = rw c.requires.room.entries start;
-      places = c.requires.room.length;
+      slots = c.requires.room.length;
       room = c.requires.room.room;
     }
 
@@ -28,7 +28,7 @@ loop-position-preserved g c =
     let entries = entries_of c.loop-position.ledger in
     let later = entries_of c.answer_next-reply.new.ledger in
     let answer = subst (λ (n : ℕ). IsAnswerOf kind g.A.Answering.Tied n c.index-commands-position.result c.answer_next-reply.result entries later c.loop-position.atlas c.answer_next-reply.new.atlas)
-    c.loop-position.invariant.places c.answer_next-reply.ensures.answer in
+    c.loop-position.invariant.slots c.answer_next-reply.ensures.answer in
     let out : Appends (contents c.loop-position.writer) (contents c.send.new.writer) (line_of c.answer_next-reply.result) =
     rw (← c.line_of.ensures.text, ← c.as_bytes.ensures.value) c.in_ok-send.ensures.whole in
     record {
@@ -36,7 +36,7 @@ loop-position-preserved g c =
           c.loop-position.position c.index-commands-position.result c.answer_next-reply.result entries later
           c.loop-position.atlas c.answer_next-reply.new.atlas (contents c.args.writer.now) (contents c.loop-position.writer)
           (contents c.send.new.writer) within c.index-commands-position.is c.loop-position.invariant.so_far answer out;
-      places = search rules;
+      slots = search rules;
       room = omega arith;
     }
 
@@ -48,7 +48,7 @@ returns-in_err-send-clause-beginning g c =
     let entries = entries_of c.loop-position.ledger in
     let later = entries_of c.answer_next-reply.new.ledger in
     let answer = subst (λ (n : ℕ). IsAnswerOf kind g.A.Answering.Tied n c.index-commands-position.result c.answer_next-reply.result entries later c.loop-position.atlas c.answer_next-reply.new.atlas)
-    c.loop-position.invariant.places c.answer_next-reply.ensures.answer in
+    c.loop-position.invariant.slots c.answer_next-reply.ensures.answer in
     let out : AppendsBeginning (contents c.loop-position.writer) (contents c.send.new.writer) (line_of c.answer_next-reply.result) =
     rw (← c.line_of.ensures.text, ← c.as_bytes.ensures.value) c.in_err-send.ensures.beginning in
     on-err c.from_residual.result
@@ -65,7 +65,7 @@ returns-in_err-send-clause-stopped g c =
     let entries = entries_of c.loop-position.ledger in
     let later = entries_of c.answer_next-reply.new.ledger in
     let answer = subst (λ (n : ℕ). IsAnswerOf kind g.A.Answering.Tied n c.index-commands-position.result c.answer_next-reply.result entries later c.loop-position.atlas c.answer_next-reply.new.atlas)
-    c.loop-position.invariant.places c.answer_next-reply.ensures.answer in
+    c.loop-position.invariant.slots c.answer_next-reply.ensures.answer in
     let out : AppendsPart (contents c.loop-position.writer) (contents c.send.new.writer) (line_of c.answer_next-reply.result) =
     rw (← c.line_of.ensures.text, ← c.as_bytes.ensures.value) c.in_err-send.ensures.part in
     on-err c.from_residual.result

@@ -1,6 +1,6 @@
 use Rattle.std.proofs.Common.{◌≡◌, ◌≤◌, length, take}
 use Rattle.std.specs.Prelude.{vec_capacity, vec_len}
-use Rattle.etagere_run.specs.Private.Tables.{entries_of}
+use Rattle.run_answers.specs.Private.Tables.{entries_of}
 use Rattle.etagere_run.proofs.StreamsOn.{IsStreaming}
 use Rattle.etagere_run.proofs.streaming.stream_all.Given as goal
 
@@ -12,6 +12,6 @@ invariant-loop-position g l =
     record {
       so_far : IsStreaming kind g.A.Answering.Tied (kind.frame l.fn.atlas) (take l.position l.commands) (entries_of l.ledger)
           l.atlas (contents l.fn.writer) (contents l.writer);
-      places : vec_len l.ledger.places ≡ l.position;
-      room : length l.commands ≤ vec_capacity l.ledger.places;
+      slots : vec_len l.ledger.slots ≡ l.position;
+      room : length l.commands ≤ vec_capacity l.ledger.slots;
     }

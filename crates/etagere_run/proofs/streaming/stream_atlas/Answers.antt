@@ -4,9 +4,9 @@ use Rattle.etagere_base.specs.declared.frames.Frame.{Frame}
 use Rattle.etagere_base.specs.Frames.{atlas_frame}
 use Rattle.shelf_model.specs.Fresh.{fresh}
 use Rattle.shelf_model.specs.State.{AtlasState}
-use Rattle.etagere_run.specs.AtlasRuns.{shelf_atlas}
+use Rattle.run_answers.specs.AtlasRuns.{shelf_atlas}
 use Rattle.etagere_run.specs.Streaming.{Stops, Streams}
-use Rattle.etagere_run.proofs.AtlasAnswered.{atlas-suits}
+use Rattle.run_answers.proofs.AtlasAnswered.{atlas-suits}
 use Rattle.etagere_run.proofs.StreamsOn.{on_err-failed}
 use Rattle.etagere_run.proofs.streaming.stream_atlas.Goals as goal
 

@@ -1,11 +1,11 @@
 use Rattle.std.proofs.Common.{◌≡◌, false, ap, rules, subst, sym, ◌∙◌}
 use Rattle.std.specs.Prelude.{is_ok}
 use Rattle.etagere_base.specs.declared.frames.Frame.{Frame}
-use Rattle.etagere_bucketed.specs.Frames.{bucketed_frame}
-use Rattle.etagere_bucketed.specs.State.{BucketedState, fresh}
-use Rattle.etagere_run.specs.BucketedRuns.{bucketed_atlas}
+use Rattle.bucketed_model.specs.Frames.{bucketed_frame}
+use Rattle.bucketed_model.specs.State.{BucketedState, fresh}
+use Rattle.run_answers.specs.BucketedRuns.{bucketed_atlas}
 use Rattle.etagere_run.specs.Streaming.{Stops, Streams}
-use Rattle.etagere_run.proofs.BucketedAnswered.{bucketed-suits}
+use Rattle.run_answers.proofs.BucketedAnswered.{bucketed-suits}
 use Rattle.etagere_run.proofs.StreamsOn.{on_err-failed}
 use Rattle.etagere_run.proofs.streaming.stream_bucketed.Goals as goal
 

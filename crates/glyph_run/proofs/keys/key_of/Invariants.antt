@@ -1,6 +1,6 @@
 use Rattle.std.proofs.Common.{◌≡◌, ◌-◌, ◌^◌, ◌<◌, drop}
-use Rattle.etagere_run.specs.Numbers.{natural_of}
-use Rattle.etagere_run.proofs.Digits.{natural_after}
+use Rattle.run_scripts.specs.Numbers.{natural_of}
+use Rattle.run_scripts.proofs.Digits.{natural_after}
 use Rattle.glyph_run.proofs.keys.key_of.Given as goal
 
 -- the digits that are left, behind the value so far, stand for what all of them do

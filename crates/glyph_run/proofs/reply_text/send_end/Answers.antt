@@ -1,6 +1,6 @@
 use Rattle.std.proofs.Common.{[], ◌∷◌}
 use Rattle.etagere_base.specs.Sending.{AppendsPart}
-use Rattle.etagere_run.specs.Lines.{line_feed}
+use Rattle.run_scripts.specs.Lines.{line_feed}
 use Rattle.glyph_run.specs.ReplyText.{evicted_text}
 use Rattle.glyph_run.proofs.PartsSent.{on-err-then, part-behind}
 use Rattle.glyph_run.proofs.reply_text.send_end.Goals as goal

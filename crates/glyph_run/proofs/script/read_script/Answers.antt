@@ -1,7 +1,7 @@
 use Rattle.std.proofs.Common.{◌≡◌, ◌+◌, ap, ◌∙◌}
 use Rattle.std.proofs.lemmas.Result.{err_from_is_err_and}
-use Rattle.etagere_run.specs.Lines.{words_of}
-use Rattle.etagere_run.proofs.HeaderLine.{rest_is}
+use Rattle.run_scripts.specs.Lines.{words_of}
+use Rattle.run_scripts.proofs.HeaderLine.{rest_is}
 use Rattle.glyph_run.specs.Script.{script_of}
 use Rattle.glyph_run.specs.Setups.{setup_in}
 use Rattle.glyph_run.proofs.HeaderLine.{headed, no-header, script-bad, script-fails, script-good, some-header, with_header}

@@ -1,5 +1,0 @@
-use Rattle.etagere_run.proofs.BucketedAnswers.{grown}
-use Rattle.etagere_run.proofs.bucketed_running.grow.Goals as goal
-
-pub returns-in-Ok : goal.returns-in-Ok
-returns-in-Ok c position entries tied = grown position c.args.size entries c.args.atlas.now c.grow.new.self tied c.in-Ok.ensures.ok

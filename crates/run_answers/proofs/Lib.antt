@@ -1,0 +1,11 @@
+pub mod AtlasAnswered
+pub mod AtlasAnswers
+pub mod BoundedRecords
+pub mod BucketedAnswered
+pub mod BucketedAnswers
+pub mod EveryRun
+pub mod KeptSteps
+pub mod LiveEntries
+pub mod LiveRows
+pub mod RunsOn
+pub mod TableEntries

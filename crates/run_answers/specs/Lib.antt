@@ -1,0 +1,6 @@
+pub mod AtlasRuns
+pub mod BucketedRuns
+pub mod Laws
+pub mod Live
+pub mod Private
+pub mod Runs

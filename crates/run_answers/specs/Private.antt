@@ -1,0 +1,5 @@
+-- What contracts of steps and invariants of types cite; no public clause does.
+pub mod Given
+pub mod Rooms
+pub mod Tables
+pub mod Tied

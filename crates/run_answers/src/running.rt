@@ -1,0 +1,100 @@
+//! Runs of whatever kind: one command, one call, one reply, and a ledger of what is live.
+//!
+//! Definitions: `Runs` and `Live`; `Tied` is what private functions keep between ledger and atlas. An atlas that is to
+//! have runs implements `Answering`, over a `Kind` of its own. Streams answer by `answer_next` too.
+
+ghost use Rattle.std.specs.Prelude.{◌≡◌, ℕ, ◌<◌, ◌≤◌, ◌+◌, List, [], length, vec_capacity, vec_len, IfOk};
+ghost use Rattle.run_answers.specs.Live.{Entry};
+ghost use Rattle.run_answers.specs.Runs.{Kind, Runs, RunKeepsPromisesThroughout, RunsTo};
+ghost use Rattle.run_answers.specs.Private.Given as spec;
+ghost use Rattle.run_answers.specs.Private.Given.{with_given};
+ghost use Rattle.run_answers.specs.Private.Rooms.{IsEmptyRoom};
+ghost use Rattle.run_answers.specs.Private.Tables.{HasSlotsOf, entries_of};
+ghost use Rattle.run_answers.specs.Private.Tied.{IsAnswerOf, IsNew, SuitsRuns};
+
+use crate::ledger::Ledger;
+use etagere::Allocation;
+use run_commands::commands::Reply;
+use std::alloc::{AllocError, Global};
+
+/// An atlas that answers the commands of its kind of run.
+pub trait Answering {
+    /// What it is asked.
+    type Command: Copy;
+
+    ghost kind: { Kind Self Self.Command };
+
+    ghost Tied: { List Entry → Self → Type 0 };
+
+    /// Answers a command, and takes out of the ledger what the command gives back. What it is given isn't added yet.
+    fn answer(&mut self, ledger: &mut Ledger, command: Self::Command) -> Reply
+        requires { Tied (entries_of ledger.old) self.old }
+        ensures answer { (position : ℕ) → IsAnswerOf kind Tied position command result
+            (entries_of ledger.old) (with_given position result (entries_of ledger.new))
+            self.old self.new }
+        ensures slots { HasSlotsOf ledger.old ledger.new };
+}
+
+/// Room for a run: for its replies, and for the ledger of what is live.
+#[derive(Drop)]
+pub struct Room {
+    pub replies: Vec<Reply>,
+    pub ledger: Ledger,
+}
+
+impl Room {
+    /// Room for so many commands.
+    pub fn with_capacity(alloc: Global, count: usize) -> Result<Room, AllocError>
+        ensures empty { IfOk result (λ room. IsEmptyRoom count room) }
+    {
+        let replies = Vec::with_capacity(alloc, count)?;
+        let ledger = Ledger::with_capacity(alloc, count)?;
+        Ok(Room { replies, ledger })
+    }
+}
+
+/// The replies of an atlas to the commands, one after another.
+pub fn answer_all<A: Answering>(atlas: &mut A, room: Room, commands: &[A::Command]) -> Vec<Reply>
+    requires suits { SuitsRuns A.kind A.Tied }
+    requires new { IsNew A.kind A.Tied atlas.old }
+    requires room { IsEmptyRoom (length commands.now) room }
+    ensures run { RunsTo A.kind (A.kind.frame atlas.old) commands.now result.items }
+    ensures last { Runs A.kind 0 [] (A.kind.fresh (A.kind.frame atlas.old))
+        commands.now result.items atlas.new }
+    ensures promises { RunKeepsPromisesThroughout A.kind (A.kind.frame atlas.old)
+        commands.now result.items }
+{
+    let Room {
+        mut replies,
+        mut ledger,
+    } = room;
+    for position in 0..commands.len() {
+        let reply = answer_next(atlas, &mut ledger, commands[position]);
+        replies.push(reply).unwrap();
+    }
+    replies
+}
+
+/// The reply of an atlas to the next command, which the ledger keeps.
+pub fn answer_next<A: Answering>(atlas: &mut A, ledger: &mut Ledger, command: A::Command) -> Reply
+    requires tied { A.Tied (entries_of ledger.old) atlas.old }
+    requires space { vec_len ledger.old.slots < vec_capacity ledger.old.slots }
+    ensures answer { IsAnswerOf A.kind A.Tied (vec_len ledger.old.slots) command result
+        (entries_of ledger.old) (entries_of ledger.new) atlas.old atlas.new }
+    ensures length { vec_len ledger.new.slots ≡ vec_len ledger.old.slots + 1 }
+    ensures room { vec_capacity ledger.old.slots ≤ vec_capacity ledger.new.slots }
+{
+    let reply = atlas.answer(ledger, command);
+    ledger.add(given_by(&reply));
+    reply
+}
+
+/// What a command was given that has this reply.
+fn given_by(reply: &Reply) -> Option<Allocation>
+    ensures { result ≡ spec.given_by reply.now }
+{
+    match reply {
+        Reply::Placed(allocation) => Some(*allocation),
+        _ => None,
+    }
+}

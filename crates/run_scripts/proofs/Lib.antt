@@ -1,0 +1,9 @@
+pub mod CommandLines
+pub mod Digits
+pub mod DigitsLack
+pub mod HeaderLine
+pub mod LastWord
+pub mod LineLengths
+pub mod Pieces
+pub mod PlainLines
+pub mod ScriptRows

@@ -1,0 +1,7 @@
+pub mod Lines
+pub mod Numbers
+pub mod Private
+pub mod ReplyText
+pub mod Script
+pub mod ScriptReading
+pub mod Words

@@ -1,0 +1,174 @@
+//! The text of a reply: one line, made in a small buffer. Nothing here takes memory.
+//!
+//! Definition: `ReplyText`. A new reply needs its words there and here, and room in the buffer.
+
+ghost use Rattle.std.specs.Prelude.{◌≡◌, ◌≤◌, ◌+◌, ◌++◌, ◌∷◌, [], decimal, length};
+ghost use Rattle.std.specs.Fmt.{signed_decimal};
+ghost use Rattle.run_scripts.specs.Lines.{space};
+ghost use Rattle.run_scripts.specs.ReplyText as spec;
+ghost use Rattle.run_scripts.specs.ReplyText.{HasPlaces, IsPlace, TellsPlaces, corners_text, longest_line};
+
+use etagere::{Allocation, Rectangle};
+use etagere_base::ShortText;
+use run_commands::commands::Reply;
+use std::marker::Model;
+
+/// How many bytes a line has at most: `placed`, an id of 10 digits, and four places of 11 characters.
+pub const LINE_CAPACITY: usize = 66;
+
+/// A line, with its line feed once it is whole.
+#[derive(Drop)]
+pub struct Line {
+    text: ShortText,
+}
+
+impl Model for Line {
+    ghost use Rattle.std.specs.Prelude.{ℕ, List};
+
+    ghost Value = { List ℕ };
+
+    ghost view = { λ line. line.text };
+}
+
+impl Line {
+    /// A line without text.
+    pub fn new() -> Line
+        ensures { result ≡ [] }
+    {
+        Line {
+            text: ShortText::new(""),
+        }
+    }
+
+    /// The line as text.
+    pub fn as_str(&self) -> &str
+        ensures { result.now ≡ self.now }
+    {
+        self.text.as_str()
+    }
+
+    /// Begins anew with a word.
+    pub fn begin(&mut self, word: &str)
+        requires { length word.now ≤ LINE_CAPACITY }
+        ensures { self.new ≡ word.now }
+    {
+        self.text.begin(word);
+    }
+
+    /// Adds a word.
+    pub fn push(&mut self, word: &str)
+        requires { length self.old + length word.now ≤ LINE_CAPACITY }
+        ensures { self.new ≡ self.old ++ word.now }
+    {
+        self.text.push(word);
+    }
+
+    /// Adds the decimal digits of a number.
+    fn push_number(&mut self, number: u32)
+        requires { length self.old + 10 ≤ LINE_CAPACITY }
+        ensures text { self.new ≡ self.old ++ decimal number }
+        ensures length { length self.new ≤ length self.old + 10 }
+    {
+        self.text.push_number(number);
+    }
+
+    /// Adds a place, with a minus sign where it is negative. Always inlined: a line with a rectangle has four places.
+    #[inline(always)]
+    fn push_place(&mut self, place: i32)
+        requires { length self.old + 11 ≤ LINE_CAPACITY }
+        ensures text { self.new ≡ self.old ++ signed_decimal place }
+        ensures length { length self.new ≤ length self.old + 11 }
+        ensures short { IsPlace place → length self.new ≤ length self.old + 5 }
+    {
+        if place >= 0 {
+            self.text.push_number(place as u32);
+            return;
+        }
+        let mut digits = itoa::Buffer::new();
+        self.push(digits.format(place));
+    }
+
+    /// Adds a space and a place. Always inlined, as `push_place` is.
+    #[inline(always)]
+    fn push_next_place(&mut self, place: i32)
+        requires { length self.old + 12 ≤ LINE_CAPACITY }
+        ensures text { self.new ≡ self.old ++ space ∷ signed_decimal place }
+        ensures length { length self.new ≤ length self.old + 12 }
+        ensures short { IsPlace place → length self.new ≤ length self.old + 6 }
+    {
+        self.push(" ");
+        self.push_place(place);
+    }
+
+    /// Adds the corners of a rectangle. Always inlined: each line with a rectangle has them.
+    #[inline(always)]
+    pub fn push_corners(&mut self, rectangle: &Rectangle)
+        requires { length self.old + 47 ≤ LINE_CAPACITY }
+        ensures text { self.new ≡ self.old ++ corners_text rectangle.now }
+        ensures length { length self.new ≤ length self.old + 47 }
+        ensures short { HasPlaces rectangle.now → length self.new ≤ length self.old + 23 }
+    {
+        self.push_place(rectangle.min.x);
+        self.push_next_place(rectangle.min.y);
+        self.push_next_place(rectangle.max.x);
+        self.push_next_place(rectangle.max.y);
+    }
+}
+
+/// The line of a reply. It is made in `line`, where it isn't always the same.
+pub fn line_of<'a>(reply: &Reply, line: &'a mut Line) -> &'a str
+    ensures text { result.now ≡ spec.line_of reply.now }
+    ensures short { TellsPlaces reply.now → length result.now ≤ longest_line }
+{
+    match reply {
+        Reply::Placed(allocation) => {
+            write_placed(line, allocation);
+            line.as_str()
+        }
+        Reply::Refused => "refused\n",
+        Reply::Returned => "returned\n",
+        Reply::At(rectangle, index) => {
+            write_at(line, rectangle, *index);
+            line.as_str()
+        }
+        Reply::NotLive => "not live\n",
+        Reply::Cleared => "cleared\n",
+        Reply::Grown => "grown\n",
+        Reply::GrowRefused(number) => {
+            write_grow_refused(line, *number);
+            line.as_str()
+        }
+        Reply::NoMemory => "no memory\n",
+    }
+}
+
+fn write_placed(line: &mut Line, allocation: &Allocation)
+    ensures text { line.new ≡ spec.line_of (Reply.Placed allocation.now) }
+    ensures short { HasPlaces allocation.now.rectangle → length line.new ≤ longest_line }
+{
+    line.begin("placed ");
+    line.push_number(allocation.id.serialize());
+    line.push(" ");
+    line.push_corners(&allocation.rectangle);
+    line.push("\n");
+}
+
+fn write_at(line: &mut Line, rectangle: &Rectangle, index: u32)
+    ensures text { line.new ≡ spec.line_of (Reply.At rectangle.now index) }
+    ensures short { HasPlaces rectangle.now → length line.new ≤ longest_line }
+{
+    line.begin("at ");
+    line.push_corners(rectangle);
+    line.push(" ");
+    line.push_number(index);
+    line.push("\n");
+}
+
+fn write_grow_refused(line: &mut Line, number: u32)
+    ensures text { line.new ≡ spec.line_of (Reply.GrowRefused number) }
+    ensures short { length line.new ≤ longest_line }
+{
+    line.begin("grow refused ");
+    line.push_number(number);
+    line.push("\n");
+}

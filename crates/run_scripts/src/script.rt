@@ -1,0 +1,135 @@
+//! Reads a script: a header, then a command on each line with bytes, or the number of the first
+//! line that isn't good.
+//!
+//! Definitions: `Script`, over `Lines` and `Words`; what reading answers is `ScriptReading`. A new kind of line goes into
+//! `Words`.
+
+ghost use Rattle.std.specs.Prelude.{◌≡◌, ◌<◌, ◌+◌, ◌^◌, length};
+ghost use Rattle.run_scripts.specs.Lines.{filled_from, lines_of};
+ghost use Rattle.run_scripts.specs.Script as spec;
+ghost use Rattle.run_scripts.specs.Script.{script_of};
+ghost use Rattle.run_scripts.specs.ScriptReading.{Gives, commands_in};
+ghost use Rattle.run_scripts.specs.Words as words;
+ghost use Rattle.run_scripts.specs.declared.script.ScriptFault.TheVariants.{Memory};
+
+use crate::lines::{blank_lines, first_line};
+use crate::plain_lines::plain_command;
+use crate::words::{AtlasKind, Spelled, command_of, header_of};
+use etagere::{AllocatorOptions, Size};
+use run_commands::commands::{AtlasCommand, BucketedCommand};
+use std::alloc::{AllocFailed, Global};
+use std::marker::Model;
+
+/// A run as a script spells it.
+#[derive(Drop)]
+pub struct Script {
+    pub size: Size,
+    pub options: AllocatorOptions,
+    pub commands: Commands,
+}
+
+impl Model for Script {
+    ghost use Rattle.run_scripts.specs.Script.{Request};
+    ghost use Rattle.run_scripts.specs.ScriptReading.{commands_in};
+
+    ghost Value = { Request };
+
+    ghost view = { λ script. record {
+      size = script.size;
+      options = script.options;
+      commands = commands_in script.commands;
+    } };
+}
+
+/// The commands of a script, by the atlas that they are for.
+#[derive(Drop)]
+pub enum Commands {
+    OfShelves(Vec<AtlasCommand>),
+    OfBuckets(Vec<BucketedCommand>),
+}
+
+/// Why a script isn't read.
+#[derive(Clone, Copy, Debug, PartialEq, Eq)]
+pub enum ScriptFault {
+    /// The line of this number, from 1, is the first that isn't good.
+    BadLine(u64),
+    /// There was no memory for the commands.
+    Memory,
+}
+
+impl<T: Drop> From<AllocFailed<T>> for ScriptFault {
+    ghost from_gives = { λ _ fault. fault ≡ Memory };
+
+    fn from(_failed: AllocFailed<T>) -> ScriptFault {
+        ScriptFault::Memory
+    }
+}
+
+/// Reads a script: its first line with bytes is the header, each later one a command. Takes memory
+/// for the commands, and one pass over the bytes.
+pub fn read_script(alloc: Global, bytes: &[u8]) -> Result<Script, ScriptFault>
+    ensures { Gives (λ script. script) result (script_of bytes.now) }
+{
+    let blanks = blank_lines(bytes);
+    let (line, rest) = first_line(&bytes[blanks..]);
+    let number = blanks as u64 + 1;
+    let Some(header) = header_of(line) else {
+        return Err(ScriptFault::BadLine(number));
+    };
+    let commands = commands_to(alloc, header.kind, number, rest)?;
+    Ok(Script {
+        size: header.size,
+        options: header.options,
+        commands,
+    })
+}
+
+/// The commands of the lines after line number `before`, for an atlas of a kind.
+fn commands_to(
+    alloc: Global,
+    kind: AtlasKind,
+    before: u64,
+    bytes: &[u8],
+) -> Result<Commands, ScriptFault>
+    requires { before + length bytes.now < 2 ^ 64 }
+    ensures { Gives commands_in result
+        (spec.commands_to kind (filled_from (before + 1) (lines_of bytes.now))) }
+{
+    Ok(match kind {
+        AtlasKind::Shelves => Commands::OfShelves(commands_of(alloc, before, bytes)?),
+        AtlasKind::Buckets => Commands::OfBuckets(commands_of(alloc, before, bytes)?),
+    })
+}
+
+/// The commands of the lines after line number `before`. Takes memory for them, and one pass over the bytes.
+pub fn commands_of<C: Spelled>(
+    alloc: Global,
+    before: u64,
+    bytes: &[u8],
+) -> Result<Vec<C>, ScriptFault>
+    requires { before + length bytes.now < 2 ^ 64 }
+    ensures { Gives (λ commands. commands.items) result
+        (spec.commands_of (words.command_of C.cleared C.meaning)
+        (filled_from (before + 1) (lines_of bytes.now))) }
+{
+    let mut commands = Vec::new(alloc);
+    let mut number = before;
+    let mut rest = bytes;
+    while !rest.is_empty() {
+        number += 1;
+        if let Some((command, after)) = plain_command(rest) {
+            commands.push(command)?;
+            rest = after;
+            continue;
+        }
+        let (line, after) = first_line(rest);
+        if !line.is_empty() {
+            let Some(command) = command_of(line) else {
+                return Err(ScriptFault::BadLine(number));
+            };
+            commands.push(command)?;
+        }
+        rest = after;
+    }
+    Ok(commands)
+}
