@@ -10,7 +10,7 @@ use Rattle.lru.specs.LruCache.{last_entry}
 use Rattle.shelf_model.proofs.Callers.{tied-empty}
 use Rattle.shelf_model.specs.Callers.{AreTied}
 use Rattle.shelf_model.specs.Choice.{placement_of}
-use Rattle.shelf_model.specs.Fresh.{fresh, without_records}
+use Rattle.shelf_model.specs.Fresh.{fresh, without_peak_items}
 use Rattle.shelf_model.specs.Places.{allocations}
 use Rattle.shelf_model.specs.Returning.{returned}
 use Rattle.shelf_model.specs.State.{AtlasState}
@@ -38,7 +38,7 @@ pub record HasEvicted (old : CacheState) (size : Size) (evicted : List ℕ) (lef
   pub none : (fewer : ℕ) → fewer < length evicted → has_room (after_dropping old fewer) size ≡ false
 
 -- places don't depend on the count of records
-placement-unused : (state other : AtlasState) (size : Size) → without_records state ≡ without_records other
+placement-unused : (state other : AtlasState) (size : Size) → without_peak_items state ≡ without_peak_items other
     → placement_of state size ≡ placement_of other size
 placement-unused state other size same = ap (λ (s : AtlasState). placement_of s size) same
 
@@ -181,15 +181,34 @@ ran_out-first state size promises fits =
       rest = record { entries = refl; capacity = refl; layout = refl };
     }
 
+-- where memory runs out while there is no room yet
+pub evicted-stopped : (old : CacheState) (size : Size) (evicted : List ℕ) (left : CacheState) → KeepsCachePromises old
+    → Fits old.atlas.frame size → HasEvicted old size evicted left → RanOut old size evicted left
+evicted-stopped old size evicted left promises fits has =
+    let found = evictions-exist old size promises fits in
+    record {
+      evictions = found.0;
+      least = found.1;
+      few = not_fewer found.0 found.1.room;
+      listed = dropped-gone old size evicted left has;
+      rest = subst (λ (s : CacheState). SameLayout s left) has.dropped (record { entries = refl; capacity = refl; layout = refl });
+    }
+  where
+    not_fewer : (n : ℕ) → has_room (after_dropping old n) size ≡ true → length evicted ≤ n
+    not_fewer n room = elim (nat_lt n (length evicted)) as (λ b. nat_lt n (length evicted) ≡ b → length evicted ≤ n) [
+      | true ↦ λ is. let none = has.none n (grind (arith, nat_tests)) in absurd (cc)
+      | false ↦ λ is. grind (arith, nat_tests)
+    ] refl
+
 -- in the course of evictions for a new key: what has gone, and what is kept on the way
-pub record IsEvicting (old : CacheState) (key : ℕ) (size : Size) (room : ℕ) (evicted : List ℕ) (left : CacheState)
+pub record IsEvicting (old : CacheState) (key : ℕ) (size : Size) (evicted : List ℕ) (left : CacheState)
     : Type 0 where
+  pub before : KeepsCachePromises old
   pub has : HasEvicted old size evicted left
   pub promises : KeepsCachePromises left
   pub frame : left.atlas.frame ≡ old.atlas.frame
   pub new : lookup (nat_eq key) left.entries ≡ None
   pub fits : Fits old.atlas.frame size
-  pub few : length left.entries + length evicted ≤ room
 
 -- a key that isn't there isn't there without the last entry
 unknown-without_last : (state : CacheState) (key : ℕ) → lookup (nat_eq key) state.entries ≡ None
@@ -212,33 +231,36 @@ some_last : (es : List (ℕ × Allocation)) (e : ℕ × Allocation) → last_ent
 some_last [] e last = absurd (cc)
 some_last (f ∷ es) e last = omega arith
 
-evicting-more : (old : CacheState) (key : ℕ) (size : Size) (room : ℕ) (more : ℕ) (evicted : List ℕ) (left : CacheState) (dropped : ℕ)
-    → IsEvicting old key size room evicted left → room ≤ more → has_room left size ≡ false
+evicting-more : (old : CacheState) (key : ℕ) (size : Size) (evicted : List ℕ) (left : CacheState) (dropped : ℕ)
+    → IsEvicting old key size evicted left → has_room left size ≡ false
     → Some dropped ≡ option_map (λ e. e.0) (last_entry left.entries)
-    → IsEvicting old key size more (evicted ++ dropped ∷ []) (without_last left)
-evicting-more old key size room more evicted left dropped is wider full at =
+    → IsEvicting old key size (evicted ++ dropped ∷ []) (without_last left)
+evicting-more old key size evicted left dropped is full at =
     let e = entry_of dropped (last_entry left.entries) at in
-    let some = some_last left.entries e.0 e.1 in
-    let few = is.few in
     record {
+      before = is.before;
       has = subst (λ (k : ℕ). HasEvicted old size (evicted ++ k ∷ []) (without_last left)) e.2
           (evicted-more old size evicted left e.0 is.has full e.1);
       promises = keeps-without_last left is.promises;
       frame = frame-without_last left ∙ is.frame;
       new = unknown-without_last left key is.new;
       fits = is.fits;
-      few = omega (arith, length-without_last left, length-append evicted (dropped ∷ []));
     }
 
 -- the same, of what it became
-pub evicting-step : (old : CacheState) (key : ℕ) (size : Size) {room more : ℕ} {evicted longer : List ℕ} {left new : CacheState} {dropped : ℕ}
-    → IsEvicting old key size room evicted left → room ≤ more → has_room left size ≡ false
+pub evicting-step : (old : CacheState) (key : ℕ) (size : Size) {evicted longer : List ℕ} {left new : CacheState} {dropped : ℕ}
+    → IsEvicting old key size evicted left → has_room left size ≡ false
     → Some dropped ≡ option_map (λ e. e.0) (last_entry left.entries)
-    → longer ≡ evicted ++ dropped ∷ [] → new ≡ without_last left → IsEvicting old key size more longer new
-evicting-step old key size {room} {more} {evicted} {longer} {left} {new} {dropped} is wider full at listed after =
-    subst (λ (l : List ℕ). IsEvicting old key size more l new) (sym listed)
-    (subst (λ (s : CacheState). IsEvicting old key size more (evicted ++ dropped ∷ []) s) (sym after)
-    (evicting-more old key size room more evicted left dropped is wider full at))
+    → longer ≡ evicted ++ dropped ∷ [] → new ≡ without_last left → IsEvicting old key size longer new
+evicting-step old key size {evicted} {longer} {left} {new} {dropped} is full at listed after =
+    subst (λ (l : List ℕ). IsEvicting old key size l new) (sym listed)
+    (subst (λ (s : CacheState). IsEvicting old key size (evicted ++ dropped ∷ []) s) (sym after)
+    (evicting-more old key size evicted left dropped is full at))
+
+-- where memory runs out for the list of what has gone
+pub evicting-stopped : (old : CacheState) (key : ℕ) (size : Size) (evicted : List ℕ) (left : CacheState)
+    → IsEvicting old key size evicted left → RanOut old size evicted left
+evicting-stopped old key size evicted left is = evicted-stopped old size evicted left is.before is.fits is.has
 
 -- one entry less is left
 pub evicting-shorter : (left new : CacheState) (dropped : ℕ) → Some dropped ≡ option_map (λ e. e.0) (last_entry left.entries)
@@ -250,10 +272,10 @@ evicting-shorter left new dropped at after =
     omega (arith, length-without_last left)
 
 -- evictions don't end without room
-pub evicting-some : (old : CacheState) (key : ℕ) (size : Size) (room : ℕ) (evicted : List ℕ) (left : CacheState)
-    → IsEvicting old key size room evicted left → has_room left size ≡ false
+pub evicting-some : (old : CacheState) (key : ℕ) (size : Size) (evicted : List ℕ) (left : CacheState)
+    → IsEvicting old key size evicted left → has_room left size ≡ false
     → None ≡ option_map (λ e. e.0) (last_entry left.entries) → ⊥
-evicting-some old key size room evicted left is full at = stuck (has_room-nothing left size is.promises (last-none left.entries (none (last_entry left.entries) at))
+evicting-some old key size evicted left is full at = stuck (has_room-nothing left size is.promises (last-none left.entries (none (last_entry left.entries) at))
     (ap (λ (frame : Frame). is_some (placement_of (fresh frame) size)) is.frame ∙ is.fits))
   where
     none : (o : Option (ℕ × Allocation)) → None ≡ option_map (λ e. e.0) o → o ≡ None

@@ -6,7 +6,8 @@ use Rattle.std.specs.Prelude.{nat_eq, option_map}
 use Rattle.std.proofs.lemmas.List.{length-map, length-take}
 use Rattle.lru.specs.LruCache.{last_entry}
 use Rattle.etagere_base.specs.declared.ids.Allocation.{Allocation}
-use Rattle.etagere_base.specs.Lists.{Each, times}
+use Rattle.std.specs.List.{AllByRecursion}
+use Rattle.etagere_base.specs.Lists.{times}
 use Rattle.etagere_base.specs.Rectangles.{IsInside}
 use Rattle.etagere_base.proofs.EachLemmas.{Each-middle}
 use Rattle.shelf_model.specs.Atlas.{Adds, KeepsPromises, without_id}
@@ -43,7 +44,7 @@ pub kept-allocated : (state : CacheState) (others : List Allocation) (a : Alloca
 kept-allocated state others a promises adds =
     let found = IsFound (allocations state.atlas) in
     found-allocated state.atlas a
-    (Each-middle found adds.front a adds.back (subst (Each found) adds.after promises.tied.found))
+    (Each-middle found adds.front a adds.back (subst (AllByRecursion found) adds.after promises.tied.found))
 
 -- a cache of which one was given back
 keeps-returned : (state : CacheState) (entries : List (ℕ × Allocation)) (a : Allocation) → KeepsCachePromises state

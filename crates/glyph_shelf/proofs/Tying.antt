@@ -2,7 +2,8 @@
 use Rattle.std.proofs.Common.{◌≡◌, ℕ, ◌+◌, ◌==◌, cond, List, [], ◌∷◌, ◌++◌, map, refl, ap, sym, ◌∙◌, subst, arith}
 use Rattle.std.proofs.lemmas.List.{map-append}
 use Rattle.etagere_base.specs.declared.ids.Allocation.{Allocation}
-use Rattle.etagere_base.specs.Lists.{Each, times}
+use Rattle.std.specs.List.{AllByRecursion}
+use Rattle.etagere_base.specs.Lists.{times}
 use Rattle.etagere_base.proofs.EachLemmas.{Each-middle, Each-remove_place}
 use Rattle.etagere_base.proofs.TimesLemmas.{times-append}
 use Rattle.shelf_model.specs.Atlas.{Adds}
@@ -16,11 +17,11 @@ ids_of all = map (λ (allocation : Allocation). allocation.id) all
 pub tied-front : (others kept all : List Allocation) (one : Allocation)
     → Adds others one kept → AreTied kept all → AreTied (one ∷ others) all
 tied-front others kept all one adds tied =
-    let each = subst (Each (IsFound all)) adds.after tied.found in
+    let each = subst (AllByRecursion (IsFound all)) adds.after tied.found in
     record {
       found = (
         Each-middle (IsFound all) adds.front one adds.back each,
-        subst (Each (IsFound all)) (sym adds.before)
+        subst (AllByRecursion (IsFound all)) (sym adds.before)
             (Each-remove_place (IsFound all) adds.front one adds.back each),
       );
       counted = λ id.

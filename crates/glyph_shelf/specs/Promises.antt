@@ -4,7 +4,8 @@ use Rattle.std.specs.Map.{keys_of}
 use Rattle.shelf_model.specs.Atlas.{KeepsPromises}
 use Rattle.shelf_model.specs.Callers.{AreTied}
 use Rattle.shelf_model.specs.Places.{allocations}
-use Rattle.etagere_base.specs.Lists.{Each, times}
+use Rattle.std.specs.List.{AllByRecursion}
+use Rattle.etagere_base.specs.Lists.{times}
 use Rattle.etagere_base.specs.Rectangles.{AreApart, IsInside}
 use Rattle.etagere_base.specs.declared.ids.Allocation.{Allocation}
 use Rattle.glyph_shelf.specs.Cache.{CacheState, kept_allocations}
@@ -17,7 +18,7 @@ pub record KeepsCachePromises (state : CacheState) : Type 0 where
   pub capacity : 1 ≤ state.capacity
   pub keys : (key : ℕ) → times key (keys_of state.entries) ≤ 1
   pub tied : AreTied (kept_allocations state) (allocations state.atlas)
-  pub inside : Each
+  pub inside : AllByRecursion
       (λ (allocation : Allocation). IsInside state.atlas.frame allocation.rectangle)
       (kept_allocations state)
   pub apart : AreApart (kept_allocations state)

@@ -74,16 +74,17 @@ impl GlyphCache {
         Ok(GlyphCache { kept, alloc })
     }
 
-    /// Gives the rectangle of a key. A key that is there moves to the front of the order of use; its size isn't
-    /// looked at, and it takes no memory and can't fail.
+    /// Gives the rectangle of a key. A key that is there becomes the most recently used; the size isn't looked at, no
+    /// memory is taken, and the call can't fail.
     ///
-    /// A new key gets a rectangle at least as large as the size in pixels, and stands first. Where there is no room,
-    /// the keys used least recently are evicted before, no more than needed; they are listed in `evicted`.
+    /// A new key gets a rectangle at least as large as the size in pixels, and becomes the most recently used. Where
+    /// there is no room, the least recently used keys are evicted first, no more than needed; they are listed in
+    /// `evicted`.
     ///
     /// `TooLarge` comes exactly where the key is new and an empty atlas has no place for the size; then nothing
     /// changes. `Memory` comes only for a new key, with the keys that were evicted before memory ran out: these are
-    /// gone, and the others stand. Takes memory for the entry, for what the allocation splits, and, where keys are
-    /// evicted, for as many keys as there are. Asks the atlas once, and once more for each key that is evicted.
+    /// gone, and the others stand. Takes memory for the entry, for what the allocation splits, and for the list of
+    /// the evicted keys. Asks the atlas once, and once more for each key that is evicted.
     pub fn place(&mut self, key: u64, size: Size) -> Result<Placed, GlyphFault>
         ensures found { IfSome (rectangle_at self.old key)
             (λ rectangle. IsOkAnd result
@@ -111,8 +112,8 @@ impl GlyphCache {
         Ok(Placed { rectangle, evicted })
     }
 
-    /// The rectangle of a key, which moves to the front of the order of use; none where the key isn't there, and
-    /// then nothing changes.
+    /// The rectangle of a key, which becomes the most recently used; none where the key isn't there, and then nothing
+    /// changes.
     ///
     /// Takes no memory.
     pub fn get(&mut self, key: u64) -> Option<Rectangle>
@@ -123,8 +124,7 @@ impl GlyphCache {
         self.kept.look(key)
     }
 
-    /// Takes a key out, and answers the rectangle that it had; none where the key isn't there, and then nothing
-    /// changes.
+    /// Removes a key, and returns the rectangle that it had; none where the key isn't there, and then nothing changes.
     ///
     /// Takes no memory. The atlas takes the rectangle back as by `AtlasAllocator::deallocate`, at the same cost.
     pub fn remove(&mut self, key: u64) -> Option<Rectangle>
@@ -135,7 +135,7 @@ impl GlyphCache {
         self.kept.remove(key)
     }
 
-    /// Takes all keys out: the cache is as it was when it was new.
+    /// Removes all keys: the cache is as new.
     ///
     /// Takes no memory. Goes through the keys and the columns.
     pub fn clear(&mut self)

@@ -13,8 +13,8 @@ pub enum GlyphFault {
     /// The key is new, and an empty atlas of the same size and options has no place for its size. Nothing changed.
     #[error("TooLarge")]
     TooLarge,
-    /// The key is new, and there was no memory. These keys were evicted before that was found, the least recently
-    /// used first; the others stand.
+    /// The key is new, and there was no memory. These keys were evicted before memory ran out, the least recently used
+    /// first; the others are kept.
     #[error("Memory")]
     Memory(Vec<u64>),
 }

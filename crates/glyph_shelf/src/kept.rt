@@ -94,9 +94,8 @@ impl Kept {
         ensures used { self.new ≡ used self.old key }
         ensures promises { KeepsCachePromises self.new }
     {
-        let rectangle = self.entries.peek(&key)?.rectangle;
-        self.entries.promote(&key);
-        Some(rectangle)
+        let allocation = self.entries.get(&key)?;
+        Some(allocation.rectangle)
     }
 
     /// Drops the least recently used entry, and answers its key; none where there is no entry.
@@ -165,7 +164,7 @@ impl Kept {
     }
 
     /// Puts a new key in front. Where there is no room, entries are dropped before, the least recently used first,
-    /// no more than needed, and their keys listed in that order; for these there is room before the first goes.
+    /// no more than needed, and their keys listed in that order; for each there is room before it goes.
     pub fn place_new(
         &mut self,
         key: u64,
@@ -185,12 +184,13 @@ impl Kept {
         if let Some(rectangle) = self.enter(key, size)? {
             return Ok(rectangle);
         }
-        evicted.reserve(self.entries.len())?;
+        evicted.reserve(1)?;
         while let Some(dropped) = self.drop_last() {
             evicted.push(dropped).unwrap();
             if let Some(rectangle) = self.enter(key, size)? {
                 return Ok(rectangle);
             }
+            evicted.reserve(1)?;
         }
         unreachable!()
     }

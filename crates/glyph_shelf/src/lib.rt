@@ -1,8 +1,8 @@
-//! A cache of glyph places: each key gets a rectangle of one atlas, and where there is no room, what was used
-//! least recently is thrown out, no more than needed.
+//! A cache of glyphs: each key gets a rectangle of one atlas, and where there is no room, the least recently used keys
+//! are evicted, no more than needed.
 //!
-//! `cache` has the public calls, `kept` the entries with their atlas, which change together, `giving_back` what
-//! both do to an atlas.
+//! `cache` has the public calls, `kept` the entries with their atlas, which change together, `giving_back` how an
+//! entry's rectangle goes back to the atlas.
 #![tactic(auto)]
 
 mod cache;

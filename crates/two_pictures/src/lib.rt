@@ -4,9 +4,6 @@
 //! that is written out, by `allocated` and `promises` of `allocate`.
 #![tactic(auto)]
 
-#[cfg(test)]
-mod tests;
-
 ghost use Rattle.std.specs.Prelude.{◌≡◌, true, IfOk, IfNone, IfSome, OnErr};
 ghost use Rattle.shelf_model.specs.ById.{Undoes};
 ghost use Rattle.shelf_model.specs.Places.{allocations, is_allocated};
@@ -20,7 +17,7 @@ use std::alloc::AllocError;
 ///
 /// None is the answer where one of them has no place, `Err` where memory was refused. Takes the memory
 /// and time of two allocations, and of a return where only the first got a place.
-pub fn place_two(
+pub fn allocate_two(
     atlas: &mut AtlasAllocator,
     first: Size,
     second: Size,
