@@ -4,10 +4,10 @@
  * same time) and EtagereCache (rectangles under keys, of which those used least recently are evicted). Lengths are
  * whole pixels; in a rectangle `max` is the first pixel past it.
  *
- * Handles. A handle is a struct of one pointer that the caller keeps. It begins as ETAGERE_NULL; `.._new` and
- * `.._clone` fill a null one, and `.._delete` frees what it holds and makes it null again. It may be moved, never used
- * twice: after a copy only one of the two is used. Of a null handle each call answers ETAGERE_NULL_HANDLE, and changes
- * nothing.
+ * Handles. A handle is a struct of one pointer that the caller keeps. It begins as ETAGERE_NULL; `.._new`, `.._clone`
+ * and `.._restore` fill a null one, and `.._delete` frees what it holds and makes it null again. It may be moved, never
+ * used twice: after a copy only one of the two is used. Of a null handle each call answers ETAGERE_NULL_HANDLE, and
+ * changes nothing.
  *
  * Statuses. Each call answers a status. After any status but ETAGERE_OK nothing has changed and nothing was written to
  * what the caller passed, unless the comment of the function says so. The last two digits of a status from 100 on are
@@ -48,6 +48,8 @@ enum {
     ETAGERE_NO_ROOM = 3,
     /* A buffer is too short, or a capacity is 0. */
     ETAGERE_LENGTH = 4,
+    /* The bytes aren't the text of a saved atlas of the kind, or memory ran out while they were read. */
+    ETAGERE_UNREADABLE = 5,
     /* There was no memory. */
     ETAGERE_MEMORY = 6,
     /* The cache hasn't the key. */
@@ -88,6 +90,30 @@ enum {
     ETAGERE_BUCKETED_GROW_AREA = 303,
     /* There was no memory. */
     ETAGERE_BUCKETED_GROW_MEMORY = 304,
+
+    /* Why a text isn't restored: a rule that its snapshot breaks. Where it breaks several, any of them is answered. */
+    /* A side, the area, an alignment or the width of a column is out of its range. */
+    ETAGERE_RESTORE_FRAME = 401,
+    /* There are too few or too many records of a kind. */
+    ETAGERE_RESTORE_COUNTS = 402,
+    /* A link names no record, a link back another than the one before, or a record another shelf than its own. */
+    ETAGERE_RESTORE_LINK = 403,
+    /* The shelves don't fill each column, column after column. */
+    ETAGERE_RESTORE_SHELVES = 404,
+    /* The items of a shelf, or its buckets, don't fill it as they must. */
+    ETAGERE_RESTORE_RUNS = 405,
+    /* Two free items stand side by side, or two empty shelves of a column. */
+    ETAGERE_RESTORE_NEIGHBOURS = 406,
+    /* The free list of a shelf hasn't each of its free items once. */
+    ETAGERE_RESTORE_FREE_LIST = 407,
+    /* A record is in no list or in two, or a list doesn't end. */
+    ETAGERE_RESTORE_SHARING = 408,
+    /* A record that became unused is marked as allocated. */
+    ETAGERE_RESTORE_UNUSED = 409,
+    /* The allocated space is not that of what is allocated. */
+    ETAGERE_RESTORE_SPACE = 410,
+    /* There was no memory. */
+    ETAGERE_RESTORE_MEMORY = 411,
 
     /* Nothing is allocated under the id. */
     ETAGERE_UNKNOWN_ID = 501,
@@ -154,6 +180,10 @@ typedef struct EtagereCache {
     void *state;
 } EtagereCache;
 
+/* Gives the options of ETAGERE_DEFAULT_OPTIONS: no alignment, one column, shelves that lie.
+ * Answers ETAGERE_OK. Takes constant time. */
+EtagereStatus etagere_default_options(EtagereOptions *options);
+
 /* ---- An atlas of shelves ---------------------------------------------------------------------------------------- */
 
 /* Fills a null handle with an empty atlas.
@@ -187,6 +217,13 @@ EtagereStatus etagere_atlas_get(EtagereAtlas *atlas, uint32_t id, EtagereRectang
  * Answers ETAGERE_OK; ETAGERE_NULL_HANDLE; ETAGERE_UNKNOWN_ID exactly where nothing is allocated under the id. Takes
  * no memory, and constant time. */
 EtagereStatus etagere_atlas_get_index(EtagereAtlas *atlas, uint32_t id, uint32_t *index);
+
+/* Gives all that is allocated, by rising index: writes it to the front of the buffer, and how many there are to *count.
+ * What is behind stays, and the atlas does.
+ * Answers ETAGERE_OK; ETAGERE_NULL_HANDLE; ETAGERE_LENGTH where the buffer is shorter than there are allocations: then
+ * *count is written too, and nothing else. Takes no memory, and goes through all records twice. */
+EtagereStatus etagere_atlas_allocations(
+    EtagereAtlas *atlas, EtagereAllocation *allocations, size_t allocations_length, size_t *count);
 
 /* Takes everything back at once: the atlas is as new, with its present size and columns.
  * Answers ETAGERE_OK; ETAGERE_NULL_HANDLE. Takes no memory, and goes through the columns. */
@@ -251,6 +288,35 @@ EtagereStatus etagere_atlas_picture_length(EtagereAtlas *atlas, size_t *text_len
  * etagere_atlas_picture_length says, with nothing written; ETAGERE_MEMORY. Takes memory for the text, and goes
  * through all items. */
 EtagereStatus etagere_atlas_picture(EtagereAtlas *atlas, uint8_t *buffer, size_t buffer_length, size_t *text_length);
+
+/* Writes the rectangles of etagere_atlas_picture to the front of the buffer, as lines for another SVG document that
+ * show the atlas at its origin, and how long they are to *text_length. What is behind stays, and the atlas does.
+ * Answers ETAGERE_OK; ETAGERE_NULL_HANDLE; ETAGERE_LENGTH where the buffer is shorter than the lines: then *text_length
+ * is written too, and nothing else; ETAGERE_MEMORY. Takes memory for the text, and goes through all items. */
+EtagereStatus etagere_atlas_picture_lines(
+    EtagereAtlas *atlas, uint8_t *buffer, size_t buffer_length, size_t *text_length);
+
+/* Writes the same lines as etagere_atlas_picture_lines, moved and scaled to fill a rectangle of the other document;
+ * nothing where a side of it isn't positive. What is behind stays, and the atlas does.
+ * Answers ETAGERE_OK; ETAGERE_NULL_HANDLE; ETAGERE_LENGTH where the buffer is shorter than the lines: then *text_length
+ * is written too, and nothing else; ETAGERE_MEMORY. Takes memory for the text, and goes through all items. */
+EtagereStatus etagere_atlas_picture_part(
+    EtagereAtlas *atlas, EtagereRectangle rectangle, uint8_t *buffer, size_t buffer_length, size_t *text_length);
+
+/* Writes what the atlas is saved as to the front of the buffer, and its length to *text_length: the JSON text of an
+ * object whose one key is "atlas", without a space or a zero behind it. What is behind stays, and the atlas does.
+ * Answers ETAGERE_OK; ETAGERE_NULL_HANDLE; ETAGERE_LENGTH where the buffer is shorter than the text: then *text_length
+ * is written too, and nothing else; ETAGERE_MEMORY. Takes memory for all records and the text, goes through both, and
+ * reads the text once to see that it is right. */
+EtagereStatus etagere_atlas_snapshot(EtagereAtlas *atlas, uint8_t *buffer, size_t buffer_length, size_t *text_length);
+
+/* Fills a null handle with the atlas that a text is saved as, whoever wrote it: what etagere_atlas_snapshot gives, or
+ * the same with its keys in another order, others that are passed over, or spaces between.
+ * Answers ETAGERE_OK; ETAGERE_HANDLE_IN_USE where the handle isn't null; ETAGERE_UNREADABLE where the bytes are no such
+ * text, or there was no memory for what they say; ETAGERE_RESTORE_.., the number of a rule that the snapshot breaks, or
+ * ETAGERE_RESTORE_MEMORY where there was no memory for the atlas. Takes memory for the snapshot, for its records twice
+ * and as much as the text has bytes, and time linear in the bytes and records but for a sort of the shelves. */
+EtagereStatus etagere_atlas_restore(EtagereAtlas *atlas, const uint8_t *text, size_t text_length);
 
 /* ---- An atlas of buckets ---------------------------------------------------------------------------------------- */
 
@@ -336,6 +402,36 @@ EtagereStatus etagere_bucketed_picture_length(EtagereBucketed *atlas, size_t *te
 EtagereStatus etagere_bucketed_picture(
     EtagereBucketed *atlas, uint8_t *buffer, size_t buffer_length, size_t *text_length);
 
+/* Writes the rectangles of etagere_bucketed_picture to the front of the buffer, as lines for another SVG document that
+ * show the atlas at its origin, and how long they are to *text_length. What is behind stays, and the atlas does.
+ * Answers ETAGERE_OK; ETAGERE_NULL_HANDLE; ETAGERE_LENGTH where the buffer is shorter than the lines: then *text_length
+ * is written too, and nothing else; ETAGERE_MEMORY. Takes memory for the text, and goes through all buckets. */
+EtagereStatus etagere_bucketed_picture_lines(
+    EtagereBucketed *atlas, uint8_t *buffer, size_t buffer_length, size_t *text_length);
+
+/* Writes the same lines as etagere_bucketed_picture_lines, moved and scaled to fill a rectangle of the other document;
+ * nothing where a side of it isn't positive. What is behind stays, and the atlas does.
+ * Answers ETAGERE_OK; ETAGERE_NULL_HANDLE; ETAGERE_LENGTH where the buffer is shorter than the lines: then *text_length
+ * is written too, and nothing else; ETAGERE_MEMORY. Takes memory for the text, and goes through all buckets. */
+EtagereStatus etagere_bucketed_picture_part(
+    EtagereBucketed *atlas, EtagereRectangle rectangle, uint8_t *buffer, size_t buffer_length, size_t *text_length);
+
+/* Writes what the atlas is saved as to the front of the buffer, and its length to *text_length: the JSON text of an
+ * object whose one key is "bucketed", without a space or a zero behind it. What is behind stays, and the atlas does.
+ * Answers ETAGERE_OK; ETAGERE_NULL_HANDLE; ETAGERE_LENGTH where the buffer is shorter than the text: then *text_length
+ * is written too, and nothing else; ETAGERE_MEMORY. Takes memory for all records and the text, goes through both, and
+ * reads the text once to see that it is right. */
+EtagereStatus etagere_bucketed_snapshot(
+    EtagereBucketed *atlas, uint8_t *buffer, size_t buffer_length, size_t *text_length);
+
+/* Fills a null handle with the atlas that a text is saved as, whoever wrote it: what etagere_bucketed_snapshot gives,
+ * or the same with its keys in another order, others that are passed over, or spaces between.
+ * Answers ETAGERE_OK; ETAGERE_HANDLE_IN_USE where the handle isn't null; ETAGERE_UNREADABLE where the bytes are no such
+ * text, or there was no memory for what they say; ETAGERE_RESTORE_.. but ETAGERE_RESTORE_FREE_LIST, the number of a
+ * rule that the snapshot breaks, or ETAGERE_RESTORE_MEMORY where there was no memory for the atlas. Takes memory for
+ * the snapshot, for its records twice and as much as the text has bytes, and time linear in the bytes and records. */
+EtagereStatus etagere_bucketed_restore(EtagereBucketed *atlas, const uint8_t *text, size_t text_length);
+
 /* ---- A cache ---------------------------------------------------------------------------------------------------- */
 
 /* Fills a null handle with an empty cache of at most `capacity` keys, over an atlas of this size.
@@ -406,6 +502,20 @@ EtagereStatus etagere_cache_picture_length(EtagereCache *cache, size_t *text_len
  * etagere_cache_picture_length says, with nothing written; ETAGERE_MEMORY. Takes memory for the text, and goes
  * through all items. */
 EtagereStatus etagere_cache_picture(EtagereCache *cache, uint8_t *buffer, size_t buffer_length, size_t *text_length);
+
+/* Writes the rectangles of etagere_cache_picture to the front of the buffer, as lines for another SVG document that
+ * show the cache at its origin, and how long they are to *text_length. What is behind stays, and the cache does.
+ * Answers ETAGERE_OK; ETAGERE_NULL_HANDLE; ETAGERE_LENGTH where the buffer is shorter than the lines: then *text_length
+ * is written too, and nothing else; ETAGERE_MEMORY. Takes memory for the text, and goes through all items. */
+EtagereStatus etagere_cache_picture_lines(
+    EtagereCache *cache, uint8_t *buffer, size_t buffer_length, size_t *text_length);
+
+/* Writes the same lines as etagere_cache_picture_lines, moved and scaled to fill a rectangle of the other document;
+ * nothing where a side of it isn't positive. What is behind stays, and the cache does.
+ * Answers ETAGERE_OK; ETAGERE_NULL_HANDLE; ETAGERE_LENGTH where the buffer is shorter than the lines: then *text_length
+ * is written too, and nothing else; ETAGERE_MEMORY. Takes memory for the text, and goes through all items. */
+EtagereStatus etagere_cache_picture_part(
+    EtagereCache *cache, EtagereRectangle rectangle, uint8_t *buffer, size_t buffer_length, size_t *text_length);
 
 #ifdef __cplusplus
 }

@@ -3,28 +3,8 @@
 #include <stdio.h>
 #include <string.h>
 
+#include "checking.h"
 #include "etagere.h"
-
-static int failures = 0;
-
-#define CHECK(holds)                                                      \
-    do {                                                                  \
-        if (!(holds)) {                                                   \
-            printf("%s:%d: not so: %s\n", __FILE__, __LINE__, #holds);    \
-            failures += 1;                                                \
-        }                                                                 \
-    } while (0)
-
-static EtagereSize size2(int32_t width, int32_t height) {
-    EtagereSize size;
-    size.width = width;
-    size.height = height;
-    return size;
-}
-
-static int lies(EtagereRectangle rectangle, int32_t x0, int32_t y0, int32_t x1, int32_t y1) {
-    return rectangle.min.x == x0 && rectangle.min.y == y0 && rectangle.max.x == x1 && rectangle.max.y == y1;
-}
 
 static EtagereAllocation nothing(void) {
     EtagereAllocation allocation;
@@ -196,6 +176,32 @@ static void batches(void) {
     CHECK(etagere_atlas_deallocate_many(&atlas, ids, 4, &count) == ETAGERE_NULL_HANDLE && count == 1);
 }
 
+static void listing(void) {
+    EtagereAtlas atlas = ETAGERE_NULL;
+    EtagereOptions options;
+    EtagereSize sizes[3];
+    EtagereAllocation given[3], listed[4];
+    size_t count = 77;
+
+    sizes[0] = sizes[1] = sizes[2] = size2(10, 10);
+    listed[0] = listed[2] = nothing();
+    memset(&options, 0x5a, sizeof options);
+    CHECK(etagere_default_options(&options) == ETAGERE_OK);
+    CHECK(options.alignment.width == 1 && options.alignment.height == 1);
+    CHECK(options.num_columns == 1 && options.vertical_shelves == 0);
+    CHECK(etagere_atlas_allocations(&atlas, listed, 4, &count) == ETAGERE_NULL_HANDLE && count == 77);
+    CHECK(etagere_atlas_new(&atlas, size2(64, 64), &options) == ETAGERE_OK);
+    CHECK(etagere_atlas_allocations(&atlas, listed, 0, &count) == ETAGERE_OK && count == 0);
+    CHECK(etagere_atlas_allocate_many(&atlas, sizes, 3, given, 3, &count) == ETAGERE_OK);
+    CHECK(etagere_atlas_deallocate(&atlas, given[1].id) == ETAGERE_OK);
+    CHECK(etagere_atlas_allocations(&atlas, listed, 1, &count) == ETAGERE_LENGTH && count == 2);
+    CHECK(is_nothing(listed[0]));
+    CHECK(etagere_atlas_allocations(&atlas, listed, 4, &count) == ETAGERE_OK && count == 2);
+    CHECK(memcmp(&listed[0], &given[0], sizeof given[0]) == 0 && memcmp(&listed[1], &given[2], sizeof given[0]) == 0);
+    CHECK(is_nothing(listed[2]));
+    CHECK(etagere_atlas_delete(&atlas) == ETAGERE_OK);
+}
+
 static void pictures(void) {
     EtagereAtlas atlas = ETAGERE_NULL;
     EtagereOptions options = ETAGERE_DEFAULT_OPTIONS;
@@ -229,7 +235,8 @@ static void buckets(void) {
     CHECK(etagere_bucketed_new(&atlas, size2(65535, 1), &options) == ETAGERE_OPTIONS_SIZE);
     CHECK(etagere_bucketed_new(&atlas, size2(32, 64), &options) == ETAGERE_OK);
     CHECK(etagere_bucketed_new(&atlas, size2(32, 64), &options) == ETAGERE_HANDLE_IN_USE);
-    CHECK(etagere_bucketed_allocate(&atlas, size2(20, 16), &first) == ETAGERE_OK && lies(first.rectangle, 0, 0, 20, 16));
+    CHECK(etagere_bucketed_allocate(&atlas, size2(20, 16), &first) == ETAGERE_OK);
+    CHECK(lies(first.rectangle, 0, 0, 20, 16));
     CHECK(etagere_bucketed_allocate(&atlas, size2(24, 16), &second) == ETAGERE_OK);
     CHECK(lies(second.rectangle, 0, 16, 24, 32));
     CHECK(etagere_bucketed_allocate(&atlas, size2(33, 1), &none) == ETAGERE_NO_ROOM && is_nothing(none));
@@ -257,7 +264,7 @@ static void buckets(void) {
     CHECK(etagere_bucketed_delete(&atlas) == ETAGERE_OK);
 }
 
-static void cache(void) {
+static void glyph_cache(void) {
     EtagereCache cache = ETAGERE_NULL;
     EtagereOptions options = ETAGERE_DEFAULT_OPTIONS;
     EtagereRectangle rectangle;
@@ -301,6 +308,184 @@ static void cache(void) {
     CHECK(etagere_cache_delete(&cache) == ETAGERE_OK && etagere_cache_delete(&cache) == ETAGERE_NULL_HANDLE);
 }
 
+static const char background[] =
+    "    <rect x=\"0\" y=\"0\" width=\"8\" height=\"8\" fill=\"rgb(40,40,40)\" stroke=\"rgb(0,0,0)\" "
+    "stroke-width=\"1\"/>\n";
+
+static const char free_item[] =
+    "    <rect x=\"0\" y=\"0\" width=\"8\" height=\"8\" fill=\"rgb(50,50,50)\" stroke=\"rgb(0,0,0)\" "
+    "stroke-width=\"1\"/>\n";
+
+static const char part_begin[] =
+    "    <svg x=\"1\" y=\"2\" width=\"3\" height=\"4\" viewBox=\"0 0 8 8\" preserveAspectRatio=\"none\">\n";
+
+static int begins(const uint8_t *text, const char *with) {
+    return memcmp(text, with, strlen(with)) == 0;
+}
+
+/* The rectangle of the parts below, and one without area. */
+static EtagereRectangle part_of(int32_t height) {
+    EtagereRectangle part;
+    part.min.x = 1;
+    part.min.y = 2;
+    part.max.x = 4;
+    part.max.y = 2 + height;
+    return part;
+}
+
+static void shelf_picture_parts(void) {
+    EtagereAtlas atlas = ETAGERE_NULL;
+    EtagereOptions options = ETAGERE_DEFAULT_OPTIONS;
+    uint8_t buffer[1024];
+    size_t lines = strlen(background) + strlen(free_item), count = 7;
+
+    CHECK(etagere_atlas_picture_lines(&atlas, buffer, 1024, &count) == ETAGERE_NULL_HANDLE && count == 7);
+    CHECK(etagere_atlas_picture_part(&atlas, part_of(4), buffer, 1024, &count) == ETAGERE_NULL_HANDLE && count == 7);
+    CHECK(etagere_atlas_new(&atlas, size2(8, 8), &options) == ETAGERE_OK);
+    memset(buffer, '#', sizeof buffer);
+    CHECK(etagere_atlas_picture_lines(&atlas, buffer, lines - 1, &count) == ETAGERE_LENGTH && count == lines);
+    CHECK(buffer[0] == '#');
+    CHECK(etagere_atlas_picture_lines(&atlas, buffer, 1024, &count) == ETAGERE_OK && count == lines);
+    CHECK(begins(buffer, background) && begins(buffer + strlen(background), free_item) && buffer[count] == '#');
+    CHECK(etagere_atlas_picture_part(&atlas, part_of(4), buffer, lines, &count) == ETAGERE_LENGTH && count > lines);
+    CHECK(etagere_atlas_picture_part(&atlas, part_of(4), buffer, 1024, &count) == ETAGERE_OK);
+    CHECK(begins(buffer, part_begin) && begins(buffer + strlen(part_begin), background) && buffer[count] == '#');
+    CHECK(etagere_atlas_picture_part(&atlas, part_of(0), buffer, 0, &count) == ETAGERE_OK && count == 0);
+    CHECK(etagere_atlas_delete(&atlas) == ETAGERE_OK);
+}
+
+static void bucketed_picture_parts(void) {
+    EtagereBucketed atlas = ETAGERE_NULL;
+    EtagereOptions options = ETAGERE_DEFAULT_OPTIONS;
+    uint8_t buffer[1024];
+    size_t lines = strlen(background), count = 7;
+
+    CHECK(etagere_bucketed_picture_lines(&atlas, buffer, 1024, &count) == ETAGERE_NULL_HANDLE && count == 7);
+    CHECK(etagere_bucketed_picture_part(&atlas, part_of(4), buffer, 1024, &count) == ETAGERE_NULL_HANDLE && count == 7);
+    CHECK(etagere_bucketed_new(&atlas, size2(8, 8), &options) == ETAGERE_OK);
+    CHECK(etagere_bucketed_picture_lines(&atlas, buffer, lines - 1, &count) == ETAGERE_LENGTH && count == lines);
+    CHECK(etagere_bucketed_picture_lines(&atlas, buffer, 1024, &count) == ETAGERE_OK && count == lines);
+    CHECK(begins(buffer, background));
+    CHECK(etagere_bucketed_picture_part(&atlas, part_of(4), buffer, lines, &count) == ETAGERE_LENGTH && count > lines);
+    CHECK(etagere_bucketed_picture_part(&atlas, part_of(4), buffer, 1024, &count) == ETAGERE_OK);
+    CHECK(begins(buffer, part_begin) && begins(buffer + strlen(part_begin), background));
+    CHECK(etagere_bucketed_picture_part(&atlas, part_of(0), buffer, 0, &count) == ETAGERE_OK && count == 0);
+    CHECK(etagere_bucketed_delete(&atlas) == ETAGERE_OK);
+}
+
+static void cache_picture_parts(void) {
+    EtagereCache cache = ETAGERE_NULL;
+    EtagereOptions options = ETAGERE_DEFAULT_OPTIONS;
+    uint8_t buffer[1024];
+    size_t lines = strlen(background) + strlen(free_item), count = 7;
+
+    CHECK(etagere_cache_picture_lines(&cache, buffer, 1024, &count) == ETAGERE_NULL_HANDLE && count == 7);
+    CHECK(etagere_cache_picture_part(&cache, part_of(4), buffer, 1024, &count) == ETAGERE_NULL_HANDLE && count == 7);
+    CHECK(etagere_cache_picture_length(&cache, &count) == ETAGERE_NULL_HANDLE && count == 7);
+    CHECK(etagere_cache_picture(&cache, buffer, 1024, &count) == ETAGERE_NULL_HANDLE && count == 7);
+    CHECK(etagere_cache_new(&cache, size2(8, 8), &options, 1) == ETAGERE_OK);
+    CHECK(etagere_cache_picture(&cache, buffer, lines, &count) == ETAGERE_LENGTH && count == 7);
+    CHECK(etagere_cache_picture_lines(&cache, buffer, lines - 1, &count) == ETAGERE_LENGTH && count == lines);
+    CHECK(etagere_cache_picture_lines(&cache, buffer, 1024, &count) == ETAGERE_OK && count == lines);
+    CHECK(begins(buffer, background) && begins(buffer + strlen(background), free_item));
+    CHECK(etagere_cache_picture_part(&cache, part_of(4), buffer, lines, &count) == ETAGERE_LENGTH && count > lines);
+    CHECK(etagere_cache_picture_part(&cache, part_of(4), buffer, 1024, &count) == ETAGERE_OK);
+    CHECK(begins(buffer, part_begin) && begins(buffer + strlen(part_begin), background));
+    CHECK(etagere_cache_picture_part(&cache, part_of(0), buffer, 0, &count) == ETAGERE_OK && count == 0);
+    CHECK(etagere_cache_delete(&cache) == ETAGERE_OK);
+}
+
+static void null_buckets(void) {
+    EtagereBucketed atlas = ETAGERE_NULL, copy = ETAGERE_NULL;
+    EtagereSize size = size2(3, 3);
+    EtagereAllocation none = nothing();
+    uint32_t number = 3;
+    int32_t space = 3;
+    size_t count = 7;
+    uint8_t buffer[8];
+
+    CHECK(etagere_bucketed_deallocate(&atlas, 0) == ETAGERE_NULL_HANDLE);
+    CHECK(etagere_bucketed_clear(&atlas) == ETAGERE_NULL_HANDLE);
+    CHECK(etagere_bucketed_size(&atlas, &size) == ETAGERE_NULL_HANDLE && size.width == 3);
+    CHECK(etagere_bucketed_is_empty(&atlas, &number) == ETAGERE_NULL_HANDLE && number == 3);
+    CHECK(etagere_bucketed_allocated_space(&atlas, &space) == ETAGERE_NULL_HANDLE && space == 3);
+    CHECK(etagere_bucketed_free_space(&atlas, &space) == ETAGERE_NULL_HANDLE && space == 3);
+    CHECK(etagere_bucketed_grow(&atlas, size2(9, 9)) == ETAGERE_NULL_HANDLE);
+    CHECK(etagere_bucketed_clone(&atlas, &copy) == ETAGERE_NULL_HANDLE && copy.state == NULL);
+    CHECK(etagere_bucketed_allocate_many(&atlas, &size, 1, &none, 1, &count) == ETAGERE_NULL_HANDLE && count == 7);
+    CHECK(etagere_bucketed_deallocate_many(&atlas, &number, 1, &count) == ETAGERE_NULL_HANDLE && count == 7);
+    CHECK(etagere_bucketed_picture_length(&atlas, &count) == ETAGERE_NULL_HANDLE && count == 7);
+    CHECK(etagere_bucketed_picture(&atlas, buffer, 8, &count) == ETAGERE_NULL_HANDLE && count == 7);
+    CHECK(is_nothing(none));
+}
+
+static void buckets_that_cannot_be_made(void) {
+    EtagereBucketed atlas = ETAGERE_NULL;
+    EtagereOptions options = ETAGERE_DEFAULT_OPTIONS;
+
+    CHECK(etagere_bucketed_new(&atlas, size2(65534, 65534), &options) == ETAGERE_OPTIONS_AREA);
+    options.alignment.height = 0;
+    CHECK(etagere_bucketed_new(&atlas, size2(10, 10), &options) == ETAGERE_OPTIONS_ALIGNMENT);
+    options.alignment.height = 1;
+    options.num_columns = 0;
+    CHECK(etagere_bucketed_new(&atlas, size2(10, 10), &options) == ETAGERE_OPTIONS_COLUMNS);
+    options.num_columns = 11;
+    CHECK(etagere_bucketed_new(&atlas, size2(10, 10), &options) == ETAGERE_OPTIONS_COLUMN_TOO_NARROW);
+    CHECK(atlas.state == NULL);
+}
+
+static void bucket_batches(void) {
+    EtagereBucketed atlas = ETAGERE_NULL;
+    EtagereOptions options = ETAGERE_DEFAULT_OPTIONS;
+    EtagereSize sizes[2];
+    EtagereAllocation given[2];
+    uint32_t ids[2];
+    size_t count = 7;
+
+    sizes[0] = size2(8, 8);
+    sizes[1] = size2(9, 8);
+    CHECK(etagere_bucketed_new(&atlas, size2(8, 8), &options) == ETAGERE_OK);
+    CHECK(etagere_bucketed_allocate_many(&atlas, sizes, 2, given, 1, &count) == ETAGERE_LENGTH && count == 7);
+    CHECK(etagere_bucketed_allocate_many(&atlas, sizes, 2, given, 2, &count) == ETAGERE_NO_ROOM && count == 1);
+    ids[0] = ids[1] = given[0].id;
+    CHECK(etagere_bucketed_deallocate_many(&atlas, ids, 2, &count) == ETAGERE_UNKNOWN_ID && count == 1);
+    CHECK(etagere_bucketed_delete(&atlas) == ETAGERE_OK);
+}
+
+static void null_cache(void) {
+    EtagereCache cache = ETAGERE_NULL;
+    EtagereRectangle rectangle = nothing().rectangle;
+    EtagereSize size = size2(3, 3);
+    uint32_t number = 3;
+    int32_t space = 3;
+    size_t count = 7;
+
+    CHECK(etagere_cache_get(&cache, 1, &rectangle) == ETAGERE_NULL_HANDLE);
+    CHECK(etagere_cache_remove(&cache, 1, &rectangle) == ETAGERE_NULL_HANDLE);
+    CHECK(etagere_cache_clear(&cache) == ETAGERE_NULL_HANDLE);
+    CHECK(etagere_cache_len(&cache, &count) == ETAGERE_NULL_HANDLE && count == 7);
+    CHECK(etagere_cache_is_empty(&cache, &number) == ETAGERE_NULL_HANDLE && number == 3);
+    CHECK(etagere_cache_capacity(&cache, &count) == ETAGERE_NULL_HANDLE && count == 7);
+    CHECK(etagere_cache_size(&cache, &size) == ETAGERE_NULL_HANDLE && size.width == 3);
+    CHECK(etagere_cache_allocated_space(&cache, &space) == ETAGERE_NULL_HANDLE && space == 3);
+    CHECK(etagere_cache_free_space(&cache, &space) == ETAGERE_NULL_HANDLE && space == 3);
+}
+
+static void cache_that_cannot_be_made(void) {
+    EtagereCache cache = ETAGERE_NULL;
+    EtagereOptions options = ETAGERE_DEFAULT_OPTIONS;
+
+    CHECK(etagere_cache_new(&cache, size2(65535, 65535), &options, 1) == ETAGERE_OPTIONS_AREA);
+    options.alignment.width = -1;
+    CHECK(etagere_cache_new(&cache, size2(10, 10), &options, 1) == ETAGERE_OPTIONS_ALIGNMENT);
+    options.alignment.width = 1;
+    options.num_columns = 0;
+    CHECK(etagere_cache_new(&cache, size2(10, 10), &options, 1) == ETAGERE_OPTIONS_COLUMNS);
+    options.num_columns = 11;
+    CHECK(etagere_cache_new(&cache, size2(10, 10), &options, 1) == ETAGERE_OPTIONS_COLUMN_TOO_NARROW);
+    CHECK(cache.state == NULL);
+}
+
 int main(void) {
     shelf_atlas();
     atlas_that_cannot_be_made();
@@ -309,9 +494,18 @@ int main(void) {
     copies();
     null_atlas();
     batches();
+    listing();
     pictures();
+    shelf_picture_parts();
     buckets();
-    cache();
+    bucketed_picture_parts();
+    null_buckets();
+    buckets_that_cannot_be_made();
+    bucket_batches();
+    glyph_cache();
+    cache_picture_parts();
+    null_cache();
+    cache_that_cannot_be_made();
     if (failures > 0) {
         return 1;
     }

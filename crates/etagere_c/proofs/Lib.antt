@@ -2,6 +2,9 @@ mod AtlasBox
 mod BatchSteps
 mod BucketedBox
 mod CacheBox
+mod Counting
 mod Evicted
 mod HandleSteps
+mod Restoring
+mod Saving
 mod Sending

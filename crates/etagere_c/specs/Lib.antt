@@ -3,4 +3,6 @@ pub mod Calls
 pub mod Crossing
 pub mod Evicted
 pub mod Held
+pub mod Listed
+pub mod Saving
 pub mod Statuses

@@ -1,11 +1,13 @@
 -- The numbers that calls answer.
 use Rattle.std.specs.Prelude.{ℕ, ◌+◌}
 use Rattle.etagere_base.specs.Faults.{options_fault_number}
+use Rattle.etagere_base.specs.RestoreFaults.{restore_fault_number}
 use Rattle.etagere_base.specs.declared.faults.OptionsFault.{OptionsFault}
+use Rattle.etagere_base.specs.declared.faults.RestoreFault.{RestoreFault}
 use Rattle.shelf_model.specs.Faults.{grow_fault_number}
 use Rattle.shelf_model.specs.declared.faults.AtlasGrowFault.{AtlasGrowFault}
-use Rattle.etagere_bucketed.specs.Faults as buckets
-use Rattle.etagere_bucketed.specs.declared.faults.GrowFault.{GrowFault}
+use Rattle.bucketed_model.specs.Faults as buckets
+use Rattle.bucketed_model.specs.declared.faults.GrowFault.{GrowFault}
 use Rattle.glyph_shelf.specs.Faults.{glyph_fault_number}
 use Rattle.glyph_shelf.specs.declared.faults.GlyphFault.{GlyphFault}
 
@@ -23,6 +25,9 @@ no_room = 3
 
 abbrev pub too_short : ℕ
 too_short = 4
+
+abbrev pub unreadable : ℕ
+unreadable = 5
 
 abbrev pub out_of_memory : ℕ
 out_of_memory = 6
@@ -44,6 +49,13 @@ grow_refused fault = 200 + grow_fault_number fault
 -- the fault of a growth of a bucketed atlas
 abbrev pub bucketed_grow_refused : GrowFault → ℕ
 bucketed_grow_refused fault = 300 + buckets.grow_fault_number fault
+
+-- the fault of a restoring
+abbrev pub restore_refused : RestoreFault → ℕ
+restore_refused fault = 400 + restore_fault_number fault
+
+abbrev pub restore_memory : ℕ
+restore_memory = 411
 
 -- the fault of placing a key
 abbrev pub cache_refused : GlyphFault → ℕ

@@ -1,20 +1,20 @@
 //! The calls of a bucketed atlas. Each takes what the handle holds, calls it, and puts it back.
 //!
-//! Definitions: `Calls`, `Crossing`, `Statuses`, and those of `etagere_bucketed`.
+//! Definitions: `Calls`, `Crossing`, `Statuses`, and those of `bucketed_model`.
 
 ghost use Rattle.std.specs.Prelude.{◌≡◌, ◌↔◌, ◌≢◌, ◌*◌, ◌-◌, [], ◌∷◌, None, Some, pos, true, false, Err, IsSome, IfErr, IfNone, IfOk, IfSome};
 ghost use Rattle.std.specs.List.{list_all};
 ghost use Rattle.etagere_base.specs.Frames.{options_fault};
 ghost use Rattle.etagere_base.specs.declared.faults.OptionsFault.TheVariants as faults;
-ghost use Rattle.etagere_bucketed.specs.declared.faults.GrowFault.TheVariants as grow_faults;
-ghost use Rattle.etagere_bucketed.specs.Atlas.{Allocates, Grows, KeepsPromises, NeedsBuckets, NeedsShelf};
-ghost use Rattle.etagere_bucketed.specs.Frames as frames;
-ghost use Rattle.etagere_bucketed.specs.Frames.{longest_bucketed_side};
-ghost use Rattle.etagere_bucketed.specs.Growing as growing;
-ghost use Rattle.etagere_bucketed.specs.Placing.{IsBucketRefused};
-ghost use Rattle.etagere_bucketed.specs.Returning.{bucket_returned, is_known};
-ghost use Rattle.etagere_bucketed.specs.Space as spaces;
-ghost use Rattle.etagere_bucketed.specs.State.{fresh, is_idle};
+ghost use Rattle.bucketed_model.specs.declared.faults.GrowFault.TheVariants as grow_faults;
+ghost use Rattle.bucketed_model.specs.Atlas.{Allocates, Grows, KeepsPromises, NeedsBuckets, NeedsShelf};
+ghost use Rattle.bucketed_model.specs.Frames as frames;
+ghost use Rattle.bucketed_model.specs.Frames.{longest_bucketed_side};
+ghost use Rattle.bucketed_model.specs.Growing as growing;
+ghost use Rattle.bucketed_model.specs.Placing.{IsBucketRefused};
+ghost use Rattle.bucketed_model.specs.Returning.{bucket_returned, is_known};
+ghost use Rattle.bucketed_model.specs.Space as spaces;
+ghost use Rattle.bucketed_model.specs.State.{fresh, is_idle};
 ghost use Rattle.etagere_c.specs.Calls.{IsAmong, IsFlag, Leads};
 ghost use Rattle.etagere_c.specs.Crossing.{allocation_in, options_in, size_in};
 ghost use Rattle.etagere_c.specs.Statuses as statuses;

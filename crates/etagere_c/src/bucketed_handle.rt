@@ -4,7 +4,7 @@
 
 ghost use Rattle.std.specs.Prelude.{◌≡◌, None, Some, IfNone, IfSome, option_map};
 ghost use Rattle.std.specs.declared.option.Option.{Option};
-ghost use Rattle.etagere_bucketed.specs.State.{BucketedState};
+ghost use Rattle.bucketed_model.specs.State.{BucketedState};
 ghost use Rattle.etagere_c.specs.Held.{bucketed_coded, bucketed_owns};
 
 use crate::parts::Parts;

@@ -32,3 +32,19 @@ pub(crate) fn write_text(text: &[u8], buffer: &mut [u8], text_length: &mut usize
     *text_length = text.len();
     OK
 }
+
+/// Says how long a text is, and writes it to the front of a buffer where that has room.
+pub(crate) fn hand_out(text: &[u8], buffer: &mut [u8], needed: &mut usize) -> u32
+    ensures status { IsAmong (statuses.ok ∷ statuses.too_short ∷ []) result }
+    ensures short { (result ≡ statuses.too_short) ↔ (length buffer.old < length text.now) }
+    ensures counted { needed.new ≡ length text.now }
+    ensures written { result ≡ statuses.ok → IsWritten text.now buffer.old buffer.new needed.new }
+    ensures unwritten { result ≢ statuses.ok → buffer.new ≡ buffer.old }
+{
+    *needed = text.len();
+    if *needed > buffer.len() {
+        return LENGTH;
+    }
+    buffer[..*needed].copy_from_slice(text);
+    OK
+}

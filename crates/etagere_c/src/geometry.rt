@@ -3,9 +3,12 @@
 //! Definitions: `Crossing`. The header has the same fields in the same order.
 
 ghost use Rattle.std.specs.Prelude.{◌≡◌};
+ghost use Rattle.etagere_base.specs.Options.{default_options};
 ghost use Rattle.etagere_c.specs.Crossing.{allocation_in, options_in, rectangle_in, size_in};
+ghost use Rattle.etagere_c.specs.Statuses as statuses;
 
-use etagere::{Allocation, AllocatorOptions, Point, Rectangle, Size};
+use crate::statuses::OK;
+use etagere::{Allocation, AllocatorOptions, DEFAULT_OPTIONS, Point, Rectangle, Size};
 
 /// A place in pixels.
 #[repr(C)]
@@ -80,6 +83,25 @@ impl EtagereRectangle {
             max: point_of(rectangle.max),
         }
     }
+
+    /// The same rectangle.
+    pub(crate) fn rectangle(self) -> Rectangle
+        ensures { result ≡ rectangle_in self }
+    {
+        Rectangle {
+            min: point_in(self.min),
+            max: point_in(self.max),
+        }
+    }
+}
+
+fn point_in(point: EtagerePoint) -> Point
+    ensures { result ≡ record { x = point.x; y = point.y } }
+{
+    Point {
+        x: point.x,
+        y: point.y,
+    }
 }
 
 fn point_of(point: Point) -> EtagerePoint
@@ -114,4 +136,27 @@ impl EtagereOptions {
             num_columns: self.num_columns,
         }
     }
+
+    /// The same options, to go out.
+    pub(crate) fn of(options: &AllocatorOptions) -> EtagereOptions
+        ensures { options_in result ≡ options.now }
+    {
+        EtagereOptions {
+            alignment: EtagereSize::of(options.alignment),
+            num_columns: options.num_columns,
+            vertical_shelves: u32::from(options.vertical_shelves),
+        }
+    }
+}
+
+/// Gives the options of ETAGERE_DEFAULT_OPTIONS: no alignment, one column, shelves that lie.
+///
+/// Answers ETAGERE_OK. Takes constant time.
+#[unsafe(no_mangle)]
+pub extern "C" fn etagere_default_options(options: &mut EtagereOptions) -> u32
+    ensures status { result ≡ statuses.ok }
+    ensures default { options_in options.new ≡ default_options }
+{
+    *options = EtagereOptions::of(&DEFAULT_OPTIONS);
+    OK
 }

@@ -14,8 +14,11 @@ mod buffers;
 mod cache;
 mod cache_handle;
 mod geometry;
+mod listing;
 mod parts;
+mod picture_parts;
 mod pictures;
+mod snapshots;
 mod statuses;
 
 pub use atlas::{
@@ -46,8 +49,18 @@ pub use cache::{
 pub use cache_handle::EtagereCache;
 pub use geometry::{
     EtagereAllocation, EtagereOptions, EtagerePoint, EtagereRectangle, EtagereSize,
+    etagere_default_options,
+};
+pub use listing::etagere_atlas_allocations;
+pub use picture_parts::{
+    etagere_atlas_picture_lines, etagere_atlas_picture_part, etagere_bucketed_picture_lines,
+    etagere_bucketed_picture_part, etagere_cache_picture_lines, etagere_cache_picture_part,
 };
 pub use pictures::{
     etagere_atlas_picture, etagere_atlas_picture_length, etagere_bucketed_picture,
     etagere_bucketed_picture_length, etagere_cache_picture, etagere_cache_picture_length,
+};
+pub use snapshots::{
+    etagere_atlas_restore, etagere_atlas_snapshot, etagere_bucketed_restore,
+    etagere_bucketed_snapshot,
 };

@@ -4,7 +4,7 @@
 
 ghost use Rattle.std.specs.Prelude.{◌≡◌, ◌↔◌, ◌≢◌, ◌<◌, [], ◌∷◌, None, Some, length, IfSome};
 ghost use Rattle.shelf_model.specs.Svg.{svg};
-ghost use Rattle.etagere_bucketed.specs.Svg as buckets;
+ghost use Rattle.bucketed_model.specs.Svg as buckets;
 ghost use Rattle.etagere_c.specs.Calls.{IsAmong, IsWritten};
 ghost use Rattle.etagere_c.specs.Statuses as statuses;
 

@@ -3,9 +3,9 @@
 //! Definitions: `Statuses`. The header has the same numbers.
 
 ghost use Rattle.std.specs.Prelude.{◌≡◌};
-ghost use Rattle.etagere_c.specs.Statuses.{bucketed_grow_refused, cache_refused, grow_refused, options_refused};
+ghost use Rattle.etagere_c.specs.Statuses.{bucketed_grow_refused, cache_refused, grow_refused, options_refused, restore_refused};
 
-use etagere::{AtlasGrowFault, GrowFault, OptionsFault};
+use etagere::{AtlasGrowFault, GrowFault, OptionsFault, RestoreFault};
 use glyph_shelf::GlyphFault;
 
 pub const OK: u32 = 0;
@@ -21,6 +21,9 @@ pub const NO_ROOM: u32 = 3;
 
 /// A buffer is too short, or a capacity is 0.
 pub const LENGTH: u32 = 4;
+
+/// The bytes aren't the text of a saved atlas of the kind, or memory ran out while they were read.
+pub const UNREADABLE: u32 = 5;
 
 /// There was no memory.
 pub const MEMORY: u32 = 6;
@@ -50,6 +53,13 @@ pub fn bucketed_grow_refused(fault: GrowFault) -> u32
     ensures { result ≡ bucketed_grow_refused fault }
 {
     300 + fault.number()
+}
+
+/// Why no atlas was restored.
+pub fn restore_refused(fault: RestoreFault) -> u32
+    ensures { result ≡ restore_refused fault }
+{
+    400 + fault.number()
 }
 
 /// Why a cache has no place for a key.

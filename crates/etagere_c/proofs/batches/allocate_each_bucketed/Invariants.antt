@@ -1,5 +1,5 @@
 use Rattle.std.proofs.Common.{◌≡◌, length, take, drop}
-use Rattle.etagere_bucketed.specs.Atlas.{Allocates}
+use Rattle.bucketed_model.specs.Atlas.{Allocates}
 use Rattle.etagere_c.specs.Batches.{GivesOver}
 use Rattle.etagere_c.specs.Crossing.{allocation_in, size_in}
 use Rattle.etagere_c.proofs.batches.allocate_each_bucketed.Given as goal

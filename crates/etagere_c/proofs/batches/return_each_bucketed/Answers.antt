@@ -1,6 +1,6 @@
 use Rattle.std.proofs.Common.{rules, arith, ◌≡◌, true}
 use Rattle.std.proofs.Math.Seq.{take-suc}
-use Rattle.etagere_bucketed.specs.Returning.{bucket_returned, is_known}
+use Rattle.bucketed_model.specs.Returning.{bucket_returned, is_known}
 use Rattle.etagere_c.proofs.BatchSteps.{steps_on}
 use Rattle.etagere_c.proofs.batches.return_each_bucketed.Goals as goal
 

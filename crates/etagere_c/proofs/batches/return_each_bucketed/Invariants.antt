@@ -1,5 +1,5 @@
 use Rattle.std.proofs.Common.{◌≡◌, take, true}
-use Rattle.etagere_bucketed.specs.Returning.{bucket_returned, is_known}
+use Rattle.bucketed_model.specs.Returning.{bucket_returned, is_known}
 use Rattle.etagere_c.specs.Batches.{StepsOver}
 use Rattle.etagere_c.proofs.batches.return_each_bucketed.Given as goal
 

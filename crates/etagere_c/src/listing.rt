@@ -1,0 +1,76 @@
+//! All that is allocated, in a buffer of the caller.
+//!
+//! Definitions: `Calls`, `Listed`, `Statuses`, and `Listing` of the shelf atlas.
+
+ghost use Rattle.std.specs.Prelude.{◌≡◌, ◌↔◌, ◌≢◌, ◌<◌, ◌≤◌, [], ◌∷◌, None, length, IfSome};
+ghost use Rattle.shelf_model.specs.Listing.{listed};
+ghost use Rattle.etagere_c.specs.Calls.{IsAmong};
+ghost use Rattle.etagere_c.specs.Listed.{AreWritten};
+ghost use Rattle.etagere_c.specs.Statuses as statuses;
+
+use crate::atlas_handle::EtagereAtlas;
+use crate::geometry::EtagereAllocation;
+use crate::statuses::{LENGTH, NULL_HANDLE, OK};
+use etagere::AtlasAllocator;
+use std::alloc::Global;
+
+/// Writes all that is allocated to the front of a buffer that has room for it.
+fn write_each(atlas: &AtlasAllocator, allocations: &mut [EtagereAllocation])
+    requires { length (listed atlas.now) ≤ length allocations.old }
+    ensures { AreWritten (listed atlas.now) allocations.old allocations.new }
+{
+    let mut written: usize = 0;
+    for allocation in atlas {
+        allocations[written] = EtagereAllocation::of(allocation);
+        written += 1;
+    }
+}
+
+/// How many there are, and all of them where the buffer has room.
+fn write_all(
+    atlas: &AtlasAllocator,
+    allocations: &mut [EtagereAllocation],
+    count: &mut usize,
+) -> u32
+    ensures status { IsAmong (statuses.ok ∷ statuses.too_short ∷ []) result }
+    ensures counted { count.new ≡ length (listed atlas.now) }
+    ensures short { (result ≡ statuses.too_short) ↔ (length allocations.old < length (listed atlas.now)) }
+    ensures written { result ≡ statuses.ok → AreWritten (listed atlas.now) allocations.old allocations.new }
+    ensures unwritten { result ≢ statuses.ok → allocations.new ≡ allocations.old }
+{
+    *count = atlas.iter().count();
+    if allocations.len() < *count {
+        return LENGTH;
+    }
+    write_each(atlas, allocations);
+    OK
+}
+
+/// Gives all that is allocated, by rising index: writes it to the front of the buffer, and how many there are to
+/// *count. What is behind stays, and the atlas does.
+///
+/// Answers ETAGERE_OK; ETAGERE_NULL_HANDLE; ETAGERE_LENGTH where the buffer is shorter than there are allocations: then
+/// *count is written too, and nothing else. Takes no memory, and goes through all records twice.
+#[unsafe(no_mangle)]
+pub extern "C" fn etagere_atlas_allocations(
+    alloc: Global,
+    atlas: &mut EtagereAtlas,
+    allocations: &mut [EtagereAllocation],
+    count: &mut usize,
+) -> u32
+    ensures null { (result ≡ statuses.null_handle) ↔ (atlas.old.state ≡ None) }
+    ensures status { IsAmong (statuses.ok ∷ statuses.null_handle ∷ statuses.too_short ∷ []) result }
+    ensures counted { IfSome atlas.old.state (λ held. count.new ≡ length (listed held)) }
+    ensures short { IfSome atlas.old.state (λ held. (result ≡ statuses.too_short) ↔ (length allocations.old < length (listed held))) }
+    ensures written { result ≡ statuses.ok → IfSome atlas.old.state (λ held. AreWritten (listed held) allocations.old allocations.new) }
+    ensures unwritten { result ≢ statuses.ok → allocations.new ≡ allocations.old }
+    ensures uncounted { result ≡ statuses.null_handle → count.new ≡ count.old }
+    ensures stays { atlas.new.state ≡ atlas.old.state }
+{
+    let Some(held) = atlas.take(alloc) else {
+        return NULL_HANDLE;
+    };
+    let status = write_all(&held, allocations, count);
+    atlas.put(held);
+    status
+}
