@@ -1,7 +1,7 @@
 //! Atlases of both kinds, called by the words of rows.
 
 use crate::subject::Subject;
-use crate::words::{corners, done, id_of, place_of, placed, text, told};
+use crate::words::{corners, done, id_of, placed, rectangle_text, text, told};
 use anyhow::{Result, bail};
 use etagere::{
     AllocId, Allocation, AllocatorOptions, AtlasAllocator, AtlasSnapshot, BucketedAtlasAllocator,
@@ -153,9 +153,9 @@ fn count(atlas: &impl Atlas, alloc: Global, call: &str) -> Result<String> {
 fn all_of(alloc: Global, atlas: &AtlasAllocator) -> Result<String> {
     let mut all = text(alloc, "all")?;
     for allocation in atlas {
-        let place = corners(alloc, allocation.rectangle)?;
+        let rectangle = corners(alloc, allocation.rectangle)?;
         let id = allocation.id.serialize();
-        write!(all, " {place} id {id}")?;
+        write!(all, " {rectangle} id {id}")?;
     }
     Ok(all)
 }
@@ -200,7 +200,7 @@ impl Subject for AtlasAllocator {
 
     fn answer(&mut self, alloc: Global, call: &str, words: &str) -> Result<String> {
         match call {
-            "get" => place_of(alloc, self.get(id_of(words)?)),
+            "get" => rectangle_text(alloc, self.get(id_of(words)?)),
             "index" => match self.get_index(id_of(words)?) {
                 Some(index) => Ok(format!(in alloc; "{index}")?),
                 None => text(alloc, "none"),

@@ -1,7 +1,7 @@
 //! A cache of glyphs, called by the words of rows.
 
 use crate::subject::Subject;
-use crate::words::{corners, done, place_of, text, told};
+use crate::words::{corners, done, rectangle_text, text, told};
 use anyhow::{Context, Result, bail};
 use etagere::{AllocatorOptions, DEFAULT_OPTIONS, size2};
 use glyph_shelf::{GlyphCache, Placed};
@@ -12,8 +12,8 @@ use std::num::NonZeroUsize;
 
 /// Where a key lies, and the keys that were evicted for it.
 fn placed(alloc: Global, placed: &Placed) -> Result<String> {
-    let place = corners(alloc, placed.rectangle)?;
-    let mut answer = format!(in alloc; "placed {place} evicts")?;
+    let rectangle = corners(alloc, placed.rectangle)?;
+    let mut answer = format!(in alloc; "placed {rectangle} evicts")?;
     for key in &placed.evicted {
         write!(answer, " {key}")?;
     }
@@ -77,8 +77,8 @@ impl Subject for GlyphCache {
     fn answer(&mut self, alloc: Global, call: &str, words: &str) -> Result<String> {
         match call {
             "place" => place(self, alloc, words),
-            "get" => place_of(alloc, self.get(words.parse()?)),
-            "remove" => place_of(alloc, self.remove(words.parse()?)),
+            "get" => rectangle_text(alloc, self.get(words.parse()?)),
+            "remove" => rectangle_text(alloc, self.remove(words.parse()?)),
             "clear" => {
                 self.clear();
                 text(alloc, "cleared")

@@ -75,11 +75,11 @@ fn answer_of<S: Subject>(alloc: Global, subject: &mut Option<S>, call: &str) -> 
 }
 
 impl<S: Subject + Drop> Stage<S> {
-    /// What a call answers, in which a place may stand for an id.
+    /// What a call answers, in which a position may stand for an id.
     fn answer(&mut self, call: &str) -> Result<String> {
         match call.split_once('#') {
             None => self.answer_plain(call),
-            Some((before, places)) => self.answer_each(before, places),
+            Some((before, positions)) => self.answer_each(before, positions),
         }
     }
 
@@ -179,27 +179,27 @@ impl<S: Subject + Drop> Stage<S> {
         Ok(found)
     }
 
-    /// What a call answers for a place, or for each from one place up to another.
-    fn answer_each(&mut self, before: &str, places: &str) -> Result<String> {
-        let Some((from, to)) = places.split_once("..") else {
-            return self.answer_at(before, self.number_of(places)?);
+    /// What a call answers for a position, or for each from one position up to another.
+    fn answer_each(&mut self, before: &str, positions: &str) -> Result<String> {
+        let Some((from, to)) = positions.split_once("..") else {
+            return self.answer_at(before, self.number_of(positions)?);
         };
         let (from, to) = (self.number_of(from)?, self.number_of(to)?);
         let answer = self.answer_at(before, from)?;
         for number in from.saturating_add(1)..=to {
             let next = self.answer_at(before, number)?;
-            ensure!(next == answer, "{next} for another place");
+            ensure!(next == answer, "{next} for another position");
         }
         Ok(answer)
     }
 
-    /// The number, from 0, of a place among the ids that were given, which is counted from 1, or back from -1.
-    fn number_of(&self, place: &str) -> Result<usize> {
-        let number = match place.strip_prefix('-') {
+    /// The number, from 0, of a position among the ids that were given, which is counted from 1, or back from -1.
+    fn number_of(&self, position: &str) -> Result<usize> {
+        let number = match position.strip_prefix('-') {
             Some(back) => self.given.len().checked_sub(back.parse()?),
-            None => place.parse::<usize>()?.checked_sub(1),
+            None => position.parse::<usize>()?.checked_sub(1),
         };
-        number.context("no such place")
+        number.context("no such position")
     }
 
     /// What a call answers for the id of this number.

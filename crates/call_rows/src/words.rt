@@ -13,8 +13,8 @@ pub fn text(alloc: Global, words: &str) -> Result<String> {
 }
 
 /// The corner of a rectangle, and the one past its last.
-pub fn corners(alloc: Global, place: Rectangle) -> Result<String, AllocError> {
-    let Rectangle { min, max } = place;
+pub fn corners(alloc: Global, rectangle: Rectangle) -> Result<String, AllocError> {
+    let Rectangle { min, max } = rectangle;
     format!(in alloc; "({},{})-({},{})", min.x, min.y, max.x, max.y)
 }
 
@@ -23,14 +23,14 @@ pub fn placed(alloc: Global, given: Option<Allocation>) -> Result<String> {
     let Some(Allocation { id, rectangle }) = given else {
         return text(alloc, "refused");
     };
-    let place = corners(alloc, rectangle)?;
-    Ok(format!(in alloc; "placed {place} id {}", id.serialize())?)
+    let rectangle = corners(alloc, rectangle)?;
+    Ok(format!(in alloc; "placed {rectangle} id {}", id.serialize())?)
 }
 
 /// What a look answers that may find nothing.
-pub fn place_of(alloc: Global, place: Option<Rectangle>) -> Result<String> {
-    match place {
-        Some(place) => Ok(corners(alloc, place)?),
+pub fn rectangle_text(alloc: Global, rectangle: Option<Rectangle>) -> Result<String> {
+    match rectangle {
+        Some(rectangle) => Ok(corners(alloc, rectangle)?),
         None => text(alloc, "none"),
     }
 }

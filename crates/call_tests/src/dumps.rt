@@ -1,7 +1,7 @@
 //! The SVG text of an atlas, whole and in a rectangle of a document, byte by byte; and over writers that
 //! take few bytes at once, and fail.
 
-use crate::judging::{equal, equal_at, holds};
+use crate::assertions::{equal, equal_at, holds};
 use etagere::{
     AllocatorOptions, AtlasAllocator, BucketedAtlasAllocator, DEFAULT_OPTIONS, Rectangle, point2,
 };
@@ -37,17 +37,17 @@ const BUCKETS: [Drawn<'static>; 3] = [
 ];
 
 fn line_of(alloc: Global, [x, y, width, height]: [i32; 4], colour: &str) -> Result<String, Fail> {
-    let place = format!(in alloc; "x=\"{x}\" y=\"{y}\" width=\"{width}\" height=\"{height}\"")?;
+    let rectangle = format!(in alloc; "x=\"{x}\" y=\"{y}\" width=\"{width}\" height=\"{height}\"")?;
     let stroke = "stroke=\"rgb(0,0,0)\" stroke-width=\"1\"";
-    let line = format!(in alloc; "    <rect {place} fill=\"rgb({colour})\" {stroke}/>\n")?;
+    let line = format!(in alloc; "    <rect {rectangle} fill=\"rgb({colour})\" {stroke}/>\n")?;
     Ok(line)
 }
 
 /// The lines of a picture.
 fn lines_of(alloc: Global, rectangles: &[Drawn<'_>]) -> Result<String, Fail> {
     let mut lines = String::new(alloc);
-    for (place, colour) in rectangles {
-        lines.push_str(line_of(alloc, *place, colour)?.as_str())?;
+    for (rectangle, colour) in rectangles {
+        lines.push_str(line_of(alloc, *rectangle, colour)?.as_str())?;
     }
     Ok(lines)
 }
@@ -56,7 +56,7 @@ fn lines_of(alloc: Global, rectangles: &[Drawn<'_>]) -> Result<String, Fail> {
 trait Pictured {
     fn dump(&self, writer: &mut FakeWriter) -> io::Result<()>;
 
-    fn dump_into(&self, place: Option<Rectangle>, writer: &mut FakeWriter) -> io::Result<()>;
+    fn dump_into(&self, rectangle: Option<Rectangle>, writer: &mut FakeWriter) -> io::Result<()>;
 }
 
 impl Pictured for AtlasAllocator {
@@ -64,8 +64,8 @@ impl Pictured for AtlasAllocator {
         self.dump_svg(writer)
     }
 
-    fn dump_into(&self, place: Option<Rectangle>, writer: &mut FakeWriter) -> io::Result<()> {
-        self.dump_into_svg(place.as_ref(), writer)
+    fn dump_into(&self, rectangle: Option<Rectangle>, writer: &mut FakeWriter) -> io::Result<()> {
+        self.dump_into_svg(rectangle.as_ref(), writer)
     }
 }
 
@@ -74,8 +74,8 @@ impl Pictured for BucketedAtlasAllocator {
         self.dump_svg(writer)
     }
 
-    fn dump_into(&self, place: Option<Rectangle>, writer: &mut FakeWriter) -> io::Result<()> {
-        self.dump_into_svg(place.as_ref(), writer)
+    fn dump_into(&self, rectangle: Option<Rectangle>, writer: &mut FakeWriter) -> io::Result<()> {
+        self.dump_into_svg(rectangle.as_ref(), writer)
     }
 }
 
@@ -103,10 +103,10 @@ fn whole_text(alloc: Global, atlas: &impl Pictured, at_once: usize) -> Result<Fa
 fn part_of(
     alloc: Global,
     atlas: &impl Pictured,
-    place: Option<Rectangle>,
+    rectangle: Option<Rectangle>,
 ) -> Result<FakeWriter, Fail> {
     let mut writer = FakeWriter::new(alloc, usize::MAX, usize::MAX, End::Failure);
-    atlas.dump_into(place, &mut writer)?;
+    atlas.dump_into(rectangle, &mut writer)?;
     Ok(writer)
 }
 
@@ -145,10 +145,10 @@ fn begins(rt: &impl Abort, writer: &FakeWriter, text: &str) {
 fn writes_nothing(
     rt: &(impl AllocGlobal + Abort),
     atlas: &impl Pictured,
-    place: Rectangle,
+    rectangle: Rectangle,
 ) -> Result<(), Fail> {
     let mut writer = FakeWriter::new(rt.alloc(), 0, 1, End::Failure);
-    atlas.dump_into(Some(place), &mut writer)?;
+    atlas.dump_into(Some(rectangle), &mut writer)?;
     holds(rt, writer.written().is_empty());
     Ok(())
 }

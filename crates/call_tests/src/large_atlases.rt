@@ -1,7 +1,7 @@
 //! Large atlases with ample memory: no call answers that it is out of memory, and each answer is the one
 //! of the rules.
 
-use crate::judging::{equal, holds, is_at, is_refused};
+use crate::assertions::{equal, holds, is_at, is_refused};
 use etagere::{Allocation, AtlasAllocator, Size};
 use std::process::Abort;
 use std::test::Fail;
@@ -17,8 +17,8 @@ fn filled(
 ) -> Result<(AtlasAllocator, Vec<Allocation>), Fail> {
     let mut atlas = AtlasAllocator::with_options(rt.alloc(), grid.size(), &grid.options())?;
     let mut given = Vec::new(rt.alloc());
-    for place in grid.places(rt.alloc())? {
-        given.push(is_at(rt, &mut atlas, SIDES, place)?)?;
+    for square in grid.squares(rt.alloc())? {
+        given.push(is_at(rt, &mut atlas, SIDES, square)?)?;
     }
     is_refused(rt, &mut atlas, SIDES)?;
     equal(rt, &atlas.free_space(), &0);

@@ -1,17 +1,22 @@
 //! Tests of calls that no row of `call_rows` can say: pictures over writers that fail, large atlases, the plain types
-//! and their JSON text, the end of an iterator, walks along links, and how many of these are read.
+//! and their JSON text, the end of an iterator, walks along links, and how many of these are read; a long text through
+//! a cache of glyphs; the caller `two_pictures`.
 #![tactic(auto)]
 
 #[cfg(test)]
+mod assertions;
+#[cfg(test)]
 mod dumps;
 #[cfg(test)]
-mod json;
+mod glyphs;
 #[cfg(test)]
-mod judging;
+mod json;
 #[cfg(test)]
 mod large_atlases;
 #[cfg(test)]
 mod listing;
+#[cfg(test)]
+mod pairs;
 #[cfg(test)]
 mod plain_types;
 #[cfg(test)]

@@ -1,6 +1,6 @@
 //! What no row of calls says of the iterator over allocations.
 
-use crate::judging::equal;
+use crate::assertions::equal;
 use std::test::Fail;
 use test_support::calls::{new_atlas, placed};
 

@@ -1,10 +1,10 @@
 //! How many links are read until a snapshot is restored or refused.
 
-use crate::judging::holds;
+use crate::assertions::holds;
 use etagere::laws::restore_atlas;
 use etagere::{AllocatorOptions, AtlasAllocator, DEFAULT_OPTIONS, RestoreFault, size2};
 use std::test::Fail;
-use test_support::calls::{atlas_with, place_all, return_one};
+use test_support::calls::{ask_all, atlas_with, return_one};
 
 #[test]
 fn a_chain_that_many_shelves_share_is_followed_once(rt: HostRuntime) -> Result<(), Fail> {
@@ -38,7 +38,7 @@ fn a_chain_that_many_shelves_share_is_followed_once(rt: HostRuntime) -> Result<(
     Ok(())
 }
 
-/// An atlas with two columns of vertical shelves, where records were put aside.
+/// An atlas with two columns of vertical shelves, where records are unused.
 fn used_atlas(rt: &impl AllocGlobal) -> Result<AtlasAllocator, Fail> {
     let options = AllocatorOptions {
         alignment: size2(2, 4),
@@ -55,7 +55,7 @@ fn used_atlas(rt: &impl AllocGlobal) -> Result<AtlasAllocator, Fail> {
         (9, 9),
         (40, 40),
     ];
-    let ids = place_all(rt.alloc(), &mut atlas, &sizes)?;
+    let ids = ask_all(rt.alloc(), &mut atlas, &sizes)?;
     for number in [1, 4, 6] {
         return_one(&mut atlas, ids.as_slice(), number)?;
     }

@@ -1,7 +1,7 @@
 //! Large runs and scripts with ample memory: no call answers that it is out of memory, and each answer is
 //! the one of the rules.
 
-use crate::judging::{equal, holds};
+use crate::assertions::{equal, holds};
 use etagere::{AllocatorOptions, DEFAULT_OPTIONS, Size, size2};
 use etagere_run::{AtlasCommand, BucketedCommand, Outcome, Reply, replay, run_atlas, run_bucketed};
 use std::alloc::{AllocError, Global};
@@ -31,12 +31,12 @@ enum Shape {
 fn shape_of(reply: Reply) -> Shape {
     match reply {
         Reply::Placed(allocation) => {
-            let place = allocation.rectangle;
-            Shape::Placed([place.min.x, place.min.y, place.max.x, place.max.y])
+            let square = allocation.rectangle;
+            Shape::Placed([square.min.x, square.min.y, square.max.x, square.max.y])
         }
         Reply::Refused => Shape::Refused,
         Reply::Returned => Shape::Returned,
-        Reply::At(place, _) => Shape::At([place.min.x, place.min.y, place.max.x, place.max.y]),
+        Reply::At(square, _) => Shape::At([square.min.x, square.min.y, square.max.x, square.max.y]),
         Reply::NotLive => Shape::NotLive,
         Reply::Cleared => Shape::Cleared,
         Reply::Grown => Shape::Grown,
@@ -76,27 +76,27 @@ fn replayed(rt: &impl AllocGlobal, script: &[u8]) -> Result<(Outcome, String), F
 type Table = Vec<(AtlasCommand, Shape)>;
 
 /// The commands that fill a grid, and have every 32nd square come again.
-fn filling(alloc: Global, places: &[[i32; 4]]) -> Result<Table, AllocError> {
+fn filling(alloc: Global, squares: &[[i32; 4]]) -> Result<Table, AllocError> {
     let mut table = Vec::new(alloc);
-    for place in places {
-        table.push((AtlasCommand::Allocate(SQUARE), Shape::Placed(*place)))?;
+    for square in squares {
+        table.push((AtlasCommand::Allocate(SQUARE), Shape::Placed(*square)))?;
     }
     table.push((AtlasCommand::Allocate(SQUARE), Shape::Refused))?;
-    add_returns(&mut table, places)?;
+    add_returns(&mut table, squares)?;
     Ok(table)
 }
 
-fn add_returns(table: &mut Table, places: &[[i32; 4]]) -> Result<(), AllocError> {
-    for number in (0..places.len()).rev() {
+fn add_returns(table: &mut Table, squares: &[[i32; 4]]) -> Result<(), AllocError> {
+    for number in (0..squares.len()).rev() {
         if comes_again(number) {
             table.push((AtlasCommand::Return(number), Shape::Returned))?;
         }
     }
-    for number in 0..places.len() {
+    for number in 0..squares.len() {
         if comes_again(number) {
             table.push((
                 AtlasCommand::Allocate(SQUARE),
-                Shape::Placed(places[number]),
+                Shape::Placed(squares[number]),
             ))?;
         }
     }
@@ -105,10 +105,10 @@ fn add_returns(table: &mut Table, places: &[[i32; 4]]) -> Result<(), AllocError>
 
 /// Looks at positions 1 to 3, more than a hundred thousand times in all. Live are those that have a
 /// place here.
-fn add_looks(table: &mut Table, places: &[[i32; 4]]) -> Result<(), AllocError> {
+fn add_looks(table: &mut Table, squares: &[[i32; 4]]) -> Result<(), AllocError> {
     for number in (1..4).cycle().take(120_000) {
-        let place = places.get(number);
-        let shape = place.map_or(Shape::NotLive, |place| Shape::At(*place));
+        let square = squares.get(number);
+        let shape = square.map_or(Shape::NotLive, |square| Shape::At(*square));
         table.push((AtlasCommand::Look(number), shape))?;
     }
     Ok(())
@@ -117,9 +117,9 @@ fn add_looks(table: &mut Table, places: &[[i32; 4]]) -> Result<(), AllocError> {
 #[test]
 fn many_commands_are_run(rt: HostRuntime) -> Result<(), Fail> {
     let grid = MANY_SHELVES;
-    let places = grid.places(rt.alloc())?;
-    let mut table = filling(rt.alloc(), places.as_slice())?;
-    add_looks(&mut table, places.as_slice())?;
+    let squares = grid.squares(rt.alloc())?;
+    let mut table = filling(rt.alloc(), squares.as_slice())?;
+    add_looks(&mut table, squares.as_slice())?;
     table.push((AtlasCommand::Clear, Shape::Cleared))?;
     table.push((AtlasCommand::Look(1), Shape::NotLive))?;
     replies(&rt, grid.size(), &grid.options(), table.as_slice())
@@ -208,8 +208,8 @@ fn are_all_cleared(replies: &[Reply]) -> bool {
 #[test]
 fn a_text_of_more_than_a_megabyte_is_written(rt: HostRuntime) -> Result<(), Fail> {
     let grid = VERTICAL_COLUMNS;
-    let places = grid.places(rt.alloc())?;
-    let mut table = filling(rt.alloc(), places.as_slice())?;
+    let squares = grid.squares(rt.alloc())?;
+    let mut table = filling(rt.alloc(), squares.as_slice())?;
     table.push((AtlasCommand::Clear, Shape::Cleared))?;
     add_looks(&mut table, &[])?;
     let script = script_of(rt.alloc(), grid, table.as_slice())?;

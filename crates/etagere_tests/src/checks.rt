@@ -1,6 +1,6 @@
 //! Checks of snapshots in JSON over readers and writers that move few bytes at once, and fail.
 
-use crate::judging::{equal, equal_at, holds, holds_at};
+use crate::assertions::{equal, equal_at, holds, holds_at};
 use etagere_run::{Checked, ReplayFault, check};
 use std::test::Fail;
 use test_support::fake_streams::{End, FakeReader, FakeWriter};

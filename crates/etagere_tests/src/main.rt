@@ -9,14 +9,14 @@
 #[cfg(test)]
 mod ample_memory;
 #[cfg(test)]
+mod assertions;
+#[cfg(test)]
 mod checks;
 #[cfg(test)]
 mod drawings;
 mod examples;
 #[cfg(test)]
 mod faults;
-#[cfg(test)]
-mod judging;
 #[cfg(test)]
 mod streaming;
 #[cfg(test)]

@@ -2,7 +2,7 @@
 //! goes out in one write, where the writer takes it whole, so a writer that fails at its k-th write has k-1 lines.
 //! The lines are those of the README's example.
 
-use crate::judging::{equal, equal_at};
+use crate::assertions::{equal, equal_at};
 use etagere::{DEFAULT_OPTIONS, size2};
 use etagere_run::{AtlasCommand, BucketedCommand, StreamFault, stream_atlas, stream_bucketed};
 use std::io::Write;

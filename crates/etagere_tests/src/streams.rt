@@ -2,7 +2,7 @@
 //! that failed isn't retried, also where it would work the second time: what a stream answers is
 //! what a replay answers.
 
-use crate::judging::{equal, equal_at, holds, holds_at};
+use crate::assertions::{equal, equal_at, holds, holds_at};
 use etagere_base::send;
 use etagere_run::{Outcome, ReplayFault, replay};
 use std::io::ErrorKind;

@@ -115,7 +115,7 @@ pub fn placed(atlas: &mut impl Atlas, (width, height): (i32, i32)) -> Result<All
 }
 
 /// The corners of what a size is given, if it has a place.
-pub fn place_of(
+pub fn corners_given(
     atlas: &mut impl Atlas,
     (width, height): (i32, i32),
 ) -> Result<Option<[i32; 4]>, Fail> {
@@ -124,7 +124,7 @@ pub fn place_of(
 }
 
 /// The ids of what sizes are given, which all have a place.
-pub fn place_all(
+pub fn ask_all(
     alloc: Global,
     atlas: &mut impl Atlas,
     sizes: &[(i32, i32)],

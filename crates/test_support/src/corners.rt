@@ -3,8 +3,13 @@
 use etagere::{Rectangle, Size, size2};
 
 /// The first corner of a rectangle, and the one past its last.
-pub fn corners(place: Rectangle) -> [i32; 4] {
-    [place.min.x, place.min.y, place.max.x, place.max.y]
+pub fn corners(rectangle: Rectangle) -> [i32; 4] {
+    [
+        rectangle.min.x,
+        rectangle.min.y,
+        rectangle.max.x,
+        rectangle.max.y,
+    ]
 }
 
 /// A size by its sides along the shelves and across.

@@ -213,9 +213,9 @@ impl Write for FewWrites {
 /// The first lines of a text, so many of them, or all where it has fewer.
 pub fn first_lines(text: &[u8], count: usize) -> &[u8] {
     let mut left = count;
-    for (place, byte) in text.iter().enumerate() {
+    for (index, byte) in text.iter().enumerate() {
         if left == 0 {
-            return &text[..place];
+            return &text[..index];
         }
         if *byte == b'\n' {
             left -= 1;

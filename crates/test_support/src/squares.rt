@@ -58,16 +58,16 @@ impl Grid {
     /// The corners of all squares in the order in which the rules place them. A shelf that was begun
     /// is the shortest one with room; then comes the rest of its column, which is shorter than a
     /// column that was not begun.
-    pub fn places(self, alloc: Global) -> Result<Vec<[i32; 4]>, AllocError> {
-        let mut places = Vec::new(alloc);
+    pub fn squares(self, alloc: Global) -> Result<Vec<[i32; 4]>, AllocError> {
+        let mut squares = Vec::new(alloc);
         for column in 0..self.columns {
             for shelf in 0..self.shelves {
                 for number in 0..self.squares {
-                    places.push(self.square(column, shelf, number))?;
+                    squares.push(self.square(column, shelf, number))?;
                 }
             }
         }
-        Ok(places)
+        Ok(squares)
     }
 }
 

@@ -16,8 +16,8 @@ pub fn say_reply(rt: &impl Print, reply: &Reply) -> Result<(), ReplayFault> {
             let (id, [x0, y0, x1, y1]) = (given.id.serialize(), corners(given.rectangle));
             println!(rt; "placed {id} {x0} {y0} {x1} {y1}").map_err(|_| ReplayFault::Write)
         }
-        Reply::At(place, index) => {
-            let [x0, y0, x1, y1] = corners(*place);
+        Reply::At(rectangle, index) => {
+            let [x0, y0, x1, y1] = corners(*rectangle);
             println!(rt; "at {x0} {y0} {x1} {y1} {index}").map_err(|_| ReplayFault::Write)
         }
         Reply::GrowRefused(number) => {
@@ -32,6 +32,11 @@ pub fn say_reply(rt: &impl Print, reply: &Reply) -> Result<(), ReplayFault> {
     }
 }
 
-pub fn corners(place: Rectangle) -> [i32; 4] {
-    [place.min.x, place.min.y, place.max.x, place.max.y]
+pub fn corners(rectangle: Rectangle) -> [i32; 4] {
+    [
+        rectangle.min.x,
+        rectangle.min.y,
+        rectangle.max.x,
+        rectangle.max.y,
+    ]
 }

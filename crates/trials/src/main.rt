@@ -2,14 +2,14 @@
 //! writes a line for each answer, as a replay writes it, and pictures of the atlas between them. A trial whose
 //! preparations are refused memory writes nothing, and ends as a replay does.
 //!
-//! `tests/refused_growths/run` refuses each growth of memory of each trial. A new call gets a trial here and its name
+//! `tests/refused_memory/run` refuses each growth of memory of each trial. A new call gets a trial here and its name
 //! there.
 #![tactic(auto)]
 
 mod checks;
 mod copies;
 mod glyphs;
-mod growths;
+mod growing;
 mod lines;
 mod quiet;
 mod runs;
@@ -87,7 +87,7 @@ fn shelf_trial(rt: &(impl Print + AllocGlobal), call: &str) -> Result<bool, Repl
         "run" => runs::run_shelves(rt)?,
         "stream" => runs::stream_shelves(rt)?,
         "check" => checks::check_shelves(rt)?,
-        "grow" => growths::grow_shelves(rt)?,
+        "grow" => growing::grow_shelves(rt)?,
         "quiet" => quiet::quiet_shelves(rt)?,
         "split" => splits::split_items(rt)?,
         _ => return Ok(false),
@@ -104,7 +104,7 @@ fn bucket_trial(rt: &(impl Print + AllocGlobal), call: &str) -> Result<bool, Rep
         "run_in_columns" => runs::run_in_columns(rt)?,
         "stream" => runs::stream_buckets(rt)?,
         "check" => checks::check_buckets(rt)?,
-        "grow" => growths::grow_buckets(rt)?,
+        "grow" => growing::grow_buckets(rt)?,
         "quiet" => quiet::quiet_buckets(rt)?,
         _ => return Ok(false),
     }

@@ -1,7 +1,7 @@
 //! Trials of calls that take no memory, on an atlas that was used, on its clone, and on what its snapshot restores.
 //! These three are made first, so that a trial asks for no growth once it has written a line.
 
-use crate::growths::Grows;
+use crate::growing::Grows;
 use crate::lines::say_reply;
 use crate::tried::{Tried, Used};
 use etagere::{AllocId, AtlasAllocator, BucketedAtlasAllocator, Rectangle, Size, point2, size2};
@@ -39,7 +39,7 @@ fn try_shelves(
     try_all(rt, &mut atlas, kept, &sizes)?;
     let larger = size2(1200, 1100);
     say_reply(rt, &atlas.grow_to(larger))?;
-    say_reply(rt, &atlas.place(larger))?;
+    say_reply(rt, &atlas.ask(larger))?;
     for size in [larger, size2(1199, 1100)] {
         say_reply(rt, &atlas.grow_to(size))?;
     }
@@ -74,10 +74,10 @@ fn try_all<A: Tried>(
     say_counts(rt, atlas)?;
     draw_all(rt, atlas)?;
     for refused in [size2(0, 1), size2(65536, 1), size2(2000, 1)] {
-        say_reply(rt, &atlas.place(refused))?;
+        say_reply(rt, &atlas.ask(refused))?;
     }
     for size in sizes {
-        say_reply(rt, &atlas.place(*size))?;
+        say_reply(rt, &atlas.ask(*size))?;
     }
     for id in [kept, AllocId::deserialize(0)] {
         say_reply(rt, &atlas.give_back(id))?;
@@ -110,7 +110,7 @@ fn draw_all<A: Tried>(rt: &impl Print, atlas: &A) -> Result<(), ReplayFault> {
 fn look_at(rt: &impl Print, atlas: &AtlasAllocator, kept: AllocId) -> Result<(), ReplayFault> {
     for id in [kept, AllocId::deserialize(0)] {
         let reply = match (atlas.get(id), atlas.get_index(id)) {
-            (Some(place), Some(index)) => Reply::At(place, index),
+            (Some(ask), Some(index)) => Reply::At(ask, index),
             _ => Reply::NotLive,
         };
         say_reply(rt, &reply)?;

@@ -1,4 +1,4 @@
-//! Trials of runs and streams. Beside `tests/refused_growths/run` stands a script of the commands of each.
+//! Trials of runs and streams. Beside `tests/refused_memory/run` stands a script of the commands of each.
 
 use crate::lines::say_reply;
 use etagere::{AllocatorOptions, DEFAULT_OPTIONS, Size, size2};

@@ -16,7 +16,7 @@ pub fn split_items(rt: &(impl Print + AllocGlobal)) -> Result<(), ReplayFault> {
         given(&mut restored, width, height)?;
     }
     for _split in 0..2 {
-        say_reply(rt, &restored.place(size2(100, 100)))?;
+        say_reply(rt, &restored.ask(size2(100, 100)))?;
     }
     Ok(())
 }

@@ -32,7 +32,7 @@ pub trait Tried: Sized {
 
     fn restored(alloc: Global, saved: Self::Snapshot) -> Result<Self, RestoreFault>;
 
-    fn place(&mut self, size: Size) -> Reply;
+    fn ask(&mut self, size: Size) -> Reply;
 
     fn give_back(&mut self, id: AllocId) -> Reply;
 
@@ -69,7 +69,7 @@ impl Tried for AtlasAllocator {
         AtlasAllocator::restore(alloc, saved)
     }
 
-    fn place(&mut self, size: Size) -> Reply {
+    fn ask(&mut self, size: Size) -> Reply {
         placed(self.allocate(size))
     }
 
@@ -118,7 +118,7 @@ impl Tried for BucketedAtlasAllocator {
         BucketedAtlasAllocator::restore(alloc, saved)
     }
 
-    fn place(&mut self, size: Size) -> Reply {
+    fn ask(&mut self, size: Size) -> Reply {
         placed(self.allocate(size))
     }
 
@@ -203,7 +203,7 @@ fn returned(answer: Result<(), UnknownId>) -> Reply {
 
 /// The id of what a size is given that has a place.
 pub fn given<A: Tried>(atlas: &mut A, width: i32, height: i32) -> Result<AllocId, ReplayFault> {
-    match atlas.place(size2(width, height)) {
+    match atlas.ask(size2(width, height)) {
         Reply::Placed(allocation) => Ok(allocation.id),
         _ => Err(ReplayFault::Memory),
     }

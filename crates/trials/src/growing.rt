@@ -1,4 +1,4 @@
-//! Trials of the growth of an atlas of either kind, by direct calls. Beside `tests/refused_growths/run` stands a script of
+//! Trials of the growth of an atlas of either kind, by direct calls. Beside `tests/refused_memory/run` stands a script of
 //! the commands of each.
 
 use crate::lines::say_reply;
@@ -81,7 +81,7 @@ fn grow_and_fill<A: Grows>(
 
 fn fill<A: Grows>(rt: &impl Print, atlas: &mut A, sizes: &[Size]) -> Result<(), ReplayFault> {
     for size in sizes {
-        say_reply(rt, &atlas.place(*size))?;
+        say_reply(rt, &atlas.ask(*size))?;
     }
     Ok(())
 }

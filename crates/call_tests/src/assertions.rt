@@ -31,10 +31,10 @@ pub fn is_at(
     rt: &impl Abort,
     atlas: &mut impl Atlas,
     size: (i32, i32),
-    place: [i32; 4],
+    wanted: [i32; 4],
 ) -> Result<Allocation, Fail> {
     let given = placed(atlas, size)?;
-    equal_at(rt, &corners(given.rectangle), &place, &size);
+    equal_at(rt, &corners(given.rectangle), &wanted, &size);
     Ok(given)
 }
 

@@ -1,6 +1,6 @@
 //! A long text through a small cache, compared with a plain one, and the numbers and names of faults.
 
-use crate::judging::{equal, holds};
+use crate::assertions::{equal, holds};
 use etagere::{Allocation, AtlasAllocator, DEFAULT_OPTIONS, OptionsFault, Size, size2};
 use glyph_shelf::{GlyphCache, GlyphFault};
 use std::alloc::Global;
@@ -78,15 +78,15 @@ impl PlainCache {
     ) -> Result<([i32; 4], bool), Fail> {
         if let Some(index) = self.entries.iter().position(|entry| entry.0 == key) {
             let entry = self.entries.remove(index);
-            let place = corners(entry.1.rectangle);
+            let found = corners(entry.1.rectangle);
             self.entries.insert(0, entry)?;
-            return Ok((place, true));
+            return Ok((found, true));
         }
         for _step in 0..=self.entries.len() {
             if let Some(allocation) = self.allocate(size)? {
-                let place = corners(allocation.rectangle);
+                let found = corners(allocation.rectangle);
                 self.entries.insert(0, (key, allocation))?;
-                return Ok((place, false));
+                return Ok((found, false));
             }
             let (last, allocation) = self.entries.pop().ok_or("too large")?;
             return_all(&mut self.atlas, &[allocation.id])?;
@@ -114,8 +114,8 @@ fn place_in_both(
     let size = letter_size(letter, type_size);
     let key = u64::from(letter) * 4 + u64::from(type_size);
     let placed = cache.place(key, size)?;
-    let (place, is_hit) = plain.place(key, size, evicted)?;
-    equal(rt, &corners(placed.rectangle), &place);
+    let (wanted, is_hit) = plain.place(key, size, evicted)?;
+    equal(rt, &corners(placed.rectangle), &wanted);
     equal(rt, &placed.evicted.as_slice(), &evicted.as_slice());
     Ok(is_hit)
 }
