@@ -1,0 +1,187 @@
+//! The cache.
+
+use std::fmt;
+use std::io::{self, Write};
+use std::mem;
+use std::num::NonZeroUsize;
+
+use crate::picture;
+use crate::sys::{self, Status};
+use crate::{AllocatorOptions, GlyphFault, OptionsFault, Rectangle, Size};
+
+/// Rectangles of an atlas under keys, of which those used least recently are evicted where a new one needs room.
+///
+/// ```
+/// use std::num::NonZeroUsize;
+///
+/// use etagere::{size2, GlyphCache, DEFAULT_OPTIONS};
+///
+/// let capacity = NonZeroUsize::new(64).unwrap();
+/// let mut cache = GlyphCache::new(size2(16, 16), &DEFAULT_OPTIONS, capacity)?;
+///
+/// let first = cache.place(1, size2(16, 8))?;
+/// let second = cache.place(2, size2(16, 8))?;
+///
+/// assert_eq!(first.evicted, []);
+/// assert_eq!(second.evicted, [1]);
+/// assert_eq!(cache.get(2), Some(second.rectangle));
+/// # Ok::<(), Box<dyn std::error::Error>>(())
+/// ```
+pub struct GlyphCache {
+    handle: sys::Cache,
+    /// Where evicted keys are written, at least as long as there are keys at a call that may evict.
+    evicted: Vec<u64>,
+}
+
+/// What [`GlyphCache::place`] gives.
+#[derive(Clone, Debug, PartialEq, Eq, Hash)]
+pub struct Placed {
+    /// The rectangle of the key.
+    pub rectangle: Rectangle,
+    /// The keys that were evicted for it, the least recently used first.
+    pub evicted: Vec<u64>,
+}
+
+impl GlyphCache {
+    /// An empty cache of at most `capacity` keys, over an atlas of this size.
+    ///
+    /// # Errors
+    ///
+    /// The first [`OptionsFault`] that applies.
+    pub fn new(size: Size, options: &AllocatorOptions, capacity: NonZeroUsize) -> Result<Self, OptionsFault> {
+        match sys::Cache::with_capacity(size, options, capacity.get()) {
+            Ok(handle) => Ok(Self { handle, evicted: Vec::new() }),
+            Err(status) => Err(OptionsFault::of_status(status)),
+        }
+    }
+
+    /// The rectangle of a key, which becomes the most recently used.
+    ///
+    /// The size of a key that is there isn't looked at. A new key gets a rectangle at least as large as the size; where
+    /// there is no room, the keys used least recently are evicted before, no more than needed.
+    ///
+    /// # Errors
+    ///
+    /// [`GlyphFault::TooLarge`], exactly where the key is new and an empty atlas has no place for the size: nothing has
+    /// changed. [`GlyphFault::Memory`], where there was no memory: the keys in it are gone, and the others stand.
+    pub fn place(&mut self, key: u64, size: Size) -> Result<Placed, GlyphFault> {
+        if let Some(rectangle) = self.get(key) {
+            return Ok(Placed { rectangle, evicted: Vec::new() });
+        }
+        self.make_room_for_evicted()?;
+        let mut count = 0;
+        let answer = self.handle.place(key, size, &mut self.evicted, &mut count);
+        match answer {
+            Ok(rectangle) => Ok(Placed { rectangle, evicted: self.taken_evicted(count) }),
+            Err(Status::CACHE_TOO_LARGE) => Err(GlyphFault::TooLarge),
+            Err(Status::CACHE_MEMORY) => Err(GlyphFault::Memory(self.taken_evicted(count))),
+            Err(status) => status.unexpected(),
+        }
+    }
+
+    /// The keys at the front of the buffer, which goes with them where there are any, so that this takes no memory.
+    fn taken_evicted(&mut self, count: usize) -> Vec<u64> {
+        if count == 0 {
+            return Vec::new();
+        }
+        let mut evicted = mem::take(&mut self.evicted);
+        evicted.truncate(count);
+        evicted
+    }
+
+    /// Makes the buffer as long as there are keys.
+    fn make_room_for_evicted(&mut self) -> Result<(), GlyphFault> {
+        let missing = self.len().saturating_sub(self.evicted.len());
+        self.evicted.try_reserve(missing).map_err(|_| GlyphFault::Memory(Vec::new()))?;
+        self.evicted.resize(self.evicted.len() + missing, 0);
+        Ok(())
+    }
+
+    /// The rectangle of a key, which becomes the most recently used, or none.
+    pub fn get(&mut self, key: u64) -> Option<Rectangle> {
+        there(self.handle.get(key))
+    }
+
+    /// Takes a key out, and gives the rectangle that it had, or none.
+    pub fn remove(&mut self, key: u64) -> Option<Rectangle> {
+        there(self.handle.remove(key))
+    }
+
+    /// Takes all keys out: the cache is as new.
+    pub fn clear(&mut self) {
+        self.handle.clear();
+    }
+
+    /// How many keys are there.
+    #[must_use]
+    pub fn len(&self) -> usize {
+        self.handle.len()
+    }
+
+    /// Whether no key is there.
+    #[must_use]
+    pub fn is_empty(&self) -> bool {
+        self.handle.is_empty()
+    }
+
+    /// How many keys there may be.
+    #[must_use]
+    pub fn capacity(&self) -> usize {
+        self.handle.capacity()
+    }
+
+    /// The size of the atlas.
+    #[must_use]
+    pub fn size(&self) -> Size {
+        self.handle.size()
+    }
+
+    /// The areas of all keys' rectangles, added up.
+    #[must_use]
+    pub fn allocated_space(&self) -> i32 {
+        self.handle.allocated_space()
+    }
+
+    /// The area of the atlas less that of all keys' rectangles.
+    #[must_use]
+    pub fn free_space(&self) -> i32 {
+        self.handle.free_space()
+    }
+
+    /// Writes a picture of the atlas, as [`AtlasAllocator::dump_svg`](crate::AtlasAllocator::dump_svg) does.
+    ///
+    /// # Errors
+    ///
+    /// That of the output, or [`io::ErrorKind::OutOfMemory`].
+    pub fn dump_svg(&self, output: &mut dyn Write) -> io::Result<()> {
+        picture::write(self.handle.picture(), output)
+    }
+
+    /// Writes a part of a document, as [`AtlasAllocator::dump_into_svg`](crate::AtlasAllocator::dump_into_svg) does.
+    ///
+    /// # Errors
+    ///
+    /// That of the output, or [`io::ErrorKind::OutOfMemory`].
+    pub fn dump_into_svg(&self, rect: Option<&Rectangle>, output: &mut dyn Write) -> io::Result<()> {
+        picture::write(self.handle.picture_part(rect), output)
+    }
+}
+
+/// The rectangle of a key that is there.
+fn there(answer: Result<Rectangle, Status>) -> Option<Rectangle> {
+    match answer {
+        Ok(rectangle) => Some(rectangle),
+        Err(Status::UNKNOWN_KEY) => None,
+        Err(status) => status.unexpected(),
+    }
+}
+
+impl fmt::Debug for GlyphCache {
+    fn fmt(&self, f: &mut fmt::Formatter<'_>) -> fmt::Result {
+        f.debug_struct("GlyphCache")
+            .field("size", &self.size())
+            .field("len", &self.len())
+            .field("capacity", &self.capacity())
+            .finish_non_exhaustive()
+    }
+}

@@ -1,0 +1,204 @@
+//! Each fault of each call that has one.
+
+use std::io;
+use std::num::NonZeroUsize;
+use std::panic::{catch_unwind, AssertUnwindSafe};
+
+use etagere::{
+    point2, size2, AllocId, AllocatorOptions, AtlasAllocator, AtlasGrowFault, BucketedAtlasAllocator, GlyphCache,
+    GlyphFault, GrowFault, JsonFault, OptionsFault, Rectangle, RestoreFault, Size, UnknownId, DEFAULT_OPTIONS,
+};
+
+/// A size and options for each fault of the options but that for memory, in their order.
+fn bad_options() -> [(Size, AllocatorOptions, OptionsFault); 5] {
+    let no_alignment = AllocatorOptions { alignment: size2(0, 1), ..DEFAULT_OPTIONS };
+    let columns = |num_columns| AllocatorOptions { num_columns, ..DEFAULT_OPTIONS };
+    [
+        (size2(0, 5), DEFAULT_OPTIONS, OptionsFault::Size),
+        (size2(65534, 65534), DEFAULT_OPTIONS, OptionsFault::Area),
+        (size2(9, 9), no_alignment, OptionsFault::Alignment),
+        (size2(9, 9), columns(0), OptionsFault::Columns),
+        (size2(4, 4), columns(5), OptionsFault::ColumnTooNarrow),
+    ]
+}
+
+fn panics<T>(call: impl FnOnce() -> T) -> bool {
+    catch_unwind(AssertUnwindSafe(call)).is_err()
+}
+
+#[test]
+fn options() {
+    let capacity = NonZeroUsize::MIN;
+    for (number, (size, options, fault)) in (1..).zip(bad_options()) {
+        assert_eq!(AtlasAllocator::try_with_options(size, &options).err(), Some(fault));
+        assert_eq!(BucketedAtlasAllocator::try_with_options(size, &options).err(), Some(fault));
+        assert_eq!(GlyphCache::new(size, &options, capacity).err(), Some(fault));
+        assert!(panics(|| AtlasAllocator::with_options(size, &options)));
+        assert!(panics(|| BucketedAtlasAllocator::with_options(size, &options)));
+        assert_eq!(fault.number(), number);
+    }
+    assert_eq!(AtlasAllocator::try_new(size2(65536, 1)).err(), Some(OptionsFault::Size));
+    assert_eq!(BucketedAtlasAllocator::try_new(size2(65535, 1)).err(), Some(OptionsFault::Size));
+    assert!(panics(|| AtlasAllocator::new(size2(-1, 5))));
+    assert!(panics(|| BucketedAtlasAllocator::new(size2(5, -1))));
+}
+
+#[test]
+fn ids() {
+    let mut atlas = AtlasAllocator::new(size2(64, 64));
+    let mut buckets = BucketedAtlasAllocator::new(size2(64, 64));
+    let id = atlas.allocate(size2(8, 8)).expect("room").id;
+    let other = buckets.allocate(size2(8, 8)).expect("room").id;
+    for unknown in [0, 7, 65535, u32::MAX].map(AllocId::deserialize) {
+        assert_eq!(atlas.try_get(unknown), Err(UnknownId));
+        assert_eq!(atlas.try_get_index(unknown), Err(UnknownId));
+        assert_eq!(atlas.try_deallocate(unknown), Err(UnknownId));
+        assert_eq!(buckets.try_deallocate(unknown), Err(UnknownId));
+        assert!(panics(|| atlas.get(unknown)));
+        assert!(panics(|| atlas.get_index(unknown)));
+        assert!(panics(|| atlas.deallocate(unknown)));
+        assert!(panics(|| buckets.deallocate(unknown)));
+    }
+    assert_eq!((atlas.allocated_space(), buckets.allocated_space()), (64, 64));
+    assert_eq!(atlas.try_get(id), Ok(Rectangle::from_size(size2(8, 8))));
+    assert_eq!(atlas.try_get_index(id), Ok(0));
+    assert_eq!((atlas.try_deallocate(id), buckets.try_deallocate(other)), (Ok(()), Ok(())));
+    assert_eq!((atlas.try_deallocate(id), buckets.try_deallocate(other)), (Err(UnknownId), Err(UnknownId)));
+    assert_eq!(UnknownId.number(), 1);
+}
+
+#[test]
+fn room() {
+    let mut atlas = AtlasAllocator::new(size2(64, 64));
+    let mut buckets = BucketedAtlasAllocator::new(size2(64, 64));
+    for size in [size2(65, 1), size2(0, 1), size2(-1, i32::MAX), size2(255, 65599)] {
+        assert_eq!(atlas.try_allocate(size), Ok(None));
+        assert_eq!(buckets.try_allocate(size), Ok(None));
+        assert_eq!((atlas.allocate(size), buckets.allocate(size)), (None, None));
+        assert!(!atlas.fits_when_empty(size));
+    }
+    assert!(atlas.fits_when_empty(size2(64, 64)));
+    assert!(atlas.allocate(size2(64, 64)).is_some() && buckets.allocate(size2(64, 64)).is_some());
+    assert_eq!((atlas.allocate(size2(1, 1)), buckets.allocate(size2(1, 1))), (None, None));
+    assert_eq!((atlas.free_space(), buckets.free_space()), (0, 0));
+}
+
+#[test]
+fn growths() {
+    let mut atlas = AtlasAllocator::new(size2(32, 32));
+    let faults = [
+        (size2(65536, 40), AtlasGrowFault::Size),
+        (size2(31, 40), AtlasGrowFault::Smaller),
+        (size2(65535, 65535), AtlasGrowFault::Area),
+    ];
+    for (number, (size, fault)) in (1..).zip(faults) {
+        assert_eq!((atlas.try_grow(size), fault.number()), (Err(fault), number));
+        assert!(panics(|| atlas.grow(size)));
+    }
+    let many = AllocatorOptions { num_columns: 65535, ..DEFAULT_OPTIONS };
+    let mut full = AtlasAllocator::with_options(size2(65535, 100), &many);
+    assert!(full.allocate(size2(1, 92)).is_some());
+    assert_eq!(full.try_grow(size2(65535, 200)), Err(AtlasGrowFault::Records));
+
+    let mut buckets = BucketedAtlasAllocator::new(size2(32, 32));
+    let faults = [
+        (size2(65535, 40), GrowFault::Size),
+        (size2(31, 40), GrowFault::Smaller),
+        (size2(65534, 65534), GrowFault::Area),
+    ];
+    for (number, (size, fault)) in (1..).zip(faults) {
+        assert_eq!((buckets.try_grow(size), fault.number()), (Err(fault), number));
+        assert!(panics(|| buckets.grow(size)));
+    }
+    assert_eq!((atlas.size(), buckets.size()), (size2(32, 32), size2(32, 32)));
+    assert_eq!((atlas.try_grow(size2(64, 40)), buckets.try_grow(size2(64, 40))), (Ok(()), Ok(())));
+    assert_eq!((atlas.size(), buckets.size()), (size2(64, 40), size2(64, 40)));
+}
+
+#[test]
+fn keys() {
+    let capacity = NonZeroUsize::new(2).expect("not 0");
+    let mut cache = GlyphCache::new(size2(32, 32), &DEFAULT_OPTIONS, capacity).expect("good options");
+    assert_eq!(cache.place(1, size2(33, 1)), Err(GlyphFault::TooLarge));
+    assert_eq!((cache.get(1), cache.remove(1)), (None, None));
+    let placed = cache.place(1, size2(32, 8)).expect("room");
+    assert_eq!((placed.rectangle, placed.evicted), (Rectangle::from_size(size2(32, 8)), vec![]));
+    assert_eq!((cache.len(), cache.capacity(), cache.size()), (1, 2, size2(32, 32)));
+    assert_eq!((cache.allocated_space(), cache.free_space(), cache.is_empty()), (256, 768, false));
+    assert!(cache.place(2, size2(32, 8)).is_ok());
+    assert_eq!(cache.get(1), Some(placed.rectangle));
+    assert_eq!(cache.place(3, size2(32, 8)).map(|placed| placed.evicted), Ok(vec![2]));
+    assert_eq!(cache.place(3, size2(99, 99)).map(|placed| placed.evicted), Ok(vec![]));
+    assert_eq!(cache.remove(1), Some(placed.rectangle));
+    cache.clear();
+    assert!(cache.is_empty());
+}
+
+#[test]
+fn saved_atlases() {
+    let mut atlas = AtlasAllocator::new(size2(32, 32));
+    atlas.allocate(size2(8, 8)).expect("room");
+    let text = String::from_utf8(atlas.to_json().expect("memory")).expect("text");
+    let broken = text.replacen("\"allocated_space\":64", "\"allocated_space\":65", 1);
+    assert_eq!(AtlasAllocator::from_json(broken.as_bytes()).err(), Some(JsonFault::Refused(RestoreFault::Space)));
+    assert_eq!(BucketedAtlasAllocator::from_json(text.as_bytes()).err(), Some(JsonFault::Unreadable));
+    for unreadable in ["", "{", "{\"atlas\":{}}", "\u{fffd}"] {
+        assert_eq!(AtlasAllocator::from_json(unreadable.as_bytes()).err(), Some(JsonFault::Unreadable));
+        assert_eq!(BucketedAtlasAllocator::from_json(unreadable.as_bytes()).err(), Some(JsonFault::Unreadable));
+    }
+    let restored = AtlasAllocator::from_json(text.as_bytes()).expect("sound");
+    assert!(restored.iter().eq(&atlas));
+    assert_eq!(RestoreFault::Memory.number(), 11);
+}
+
+/// A writer that takes a number of bytes.
+struct Taking(usize);
+
+impl io::Write for Taking {
+    fn write(&mut self, bytes: &[u8]) -> io::Result<usize> {
+        let taken = bytes.len().min(self.0);
+        self.0 -= taken;
+        Ok(taken)
+    }
+
+    fn flush(&mut self) -> io::Result<()> {
+        Ok(())
+    }
+}
+
+fn text_of(write: impl FnOnce(&mut dyn io::Write) -> io::Result<()>) -> String {
+    let mut text = Vec::new();
+    write(&mut text).expect("a list takes all");
+    String::from_utf8(text).expect("text")
+}
+
+#[test]
+fn pictures() {
+    let mut atlas = AtlasAllocator::new(size2(20, 30));
+    atlas.allocate(size2(8, 8)).expect("room");
+    let document = text_of(|output| atlas.dump_svg(output));
+    let lines = text_of(|output| atlas.dump_into_svg(None, output));
+    let inner: Vec<_> = document.lines().collect();
+    assert_eq!(lines.lines().collect::<Vec<_>>(), inner[1..inner.len() - 1]);
+    let place = Rectangle::new(point2(5, 6), point2(45, 66));
+    let part = text_of(|output| atlas.dump_into_svg(Some(&place), output));
+    let around =
+        "    <svg x=\"5\" y=\"6\" width=\"40\" height=\"60\" viewBox=\"0 0 20 30\" preserveAspectRatio=\"none\">";
+    assert_eq!(part, format!("{around}\n{lines}    </svg>\n"));
+    let empty = Rectangle::new(point2(5, 6), point2(5, 66));
+    assert_eq!(text_of(|output| atlas.dump_into_svg(Some(&empty), output)), "");
+
+    let mut short = Taking(document.len() - 1);
+    assert_eq!(atlas.dump_svg(&mut short).map_err(|fault| fault.kind()), Err(io::ErrorKind::WriteZero));
+    assert!(atlas.dump_svg(&mut Taking(document.len())).is_ok());
+
+    let mut buckets = BucketedAtlasAllocator::new(size2(16, 16));
+    buckets.allocate(size2(10, 8)).expect("room");
+    assert!(text_of(|output| buckets.dump_svg(output)).contains("x=\"10\" y=\"0\" width=\"6\" height=\"8\""));
+    assert_eq!(text_of(|output| buckets.dump_into_svg(None, output)).lines().count(), 3);
+    let capacity = NonZeroUsize::MIN;
+    let mut cache = GlyphCache::new(size2(20, 30), &DEFAULT_OPTIONS, capacity).expect("good options");
+    cache.place(1, size2(8, 8)).expect("room");
+    assert_eq!(text_of(|output| cache.dump_svg(output)), document);
+    assert_eq!(text_of(|output| cache.dump_into_svg(Some(&place), output)), part);
+}
