@@ -1,0 +1,524 @@
+/* etagere: a shelf-packing texture atlas allocator, to be called from C and C++.
+ *
+ * Three kinds of handles: EtagereAtlas (rectangles on shelves), EtagereBucketed (many small items that go at about the
+ * same time) and EtagereCache (rectangles under keys, of which those used least recently are evicted). Lengths are
+ * whole pixels; in a rectangle `max` is the first pixel past it.
+ *
+ * Handles. A handle is a struct of one pointer that the caller keeps. It begins as ETAGERE_NULL; `.._new`, `.._clone`
+ * and `.._restore` fill a null one, and `.._delete` frees what it holds and makes it null again. It may be moved, never
+ * used twice: after a copy only one of the two is used. Of a null handle each call answers ETAGERE_NULL_HANDLE, and
+ * changes nothing.
+ *
+ * Statuses. Each call answers a status. After any status but ETAGERE_OK nothing has changed and nothing was written to
+ * what the caller passed, unless the comment of the function says so. The last two digits of a status from 100 on are
+ * the number of the fault among those of its kind.
+ *
+ * What the caller owes, since no call can tell it:
+ *   - A handle is ETAGERE_NULL, or was filled by a call and not deleted since, under this or another copy. Its pointer
+ *     is never written or read.
+ *   - No two calls at the same time share a handle; that includes calls that only read. A handle may go to another
+ *     thread, ordered by a lock, a start or join of a thread, or an atomic. Different handles share nothing.
+ *   - Each pointer that is passed points to what its type says, aligned, and isn't NULL, for a length of 0 too. A
+ *     pointer with a length has as many in a row. What a call writes to overlaps nothing else that was passed.
+ *   - malloc, realloc and free are of one allocator, and align a block to each power of two up to 16 that divides its
+ *     size. No call is made from a signal handler, nor from the forked child of a process with threads.
+ *
+ * No call keeps a pointer that it was passed, prints, stops the program, or waits. */
+
+#ifndef ETAGERE_H
+#define ETAGERE_H
+
+#include <stddef.h>
+#include <stdint.h>
+
+#ifdef __cplusplus
+extern "C" {
+#endif
+
+/* One of the numbers below. */
+typedef uint32_t EtagereStatus;
+
+enum {
+    ETAGERE_OK = 0,
+    /* The handle is null. */
+    ETAGERE_NULL_HANDLE = 1,
+    /* The handle that is to be filled isn't null. */
+    ETAGERE_HANDLE_IN_USE = 2,
+    /* There is no place for the size now. */
+    ETAGERE_NO_ROOM = 3,
+    /* A buffer is too short, or a capacity is 0. */
+    ETAGERE_LENGTH = 4,
+    /* The bytes aren't the text of a saved atlas of the kind, or memory ran out while they were read. */
+    ETAGERE_UNREADABLE = 5,
+    /* There was no memory. */
+    ETAGERE_MEMORY = 6,
+    /* The cache hasn't the key. */
+    ETAGERE_UNKNOWN_KEY = 7,
+
+    /* Why an atlas or a cache can't be made. The first that applies is answered, in this order. */
+    /* A side is below 1, or above 65535 (of a bucketed atlas above 65534). */
+    ETAGERE_OPTIONS_SIZE = 101,
+    /* Width times height is above 2147483647. */
+    ETAGERE_OPTIONS_AREA = 102,
+    /* An alignment is below 1. */
+    ETAGERE_OPTIONS_ALIGNMENT = 103,
+    /* The number of columns is below 1. */
+    ETAGERE_OPTIONS_COLUMNS = 104,
+    /* A column, an equal share rounded down to the alignment, would be 0 wide. */
+    ETAGERE_OPTIONS_COLUMN_TOO_NARROW = 105,
+    /* There was no memory. */
+    ETAGERE_OPTIONS_MEMORY = 106,
+
+    /* Why an atlas can't grow to a size. The first that applies is answered, in this order. */
+    /* A side is below 1 or above 65535. */
+    ETAGERE_GROW_SIZE = 201,
+    /* A side is below the present one. */
+    ETAGERE_GROW_SMALLER = 202,
+    /* Width times height is above 2147483647. */
+    ETAGERE_GROW_AREA = 203,
+    /* More records are needed than there can be, 65535 in use. */
+    ETAGERE_GROW_RECORDS = 204,
+    /* There was no memory. */
+    ETAGERE_GROW_MEMORY = 205,
+
+    /* Why a bucketed atlas can't grow to a size. The first that applies is answered, in this order. */
+    /* A side is below 1 or above 65534. */
+    ETAGERE_BUCKETED_GROW_SIZE = 301,
+    /* A side is below the present one. */
+    ETAGERE_BUCKETED_GROW_SMALLER = 302,
+    /* Width times height is above 2147483647. */
+    ETAGERE_BUCKETED_GROW_AREA = 303,
+    /* There was no memory. */
+    ETAGERE_BUCKETED_GROW_MEMORY = 304,
+
+    /* Why a text isn't restored: a rule that its snapshot breaks. Where it breaks several, any of them is answered. */
+    /* A side, the area, an alignment or the width of a column is out of its range. */
+    ETAGERE_RESTORE_FRAME = 401,
+    /* There are too few or too many records of a kind. */
+    ETAGERE_RESTORE_COUNTS = 402,
+    /* A link names no record, a link back another than the one before, or a record another shelf than its own. */
+    ETAGERE_RESTORE_LINK = 403,
+    /* The shelves don't fill each column, column after column. */
+    ETAGERE_RESTORE_SHELVES = 404,
+    /* The items of a shelf, or its buckets, don't fill it as they must. */
+    ETAGERE_RESTORE_RUNS = 405,
+    /* Two free items stand side by side, or two empty shelves of a column. */
+    ETAGERE_RESTORE_NEIGHBOURS = 406,
+    /* The free list of a shelf hasn't each of its free items once. */
+    ETAGERE_RESTORE_FREE_LIST = 407,
+    /* A record is in no list or in two, or a list doesn't end. */
+    ETAGERE_RESTORE_SHARING = 408,
+    /* A record that became unused is marked as allocated. */
+    ETAGERE_RESTORE_UNUSED = 409,
+    /* The allocated space is not that of what is allocated. */
+    ETAGERE_RESTORE_SPACE = 410,
+    /* There was no memory. */
+    ETAGERE_RESTORE_MEMORY = 411,
+
+    /* Nothing is allocated under the id. */
+    ETAGERE_UNKNOWN_ID = 501,
+
+    /* Why a cache has no place for a key. */
+    /* The key is new, and an empty atlas of the same size and options has no place for its size. */
+    ETAGERE_CACHE_TOO_LARGE = 601,
+    /* The key is new, and there was no memory. */
+    ETAGERE_CACHE_MEMORY = 602
+};
+
+/* A place in pixels. */
+typedef struct EtagerePoint {
+    int32_t x;
+    int32_t y;
+} EtagerePoint;
+
+/* Two sides in pixels. */
+typedef struct EtagereSize {
+    int32_t width;
+    int32_t height;
+} EtagereSize;
+
+/* The pixels from `min` on, up to `max`, which is not part of it. */
+typedef struct EtagereRectangle {
+    EtagerePoint min;
+    EtagerePoint max;
+} EtagereRectangle;
+
+/* A rectangle of an atlas, and the id by which it is given back. */
+typedef struct EtagereAllocation {
+    uint32_t id;
+    EtagereRectangle rectangle;
+} EtagereAllocation;
+
+/* How an atlas is divided and what it rounds sizes to. */
+typedef struct EtagereOptions {
+    /* Each width is rounded up to a multiple of `alignment.width`, each height to one of `alignment.height`. */
+    EtagereSize alignment;
+    /* How many columns are asked for, at least 1, each with shelves of its own. */
+    int32_t num_columns;
+    /* 0 where the shelves lie one above another; any other number where they stand upright, side by side. */
+    uint32_t vertical_shelves;
+} EtagereOptions;
+
+/* No alignment, one column, shelves that lie: EtagereOptions options = ETAGERE_DEFAULT_OPTIONS; */
+#define ETAGERE_DEFAULT_OPTIONS { { 1, 1 }, 1, 0 }
+
+/* A null handle: EtagereAtlas atlas = ETAGERE_NULL; */
+#define ETAGERE_NULL { NULL }
+
+/* An atlas that places rectangles on shelves. */
+typedef struct EtagereAtlas {
+    void *state;
+} EtagereAtlas;
+
+/* An atlas that places rectangles in the buckets of shelves. */
+typedef struct EtagereBucketed {
+    void *state;
+} EtagereBucketed;
+
+/* Rectangles of an atlas of shelves, under keys. */
+typedef struct EtagereCache {
+    void *state;
+} EtagereCache;
+
+/* Gives the options of ETAGERE_DEFAULT_OPTIONS: no alignment, one column, shelves that lie.
+ * Answers ETAGERE_OK. Takes constant time. */
+EtagereStatus etagere_default_options(EtagereOptions *options);
+
+/* ---- An atlas of shelves ---------------------------------------------------------------------------------------- */
+
+/* Fills a null handle with an empty atlas.
+ * Answers ETAGERE_OK; ETAGERE_HANDLE_IN_USE where the handle isn't null; ETAGERE_OPTIONS_.., the first fault,
+ * ETAGERE_OPTIONS_MEMORY only where there is no other and no memory. Takes memory for the records of each column,
+ * and goes through the columns. */
+EtagereStatus etagere_atlas_new(EtagereAtlas *atlas, EtagereSize size, const EtagereOptions *options);
+
+/* Frees an atlas with all that it holds, and makes the handle null.
+ * Answers ETAGERE_OK; ETAGERE_NULL_HANDLE. Takes constant time, and that of free. */
+EtagereStatus etagere_atlas_delete(EtagereAtlas *atlas);
+
+/* Gives a rectangle that is at least as large as the size, with the id under which it is allocated.
+ * Answers ETAGERE_OK; ETAGERE_NULL_HANDLE; ETAGERE_NO_ROOM where there is no place; ETAGERE_MEMORY, only where the
+ * place is to be split and there was no memory. Finds by binary search where the shelves begin that are tall enough,
+ * and goes through them by height, in each that may have an item wide enough through its free list. */
+EtagereStatus etagere_atlas_allocate(EtagereAtlas *atlas, EtagereSize size, EtagereAllocation *allocation);
+
+/* Takes back the rectangle that is allocated under an id, and merges what is free with its neighbours.
+ * Answers ETAGERE_OK; ETAGERE_NULL_HANDLE; ETAGERE_UNKNOWN_ID exactly where nothing is allocated under the id. Takes
+ * no memory, and looks at the record and those beside it. */
+EtagereStatus etagere_atlas_deallocate(EtagereAtlas *atlas, uint32_t id);
+
+/* Gives the rectangle that is allocated under an id, as it was first given. The atlas stays.
+ * Answers ETAGERE_OK; ETAGERE_NULL_HANDLE; ETAGERE_UNKNOWN_ID exactly where nothing is allocated under the id. Takes
+ * no memory, and constant time. */
+EtagereStatus etagere_atlas_get(EtagereAtlas *atlas, uint32_t id, EtagereRectangle *rectangle);
+
+/* Gives the index of what is allocated under an id: a small number that it keeps as long as it is allocated, and
+ * that nothing else has at that time. The atlas stays.
+ * Answers ETAGERE_OK; ETAGERE_NULL_HANDLE; ETAGERE_UNKNOWN_ID exactly where nothing is allocated under the id. Takes
+ * no memory, and constant time. */
+EtagereStatus etagere_atlas_get_index(EtagereAtlas *atlas, uint32_t id, uint32_t *index);
+
+/* Gives all that is allocated, by rising index: writes it to the front of the buffer, and how many there are to *count.
+ * What is behind stays, and the atlas does.
+ * Answers ETAGERE_OK; ETAGERE_NULL_HANDLE; ETAGERE_LENGTH where the buffer is shorter than there are allocations: then
+ * *count is written too, and nothing else. Takes no memory, and goes through all records twice. */
+EtagereStatus etagere_atlas_allocations(
+    EtagereAtlas *atlas, EtagereAllocation *allocations, size_t allocations_length, size_t *count);
+
+/* Takes everything back at once: the atlas is as new, with its present size and columns.
+ * Answers ETAGERE_OK; ETAGERE_NULL_HANDLE. Takes no memory, and goes through the columns. */
+EtagereStatus etagere_atlas_clear(EtagereAtlas *atlas);
+
+/* Gives the size of the atlas, as it was made or has grown. The atlas stays.
+ * Answers ETAGERE_OK; ETAGERE_NULL_HANDLE. Takes constant time. */
+EtagereStatus etagere_atlas_size(EtagereAtlas *atlas, EtagereSize *size);
+
+/* Gives 1 where nothing is allocated, and else 0. The atlas stays.
+ * Answers ETAGERE_OK; ETAGERE_NULL_HANDLE. Takes constant time. */
+EtagereStatus etagere_atlas_is_empty(EtagereAtlas *atlas, uint32_t *is_empty);
+
+/* Gives the areas of everything that is allocated, added up, in square pixels. The atlas stays.
+ * Answers ETAGERE_OK; ETAGERE_NULL_HANDLE. Takes constant time. */
+EtagereStatus etagere_atlas_allocated_space(EtagereAtlas *atlas, int32_t *space);
+
+/* Gives the area of the atlas less what is allocated, in square pixels. The atlas stays.
+ * Answers ETAGERE_OK; ETAGERE_NULL_HANDLE. Takes constant time. */
+EtagereStatus etagere_atlas_free_space(EtagereAtlas *atlas, int32_t *space);
+
+/* Gives 1 where the atlas would have a place for the size if it were empty, and else 0. The atlas stays.
+ * Answers ETAGERE_OK; ETAGERE_NULL_HANDLE. Takes constant time. */
+EtagereStatus etagere_atlas_fits_when_empty(EtagereAtlas *atlas, EtagereSize size, uint32_t *fits);
+
+/* Makes the atlas larger. What is allocated keeps its place, its id and its index.
+ * Answers ETAGERE_OK; ETAGERE_NULL_HANDLE; ETAGERE_GROW_.., the first fault, ETAGERE_GROW_MEMORY only where there is
+ * no other, the growth needs records and there was no memory. Goes through all shelves, for wider columns through
+ * all items too, and sorts the shelves. */
+EtagereStatus etagere_atlas_grow(EtagereAtlas *atlas, EtagereSize size);
+
+/* Fills a null handle with an atlas that equals this one, its ids and later answers too. The atlas stays, and shares
+ * nothing with the copy.
+ * Answers ETAGERE_OK; ETAGERE_NULL_HANDLE where the atlas is null; ETAGERE_HANDLE_IN_USE where the copy isn't;
+ * ETAGERE_MEMORY. Takes memory for all records, and goes through them. */
+EtagereStatus etagere_atlas_clone(EtagereAtlas *atlas, EtagereAtlas *copy);
+
+/* Allocates many sizes, one after the other, as etagere_atlas_allocate does, up to the first that isn't given a
+ * place. Writes how many were to *count, and their allocations to the front of the buffer; what is behind stays.
+ * What was allocated stays so whatever the status.
+ * Answers ETAGERE_OK where all were; ETAGERE_NULL_HANDLE and ETAGERE_LENGTH (the buffer is shorter than the sizes),
+ * with nothing written; ETAGERE_NO_ROOM or ETAGERE_MEMORY, of the size with the number *count. Costs as the single
+ * calls. */
+EtagereStatus etagere_atlas_allocate_many(
+    EtagereAtlas *atlas, const EtagereSize *sizes, size_t sizes_length, EtagereAllocation *allocations, size_t
+    allocations_length, size_t *count);
+
+/* Takes many ids back, one after the other, as etagere_atlas_deallocate does, up to the first that is unknown.
+ * Writes how many were taken back to *count; they are gone whatever the status.
+ * Answers ETAGERE_OK where all were; ETAGERE_NULL_HANDLE, with nothing written; ETAGERE_UNKNOWN_ID, of the id with
+ * the number *count. Costs as the single calls. */
+EtagereStatus etagere_atlas_deallocate_many(EtagereAtlas *atlas, const uint32_t *ids, size_t ids_length,
+                                            size_t *count);
+
+/* Gives the length in bytes of the picture of etagere_atlas_picture. The atlas stays.
+ * Answers ETAGERE_OK; ETAGERE_NULL_HANDLE; ETAGERE_MEMORY. Takes memory for the text, and goes through all items. */
+EtagereStatus etagere_atlas_picture_length(EtagereAtlas *atlas, size_t *text_length);
+
+/* Writes an SVG document to the front of the buffer, without a zero behind it, and its length to *text_length: the
+ * atlas and every item, what is allocated in blue, what is free in grey. What is behind stays, and the atlas does.
+ * Answers ETAGERE_OK; ETAGERE_NULL_HANDLE; ETAGERE_LENGTH where the buffer is shorter than
+ * etagere_atlas_picture_length says, with nothing written; ETAGERE_MEMORY. Takes memory for the text, and goes
+ * through all items. */
+EtagereStatus etagere_atlas_picture(EtagereAtlas *atlas, uint8_t *buffer, size_t buffer_length, size_t *text_length);
+
+/* Writes the rectangles of etagere_atlas_picture to the front of the buffer, as lines for another SVG document that
+ * show the atlas at its origin, and how long they are to *text_length. What is behind stays, and the atlas does.
+ * Answers ETAGERE_OK; ETAGERE_NULL_HANDLE; ETAGERE_LENGTH where the buffer is shorter than the lines: then *text_length
+ * is written too, and nothing else; ETAGERE_MEMORY. Takes memory for the text, and goes through all items. */
+EtagereStatus etagere_atlas_picture_lines(
+    EtagereAtlas *atlas, uint8_t *buffer, size_t buffer_length, size_t *text_length);
+
+/* Writes the same lines as etagere_atlas_picture_lines, moved and scaled to fill a rectangle of the other document;
+ * nothing where a side of it isn't positive. What is behind stays, and the atlas does.
+ * Answers ETAGERE_OK; ETAGERE_NULL_HANDLE; ETAGERE_LENGTH where the buffer is shorter than the lines: then *text_length
+ * is written too, and nothing else; ETAGERE_MEMORY. Takes memory for the text, and goes through all items. */
+EtagereStatus etagere_atlas_picture_part(
+    EtagereAtlas *atlas, EtagereRectangle rectangle, uint8_t *buffer, size_t buffer_length, size_t *text_length);
+
+/* Writes what the atlas is saved as to the front of the buffer, and its length to *text_length: the JSON text of an
+ * object whose one key is "atlas", without a space or a zero behind it. What is behind stays, and the atlas does.
+ * Answers ETAGERE_OK; ETAGERE_NULL_HANDLE; ETAGERE_LENGTH where the buffer is shorter than the text: then *text_length
+ * is written too, and nothing else; ETAGERE_MEMORY. Takes memory for all records and the text, goes through both, and
+ * reads the text once to see that it is right. */
+EtagereStatus etagere_atlas_snapshot(EtagereAtlas *atlas, uint8_t *buffer, size_t buffer_length, size_t *text_length);
+
+/* Fills a null handle with the atlas that a text is saved as, whoever wrote it: what etagere_atlas_snapshot gives, or
+ * the same with its keys in another order, others that are passed over, or spaces between.
+ * Answers ETAGERE_OK; ETAGERE_HANDLE_IN_USE where the handle isn't null; ETAGERE_UNREADABLE where the bytes are no such
+ * text, or there was no memory for what they say; ETAGERE_RESTORE_.., the number of a rule that the snapshot breaks, or
+ * ETAGERE_RESTORE_MEMORY where there was no memory for the atlas. Takes memory for the snapshot, for its records twice
+ * and as much as the text has bytes, and time linear in the bytes and records but for a sort of the shelves. */
+EtagereStatus etagere_atlas_restore(EtagereAtlas *atlas, const uint8_t *text, size_t text_length);
+
+/* ---- An atlas of buckets ---------------------------------------------------------------------------------------- */
+
+/* Fills a null handle with an empty bucketed atlas.
+ * Answers ETAGERE_OK; ETAGERE_HANDLE_IN_USE; ETAGERE_OPTIONS_.., the first fault, ETAGERE_OPTIONS_MEMORY only where
+ * there is no other and no memory for what the handle points to. Takes constant time. */
+EtagereStatus etagere_bucketed_new(EtagereBucketed *atlas, EtagereSize size, const EtagereOptions *options);
+
+/* Frees a bucketed atlas with all that it holds, and makes the handle null.
+ * Answers ETAGERE_OK; ETAGERE_NULL_HANDLE. Takes constant time, and that of free. */
+EtagereStatus etagere_bucketed_delete(EtagereBucketed *atlas);
+
+/* Gives a rectangle that is at least as large as the size, with the id under which it is allocated.
+ * Answers ETAGERE_OK; ETAGERE_NULL_HANDLE; ETAGERE_NO_ROOM where there is no place; ETAGERE_MEMORY, only where a
+ * shelf is to be added and there was no memory. Goes through all shelves a few times. */
+EtagereStatus etagere_bucketed_allocate(EtagereBucketed *atlas, EtagereSize size, EtagereAllocation *allocation);
+
+/* Takes back the rectangle that was given under an id. The last one of a bucket makes that empty, and shelves at the
+ * end that hold nothing are dropped.
+ * Answers ETAGERE_OK; ETAGERE_NULL_HANDLE; ETAGERE_UNKNOWN_ID exactly where no bucket that holds something has given
+ * an item under the id since it was empty. That an id comes back once is the caller's part: a second return of one
+ * is taken for that of another item of its bucket. Takes no memory, and constant time but for the shelves that are
+ * dropped. */
+EtagereStatus etagere_bucketed_deallocate(EtagereBucketed *atlas, uint32_t id);
+
+/* Takes everything back at once: the atlas is as new, with its present size and columns.
+ * Answers ETAGERE_OK; ETAGERE_NULL_HANDLE. Takes no memory, and constant time. */
+EtagereStatus etagere_bucketed_clear(EtagereBucketed *atlas);
+
+/* Gives the size of the atlas, as it was made or has grown. The atlas stays.
+ * Answers ETAGERE_OK; ETAGERE_NULL_HANDLE. Takes constant time. */
+EtagereStatus etagere_bucketed_size(EtagereBucketed *atlas, EtagereSize *size);
+
+/* Gives 1 where nothing is allocated, and else 0. The atlas stays.
+ * Answers ETAGERE_OK; ETAGERE_NULL_HANDLE. Takes constant time. */
+EtagereStatus etagere_bucketed_is_empty(EtagereBucketed *atlas, uint32_t *is_empty);
+
+/* Gives the area that the buckets have used, each as tall as its shelf, in square pixels. The atlas stays.
+ * Answers ETAGERE_OK; ETAGERE_NULL_HANDLE. Takes constant time. */
+EtagereStatus etagere_bucketed_allocated_space(EtagereBucketed *atlas, int32_t *space);
+
+/* Gives the area of the atlas less what the buckets have used, in square pixels. The atlas stays.
+ * Answers ETAGERE_OK; ETAGERE_NULL_HANDLE. Takes constant time. */
+EtagereStatus etagere_bucketed_free_space(EtagereBucketed *atlas, int32_t *space);
+
+/* Makes the atlas larger. What is allocated keeps its place and its id.
+ * Answers ETAGERE_OK; ETAGERE_NULL_HANDLE; ETAGERE_BUCKETED_GROW_.., the first fault, ETAGERE_BUCKETED_GROW_MEMORY
+ * only where there is no other, buckets are to be made and there was no memory. Goes through all shelves. */
+EtagereStatus etagere_bucketed_grow(EtagereBucketed *atlas, EtagereSize size);
+
+/* Fills a null handle with an atlas that equals this one, its ids and later answers too. The atlas stays, and shares
+ * nothing with the copy.
+ * Answers ETAGERE_OK; ETAGERE_NULL_HANDLE where the atlas is null; ETAGERE_HANDLE_IN_USE where the copy isn't;
+ * ETAGERE_MEMORY. Takes memory for all records, and goes through them. */
+EtagereStatus etagere_bucketed_clone(EtagereBucketed *atlas, EtagereBucketed *copy);
+
+/* Allocates many sizes, one after the other, as etagere_bucketed_allocate does, up to the first that isn't given a
+ * place. Writes how many were to *count, and their allocations to the front of the buffer; what is behind stays.
+ * What was allocated stays so whatever the status.
+ * Answers ETAGERE_OK where all were; ETAGERE_NULL_HANDLE and ETAGERE_LENGTH (the buffer is shorter than the sizes),
+ * with nothing written; ETAGERE_NO_ROOM or ETAGERE_MEMORY, of the size with the number *count. Costs as the single
+ * calls. */
+EtagereStatus etagere_bucketed_allocate_many(
+    EtagereBucketed *atlas, const EtagereSize *sizes, size_t sizes_length, EtagereAllocation *allocations,
+    size_t allocations_length, size_t *count);
+
+/* Takes many ids back, one after the other, as etagere_bucketed_deallocate does, up to the first that is unknown.
+ * Writes how many were taken back to *count; they are gone whatever the status.
+ * Answers ETAGERE_OK where all were; ETAGERE_NULL_HANDLE, with nothing written; ETAGERE_UNKNOWN_ID, of the id with
+ * the number *count. Costs as the single calls. */
+EtagereStatus etagere_bucketed_deallocate_many(
+    EtagereBucketed *atlas, const uint32_t *ids, size_t ids_length, size_t *count);
+
+/* Gives the length in bytes of the picture of etagere_bucketed_picture. The atlas stays.
+ * Answers ETAGERE_OK; ETAGERE_NULL_HANDLE; ETAGERE_MEMORY. Takes memory for the text, and goes through all buckets. */
+EtagereStatus etagere_bucketed_picture_length(EtagereBucketed *atlas, size_t *text_length);
+
+/* Writes an SVG document to the front of the buffer, without a zero behind it, and its length to *text_length: the
+ * atlas and every bucket, what is used in blue, what is free in grey. What is behind stays, and the atlas does.
+ * Answers ETAGERE_OK; ETAGERE_NULL_HANDLE; ETAGERE_LENGTH where the buffer is shorter than
+ * etagere_bucketed_picture_length says, with nothing written; ETAGERE_MEMORY. Takes memory for the text, and goes
+ * through all buckets. */
+EtagereStatus etagere_bucketed_picture(
+    EtagereBucketed *atlas, uint8_t *buffer, size_t buffer_length, size_t *text_length);
+
+/* Writes the rectangles of etagere_bucketed_picture to the front of the buffer, as lines for another SVG document that
+ * show the atlas at its origin, and how long they are to *text_length. What is behind stays, and the atlas does.
+ * Answers ETAGERE_OK; ETAGERE_NULL_HANDLE; ETAGERE_LENGTH where the buffer is shorter than the lines: then *text_length
+ * is written too, and nothing else; ETAGERE_MEMORY. Takes memory for the text, and goes through all buckets. */
+EtagereStatus etagere_bucketed_picture_lines(
+    EtagereBucketed *atlas, uint8_t *buffer, size_t buffer_length, size_t *text_length);
+
+/* Writes the same lines as etagere_bucketed_picture_lines, moved and scaled to fill a rectangle of the other document;
+ * nothing where a side of it isn't positive. What is behind stays, and the atlas does.
+ * Answers ETAGERE_OK; ETAGERE_NULL_HANDLE; ETAGERE_LENGTH where the buffer is shorter than the lines: then *text_length
+ * is written too, and nothing else; ETAGERE_MEMORY. Takes memory for the text, and goes through all buckets. */
+EtagereStatus etagere_bucketed_picture_part(
+    EtagereBucketed *atlas, EtagereRectangle rectangle, uint8_t *buffer, size_t buffer_length, size_t *text_length);
+
+/* Writes what the atlas is saved as to the front of the buffer, and its length to *text_length: the JSON text of an
+ * object whose one key is "bucketed", without a space or a zero behind it. What is behind stays, and the atlas does.
+ * Answers ETAGERE_OK; ETAGERE_NULL_HANDLE; ETAGERE_LENGTH where the buffer is shorter than the text: then *text_length
+ * is written too, and nothing else; ETAGERE_MEMORY. Takes memory for all records and the text, goes through both, and
+ * reads the text once to see that it is right. */
+EtagereStatus etagere_bucketed_snapshot(
+    EtagereBucketed *atlas, uint8_t *buffer, size_t buffer_length, size_t *text_length);
+
+/* Fills a null handle with the atlas that a text is saved as, whoever wrote it: what etagere_bucketed_snapshot gives,
+ * or the same with its keys in another order, others that are passed over, or spaces between.
+ * Answers ETAGERE_OK; ETAGERE_HANDLE_IN_USE where the handle isn't null; ETAGERE_UNREADABLE where the bytes are no such
+ * text, or there was no memory for what they say; ETAGERE_RESTORE_.. but ETAGERE_RESTORE_FREE_LIST, the number of a
+ * rule that the snapshot breaks, or ETAGERE_RESTORE_MEMORY where there was no memory for the atlas. Takes memory for
+ * the snapshot, for its records twice and as much as the text has bytes, and time linear in the bytes and records. */
+EtagereStatus etagere_bucketed_restore(EtagereBucketed *atlas, const uint8_t *text, size_t text_length);
+
+/* ---- A cache ---------------------------------------------------------------------------------------------------- */
+
+/* Fills a null handle with an empty cache of at most `capacity` keys, over an atlas of this size.
+ * Answers ETAGERE_OK; ETAGERE_HANDLE_IN_USE; ETAGERE_LENGTH where the capacity is 0; ETAGERE_OPTIONS_.., the first
+ * fault, ETAGERE_OPTIONS_MEMORY only where there is no other and no memory. Takes no memory for keys that aren't
+ * there yet, and goes through the columns. */
+EtagereStatus etagere_cache_new(EtagereCache *cache, EtagereSize size, const EtagereOptions *options, size_t capacity);
+
+/* Frees a cache with all that it holds, and makes the handle null.
+ * Answers ETAGERE_OK; ETAGERE_NULL_HANDLE. Goes through the keys. */
+EtagereStatus etagere_cache_delete(EtagereCache *cache);
+
+/* Gives the rectangle of a key. A key that is there becomes the most recently used; its size isn't looked at. A new
+ * key gets a rectangle at least as large as the size and becomes the most recently used; where there is no room, the
+ * keys used least recently are evicted before, no more than needed. Writes the evicted keys to the front of the
+ * buffer, the least recently used first, and how many to *count; what is behind stays.
+ * Answers ETAGERE_OK; ETAGERE_NULL_HANDLE; ETAGERE_LENGTH where the buffer is shorter than etagere_cache_len says,
+ * with nothing written; ETAGERE_CACHE_TOO_LARGE exactly where the key is new and an empty atlas has no place for the
+ * size, with nothing written; ETAGERE_CACHE_MEMORY, only for a new key: then the evicted keys and *count are written
+ * too, these keys are gone, and the others stand. Asks the atlas once, and once more for each key that is evicted. */
+EtagereStatus etagere_cache_place(
+    EtagereCache *cache, uint64_t key, EtagereSize size, EtagereRectangle *rectangle, uint64_t *evicted, size_t
+    evicted_length, size_t *count);
+
+/* Gives the rectangle of a key, which becomes the most recently used.
+ * Answers ETAGERE_OK; ETAGERE_NULL_HANDLE; ETAGERE_UNKNOWN_KEY. Takes no memory, and constant time on average. */
+EtagereStatus etagere_cache_get(EtagereCache *cache, uint64_t key, EtagereRectangle *rectangle);
+
+/* Takes a key out, and gives the rectangle that it had.
+ * Answers ETAGERE_OK; ETAGERE_NULL_HANDLE; ETAGERE_UNKNOWN_KEY. Takes no memory, and costs what
+ * etagere_atlas_deallocate does. */
+EtagereStatus etagere_cache_remove(EtagereCache *cache, uint64_t key, EtagereRectangle *rectangle);
+
+/* Takes all keys out: the cache is as new.
+ * Answers ETAGERE_OK; ETAGERE_NULL_HANDLE. Takes no memory, and goes through the keys and the columns. */
+EtagereStatus etagere_cache_clear(EtagereCache *cache);
+
+/* Gives how many keys are there. The cache stays.
+ * Answers ETAGERE_OK; ETAGERE_NULL_HANDLE. Takes constant time. */
+EtagereStatus etagere_cache_len(EtagereCache *cache, size_t *len);
+
+/* Gives 1 where no key is there, and else 0. The cache stays.
+ * Answers ETAGERE_OK; ETAGERE_NULL_HANDLE. Takes constant time. */
+EtagereStatus etagere_cache_is_empty(EtagereCache *cache, uint32_t *is_empty);
+
+/* Gives how many keys there may be. The cache stays.
+ * Answers ETAGERE_OK; ETAGERE_NULL_HANDLE. Takes constant time. */
+EtagereStatus etagere_cache_capacity(EtagereCache *cache, size_t *capacity);
+
+/* Gives the size of the atlas. The cache stays.
+ * Answers ETAGERE_OK; ETAGERE_NULL_HANDLE. Takes constant time. */
+EtagereStatus etagere_cache_size(EtagereCache *cache, EtagereSize *size);
+
+/* Gives the areas of all keys' rectangles, added up, in square pixels. The cache stays.
+ * Answers ETAGERE_OK; ETAGERE_NULL_HANDLE. Takes constant time. */
+EtagereStatus etagere_cache_allocated_space(EtagereCache *cache, int32_t *space);
+
+/* Gives the area of the atlas less that of all keys' rectangles, in square pixels. The cache stays.
+ * Answers ETAGERE_OK; ETAGERE_NULL_HANDLE. Takes constant time. */
+EtagereStatus etagere_cache_free_space(EtagereCache *cache, int32_t *space);
+
+/* Gives the length in bytes of the picture of etagere_cache_picture. The cache stays.
+ * Answers ETAGERE_OK; ETAGERE_NULL_HANDLE; ETAGERE_MEMORY. Takes memory for the text, and goes through all items. */
+EtagereStatus etagere_cache_picture_length(EtagereCache *cache, size_t *text_length);
+
+/* Writes the picture of the atlas, as etagere_atlas_picture does. The cache stays.
+ * Answers ETAGERE_OK; ETAGERE_NULL_HANDLE; ETAGERE_LENGTH where the buffer is shorter than
+ * etagere_cache_picture_length says, with nothing written; ETAGERE_MEMORY. Takes memory for the text, and goes
+ * through all items. */
+EtagereStatus etagere_cache_picture(EtagereCache *cache, uint8_t *buffer, size_t buffer_length, size_t *text_length);
+
+/* Writes the rectangles of etagere_cache_picture to the front of the buffer, as lines for another SVG document that
+ * show the cache at its origin, and how long they are to *text_length. What is behind stays, and the cache does.
+ * Answers ETAGERE_OK; ETAGERE_NULL_HANDLE; ETAGERE_LENGTH where the buffer is shorter than the lines: then *text_length
+ * is written too, and nothing else; ETAGERE_MEMORY. Takes memory for the text, and goes through all items. */
+EtagereStatus etagere_cache_picture_lines(
+    EtagereCache *cache, uint8_t *buffer, size_t buffer_length, size_t *text_length);
+
+/* Writes the same lines as etagere_cache_picture_lines, moved and scaled to fill a rectangle of the other document;
+ * nothing where a side of it isn't positive. What is behind stays, and the cache does.
+ * Answers ETAGERE_OK; ETAGERE_NULL_HANDLE; ETAGERE_LENGTH where the buffer is shorter than the lines: then *text_length
+ * is written too, and nothing else; ETAGERE_MEMORY. Takes memory for the text, and goes through all items. */
+EtagereStatus etagere_cache_picture_part(
+    EtagereCache *cache, EtagereRectangle rectangle, uint8_t *buffer, size_t buffer_length, size_t *text_length);
+
+#ifdef __cplusplus
+}
+#endif
+
+#endif
