@@ -1,0 +1,132 @@
+"""Scripts on which a call of a shelf atlas is to leave alone what it doesn't touch: shelves that are too tall for what is
+asked for, narrow free items, thousands of shelves that come and go, thousands of columns.
+"""
+
+import random
+
+from rows import ROUNDS, Row, comes_and_goes, goes_and_comes
+from workloads import Script
+
+
+def small_after_large(side, large, small=(8, 14)):
+    """A page filled with one size, of which half goes, and then a smaller size that comes and goes."""
+
+    def make(program):
+        script = Script(program, f"atlas {side} {side} 1 1 1 h", 10)
+        for _ in range(side * side * 9 // (sum(large) ** 2 * 2)):
+            script.allocate_between(*large)
+        script.look()
+        for _ in range(len(script.live) // 2):
+            script.give_back_any()
+        script.live = []
+        for _ in range(ROUNDS // 2):
+            script.allocate_between(*small)
+        script.look()
+        filled = len(script.commands)
+        script.churn(2 * ROUNDS, lambda: script.allocate_between(*small))
+        return [script.header, *script.commands[:filled]], script.commands[filled:]
+
+    return make
+
+
+def narrow_gaps(shelves, gaps, height_of, asked):
+    """Shelves that are full but for narrow free items, and an item that comes and goes."""
+
+    def make(_program):
+        heights = [height_of(shelf) for shelf in range(shelves)]
+        filling = [f"atlas {gaps * 4} 65528 1 1 1 h"]
+        for height in heights:
+            filling += [f"a 2 {height}"] * (2 * gaps)
+        filling += [f"r {position}" for position in range(shelves * 2 * gaps) if position % 2]
+        return filling, comes_and_goes(len(filling) - 1, f"a {asked}")
+
+    return make
+
+
+def too_tall(shelves, height, taller=None):
+    """Shelves that have room and are too tall for what comes and goes, and perhaps an empty one that is taller."""
+
+    def make(_program):
+        columns = -(-shelves * height // 60000)
+        filling = [f"atlas {columns * 1000} 65528 1 1 {columns} h"] + [f"a 900 {height}"] * shelves
+        if taller:
+            filling += [f"a 900 {taller}", f"r {shelves}"]
+        return filling, comes_and_goes(len(filling) - 1, "a 50 1")
+
+    return make
+
+
+def drained(shelves, in_order):
+    """Shelves of one item each, of which all go."""
+
+    def make(_program):
+        filling = ["atlas 8 65528 1 1 1 h"] + ["a 8 1" if shelves > 8000 else "a 8 8"] * shelves
+        positions = list(range(shelves))
+        if not in_order:
+            random.Random(11).shuffle(positions)
+        return filling, [f"r {position}" for position in positions]
+
+    return make
+
+
+def half_empty(columns, rows):
+    """Shelves of one item each, of which every other is empty, and shelves that split and merge."""
+
+    def make(_program):
+        shelves = columns * rows
+        filling = [f"atlas {columns * 8} {rows * 32} 1 1 {columns} h"] + ["a 8 32"] * shelves
+        filling += [f"r {position}" for position in range(0, shelves, 2)]
+        return filling, comes_and_goes(len(filling) - 1, "a 8 8")
+
+    return make
+
+
+def same_item(beside):
+    def make(_program):
+        filling = ["atlas 1024 1024 1 1 1 h"] + ["a 16 16"] * beside
+        return filling, comes_and_goes(len(filling) - 1, "a 16 16")
+
+    return make
+
+
+def in_columns(columns):
+    def make(_program):
+        filling = [f"atlas {columns} 64 1 1 {columns} h"]
+        return filling, comes_and_goes(0, "a 1 64")
+
+    return make
+
+
+def full_shelves(choose):
+    """8000 shelves of an item each, of which the first, or any, goes and comes."""
+
+    def make(_program):
+        filling = ["atlas 8 64000 1 1 1 h"] + ["a 8 8"] * 8000
+        chooser = random.Random(12)
+        return filling, goes_and_comes([choose(chooser) for _ in range(ROUNDS)], 8000, "a 8 8")
+
+    return make
+
+
+ROWS = {
+    "4096x4096, 25 to 32 pixels, half returned, then 8 to 14 come and go": Row(small_after_large(4096, (25, 32)), 1339),
+    "1024x1024, 33 to 48, then 8 to 14": Row(small_after_large(1024, (33, 48)), 525),
+    "2048x2048, the same": Row(small_after_large(2048, (33, 48)), 672),
+    "54 shelves with 590 narrow free items each, lower ones behind higher ones": Row(
+        narrow_gaps(54, 590, lambda shelf: 1900 - 28 * shelf, "1 8"), 752
+    ),
+    "180 shelves with 180 narrow free items each, a bad fit": Row(narrow_gaps(180, 180, lambda _: 320, "1 8"), 1857),
+    "2000 with 15": Row(narrow_gaps(2000, 15, lambda _: 32, "1 8"), 17710),
+    "1600 shelves with room that are too tall": Row(too_tall(1600, 40), 13902),
+    "8000 such shelves": Row(too_tall(8000, 16), 68318),
+    "8000 such shelves, and an empty taller one": Row(too_tall(8000, 16, 1000), 68318),
+    "8000 shelves drained in order": Row(drained(8000, True), 146),
+    "16000 shelves drained in any order": Row(drained(16000, False), 91),
+    "4096 shelves, half of them empty: a split and a merge": Row(half_empty(16, 256), 26893),
+    "32000 such shelves": Row(half_empty(16, 2000)),
+    "the same item alone: its shelf splits and merges": Row(same_item(0), 285),
+    "the same item beside another": Row(same_item(1), 208),
+    "65535 columns, the same item": Row(in_columns(65535), 182),
+    "8000 full shelves: the first goes and comes": Row(full_shelves(lambda _: 0), 181),
+    "8000 full shelves: any goes and comes": Row(full_shelves(lambda chooser: chooser.randrange(8000)), 72703),
+}
