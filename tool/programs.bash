@@ -4,7 +4,7 @@
 # below it, and one of the toolchain's version. So what has the name is current, whatever the times of files say. With
 # `-proved` behind it it is the program that the gate or `rt run` proved; else an unproved build, which checks as it runs.
 # They are kept in out/, or in the user's cache where the checkout can't be written to. Where `rt` isn't in the path, a
-# program that was kept of these sources is run, whichever toolchain made it.
+# program that was kept of these sources is run, whichever toolchain made it; else the one that was released in dist/.
 
 root=$(dirname -- "$(dirname -- "$(readlink -f -- "${BASH_SOURCE[0]}")")")
 cache=${XDG_CACHE_HOME:-${HOME:-}/.cache}/etagere
@@ -74,6 +74,15 @@ kept() {
     for file in "$root/out"/$1 "$cache"/$1; do
         [[ ! -x $file ]] || { echo "$file" && return; }
     done
+}
+
+# Prints the path of the released program of the crate $1, and says which version it is and whether of these sources.
+released() {
+    local name=bin/${1%_cli} made=$root/dist/MADE_OF sources=other
+    [[ -x $root/dist/$name && -f $made ]] || return 0
+    ! grep -qxF -- "$name $(sources_sum "$1")" "$made" || sources=these
+    say "runs the released program, $(head -n 1 -- "$made"), made of $sources sources: rt isn't in PATH"
+    echo "$root/dist/$name"
 }
 
 # Prints a folder where programs can be kept.
@@ -163,7 +172,7 @@ build() (
 )
 
 # Prints the path of the program of the crate $1: the proved one if it is there, else an unproved one, which is built
-# where it has to be.
+# where it has to be, or the released one where that can't be.
 program_of() {
     local crate=$1 name program
     name=$(name_of "$crate")
@@ -173,8 +182,10 @@ program_of() {
         program=$(kept "$name-proved")
     fi
     program=${program:-$(kept "$name")}
-    if [[ -z $program ]]; then
-        has_toolchain || give_up "no program is kept of these sources, and the toolchain's command rt isn't in PATH"
+    if [[ -z $program ]] && ! has_toolchain; then
+        program=$(released "$crate")
+        [[ -n $program ]] || give_up "no program is kept of these sources or released, and the toolchain's rt isn't in PATH"
+    elif [[ -z $program ]]; then
         build "$crate" "$name" || exit
         program=$(kept "$name")
     fi

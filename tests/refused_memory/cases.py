@@ -42,7 +42,7 @@ def script_of(run):
 
 
 def scripts():
-    return texts("tests/refused_growths/*.atlas", "examples/*.atlas")
+    return texts("tests/refused_memory/*.atlas", "examples/*.atlas")
 
 
 def long_scripts():
@@ -54,7 +54,7 @@ def cache_scripts():
 
 
 def snapshots():
-    return texts("tests/refused_growths/*.json")
+    return texts("tests/refused_memory/*.json")
 
 
 def short_lives(count):
