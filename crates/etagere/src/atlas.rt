@@ -196,7 +196,7 @@ impl AtlasAllocator {
         }
     }
 
-    /// Gives a rectangle that is at least as large as the size in pixels, or none where there is no place.
+    /// Gives a rectangle that is at least as large as the size in pixels, or none where there is no room.
     ///
     /// `Err` comes only where the item or shelf must be split, too few records are unused for that, and there was no
     /// memory. After an `Err` or none nothing has changed. Memory is taken only for records that are made: of items,
@@ -249,7 +249,7 @@ impl AtlasAllocator {
         Ok(Some(Allocation { id, rectangle }))
     }
 
-    /// Whether the atlas, with its present size and columns, would have a place for a size in pixels if it were empty.
+    /// Whether the atlas, with its present size and columns, would have room for a size in pixels if it were empty.
     ///
     /// Takes no memory, and constant time.
     pub fn fits_when_empty(&self, size: Size) -> bool

@@ -197,7 +197,7 @@ impl BucketedAtlasAllocator {
         }
     }
 
-    /// Gives a rectangle that is at least as large as the size in pixels, or none where there is no place.
+    /// Gives a rectangle that is at least as large as the size in pixels, or none where there is no room.
     ///
     /// `Err` comes only where a shelf is to be added and there was no memory. Nothing changes after an
     /// `Err` or none. An added shelf takes memory for its record, and for those of its buckets as far as

@@ -23,7 +23,7 @@ pub enum GlyphCommand {
 pub enum GlyphReply {
     /// The key has this rectangle, and these keys were evicted for it.
     Placed(Placed),
-    /// The key is new, and an empty cache has no place for its size. Nothing changed.
+    /// The key is new, and an empty cache has no room for its size. Nothing changed.
     TooLarge,
     /// The key is new, and there was no memory. These keys were evicted before that was found, the least recently used
     /// first; the others stand.

@@ -81,7 +81,7 @@ impl GlyphCache {
     /// there is no room, the least recently used keys are evicted first, no more than needed; they are listed in
     /// `evicted`.
     ///
-    /// `TooLarge` comes exactly where the key is new and an empty atlas has no place for the size; then nothing
+    /// `TooLarge` comes exactly where the key is new and an empty atlas has no room for the size; then nothing
     /// changes. `Memory` comes only for a new key, with the keys that were evicted before memory ran out: these are
     /// gone, and the others stand. Takes memory for the entry, for what the allocation splits, and for the list of
     /// the evicted keys. Asks the atlas once, and once more for each key that is evicted.

@@ -1,4 +1,4 @@
-//! Why a cache has no place for a glyph.
+//! Why a cache has no room for a glyph.
 //!
 //! Definitions: `Faults`. Numbers and messages are public: a new fault gets a new number.
 
@@ -7,10 +7,10 @@ ghost use Rattle.glyph_shelf.specs.Faults.{glyph_fault_number};
 
 use thiserror::Error;
 
-/// Why a key has no place.
+/// Why there is no room for a key.
 #[derive(Debug, Drop, PartialEq, Eq, Error)]
 pub enum GlyphFault {
-    /// The key is new, and an empty atlas of the same size and options has no place for its size. Nothing changed.
+    /// The key is new, and an empty atlas of the same size and options has no room for its size. Nothing changed.
     #[error("TooLarge")]
     TooLarge,
     /// The key is new, and there was no memory. These keys were evicted before memory ran out, the least recently used

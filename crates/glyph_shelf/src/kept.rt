@@ -129,7 +129,7 @@ impl Kept {
         self.atlas.clear();
     }
 
-    /// Puts a new key in front, if there is room for one entry more and the atlas has a place for the size.
+    /// Puts a new key in front, if there is room for one entry more and the atlas has room for the size.
     ///
     /// After an `Err` the entries are those before, and the layout of the atlas is.
     fn enter(&mut self, key: u64, size: Size) -> Result<Option<Rectangle>, AllocError>

@@ -37,7 +37,7 @@ pub enum BucketedCommand {
 pub enum Reply {
     /// The size was given this allocation.
     Placed(Allocation),
-    /// The atlas has no place for the size.
+    /// The atlas has no room for the size.
     Refused,
     /// The allocation was given back.
     Returned,

@@ -90,7 +90,7 @@ pub fn placement_of(
     }
 }
 
-/// Whether a new atlas of a frame has a place for the size. Its columns are alike, each one empty shelf, so the first one
+/// Whether a new atlas of a frame has room for the size. Its columns are alike, each one empty shelf, so the first one
 /// tells.
 pub fn fits_when_empty(frame: &Frame, size: Size) -> bool
     requires { IsFrame longest_side frame.now }
@@ -124,7 +124,7 @@ fn chosen(
     Some(placement_at(records, sides.along, height, candidate))
 }
 
-/// The height of a shelf for items of this height: stepped, unless that is taller than the atlas.
+/// The height of a shelf for items of this height: rounded up, unless that is taller than the atlas.
 fn shelf_height(frame: &Frame, height: u32) -> u32
     requires frame { IsFrame longest_side frame.now }
     requires short { height ≤ longest_side }

@@ -15,7 +15,7 @@ use std::alloc::AllocError;
 /// Places two pictures of these sizes in pixels. Both get a place or neither does, and then the atlas
 /// has allocated what it had before.
 ///
-/// None is the answer where one of them has no place, `Err` where memory was refused. Takes the memory
+/// None is the answer where there is no room for one of them, `Err` where memory was refused. Takes the memory
 /// and time of two allocations, and of a return where only the first got a place.
 pub fn allocate_two(
     atlas: &mut AtlasAllocator,
