@@ -192,6 +192,21 @@ program_of() {
     echo "$program"
 }
 
+# Prints a folder with the library of these sources: the one that ETAGERE_LIB_DIR names, else that of dist/ where it is
+# of these sources, else $1, where it is then made. Without a toolchain it is dist/ in any case.
+library_folder() {
+    if [[ -n ${ETAGERE_LIB_DIR-} ]]; then
+        echo "$ETAGERE_LIB_DIR"
+    elif [[ $("$root/tool/release" --check 2>&1) == *"of these sources" ]]; then
+        echo "$root/dist/lib"
+    elif has_toolchain; then
+        "$root/tool/release" --archive "$1" && echo "$1"
+    else
+        say "tries the released library, of other sources: rt isn't in PATH"
+        echo "$root/dist/lib"
+    fi
+}
+
 # Runs the program of the crate $1 with the other arguments, in place of this script.
 run_program() {
     local crate=$1 program
