@@ -2,7 +2,9 @@ pub mod Allocating
 pub mod Callers
 pub mod Ledger
 pub mod Promises
+pub mod Refusing
 pub mod Shelving
 pub mod Spacing
 pub mod Validity
+pub mod WorkedReasons
 pub mod WorkedRows

@@ -18,20 +18,20 @@ use Rattle.bucketed_model.specs.State.{BucketShelf, BucketedState, Tag, buckets_
 use Rattle.bucketed_model.specs.Svg.{picture}
 use Rattle.bucketed_model.specs.Taking.{bucket_taken, given}
 
-abbrev size : ℕ → ℕ → Size
+abbrev pub size : ℕ → ℕ → Size
 size width height = record { width = pos width; height = pos height }
 
 abbrev rectangle : ℕ → ℕ → ℕ → ℕ → Rectangle
 rectangle x0 y0 x1 y1 = record { min = record { x = pos x0; y = pos y0 }; max = record { x = pos x1; y = pos y1 } }
 
-abbrev options : ℕ → ℕ → Bool → ℕ → AllocatorOptions
+abbrev pub options : ℕ → ℕ → Bool → ℕ → AllocatorOptions
 options width height vertical columns =
     record { alignment = size width height; vertical_shelves = vertical; num_columns = pos columns }
 
-abbrev new_atlas : Size → AllocatorOptions → BucketedState
+abbrev pub new_atlas : Size → AllocatorOptions → BucketedState
 new_atlas size options = fresh (bucketed_frame size options)
 
-abbrev plain_atlas : ℕ → ℕ → BucketedState
+abbrev pub plain_atlas : ℕ → ℕ → BucketedState
 plain_atlas width height = new_atlas (size width height) (options 1 1 false 1)
 
 -- so many new tags, the last made first, with numbers from one on
@@ -90,7 +90,7 @@ answer state (Ask width height) =
 answer state (AskWith width height tags) = given_or state tags (placement_of state (size width height))
 answer state call = None
 
-abbrev after : BucketedState → List Call → BucketedState
+abbrev pub after : BucketedState → List Call → BucketedState
 after state [] = state
 after state (call ∷ calls) = after (after_call state call) calls
 
@@ -102,7 +102,7 @@ abbrev placed : ℕ → ℕ → ℕ → ℕ → ℕ → Option Allocation
 placed id x0 y0 x1 y1 = Some (record { id = id; rectangle = rectangle x0 y0 x1 y1 })
 
 -- the same call so many times
-abbrev times_of : ℕ → Call → List Call
+abbrev pub times_of : ℕ → Call → List Call
 times_of n call = replicate n call
 
 -- a rectangle without its id
@@ -224,7 +224,7 @@ pub emptied_buckets_start_anew-last : answer (worn 4999 one_in_buckets) (Ask 16 
 emptied_buckets_start_anew-last = refl
 
 -- a shelf of one bucket, one wide, that has given so many items
-abbrev narrow_shelf : ℕ → ℕ → ℕ → ℕ → BucketShelf
+abbrev pub narrow_shelf : ℕ → ℕ → ℕ → ℕ → BucketShelf
 narrow_shelf column height number items =
     record {
       column = column;
@@ -239,7 +239,7 @@ narrow_shelf column height number items =
       } ∷ [];
     }
 
-abbrev many_columns : ℕ → List BucketShelf → BucketedState
+abbrev pub many_columns : ℕ → List BucketShelf → BucketedState
 many_columns height shelves = record { frame = (new_atlas (size 5000 height) (options 1 1 false 5000)).frame; shelves = shelves }
 
 -- so many columns, this one first, each full with one item

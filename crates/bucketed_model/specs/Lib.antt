@@ -8,10 +8,13 @@ pub mod Ledgers
 pub mod Merging
 pub mod Picking
 pub mod Placing
+pub mod Refusal
+pub mod RefusalLaws
 pub mod Returning
 pub mod Space
 pub mod State
 pub mod Svg
 pub mod Taking
 pub mod Tied
+pub mod Usage
 pub mod Valid

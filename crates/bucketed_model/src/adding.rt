@@ -155,7 +155,8 @@ fn new_count(frame: &Frame, width: u32, height: u32, left: u32) -> u32
     bucket_count(frame.column_width / width.max(height)).min(left)
 }
 
-fn has_later_column(frame: &Frame, left: &Remaining) -> bool
+/// Whether there is a column after the current one.
+pub(crate) fn has_later_column(frame: &Frame, left: &Remaining) -> bool
     requires { left.now.column < 2 ^ 31 }
     ensures { result ≡ spec.has_later_column frame.now left.now }
 {

@@ -2,6 +2,7 @@
 pub mod Blocks
 pub mod DrawnRecords
 pub mod Growths
+pub mod Refusals
 pub mod Returns
 pub mod Searching
 pub mod StoreEdits

@@ -27,6 +27,8 @@ pub(crate) enum Wanted {
     Roomy(u32),
     /// Just this width is free, and another item can be given.
     Exact(u32),
+    /// At least this width is free, whether or not another item can be given.
+    Wide(u32),
 }
 
 /// A bucket that was found: its number, and that of its shelf.
@@ -61,6 +63,7 @@ fn is_wanted(wanted: Wanted, bucket: &LinkedBucket) -> bool
     match wanted {
         Wanted::Roomy(width) => width <= free && can_give,
         Wanted::Exact(width) => width <= free && can_give && free == width,
+        Wanted::Wide(width) => width <= free,
     }
 }
 

@@ -14,7 +14,7 @@ use Rattle.bucketed_records.specs.declared.records.KeptShelf.{KeptShelf}
 use Rattle.bucketed_records.specs.StandsFor.{free_of}
 use Rattle.bucketed_records.specs.Private.Store.{record_room, is_kept_idle}
 pub use Rattle.bucketed_store.specs.declared.searching.Wanted.{Wanted}
-use Rattle.bucketed_store.specs.declared.searching.Wanted.TheVariants.{Roomy, Exact}
+use Rattle.bucketed_store.specs.declared.searching.Wanted.TheVariants.{Roomy, Exact, Wide}
 pub use Rattle.bucketed_store.specs.declared.searching.Found.{Found}
 use Rattle.bucketed_store.specs.declared.placing.Place as code
 use Rattle.bucketed_store.specs.declared.placing.Place.TheVariants as places
@@ -38,6 +38,7 @@ is_wanted (Roomy width) bucket =
 is_wanted (Exact width) bucket =
     (nat_le width bucket.free_space && nat_lt bucket.item_count most_given)
     && bucket.free_space == width
+is_wanted (Wide width) bucket = nat_le width bucket.free_space
 
 -- the number of the first record that is wanted, in so many steps from a link on
 abbrev pub first_from : ℕ → Wanted → List LinkedBucket → Option ℕ → Option ℕ

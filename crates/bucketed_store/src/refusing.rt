@@ -1,0 +1,99 @@
+//! Why a size has no place. Nothing here changes the records.
+//!
+//! Definitions: `Refusals`, and `Refusal` for what they mean.
+
+ghost use Rattle.std.specs.Prelude.{◌≡◌, ◌<◌, ◌^◌};
+ghost use Rattle.std.specs.List.{list_any};
+ghost use Rattle.bucketed_model.specs.Frames.{IsBucketedFrame};
+ghost use Rattle.bucketed_store.specs.Private.Refusals as spec;
+
+use crate::placing::place_of;
+use crate::searching::{Wanted, first_wanted};
+use crate::store::Store;
+use bucketed_model::adding::Remaining;
+use bucketed_model::refusals::{BucketedRefusal, has_space};
+use bucketed_records::records::{KeptShelf, LinkedBucket, wider};
+use etagere_base::{Frame, Sides};
+
+/// The widest room in the shelves that are at least so tall.
+pub(crate) fn widest_among(shelves: &[KeptShelf], height: u32) -> u16
+    ensures { result ≡ spec.kept_widest height shelves.now }
+{
+    let mut widest = 0;
+    for kept in shelves {
+        if height <= u32::from(kept.shelf.height) {
+            widest = wider(widest, kept.widest_room);
+        }
+    }
+    widest
+}
+
+/// Whether a shelf is tall enough, and a bucket of it has the width left.
+fn has_width(sides: &Sides, kept: &KeptShelf, buckets: &[LinkedBucket]) -> bool
+    ensures { result ≡ spec.kept_has_width sides.now buckets.now kept.now }
+{
+    let wanted = Wanted::Wide(sides.along);
+    sides.across <= u32::from(kept.shelf.height)
+        && first_wanted(wanted, buckets, kept.shelf.first_bucket).is_some()
+}
+
+/// Whether one of the shelves does so.
+fn any_has_width(sides: &Sides, shelves: &[KeptShelf], buckets: &[LinkedBucket]) -> bool
+    ensures { result ≡ list_any (spec.kept_has_width sides.now buckets.now) shelves.now }
+{
+    for kept in shelves {
+        if has_width(sides, kept, buckets) {
+            return true;
+        }
+    }
+    false
+}
+
+/// Why these sides have no place in shelves of which none has one.
+fn shelves_refusal(
+    frame: &Frame,
+    left: &Remaining,
+    sides: &Sides,
+    shelves: &[KeptShelf],
+    buckets: &[LinkedBucket],
+) -> BucketedRefusal
+    requires { left.now.column < 2 ^ 31 }
+    ensures { result
+        ≡ spec.kept_shelves_refusal frame.now left.now sides.now shelves.now buckets.now }
+{
+    if has_space(frame, left, sides.across) {
+        return BucketedRefusal::NoBuckets;
+    }
+    if any_has_width(sides, shelves, buckets) {
+        return BucketedRefusal::ItemsUsedUp;
+    }
+    BucketedRefusal::NoRoom {
+        widest: u32::from(widest_among(shelves, sides.across)),
+    }
+}
+
+/// Why these sides have no place, none where they have one. Goes through the shelves as a search for a place does, and
+/// once more where there is none, and then looks at the buckets of those that are tall enough.
+pub fn place_refusal(
+    frame: &Frame,
+    left: &Remaining,
+    sides: &Sides,
+    store: &Store,
+) -> Option<BucketedRefusal>
+    requires frame { IsBucketedFrame frame.now }
+    requires across { (0 < sides.now.across) × (sides.now.across < 2 ^ 31) }
+    requires column { left.now.column < 2 ^ 31 }
+    ensures { result
+        ≡ spec.kept_refusal frame.now left.now sides.now store.now.shelves store.now.buckets }
+{
+    if place_of(frame, left, sides, store).is_some() {
+        return None;
+    }
+    Some(shelves_refusal(
+        frame,
+        left,
+        sides,
+        &store.shelves,
+        &store.buckets,
+    ))
+}
