@@ -65,6 +65,14 @@ pub fn largest_free(frame: &Frame, store: &Store) -> Size
     size_of_sides(frame, largest_sides(&store.shelves))
 }
 
+/// Counts a bucket where it holds nothing live.
+fn idle_one(bucket: &LinkedBucket) -> u32
+    ensures value { result ≡ spec.idle_one bucket.now }
+    ensures few { result ≤ 1 }
+{
+    if bucket.refcount == 0 { 1 } else { 0 }
+}
+
 /// How many buckets hold nothing live, by the links from this one on.
 fn idle_buckets(buckets: &[LinkedBucket], first: Link) -> u32
     ensures value { result ≡ spec.idle_from most_buckets buckets.now first }
@@ -80,9 +88,7 @@ fn idle_buckets(buckets: &[LinkedBucket], first: Link) -> u32
             break;
         }
         let bucket = &buckets[number];
-        if bucket.refcount == 0 {
-            idle += 1;
-        }
+        idle += idle_one(bucket);
         at = bucket.next;
     }
     idle
@@ -97,7 +103,7 @@ struct Held {
 }
 
 /// What these shelves and their buckets hold.
-fn held(shelves: &[KeptShelf], buckets: &[LinkedBucket]) -> Held
+fn counted(shelves: &[KeptShelf], buckets: &[LinkedBucket]) -> Held
     requires shelves { length shelves.now ≤ most_buckets }
     requires items { spec.kept_items shelves.now < 2 ^ 32 }
     ensures idle_shelves { result.idle_shelves ≡ spec.kept_idle_count shelves.now }
@@ -128,7 +134,7 @@ pub fn usage(frame: &Frame, store: &Store, in_use: u32) -> BucketedUsage
     requires in_use { in_use ≤ most_buckets }
     ensures { result ≡ spec.kept_usage frame.now in_use store.now.shelves store.now.buckets }
 {
-    let held = held(&store.shelves, &store.buckets);
+    let held = counted(&store.shelves, &store.buckets);
     BucketedUsage {
         shelves: store.shelves.len() as u32,
         idle_shelves: held.idle_shelves,

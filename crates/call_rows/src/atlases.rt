@@ -1,5 +1,6 @@
 //! Atlases of both kinds, called by the words of rows.
 
+use crate::bucketed_answers::bucketed_answer;
 use crate::subject::Subject;
 use crate::words::{corners, done, id_of, placed, rectangle_text, text, told};
 use anyhow::{Result, bail};
@@ -242,6 +243,9 @@ impl Subject for BucketedAtlasAllocator {
     }
 
     fn answer(&mut self, alloc: Global, call: &str, words: &str) -> Result<String> {
-        answer(self, alloc, call, words)
+        match bucketed_answer(self, alloc, call, words)? {
+            Some(told) => Ok(told),
+            None => answer(self, alloc, call, words),
+        }
     }
 }

@@ -6,6 +6,7 @@
 #![tactic(auto)]
 
 mod atlases;
+mod bucketed_answers;
 mod caches;
 mod stage;
 mod subject;

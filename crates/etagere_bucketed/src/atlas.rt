@@ -17,11 +17,13 @@ ghost use Rattle.bucketed_model.specs.Frames.{longest_bucketed_side};
 ghost use Rattle.bucketed_model.specs.Growing as growing;
 ghost use Rattle.bucketed_model.specs.Ledgers.{AddsEntry, IsClear, KeepsEntries, KeepsKnown, SameKnown, SameOthers, TakesEntry};
 ghost use Rattle.bucketed_model.specs.Placing.{IsBucketRefused};
+ghost use Rattle.bucketed_model.specs.Refusal as refusals;
 ghost use Rattle.bucketed_model.specs.Returning.{bucket_returned, is_known};
 ghost use Rattle.bucketed_model.specs.Space as space;
 ghost use Rattle.bucketed_model.specs.State.{fresh, is_idle};
 ghost use Rattle.bucketed_model.specs.Svg.{svg, svg_into};
 ghost use Rattle.bucketed_model.specs.Tied.{AreTied};
+ghost use Rattle.bucketed_model.specs.Usage as usages;
 ghost use Rattle.bucketed_model.specs.declared.faults.GrowFault.TheVariants as grow_faults;
 ghost use Rattle.bucketed_records.specs.Private.Restored.{IsSnapshotJudged, linked_records};
 ghost use Rattle.bucketed_records.specs.Restoring.{Breaks, snapshot_records, state_of};
@@ -31,14 +33,18 @@ use crate::restored::restore_bucketed;
 use bucketed_model::adding::Remaining;
 use bucketed_model::faults::GrowFault;
 use bucketed_model::frames::{LONGEST_BUCKETED_SIDE, bucketed_frame, grow_fault, grown_frame};
+use bucketed_model::refusals::{BucketedRefusal, size_refusal};
+use bucketed_model::usage::BucketedUsage;
 use bucketed_records::records::MOST_BUCKETS;
 use bucketed_records::saving::LinkedSnapshot;
 use bucketed_records::snapshots::{BucketedSnapshot, Totals, snapshot_of};
 use bucketed_restoring::restoring::JudgedSnapshot;
 use bucketed_store::drawing::{send_document, send_part, send_picture};
 use bucketed_store::placing::place_of;
+use bucketed_store::refusing::place_refusal;
 use bucketed_store::returning::bucket_number;
 use bucketed_store::store::Store;
+use bucketed_store::usage;
 use etagere_base::{
     AllocId, Allocation, AllocatorOptions, DEFAULT_OPTIONS, Frame, OptionsFault, Rectangle,
     RestoreFault, Size, UnknownId, asked, options_fault,
@@ -357,6 +363,48 @@ impl BucketedAtlasAllocator {
         ensures promises { KeepsPromises self.now }
     {
         (self.frame.width * self.frame.height - self.allocated_space) as i32
+    }
+
+    /// Why `allocate` has no place for a size in pixels, none where it has one: the first reason that holds.
+    ///
+    /// Takes no memory and changes nothing. Where there is a place, the cost is that of the search of `allocate`; else
+    /// it goes through the shelves once more, and through the buckets of those that are tall enough.
+    pub fn refusal(&self, size: Size) -> Option<BucketedRefusal>
+        ensures { result ≡ refusals.refusal self.now size }
+    {
+        if let Some(refusal) = size_refusal(&self.frame, size) {
+            return Some(refusal);
+        }
+        let sides = asked(&self.frame, size)?;
+        let left = Remaining {
+            column: self.current_column,
+            height: self.available_height,
+            buckets: MOST_BUCKETS - self.buckets_in_use,
+        };
+        place_refusal(&self.frame, &left, &sides, &self.store)
+    }
+
+    /// The widest item that a shelf can give, with the height of that shelf, in pixels: the widest room of a bucket,
+    /// and the greatest height of the shelves that have it. 0 by 0 where no shelf has room.
+    ///
+    /// Only shelves that are there count: not the space for a new one, so that a new atlas has none, nor several idle
+    /// ones together. A bucket that has given 4095 items has no room until it is empty, and an idle one has its whole
+    /// width. With vertical shelves the room is the height, and the height of the shelf the width.
+    ///
+    /// Takes no memory, and goes through the shelves twice.
+    pub fn largest_free(&self) -> Size
+        ensures { result ≡ usages.largest_free self.now }
+    {
+        usage::largest_free(&self.frame, &self.store)
+    }
+
+    /// How full the atlas is: its shelves, buckets and items, and `largest_free`.
+    ///
+    /// Takes no memory, and goes through the shelves three times, and through the buckets once.
+    pub fn usage(&self) -> BucketedUsage
+        ensures { result ≡ usages.usage self.now }
+    {
+        usage::usage(&self.frame, &self.store, self.buckets_in_use)
     }
 
     /// Writes an SVG document that shows the atlas and every bucket, in pixels: the part of a bucket

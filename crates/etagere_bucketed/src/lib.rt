@@ -12,4 +12,6 @@ mod restored;
 
 pub use atlas::BucketedAtlasAllocator;
 pub use bucketed_model::faults::GrowFault;
+pub use bucketed_model::refusals::BucketedRefusal;
+pub use bucketed_model::usage::BucketedUsage;
 pub use bucketed_records::snapshots::{BucketRecord, BucketShelfRecord, BucketedSnapshot};

@@ -73,13 +73,17 @@ abbrev pub kept_items : List KeptShelf → ℕ
 kept_items [] = 0
 kept_items (kept ∷ shelves) = kept.live_items + kept_items shelves
 
+-- a record counts where it holds nothing live
+abbrev pub idle_one : LinkedBucket → ℕ
+idle_one bucket = if bucket.refcount == 0 then 1 else 0
+
 -- how many records hold nothing live, in so many steps from a link on
 abbrev pub idle_from : ℕ → List LinkedBucket → Option ℕ → ℕ
 idle_from zero buckets at = 0
 idle_from (suc steps) buckets None = 0
 idle_from (suc steps) buckets (Some number) =
     option_map_or
-    (λ (bucket : LinkedBucket). (if bucket.refcount == 0 then 1 else 0) + idle_from steps buckets bucket.next)
+    (λ (bucket : LinkedBucket). idle_one bucket + idle_from steps buckets bucket.next)
     (slice_get buckets number) 0
 
 -- how many buckets of shelves hold nothing live

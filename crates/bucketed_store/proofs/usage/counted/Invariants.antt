@@ -1,6 +1,6 @@
 use Rattle.std.proofs.Common.{◌≡◌, ◌+◌, ◌*◌, ◌≤◌, drop}
 use Rattle.bucketed_store.specs.Private.Refusals.{idle_in, kept_idle_count, kept_items}
-use Rattle.bucketed_store.proofs.usage.held.Given as goal
+use Rattle.bucketed_store.proofs.usage.counted.Given as goal
 
 -- what was counted so far and what the shelves from here on hold make up the whole
 abbrev pub invariant-loop-kept : goal.invariant-loop-kept
