@@ -89,11 +89,5 @@ pub fn place_refusal(
     if place_of(frame, left, sides, store).is_some() {
         return None;
     }
-    Some(shelves_refusal(
-        frame,
-        left,
-        sides,
-        &store.shelves,
-        &store.buckets,
-    ))
+    Some(shelves_refusal(frame, left, sides, &store.shelves, &store.buckets))
 }

@@ -49,6 +49,8 @@ fn bucketed_usage_text(alloc: Global, atlas: &BucketedAtlasAllocator) -> Result<
     let (buckets, idle_buckets) = (usage.buckets, usage.idle_buckets);
     let (items, unused) = (usage.items, usage.unused_buckets);
     let (width, height) = (usage.largest_free.width, usage.largest_free.height);
-    let counts = format!(in alloc; "shelves {shelves} {idle_shelves} buckets {buckets} {idle_buckets}")?;
+    let counts = format!(in alloc;
+        "shelves {shelves} {idle_shelves} buckets {buckets} {idle_buckets}"
+    )?;
     Ok(format!(in alloc; "{counts} items {items} unused {unused} largest {width} {height}")?)
 }

@@ -17,7 +17,8 @@ pub use etagere_base::{
     RestoreFault, Size, UnknownId, point2, size2,
 };
 pub use etagere_bucketed::{
-    BucketRecord, BucketShelfRecord, BucketedAtlasAllocator, BucketedSnapshot, GrowFault,
+    BucketRecord, BucketShelfRecord, BucketedAtlasAllocator, BucketedRefusal, BucketedSnapshot,
+    BucketedUsage, GrowFault,
 };
 pub use listing::Iter;
 pub use shelf_model::faults::AtlasGrowFault;
