@@ -1,18 +1,21 @@
 -- A size is refused exactly where it has no place, and what each reason says.
-use Rattle.std.proofs.Common.{◌≡◌, ℕ, suc, ◌+◌, ◌<◌, ◌≤◌, Bool, true, false, cond, Option, None, Some, List, [], ◌∷◌, refl, ap, arith, sym, ◌∙◌, subst, ◌&&◌}
+use Rattle.std.proofs.Common.{◌≡◌, ℕ, ◌≤◌, Bool, true, false, cond, Option, None, Some, refl, ap, arith, sym, ◌∙◌, subst, ◌&&◌}
 use Rattle.std.proofs.lemmas.Bool.Decides.{nat_tests}
+use Rattle.std.specs.List.{list_any}
 use Rattle.std.specs.Prelude.{◌↔◌, ◌||◌, ◌==◌, not, nat_le, nat_lt, is_some, IsSome, option_and_then, option_map, if◌then◌else◌}
 use Rattle.etagere_base.specs.declared.frames.Frame.{Frame}
 use Rattle.etagere_base.specs.declared.geometry.Size.{Size}
 use Rattle.etagere_base.specs.declared.sides.Sides.{Sides}
-use Rattle.etagere_base.specs.Frames.{across_side, asked, fitting}
+use Rattle.etagere_base.specs.Frames.{across_side, asked}
 use Rattle.etagere_base.specs.Sides.{side}
 use Rattle.bucketed_model.specs.declared.refusals.BucketedRefusal.{BucketedRefusal}
-use Rattle.bucketed_model.specs.declared.refusals.BucketedRefusal.TheVariants.{NotPositive, TooLong, WiderThanColumn, TallerThanAtlas}
-use Rattle.bucketed_model.specs.Picking.{or_else}
-use Rattle.bucketed_model.specs.Placing.{BucketPlace, BucketPlacement, bucket_place, placement_of}
-use Rattle.bucketed_model.specs.Refusal.{place_refusal, refusal, rounded, shelves_refusal, size_refusal}
-use Rattle.bucketed_model.specs.State.{BucketedState}
+use Rattle.bucketed_model.specs.declared.refusals.BucketedRefusal.TheVariants.{NotPositive, TooLong, WiderThanColumn, TallerThanAtlas, NoRoom, NoBuckets, ItemsUsedUp}
+use Rattle.bucketed_model.specs.Adding.{Remaining, can_add, left_to, needs_filler, new_shelves}
+use Rattle.bucketed_model.specs.Merging.{mergeable_shelves}
+use Rattle.bucketed_model.specs.Picking.{Spot, or_else, pick}
+use Rattle.bucketed_model.specs.Placing.{BucketPlace, BucketPlacement, InAdded, InBucket, InMerged, bucket_place, placement_of}
+use Rattle.bucketed_model.specs.Refusal.{has_space, has_width, place_refusal, refusal, rounded, shelves_refusal, size_refusal, widest}
+use Rattle.bucketed_model.specs.State.{BucketedState, buckets_left}
 
 -- the reasons of a size, by the tests of its sides
 abbrev reason_by : (empty long wide tall : Bool) → Option BucketedRefusal
@@ -102,3 +105,59 @@ refuses-exactly state size = by_reason (size_refusal state.frame size) (asked st
     by_reason None (Some sides) o = by_place sides (bucket_place state.frame state.shelves sides)
     by_reason (Some r) None o = (λ e. absurd (cc), λ e. absurd (cc))
     by_reason (Some r) (Some sides) o = let asks = o.some refl in absurd (cc)
+
+-- what is refused by its shelves: it has no reason of its own, no place, and this reason
+record IsRefused (state : BucketedState) (sides : Sides) (reason : BucketedRefusal) : Type 0 where
+  nowhere : bucket_place state.frame state.shelves sides ≡ None
+  told : shelves_refusal state.frame state.shelves sides ≡ reason
+
+refused-by : (state : BucketedState) (size : Size) (sides : Sides) (reason : BucketedRefusal) → refusal state size ≡ Some reason → asked state.frame size ≡ Some sides
+    → IsRefused state sides reason
+refused-by state size sides reason h asks =
+    by_place (bucket_place state.frame state.shelves sides) refl
+    (sym (ap (λ (o : Option BucketedRefusal). or_else o (option_and_then (place_refusal state.frame state.shelves) (asked state.frame size))) (asked-unrefused state.frame size sides asks)
+    ∙ ap (option_and_then (place_refusal state.frame state.shelves)) asks) ∙ h)
+  where
+    by_place : (place : Option BucketPlace) → bucket_place state.frame state.shelves sides ≡ place
+        → cond (is_some place) None (Some (shelves_refusal state.frame state.shelves sides)) ≡ Some reason → IsRefused state sides reason
+    by_place None e k = record { nowhere = e; told = cc }
+    by_place (Some place) e k = absurd (cc)
+
+-- nothing is picked, added or merged for sides that have no place
+record HasNone (state : BucketedState) (sides : Sides) : Type 0 where
+  picks : pick (can_add state.frame (left_to state.frame state.shelves) sides.across) sides state.shelves ≡ None
+  adds : can_add state.frame (left_to state.frame state.shelves) sides.across ≡ false
+
+nowhere-none : (state : BucketedState) (sides : Sides) → bucket_place state.frame state.shelves sides ≡ None → HasNone state sides
+nowhere-none state sides h =
+    by_parts (pick (can_add state.frame (left_to state.frame state.shelves) sides.across) sides state.shelves) (can_add state.frame (left_to state.frame state.shelves) sides.across) refl refl h
+  where
+    adds : Bool
+    adds = can_add state.frame (left_to state.frame state.shelves) sides.across
+
+    by_parts : (found : Option Spot) (a : Bool) → pick adds sides state.shelves ≡ found → adds ≡ a
+        → or_else (option_map InBucket found) (cond a (Some (InAdded (new_shelves state.frame (left_to state.frame state.shelves) sides))) (option_map InMerged (mergeable_shelves sides 0 state.shelves))) ≡ None
+        → HasNone state sides
+    by_parts (Some spot) a e f k = absurd (cc)
+    by_parts None true e f k = absurd (cc)
+    by_parts None false e f k = record { picks = e; adds = f }
+
+-- where buckets are lacking
+pub few-are-left : (state : BucketedState) (size : Size) (sides : Sides) → refusal state size ≡ Some NoBuckets → asked state.frame size ≡ Some sides
+    → (has_space state.frame (left_to state.frame state.shelves) sides.across ≡ true) × (buckets_left state.shelves ≤ 1)
+few-are-left state size sides h asks =
+    let refused = refused-by state size sides NoBuckets h asks in
+    let none = nowhere-none state sides refused.nowhere in
+    by_tests (has_space state.frame left sides.across) (list_any (has_width sides) state.shelves) (needs_filler state.frame left sides.across) refl refused.told none.adds
+  where
+    left : Remaining
+    left = left_to state.frame state.shelves
+
+    by_tests : (spacious wide filler : Bool) → has_space state.frame left sides.across ≡ spacious
+        → cond (not (spacious || wide)) (NoRoom (widest sides.across state.shelves)) (cond spacious NoBuckets ItemsUsedUp) ≡ NoBuckets
+        → (spacious && nat_le (cond filler 2 1) (buckets_left state.shelves)) ≡ false
+        → (spacious ≡ true) × (buckets_left state.shelves ≤ 1)
+    by_tests true wide true e k a = (refl, grind (arith, nat_tests))
+    by_tests true wide false e k a = (refl, grind (arith, nat_tests))
+    by_tests false true filler e k a = absurd (cc)
+    by_tests false false filler e k a = absurd (cc)

@@ -1,14 +1,13 @@
 -- Worked rows: why sizes are refused, and how full an atlas is, as the rules say it.
-use Rattle.std.proofs.Common.{◌≡◌, ℕ, Bool, true, false, Option, None, Some, List, [], ◌∷◌, refl, map}
-use Rattle.std.specs.Prelude.{pos}
+use Rattle.std.proofs.Common.{◌≡◌, ℕ, true, false, Option, None, Some, List, [], ◌∷◌, refl, map}
 use Rattle.etagere_base.specs.declared.geometry.Size.{Size}
 use Rattle.bucketed_model.specs.declared.refusals.BucketedRefusal.{BucketedRefusal}
-use Rattle.bucketed_model.specs.declared.refusals.BucketedRefusal.TheVariants.{NotPositive, TooLong, WiderThanColumn, TallerThanAtlas, NoRoom, NoBuckets, ItemsUsedUp}
+use Rattle.bucketed_model.specs.declared.refusals.BucketedRefusal.TheVariants.{NotPositive, TooLong, WiderThanColumn, TallerThanAtlas, NoRoom, ItemsUsedUp}
 use Rattle.bucketed_model.specs.declared.usage.BucketedUsage.{BucketedUsage}
 use Rattle.bucketed_model.specs.Refusal.{refusal}
 use Rattle.bucketed_model.specs.State.{BucketedState}
 use Rattle.bucketed_model.specs.Usage.{usage}
-use Rattle.bucketed_model.proofs.WorkedRows.{Ask, Return, after, many_columns, narrow_shelf, new_atlas, options, plain_atlas, size, times_of}
+use Rattle.bucketed_model.proofs.WorkedRows.{Ask, Return, after, narrow_shelf, new_atlas, options, plain_atlas, size}
 
 abbrev reasons : BucketedState → List Size → List (Option BucketedRefusal)
 reasons state sizes = map (refusal state) sizes
