@@ -5,6 +5,8 @@ pub mod GrowingRows
 pub mod Grown
 pub mod Places
 pub mod Promises
+pub mod RefusalRows
+pub mod Refused
 pub mod Returned
 pub mod Spaces
 pub mod Taken

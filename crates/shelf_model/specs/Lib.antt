@@ -11,9 +11,13 @@ pub mod Layout
 pub mod Listing
 pub mod Merging
 pub mod Places
+pub mod Refusal
+pub mod RefusalLaws
 pub mod Returning
 pub mod Space
 pub mod State
 pub mod Svg
 pub mod Taking
+pub mod Usage
 pub mod Valid
+pub mod Widest

@@ -1,9 +1,10 @@
-//! Why a growth of a shelf atlas is refused, and by which number.
+//! Why a growth of a shelf atlas is refused, why a size has no place, and by which number each is told.
 //!
-//! Definitions: `Faults`. Numbers are public and don't change.
+//! Definitions: `Faults` and `Refusal`. Numbers are public and don't change.
 
 ghost use Rattle.std.specs.Prelude.{◌≡◌};
 ghost use Rattle.shelf_model.specs.Faults.{grow_fault_number};
+ghost use Rattle.shelf_model.specs.Refusal.{refusal_number};
 
 use thiserror::Error;
 
@@ -38,6 +39,49 @@ impl AtlasGrowFault {
             AtlasGrowFault::Area => 3,
             AtlasGrowFault::Records => 4,
             AtlasGrowFault::Memory => 5,
+        }
+    }
+}
+
+/// Why a size has no place in a shelf atlas. The first that holds is given, in this order.
+#[derive(Clone, Copy, Debug, PartialEq, Eq, Error)]
+pub enum Refusal {
+    /// A side of the size is below 1.
+    #[error("NotPositive")]
+    NotPositive,
+    /// A side of the size is above 65535.
+    #[error("TooLong")]
+    TooLong,
+    /// The side along the shelves, rounded up to its alignment, is above the width of a column.
+    #[error("WiderThanColumn")]
+    WiderThanColumn,
+    /// The side across the shelves, rounded up to its alignment, is above that of the atlas.
+    #[error("TallerThanAtlas")]
+    TallerThanAtlas,
+    /// No shelf that is tall enough has a free item that is wide enough.
+    #[error("NoRoom")]
+    NoRoom {
+        /// How long the widest free item of the shelves that are tall enough is along them, in pixels; 0 where they
+        /// have none.
+        widest: i32,
+    },
+    /// A shelf has room, but the splits of the chosen place would make more than 65535 items.
+    #[error("NoRecords")]
+    NoRecords,
+}
+
+impl Refusal {
+    /// The reason's number, from 1 to 6.
+    pub fn number(self) -> u32
+        ensures { result ≡ refusal_number self }
+    {
+        match self {
+            Refusal::NotPositive => 1,
+            Refusal::TooLong => 2,
+            Refusal::WiderThanColumn => 3,
+            Refusal::TallerThanAtlas => 4,
+            Refusal::NoRoom { .. } => 5,
+            Refusal::NoRecords => 6,
         }
     }
 }

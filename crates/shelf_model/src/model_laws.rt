@@ -1,9 +1,10 @@
 //! Laws of the ordered model, each the contract of a function that does nothing.
 //!
-//! Definitions: `Laws`. A law stands here where no clause of a call states it, and in `laws` if other crates are to
+//! Definitions: `Laws` and `RefusalLaws`. A law stands here where no clause of a call states it, and in `laws` if other crates are to
 //! cite it. The functions have no callers: they make the check prove the laws.
 
 ghost use Rattle.shelf_model.specs.Laws.{ChoosesAny, ChoosesByRule, FindsAny, FindsFirstLeast, GrowKeepsSpace, GrowUses, MergesAll, MergesOnce, MergingKeepsAllocated, ReturnRestores};
+ghost use Rattle.shelf_model.specs.RefusalLaws.{NoRoomExactly, RefusesExactly, WidestFits};
 
 /// The shelf that is chosen is the first of least rank, and there is one wherever any fits.
 pub fn the_first_least_is_chosen()
@@ -36,4 +37,13 @@ pub fn a_return_restores_the_layout()
 pub fn a_growth_keeps_the_allocated_space()
     ensures space { GrowKeepsSpace }
     ensures uses { GrowUses }
+{}
+
+/// In a valid state there is a reason for a refusal exactly where a size has no place. It is want of room exactly where
+/// the size may be asked for and no shelf fits it, and the widest free item is as wide as just those widths that a shelf
+/// fits.
+pub fn a_size_is_refused_for_a_reason()
+    ensures exact { RefusesExactly }
+    ensures room { NoRoomExactly }
+    ensures widest { WidestFits }
 {}

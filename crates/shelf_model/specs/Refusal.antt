@@ -1,0 +1,75 @@
+-- Why a size has no place: each reason as a test of the state and the size, and the first that holds.
+use Rattle.std.specs.Prelude.{ℕ, ◌+◌, Bool, false, ◌||◌, Option, None, Some, pos, nat_lt, ◌==◌, if◌then◌else◌}
+use Rattle.std.specs.Option.{option_map_or}
+use Rattle.etagere_base.specs.declared.frames.Frame.{Frame}
+use Rattle.etagere_base.specs.declared.geometry.Size.{Size}
+use Rattle.etagere_base.specs.declared.sides.Sides.{Sides}
+use Rattle.etagere_base.specs.Frames.{across_side, longest_side}
+use Rattle.etagere_base.specs.Sides.{side, swapped_axes, up}
+use Rattle.shelf_model.specs.declared.faults.Refusal.{Refusal}
+use Rattle.shelf_model.specs.declared.faults.Refusal.TheVariants.{NotPositive, TooLong, WiderThanColumn, TallerThanAtlas, NoRoom, NoRecords}
+use Rattle.shelf_model.specs.Choice.{chosen, most_items, shelf_height, splits}
+use Rattle.shelf_model.specs.State.{AtlasState, items_in_use}
+use Rattle.shelf_model.specs.Widest.{widest_free}
+
+-- the number by which a reason is told
+abbrev pub refusal_number : Refusal → ℕ
+refusal_number NotPositive = 1
+refusal_number TooLong = 2
+refusal_number WiderThanColumn = 3
+refusal_number TallerThanAtlas = 4
+refusal_number (NoRoom widest) = 5
+refusal_number NoRecords = 6
+
+-- the sides of a size along and across the shelves, each rounded up by its own axis
+abbrev pub rounded : Frame → Size → Sides
+rounded frame size =
+    swapped_axes frame.vertical
+    (record {
+      along = up (side size.width) frame.alignment_width;
+      across = up (side size.height) frame.alignment_height;
+    })
+
+-- a side is below 1
+abbrev pub is_not_positive : Size → Bool
+is_not_positive size = side size.width == 0 || side size.height == 0
+
+-- a side is above the longest
+abbrev pub is_too_long : Size → Bool
+is_too_long size =
+    nat_lt longest_side (side size.width) || nat_lt longest_side (side size.height)
+
+-- the side along is above the width of a column
+abbrev pub is_wider_than_column : Frame → Size → Bool
+is_wider_than_column frame size = nat_lt frame.column_width (rounded frame size).along
+
+-- the side across is above that of the atlas
+abbrev pub is_taller_than_atlas : Frame → Size → Bool
+is_taller_than_atlas frame size = nat_lt (across_side frame) (rounded frame size).across
+
+-- the width of the widest free item of the shelves that are tall enough
+abbrev pub widest_for : AtlasState → Sides → ℕ
+widest_for state sides = widest_free (shelf_height state.frame sides.across) state.shelves
+
+-- no shelf that is tall enough has a free item that is wide enough
+abbrev pub has_no_room : AtlasState → Sides → Bool
+has_no_room state sides = nat_lt (widest_for state sides) sides.along
+
+-- the splits of the chosen place would make more items than an atlas has
+abbrev pub lacks_records : AtlasState → Sides → Bool
+lacks_records state sides =
+    option_map_or
+    (λ placement. nat_lt most_items (items_in_use state.shelves + splits placement))
+    (chosen state sides) false
+
+-- the first reason for which a size has no place; none where it has one
+abbrev pub refusal : AtlasState → Size → Option Refusal
+refusal state size =
+    let sides = rounded state.frame size in
+    if is_not_positive size then Some NotPositive
+    else (if is_too_long size then Some TooLong
+    else (if is_wider_than_column state.frame size then Some WiderThanColumn
+    else (if is_taller_than_atlas state.frame size then Some TallerThanAtlas
+    else (if has_no_room state sides then Some (NoRoom (pos (widest_for state sides)))
+    else (if lacks_records state sides then Some NoRecords
+    else None)))))
