@@ -1,5 +1,6 @@
 //! Atlases of both kinds, called by the words of rows.
 
+use crate::asking::{refusal_text, size_text, usage_text};
 use crate::bucketed_answers::bucketed_answer;
 use crate::subject::Subject;
 use crate::words::{corners, done, id_of, placed, rectangle_text, text, told};
@@ -208,6 +209,9 @@ impl Subject for AtlasAllocator {
             },
             "iter" => all_of(alloc, self),
             "len" => Ok(format!(in alloc; "{}", count_of(self))?),
+            "refusal" => refusal_text(alloc, self.refusal(size_of(words)?)),
+            "usage" => usage_text(alloc, &self.usage()),
+            "largest_free" => Ok(size_text(alloc, self.largest_free())?),
             _ => answer(self, alloc, call, words),
         }
     }

@@ -5,6 +5,7 @@
 //! `rt ci` runs it in `data/`, and compares what it prints with the file `stdout`: a test more is a line more there.
 #![tactic(auto)]
 
+mod asking;
 mod atlases;
 mod bucketed_answers;
 mod caches;

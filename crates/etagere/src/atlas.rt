@@ -19,6 +19,7 @@ ghost use Rattle.shelf_model.specs.Fresh.{fresh};
 ghost use Rattle.shelf_model.specs.Growing.{atlas_grown, grow_fault, records_needed};
 ghost use Rattle.shelf_model.specs.declared.faults.AtlasGrowFault.TheVariants as grow_faults;
 ghost use Rattle.shelf_model.specs.Listing.{RiseFrom, listed};
+ghost use Rattle.shelf_model.specs.Refusal as refusals;
 ghost use Rattle.shelf_model.specs.Places as places;
 ghost use Rattle.shelf_model.specs.Places.{allocations, is_allocated};
 ghost use Rattle.etagere_base.specs.Rectangles.{IsLarge};
@@ -30,6 +31,7 @@ ghost use Rattle.shelf_model.specs.Space as space;
 ghost use Rattle.shelf_records.specs.StandsFor.{StandsFor};
 ghost use Rattle.shelf_model.specs.State as state;
 ghost use Rattle.shelf_model.specs.Svg.{svg, svg_into};
+ghost use Rattle.shelf_model.specs.Usage as usages;
 
 use crate::listing::Iter;
 use crate::restored::restore_atlas;
@@ -39,9 +41,11 @@ use etagere_base::{
 };
 use etagere_links::Records;
 use shelf_heights::by_height::ShelvesByHeight;
-use shelf_model::faults::AtlasGrowFault;
+use shelf_model::faults::{AtlasGrowFault, Refusal};
+use shelf_model::usage::Usage;
 use shelf_records::snapshots::{AtlasSnapshot, snapshot_of};
 use shelf_restoring::loaded_atlas::LoadedAtlas;
+use shelf_store::asking::refusal;
 use shelf_store::choosing::{MOST_ITEMS, fits_when_empty, placement_of};
 use shelf_store::drawing::{send_document, send_part, send_picture};
 use shelf_store::growing::counting::needed_for;
@@ -51,6 +55,7 @@ use shelf_store::looking::{index_of, number_of, recorded_area, recorded_shelf, r
 use shelf_store::returning::return_item;
 use shelf_store::starting::{fresh_by_height, fresh_records, reset_by_height, reset_records};
 use shelf_store::taking::take_placement;
+use shelf_store::tallying::{largest_free, usage};
 use std::alloc::{AllocError, Global};
 use std::io::{self, Write};
 use std::marker::Model;
@@ -256,6 +261,39 @@ impl AtlasAllocator {
         ensures { result ≡ is_some (placement_of (fresh self.now.frame) size) }
     {
         fits_when_empty(&self.frame, size)
+    }
+
+    /// Why a size in pixels has no place; none exactly where `allocate` has one, memory aside. The first reason that
+    /// holds is given.
+    ///
+    /// Takes no memory, and changes nothing. Takes constant time where the size alone is the reason. Else it goes
+    /// through all shelves once, and along the free list of each that is tall enough; and once more where fewer than two
+    /// records are unused.
+    pub fn refusal(&self, size: Size) -> Option<Refusal>
+        ensures { result ≡ refusals.refusal self.now size }
+    {
+        refusal(&self.frame, &self.records, self.items_in_use, size)
+    }
+
+    /// How full the atlas is: how many shelves and items there are, how many more items there can be, and the largest
+    /// item that is free.
+    ///
+    /// Takes no memory, and changes nothing. Goes once through all shelves, and along their free lists.
+    pub fn usage(&self) -> Usage
+        ensures { result ≡ usages.usage self.now }
+    {
+        usage(&self.frame, &self.records, self.items_in_use)
+    }
+
+    /// The widest item along the shelves that some shelf has free, and of equally wide ones the tallest, in pixels; 0x0
+    /// where none is free. Where shelves are vertical, it is the longest along y, and of equally long ones the broadest.
+    ///
+    /// A size as large may be refused, where its rounded height is above that of the shelf: `refusal` tells. Takes no
+    /// memory, and changes nothing. Goes once through all shelves, and along their free lists.
+    pub fn largest_free(&self) -> Size
+        ensures { result ≡ usages.largest_free self.now }
+    {
+        largest_free(&self.frame, &self.records)
     }
 
     /// Takes back the rectangle that is allocated under an id, and merges what is free with its neighbours.

@@ -21,5 +21,6 @@ pub use etagere_bucketed::{
     BucketedUsage, GrowFault,
 };
 pub use listing::Iter;
-pub use shelf_model::faults::AtlasGrowFault;
+pub use shelf_model::faults::{AtlasGrowFault, Refusal};
+pub use shelf_model::usage::Usage;
 pub use shelf_records::snapshots::{AtlasSnapshot, ItemRecord, ShelfRecord};

@@ -1,6 +1,7 @@
 pub mod Allocations
 pub mod Callers
 pub mod Chosen
+pub mod Counted
 pub mod GrowingRows
 pub mod Grown
 pub mod Places

@@ -1,7 +1,11 @@
 -- The place of a size, found by records: it is the one that the model finds.
+pub mod AskedReasons
+pub mod CountedStates
 pub mod Following
 pub mod FoundPlacements
 pub mod LinkedParts
 pub mod LowestCandidates
+pub mod PassedShelves
+pub mod PassedWalks
 pub mod SearchSteps
 pub mod SearchedShelves

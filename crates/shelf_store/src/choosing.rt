@@ -45,9 +45,9 @@ const ITEM_SLACK: u32 = 8;
 /// the shelf ranks.
 #[derive(Clone, Copy)]
 pub struct Candidate {
-    shelf: usize,
-    item: usize,
-    rank: u32,
+    pub(crate) shelf: usize,
+    pub(crate) item: usize,
+    pub(crate) rank: u32,
 }
 
 /// What a search for a good fit comes to: the first one, or from where on a shelf may offer a bad one.
@@ -57,7 +57,7 @@ enum FirstGood {
 }
 
 /// What a search of a free list came to: an item that is wide enough, or how wide the widest is.
-enum Searched {
+pub(crate) enum Searched {
     Found(usize),
     Widest(u16),
 }
@@ -125,7 +125,7 @@ fn chosen(
 }
 
 /// The height of a shelf for items of this height: rounded up, unless that is taller than the atlas.
-fn shelf_height(frame: &Frame, height: u32) -> u32
+pub(crate) fn shelf_height(frame: &Frame, height: u32) -> u32
     requires frame { IsFrame longest_side frame.now }
     requires short { height ≤ longest_side }
     ensures value { result ≡ choice.shelf_height frame.now height }
@@ -518,7 +518,7 @@ fn fitting_item(records: &Records, bounded: &mut BoundedShelf, width: u32) -> Op
 }
 
 /// The rank of a shelf that fits: a good fit by its height, a bad one after every good one.
-fn rank_of(records: &Records, height: u32, shelf: usize) -> u32
+pub(crate) fn rank_of(records: &Records, height: u32, shelf: usize) -> u32
     requires within { shelf < length records.now.shelves }
     requires short { height ≤ longest_side }
     ensures { result ≡ searching.rank_of records.now.shelves height shelf }
@@ -533,7 +533,7 @@ fn rank_of(records: &Records, height: u32, shelf: usize) -> u32
 }
 
 /// The first item of a shelf's free list that is wide enough, or the width of the widest.
-fn search_free_list(records: &Records, width: u32, shelf: usize) -> Searched
+pub(crate) fn search_free_list(records: &Records, width: u32, shelf: usize) -> Searched
     requires linked { IsLinked records.now (walked_lists records.now) }
     requires stands { 1 ≤ times shelf (shelf_walk records.now).met }
     requires within { shelf < length records.now.shelves }
@@ -554,7 +554,12 @@ fn search_free_list(records: &Records, width: u32, shelf: usize) -> Searched
 }
 
 /// All that is found out of an item of a shelf. Each split is decided here.
-fn placement_at(records: &Records, width: u32, height: u32, candidate: Candidate) -> Placement
+pub(crate) fn placement_at(
+    records: &Records,
+    width: u32,
+    height: u32,
+    candidate: Candidate,
+) -> Placement
     requires shelf { candidate.shelf < length records.now.shelves }
     requires item { candidate.item < length records.now.items }
     requires short { (width ≤ longest_side) × (height ≤ longest_side) }

@@ -117,7 +117,7 @@ stands-at records width height position candidate at =
     }
 
 -- what is chosen by records is what the model chooses
-chosen-located : (frame : Frame) (records : Records) (sides : Sides) → AreKept frame records → AreLocated records (chosen_at frame records sides) (chosen (state_of frame records) sides)
+pub chosen-located : (frame : Frame) (records : Records) (sides : Sides) → AreKept frame records → AreLocated records (chosen_at frame records sides) (chosen (state_of frame records) sides)
 chosen-located frame records sides kept =
     by_found (first_least (map (rank frame sides.along (shelf_height frame sides.across)) (state_of frame records).shelves)) (best_candidate records sides.along (shelf_height frame sides.across)) refl refl
     (rw ranks (lowest-same (map (offered records sides.along (shelf_height frame sides.across)) (shelf_walk records).met)))
@@ -153,13 +153,13 @@ chosen-located frame records sides kept =
         (located frame records sides.along height found.number candidate kept stands.at stands.wide)
 
 -- what was found, as the model has it
-record IsModelled (frame : Frame) (records : Records) (sides : Sides) (found : Placement) : Type 0 where
+pub record IsModelled (frame : Frame) (records : Records) (sides : Sides) (found : Placement) : Type 0 where
   pub placement : Placement
   pub chosen : chosen (state_of frame records) sides ≡ Some placement
   pub located : Locates records found placement
 
 -- where neither or both found one
-located-parts : (frame : Frame) (records : Records) (sides : Sides) (o p : Option Placement) → chosen (state_of frame records) sides ≡ p → AreLocated records o p
+pub located-parts : (frame : Frame) (records : Records) (sides : Sides) (o p : Option Placement) → chosen (state_of frame records) sides ≡ p → AreLocated records o p
     → (o ≡ None → p ≡ None) × ((found : Placement) → o ≡ Some found → IsModelled frame records sides found)
 located-parts frame records sides None None is located = (λ e. refl, λ found e. absurd (cc))
 located-parts frame records sides None (Some placement) is located = absurd located
@@ -181,7 +181,7 @@ none-chosen frame records size sides kept asks none =
     placement-chosen (state_of frame records) size sides None asks (parts.0 none)
 
 -- what the search finds splits as the model's placement does
-located-splits : (records : Records) (found placement : Placement) → Locates records found placement → splits found ≡ splits placement
+pub located-splits : (records : Records) (found placement : Placement) → Locates records found placement → splits found ≡ splits placement
 located-splits records found placement located = ap splits located.same
 
 -- where the search finds one, it is the placement of the size if there are records enough for its splits

@@ -9,7 +9,7 @@ use Rattle.etagere_links.specs.RecordEdits.{shelf_changed}
 use Rattle.etagere_links.specs.RecordLists.{Records, first_free_of, first_item_of}
 use Rattle.etagere_links.specs.RecordMerges.{free_absorbed, allocated_absorbed, item_freed, shelf_absorbed}
 use Rattle.etagere_links.specs.Records.{free_list, item_chain, shelf_chain}
-use Rattle.shelf_records.specs.AtlasRecords.{along_of, height_of, is_allocated_at, is_empty_at, item_at, shelf_of, width_of}
+use Rattle.shelf_records.specs.AtlasRecords.{along_of, height_of, is_allocated_at, is_empty_at, shelf_of, width_of}
 
 -- records after a step, and how many item records became unused
 pub record Step : Type 0 where

@@ -1,0 +1,11 @@
+use Rattle.etagere_links.specs.RecordLists.{shelf_walk}
+use Rattle.etagere_links.specs.Records.{shelf_chain}
+use Rattle.shelf_model.specs.Widest.{greatest}
+use Rattle.shelf_store.specs.Private.Asking.{widest_at}
+use Rattle.shelf_store.proofs.Searched.PassedWalks.{Passes}
+use Rattle.shelf_store.proofs.asking.widest_free.Given as goal
+
+-- the widest so far is that of the shelves that were passed
+abbrev pub invariant-loop-step : goal.invariant-loop-step
+invariant-loop-step l =
+    Passes shelf_chain.next l.records.shelves (shelf_walk l.records).met (greatest (widest_at l.records l.height)) l.widest l.at l._step
