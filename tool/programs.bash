@@ -197,12 +197,12 @@ program_of() {
 library_folder() {
     if [[ -n ${ETAGERE_LIB_DIR-} ]]; then
         echo "$ETAGERE_LIB_DIR"
-    elif [[ $("$root/tool/release" --check 2>&1) == *"of these sources" ]]; then
+    elif grep -qxF -- "lib/libetagere.a $(sources_sum etagere_c)" "$root/dist/MADE_OF" 2> /dev/null; then
         echo "$root/dist/lib"
     elif has_toolchain; then
         "$root/tool/release" --archive "$1" && echo "$1"
     else
-        say "tries the released library, of other sources: rt isn't in PATH"
+        say "tries the released library, which is of other sources: rt isn't in PATH"
         echo "$root/dist/lib"
     fi
 }
