@@ -1,7 +1,7 @@
 //! What a shelf atlas tells of a size, and of how full it is, as the words that answers have.
 
-use anyhow::Result;
 use crate::words::text;
+use anyhow::Result;
 use etagere::{Refusal, Size, Usage};
 use std::alloc::{AllocError, Global};
 
@@ -24,5 +24,8 @@ pub fn usage_text(alloc: Global, usage: &Usage) -> Result<String> {
     let shelves = format!(in alloc; "shelves {} empty {}", usage.shelves, usage.empty_shelves)?;
     let items = format!(in alloc; "items {} free {}", usage.items, usage.free_items)?;
     let largest = size_text(alloc, usage.largest_free)?;
-    Ok(format!(in alloc; "{shelves} {items} unused {} largest {largest}", usage.unused_records)?)
+    Ok(format!(in alloc;
+        "{shelves} {items} unused {} largest {largest}",
+        usage.unused_records
+    )?)
 }
