@@ -3,8 +3,7 @@
 //! Definitions: `Usage`, and `Asking` for the counts by records.
 
 ghost use Rattle.std.specs.Prelude.{◌≡◌, ◌+◌, ◌≤◌, ◌<◌, length, if◌then◌else◌};
-ghost use Rattle.etagere_base.specs.Frames.{longest_side};
-ghost use Rattle.etagere_base.specs.Lists.{times, total};
+ghost use Rattle.etagere_base.specs.Lists.{times};
 ghost use Rattle.etagere_links.specs.Links.{no_link};
 ghost use Rattle.etagere_links.specs.RecordLists.{IsLinked, shelf_walk, walked_lists};
 ghost use Rattle.shelf_model.specs.State as state;
@@ -15,7 +14,7 @@ ghost use Rattle.shelf_store.specs.Private.Asking.{free_of, tally_of, tally_with
 
 use crate::choosing::MOST_ITEMS;
 use crate::free_items::free_items_of;
-use etagere_base::{Frame, Sides, Size, swapped_axes};
+use etagere_base::{Frame, Size};
 use etagere_links::{Chain, LinkedShelf, Records, next_of};
 use shelf_model::usage::Usage;
 use shelf_records::fields;
