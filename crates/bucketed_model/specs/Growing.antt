@@ -1,45 +1,26 @@
 -- Growing: the first fault of a new size, and the state after a growth.
-use Rattle.std.specs.Prelude.{ℕ, ◌+◌, ◌-◌, ◌*◌, ◌/◌, min, ◌&&◌, ◌||◌, not, Option, None, Some, List, [], ◌∷◌, ◌++◌, take, drop, nat_lt, ◌==◌, if◌then◌else◌}
+use Rattle.std.specs.Prelude.{ℕ, ◌+◌, ◌-◌, ◌/◌, min, Option, option_map, List, [], ◌∷◌, ◌++◌, take, drop}
+use Rattle.etagere_base.specs.declared.faults.ResizeFault.{ResizeFault}
+use Rattle.etagere_base.specs.declared.faults.ResizeFault.TheVariants as resizes
 use Rattle.etagere_base.specs.declared.frames.Frame.{Frame}
 use Rattle.etagere_base.specs.declared.geometry.Size.{Size}
-use Rattle.etagere_base.specs.Frames.{along_side, alignment_along, is_side, largest_area}
-use Rattle.etagere_base.specs.Sides.{down, side}
+use Rattle.etagere_base.specs.Growing.{resize_fault}
+pub use Rattle.etagere_base.specs.Growing.{grown_column_width, grown_frame, resized}
 use Rattle.bucketed_model.specs.Adding.{new_buckets}
 use Rattle.bucketed_model.specs.declared.faults.GrowFault.{GrowFault}
 use Rattle.bucketed_model.specs.declared.faults.GrowFault.TheVariants as faults
 use Rattle.bucketed_model.specs.Frames.{longest_bucketed_side}
 use Rattle.bucketed_model.specs.State.{BucketShelf, BucketedState, Tag, buckets_left, with_buckets}
 
+-- a fault of a size, as one of a growth
+abbrev pub of_resize : ResizeFault → GrowFault
+of_resize resizes.Size = faults.Size
+of_resize resizes.Smaller = faults.Smaller
+of_resize resizes.Area = faults.Area
+
 -- the first fault of a growth to a size
 abbrev pub grow_fault : Frame → Size → Option GrowFault
-grow_fault frame size =
-    if not (is_side longest_bucketed_side size.width && is_side longest_bucketed_side size.height)
-    then Some faults.Size
-    else (if nat_lt (side size.width) frame.width || nat_lt (side size.height) frame.height
-    then Some faults.Smaller
-    else (if nat_lt largest_area (side size.width * side size.height) then Some faults.Area
-    else None))
-
--- the frame with other sides, and other columns
-abbrev pub resized : Frame → Size → ℕ → ℕ → Frame
-resized frame size column_width columns =
-    record {
-      width = side size.width;
-      height = side size.height;
-      alignment_width = frame.alignment_width;
-      alignment_height = frame.alignment_height;
-      vertical = frame.vertical;
-      column_width = column_width;
-      columns = columns;
-    }
-
--- the grown frame: one column is as wide as the atlas allows, more columns become as many as fit
-abbrev pub grown_frame : Frame → Size → Frame
-grown_frame frame size =
-    let along = along_side (resized frame size frame.column_width frame.columns) in
-    if frame.columns == 1
-    then resized frame size (down along (alignment_along frame)) 1
-    else resized frame size frame.column_width (along / frame.column_width)
+grow_fault frame size = option_map of_resize (resize_fault longest_bucketed_side frame size)
 
 -- how many buckets each shelf gets for a width that is added, where so many are left
 abbrev pub grown_counts : ℕ → ℕ → List BucketShelf → List ℕ

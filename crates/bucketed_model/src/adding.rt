@@ -3,7 +3,6 @@
 //! Definitions: `Adding`. Whether a shelf can be added is asked first, by `can_add`.
 
 ghost use Rattle.std.specs.Prelude.{◌≡◌, true, ◌<◌, ◌^◌, length};
-ghost use Rattle.etagere_base.specs.Frames as frames;
 ghost use Rattle.bucketed_model.specs.Adding as spec;
 ghost use Rattle.bucketed_model.specs.Frames.{IsBucketedFrame};
 
@@ -132,19 +131,8 @@ pub fn width_of_share(frame: &Frame, count: u32) -> u32
     requires some { 0 < count }
     ensures { result ≡ spec.width_of_share frame.now count }
 {
-    let alignment = alignment_along(frame);
+    let alignment = frame.alignment_along();
     frame.column_width / count / alignment * alignment
-}
-
-/// The alignment along the shelves.
-pub fn alignment_along(frame: &Frame) -> u32
-    ensures { result ≡ frames.alignment_along frame.now }
-{
-    if frame.vertical {
-        frame.alignment_height
-    } else {
-        frame.alignment_width
-    }
 }
 
 /// How many buckets a new shelf gets for items this wide, where so many are left.

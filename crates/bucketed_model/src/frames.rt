@@ -1,16 +1,15 @@
-//! The frame of a bucketed atlas, new or grown, and what a growth may be refused for.
+//! The frame of a bucketed atlas, and what a growth may be refused for.
 //!
 //! Definitions: `Frames`, `Growing`.
 
-ghost use Rattle.std.specs.Prelude.{◌≡◌, None};
+ghost use Rattle.std.specs.Prelude.{◌≡◌};
 ghost use Rattle.etagere_base.specs.Frames.{IsAccepted};
 ghost use Rattle.bucketed_model.specs.Frames as spec;
 ghost use Rattle.bucketed_model.specs.Frames.{IsBucketedFrame, longest_bucketed_side};
 ghost use Rattle.bucketed_model.specs.Growing as growing;
 
-use crate::adding::alignment_along;
 use crate::faults::GrowFault;
-use etagere_base::{AllocatorOptions, Frame, LARGEST_AREA, Size, column_width, is_side, side};
+use etagere_base::{AllocatorOptions, Frame, ResizeFault, Size, column_width, resize_fault, side};
 
 /// The longest side of a bucketed atlas, in pixels.
 pub const LONGEST_BUCKETED_SIDE: u16 = 65534;
@@ -37,45 +36,9 @@ pub fn bucketed_frame(size: Size, options: &AllocatorOptions) -> Frame
 pub fn grow_fault(frame: &Frame, size: Size) -> Option<GrowFault>
     ensures { result ≡ growing.grow_fault frame.now size }
 {
-    if !(is_side(LONGEST_BUCKETED_SIDE, size.width)
-        && is_side(LONGEST_BUCKETED_SIDE, size.height))
-    {
-        return Some(GrowFault::Size);
-    }
-    if side(size.width) < frame.width || side(size.height) < frame.height {
-        return Some(GrowFault::Smaller);
-    }
-    let area = u64::from(side(size.width)) * u64::from(side(size.height));
-    if area > LARGEST_AREA {
-        return Some(GrowFault::Area);
-    }
-    None
-}
-
-/// The frame after a growth to a size that has no fault.
-pub fn grown_frame(frame: &Frame, size: Size) -> Frame
-    requires frame { IsBucketedFrame frame.now }
-    requires fits { growing.grow_fault frame.now size ≡ None }
-    ensures { result ≡ growing.grown_frame frame.now size }
-{
-    let along = if frame.vertical {
-        side(size.height)
-    } else {
-        side(size.width)
-    };
-    let (column_width, columns) = if frame.columns == 1 {
-        let alignment = alignment_along(frame);
-        (along / alignment * alignment, 1)
-    } else {
-        (frame.column_width, along / frame.column_width)
-    };
-    Frame {
-        width: side(size.width),
-        height: side(size.height),
-        alignment_width: frame.alignment_width,
-        alignment_height: frame.alignment_height,
-        vertical: frame.vertical,
-        column_width,
-        columns,
+    match resize_fault(LONGEST_BUCKETED_SIDE, frame, size)? {
+        ResizeFault::Size => Some(GrowFault::Size),
+        ResizeFault::Smaller => Some(GrowFault::Smaller),
+        ResizeFault::Area => Some(GrowFault::Area),
     }
 }

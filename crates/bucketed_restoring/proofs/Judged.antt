@@ -1,7 +1,7 @@
 -- What the passes over a snapshot's records tell of its rules.
 pub mod Assembled
 pub mod Breaches
-pub mod FrameTests
+pub mod Comparisons
 pub mod JudgedShelves
 pub mod LinksRead
 pub mod RowTests

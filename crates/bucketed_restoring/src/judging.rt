@@ -8,8 +8,6 @@ ghost use Rattle.bucketed_model.specs.Frames.{IsBucketedFrame};
 ghost use Rattle.bucketed_model.specs.State.{generations, most_buckets};
 ghost use Rattle.bucketed_restoring.specs.Private.Judging as spec;
 
-use bucketed_model::adding::alignment_along;
-use bucketed_model::frames::LONGEST_BUCKETED_SIDE;
 use bucketed_records::records::{
     KeptShelf, LinkedBucket, LinkedBucketShelf, MOST_GIVEN, record_room, wider,
 };
@@ -27,61 +25,6 @@ pub(crate) struct Judged {
 pub(crate) struct Stack {
     pub opened: u32,
     pub height: u32,
-}
-
-/// Whether sides and area keep their ranges.
-fn has_sides(frame: &Frame) -> bool
-    ensures { result ≡ spec.has_sides frame.now }
-{
-    let longest = u32::from(LONGEST_BUCKETED_SIDE);
-    1 <= frame.width
-        && frame.width <= longest
-        && 1 <= frame.height
-        && frame.height <= longest
-        && frame.width * frame.height < 1 << 31
-}
-
-/// Whether both alignments keep their range.
-fn has_alignments(frame: &Frame) -> bool
-    ensures { result ≡ spec.has_alignments frame.now }
-{
-    1 <= frame.alignment_width
-        && frame.alignment_width < 1 << 31
-        && 1 <= frame.alignment_height
-        && frame.alignment_height < 1 << 31
-}
-
-/// The side of the atlas along its shelves.
-fn along_side(frame: &Frame) -> u32
-    ensures { result ≡ spec.along_side frame.now }
-{
-    if frame.vertical {
-        frame.height
-    } else {
-        frame.width
-    }
-}
-
-/// Whether there are columns, at least 1 wide and aligned, and they fit side by side.
-fn has_columns(frame: &Frame) -> bool
-    requires width { frame.now.column_width < 2 ^ 16 }
-    requires columns { frame.now.columns < 2 ^ 16 }
-    requires alignment { 1 ≤ spec.alignment_along frame.now }
-    ensures { result ≡ spec.has_columns frame.now }
-{
-    1 <= frame.column_width
-        && frame.column_width % alignment_along(frame) == 0
-        && 1 <= frame.columns
-        && frame.columns * frame.column_width <= along_side(frame)
-}
-
-/// Whether a frame keeps the ranges of a bucketed atlas.
-pub(crate) fn is_frame(frame: &Frame) -> bool
-    requires width { frame.now.column_width < 2 ^ 16 }
-    requires columns { frame.now.columns < 2 ^ 16 }
-    ensures { result ≡ spec.is_frame frame.now }
-{
-    has_sides(frame) && has_alignments(frame) && has_columns(frame)
 }
 
 /// Whether the bucket of this number is there and names this shelf.
@@ -301,7 +244,7 @@ fn has_buckets(
     ensures generations { IsTrue result
         → AllByRecursion (λ number. spec.generation_of buckets.now number < generations) numbers.now }
 {
-    let alignment = alignment_along(frame);
+    let alignment = frame.alignment_along();
     let width = shelf.bucket_width;
     let begin = u32::from(shelf.x);
     let end = begin + frame.column_width;

@@ -9,11 +9,12 @@ ghost use Rattle.bucketed_records.specs.Restoring as spec;
 ghost use Rattle.bucketed_restoring.specs.Private.Judging as judging;
 ghost use Rattle.bucketed_restoring.specs.RestoringSteps.{IsRead, links_of_all};
 
-use crate::judging::{is_frame, is_stacked};
+use crate::judging::is_stacked;
 use crate::walking::judged_lists;
+use bucketed_model::frames::LONGEST_BUCKETED_SIDE;
 use bucketed_records::records::{KeptShelf, MOST_BUCKETS};
 use bucketed_records::saving::LinkedSnapshot;
-use etagere_base::{Frame, RestoreFault, side};
+use etagere_base::{Frame, RestoreFault, is_frame, side};
 use std::alloc::Global;
 
 /// What an atlas has beside the records of its snapshot.
@@ -83,7 +84,7 @@ pub fn judged_snapshot(
 {
     *steps = 0;
     let frame = snapshot_frame(snapshot);
-    if !is_frame(&frame) {
+    if !is_frame(LONGEST_BUCKETED_SIDE, &frame) {
         return Err(RestoreFault::Frame);
     }
     let most = MOST_BUCKETS as usize;

@@ -1,16 +1,12 @@
-//! The picture of a bucketed atlas as SVG text: the shelves in order, and the buckets of each by
+//! What the picture of a bucketed atlas shows, as SVG text: the shelves in order, and the buckets of each by
 //! their links.
 //!
-//! Definitions: `Svg`, and `DrawnRecords` for the same by records. Lines are gathered in a buffer of
-//! fixed size, so no memory is taken. Nothing here changes the records.
+//! Definitions: `Svg`, and `DrawnRecords` for the same by records. Nothing here changes the records.
 
-ghost use Rattle.std.specs.Prelude.{◌≡◌, Some, OnOk, OnErr};
+ghost use Rattle.std.specs.Prelude.{◌≡◌, OnOk, OnErr};
 ghost use Rattle.std.specs.List.{AllByRecursion, flat_map};
-ghost use Rattle.std.specs.Io.KnownBytes.{Appends};
 ghost use Rattle.etagere_base.specs.Drawing.{drawn_lines};
-ghost use Rattle.etagere_base.specs.Drawing as base;
 ghost use Rattle.etagere_base.specs.Gathering.{GathersMore, SendsBeginning};
-ghost use Rattle.etagere_base.specs.Sending.{AppendsBeginning};
 ghost use Rattle.bucketed_model.specs.Svg as svg;
 ghost use Rattle.bucketed_records.specs.Private.Store.{stored_state};
 ghost use Rattle.bucketed_store.specs.Private.DrawnRecords as recorded;
@@ -18,10 +14,7 @@ ghost use Rattle.bucketed_store.specs.Private.DrawnRecords.{AreKept, FitAlong, F
 
 use crate::store::Store;
 use bucketed_records::records::{KeptShelf, LinkedBucket, LinkedBucketShelf, MOST_BUCKETS};
-use etagere_base::{
-    Colour, Drawn, Frame, GatheredText, Rectangle, Sides, background, drawn_at, has_area,
-    push_document_begin, push_drawn, push_part_begin,
-};
+use etagere_base::{Colour, Drawn, Frame, GatheredText, Sides, drawn_at, push_drawn};
 use std::io::{self, Write};
 
 /// The used part of a bucket of a shelf.
@@ -163,8 +156,8 @@ fn push_shelves<W: Write>(
     Ok(())
 }
 
-/// Adds the lines of all that a picture shows.
-fn push_picture<W: Write>(
+/// Adds the lines of every bucket of the records. After a fault of the writer a beginning of the text has gone out.
+pub fn push_store<W: Write>(
     text: &mut GatheredText,
     frame: &Frame,
     store: &Store,
@@ -173,96 +166,10 @@ fn push_picture<W: Write>(
     requires { AreKept frame.now store.now }
     ensures ok { OnOk result (GathersMore (W.contents writer.old) text.old
         (W.contents writer.new) text.new
-        (drawn_lines (svg.picture (stored_state frame.now store.now)))) }
+        (drawn_lines (svg.drawn_buckets (stored_state frame.now store.now)))) }
     ensures err { OnErr result (SendsBeginning (W.contents writer.old) text.old
-        (W.contents writer.new) (drawn_lines (svg.picture (stored_state frame.now store.now)))) }
+        (W.contents writer.new)
+        (drawn_lines (svg.drawn_buckets (stored_state frame.now store.now)))) }
 {
-    push_drawn(text, &background(frame), writer)?;
     push_shelves(text, frame, &store.shelves, &store.buckets, writer)
-}
-
-/// Adds a document that shows an atlas.
-fn push_document<W: Write>(
-    text: &mut GatheredText,
-    frame: &Frame,
-    store: &Store,
-    writer: &mut W,
-) -> io::Result<()>
-    requires { AreKept frame.now store.now }
-    ensures ok { OnOk result (GathersMore (W.contents writer.old) text.old
-        (W.contents writer.new) text.new (svg.svg (stored_state frame.now store.now))) }
-    ensures err { OnErr result (SendsBeginning (W.contents writer.old) text.old
-        (W.contents writer.new) (svg.svg (stored_state frame.now store.now))) }
-{
-    push_document_begin(text, frame.width, frame.height, writer)?;
-    push_picture(text, frame, store, writer)?;
-    text.push("</svg>\n", writer)
-}
-
-/// Adds a picture that fills a rectangle of a document.
-fn push_part<W: Write>(
-    text: &mut GatheredText,
-    frame: &Frame,
-    store: &Store,
-    rectangle: &Rectangle,
-    writer: &mut W,
-) -> io::Result<()>
-    requires { AreKept frame.now store.now }
-    ensures ok { OnOk result (GathersMore (W.contents writer.old) text.old
-        (W.contents writer.new) text.new (base.part frame.now.width frame.now.height
-        (svg.picture (stored_state frame.now store.now)) rectangle.now)) }
-    ensures err { OnErr result (SendsBeginning (W.contents writer.old) text.old
-        (W.contents writer.new) (base.part frame.now.width frame.now.height
-        (svg.picture (stored_state frame.now store.now)) rectangle.now)) }
-{
-    push_part_begin(text, frame.width, frame.height, rectangle, writer)?;
-    push_picture(text, frame, store, writer)?;
-    text.push("    </svg>\n", writer)
-}
-
-/// Sends a document that shows an atlas.
-pub fn send_document<W: Write>(frame: &Frame, store: &Store, writer: &mut W) -> io::Result<()>
-    requires { AreKept frame.now store.now }
-    ensures ok { OnOk result (Appends (W.contents writer.old) (W.contents writer.new)
-        (svg.svg (stored_state frame.now store.now))) }
-    ensures err { OnErr result (AppendsBeginning (W.contents writer.old) (W.contents writer.new)
-        (svg.svg (stored_state frame.now store.now))) }
-{
-    let mut text = GatheredText::new();
-    push_document(&mut text, frame, store, writer)?;
-    text.finish(writer)
-}
-
-/// Sends the lines of all that a picture shows.
-pub fn send_picture<W: Write>(frame: &Frame, store: &Store, writer: &mut W) -> io::Result<()>
-    requires { AreKept frame.now store.now }
-    ensures ok { OnOk result (Appends (W.contents writer.old) (W.contents writer.new)
-        (drawn_lines (svg.picture (stored_state frame.now store.now)))) }
-    ensures err { OnErr result (AppendsBeginning (W.contents writer.old) (W.contents writer.new)
-        (drawn_lines (svg.picture (stored_state frame.now store.now)))) }
-{
-    let mut text = GatheredText::new();
-    push_picture(&mut text, frame, store, writer)?;
-    text.finish(writer)
-}
-
-/// Sends a picture that fills a rectangle of a document.
-pub fn send_part<W: Write>(
-    frame: &Frame,
-    store: &Store,
-    rectangle: &Rectangle,
-    writer: &mut W,
-) -> io::Result<()>
-    requires { AreKept frame.now store.now }
-    ensures ok { OnOk result (Appends (W.contents writer.old) (W.contents writer.new)
-        (svg.svg_into (stored_state frame.now store.now) (Some rectangle.now))) }
-    ensures err { OnErr result (AppendsBeginning (W.contents writer.old) (W.contents writer.new)
-        (svg.svg_into (stored_state frame.now store.now) (Some rectangle.now))) }
-{
-    if !has_area(rectangle) {
-        return Ok(());
-    }
-    let mut text = GatheredText::new();
-    push_part(&mut text, frame, store, rectangle, writer)?;
-    text.finish(writer)
 }

@@ -30,14 +30,15 @@ ghost use Rattle.shelf_records.specs.Snapshots.{IsBroken, snapshot_records, stat
 ghost use Rattle.shelf_model.specs.Space as space;
 ghost use Rattle.shelf_records.specs.StandsFor.{StandsFor};
 ghost use Rattle.shelf_model.specs.State as state;
-ghost use Rattle.shelf_model.specs.Svg.{svg, svg_into};
+ghost use Rattle.shelf_model.specs.Svg.{drawn_items, svg, svg_into};
 ghost use Rattle.shelf_model.specs.Usage as usages;
 
 use crate::listing::Iter;
 use crate::restored::restore_atlas;
 use etagere_base::{
-    AllocId, Allocation, AllocatorOptions, DEFAULT_OPTIONS, Frame, LONGEST_SIDE, OptionsFault,
-    Rectangle, RestoreFault, Size, UnknownId, atlas_frame, options_fault, side,
+    AllocId, Allocation, AllocatorOptions, DEFAULT_OPTIONS, Frame, GatheredText, LONGEST_SIDE,
+    OptionsFault, Pictured, Rectangle, RestoreFault, Size, UnknownId, atlas_frame, grown_frame,
+    options_fault, send_document, send_into, side,
 };
 use etagere_links::Records;
 use shelf_heights::by_height::ShelvesByHeight;
@@ -47,10 +48,9 @@ use shelf_records::snapshots::{AtlasSnapshot, snapshot_of};
 use shelf_restoring::loaded_atlas::LoadedAtlas;
 use shelf_store::asking::refusal;
 use shelf_store::choosing::{MOST_ITEMS, fits_when_empty, placement_of};
-use shelf_store::drawing::{send_document, send_part, send_picture};
+use shelf_store::drawing::push_shelves;
 use shelf_store::growing::counting::needed_for;
-use shelf_store::growing::grow_shelves;
-use shelf_store::growing::grown_frames::{grown_frame, size_fault};
+use shelf_store::growing::{grow_shelves, size_fault};
 use shelf_store::looking::{index_of, number_of, recorded_area, recorded_shelf, rectangle_of};
 use shelf_store::returning::return_item;
 use shelf_store::starting::{fresh_by_height, fresh_records, reset_by_height, reset_records};
@@ -458,7 +458,7 @@ impl AtlasAllocator {
         ensures err { OnErr result
             (AppendsBeginning (W.contents output.old) (W.contents output.new) (svg self.now)) }
     {
-        send_document(&self.frame, &self.records, output)
+        send_document(self, output)
     }
 
     /// Writes the picture of `dump_svg` for a place within a larger SVG document: at the origin, or moved and
@@ -478,10 +478,21 @@ impl AtlasAllocator {
             (AppendsBeginning (W.contents output.old) (W.contents output.new)
             (svg_into self.now (option_map (λ rectangle. rectangle.now) rectangle.entry))) }
     {
-        match rectangle {
-            None => send_picture(&self.frame, &self.records, output),
-            Some(rectangle) => send_part(&self.frame, &self.records, rectangle, output),
-        }
+        send_into(self, rectangle, output)
+    }
+}
+
+impl Pictured for AtlasAllocator {
+    ghost framed = { λ atlas. atlas.frame };
+
+    ghost shown = { drawn_items };
+
+    fn frame(&self) -> &Frame {
+        &self.frame
+    }
+
+    fn push_shown<W: Write>(&self, text: &mut GatheredText, writer: &mut W) -> io::Result<()> {
+        push_shelves(text, &self.frame, &self.records, writer)
     }
 }
 

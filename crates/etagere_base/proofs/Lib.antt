@@ -13,6 +13,7 @@ pub mod FirstPlace
 pub mod FrameSides
 pub mod GatheredLemmas
 pub mod GatheringLemmas
+pub mod GrownFrames
 pub mod Least
 pub mod ListEdits
 pub mod Merged

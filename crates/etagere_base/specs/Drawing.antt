@@ -1,5 +1,5 @@
 -- The SVG text of a picture: a document, or a part of one, with a line for each rectangle.
-use Rattle.std.specs.Prelude.{ℕ, ℤ, ◌-ℤ◌, Bool, ◌&&◌, nat_lt, Option, None, Some, List, [], ◌++◌, codes, decimal, flat_map, if◌then◌else◌}
+use Rattle.std.specs.Prelude.{ℕ, ℤ, ◌-ℤ◌, Bool, ◌&&◌, nat_lt, Option, None, Some, List, [], ◌∷◌, ◌++◌, codes, decimal, flat_map, if◌then◌else◌}
 use Rattle.std.specs.Fmt.{signed_decimal}
 use Rattle.etagere_base.specs.declared.drawing.Colour.{Colour}
 use Rattle.etagere_base.specs.declared.drawing.Colour.TheVariants.{Background, Allocated, Free}
@@ -12,6 +12,10 @@ use Rattle.etagere_base.specs.Sides.{side, swapped_axes}
 abbrev pub background : Frame → Drawn
 background frame =
     record { colour = Background; x = 0; y = 0; width = frame.width; height = frame.height }
+
+-- all that a picture shows: the whole atlas, and what lies in it above
+abbrev pub picture_of : Frame → List Drawn → List Drawn
+picture_of frame shown = background frame ∷ shown
 
 -- what lies at a place along and across, this wide along and this tall across; both axes are
 -- swapped where the shelves are vertical

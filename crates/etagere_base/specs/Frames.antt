@@ -21,6 +21,14 @@ largest_area = 2 ^ 31 - 1
 abbrev pub is_side : ℕ → ℤ → Bool
 is_side longest length = nat_lt 0 (side length) && nat_le (side length) longest
 
+-- both sides of a size are such sides
+abbrev pub are_sides : ℕ → Size → Bool
+are_sides longest size = is_side longest size.width && is_side longest size.height
+
+-- the area of a size is above the greatest
+abbrev pub is_too_large : Size → Bool
+is_too_large size = nat_lt largest_area (side size.width * side size.height)
+
 -- the sides of an atlas along and across its shelves
 abbrev pub sides_of : Size → AllocatorOptions → Sides
 sides_of size options =
@@ -41,8 +49,8 @@ column_width_of size options =
 -- the first fault of a size and options, where no side may pass the longest
 abbrev pub options_fault : ℕ → Size → AllocatorOptions → Option OptionsFault
 options_fault longest size options =
-    if not (is_side longest size.width && is_side longest size.height) then Some faults.Size
-    else (if nat_lt largest_area (side size.width * side size.height) then Some faults.Area
+    if not (are_sides longest size) then Some faults.Size
+    else (if is_too_large size then Some faults.Area
     else (if side options.alignment.width == 0 || side options.alignment.height == 0
     then Some faults.Alignment
     else (if side options.num_columns == 0 then Some faults.Columns
@@ -93,7 +101,7 @@ fitting frame sides =
 -- the size is empty, has a side above the longest or is larger than a column
 abbrev pub asked : Frame → Size → Option Sides
 asked frame size =
-    if is_side longest_side size.width && is_side longest_side size.height
+    if are_sides longest_side size
     then fitting frame (swapped_axes frame.vertical
     (record {
       along = up (side size.width) frame.alignment_width;

@@ -4,6 +4,7 @@ pub mod Drawing
 pub mod Faults
 pub mod Frames
 pub mod Gathering
+pub mod Growing
 pub mod Hashing
 pub mod Ids
 pub mod Least

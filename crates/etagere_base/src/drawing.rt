@@ -1,11 +1,14 @@
 //! The SVG text of a picture, piece by piece.
 //!
 //! Definitions: `Drawing`. What a picture shows is not decided here: each atlas says which rectangles it
-//! draws, and in which order.
+//! draws, and in which order, as `Pictured`. Lines are gathered in a buffer of fixed size, so no memory is taken.
 
-ghost use Rattle.std.specs.Prelude.{◌≡◌, OnOk, OnErr};
+ghost use Rattle.std.specs.Prelude.{◌≡◌, Some, OnOk, OnErr};
+ghost use Rattle.std.specs.Io.KnownBytes.{Appends};
+ghost use Rattle.std.specs.Option.{option_map};
 ghost use Rattle.etagere_base.specs.Drawing as spec;
 ghost use Rattle.etagere_base.specs.Gathering.{GathersMore, SendsBeginning};
+ghost use Rattle.etagere_base.specs.Sending.{AppendsBeginning};
 
 use crate::frames::Frame;
 use crate::gathering::GatheredText;
@@ -52,8 +55,30 @@ pub struct Drawn {
     pub height: u32,
 }
 
+/// An atlas that has a picture.
+pub trait Pictured {
+    ghost use Rattle.std.specs.Prelude.{List};
+    ghost use Rattle.etagere_base.specs.declared.drawing.Drawn.{Drawn};
+    ghost use Rattle.etagere_base.specs.declared.frames.Frame.{Frame};
+
+    ghost framed: { Self → Frame };
+
+    ghost shown: { Self → List Drawn };
+
+    /// What the atlas keeps of its size and options.
+    fn frame(&self) -> &Frame
+        ensures { result.now ≡ framed self.now };
+
+    /// Adds the lines of all that the picture shows above the whole atlas.
+    fn push_shown<W: Write>(&self, text: &mut GatheredText, writer: &mut W) -> io::Result<()>
+        ensures ok { OnOk result (GathersMore (W.contents writer.old) text.old
+            (W.contents writer.new) text.new (spec.drawn_lines (shown self.now))) }
+        ensures err { OnErr result (SendsBeginning (W.contents writer.old) text.old
+            (W.contents writer.new) (spec.drawn_lines (shown self.now))) };
+}
+
 /// The whole atlas.
-pub fn background(frame: &Frame) -> Drawn
+fn background(frame: &Frame) -> Drawn
     ensures { result ≡ spec.background frame.now }
 {
     Drawn {
@@ -148,7 +173,7 @@ fn push_view<W: Write>(
 }
 
 /// Adds the first line of a document this wide and tall.
-pub fn push_document_begin<W: Write>(
+fn push_document_begin<W: Write>(
     text: &mut GatheredText,
     width: u32,
     height: u32,
@@ -188,7 +213,7 @@ fn height_of(rectangle: &Rectangle) -> u32
 }
 
 /// Whether both sides of a rectangle are positive.
-pub fn has_area(rectangle: &Rectangle) -> bool
+fn has_area(rectangle: &Rectangle) -> bool
     ensures { result ≡ spec.has_area rectangle.now }
 {
     width_of(rectangle) > 0 && height_of(rectangle) > 0
@@ -212,7 +237,7 @@ fn push_part_place<W: Write>(
 }
 
 /// Adds the first line of a picture this wide and tall that fills a rectangle of a document.
-pub fn push_part_begin<W: Write>(
+fn push_part_begin<W: Write>(
     text: &mut GatheredText,
     width: u32,
     height: u32,
@@ -227,4 +252,133 @@ pub fn push_part_begin<W: Write>(
     push_part_place(text, rectangle, writer)?;
     push_view(text, width, height, writer)?;
     text.push("\" preserveAspectRatio=\"none\">\n", writer)
+}
+
+/// Adds the lines of all that a picture shows.
+fn push_picture<P: Pictured, W: Write>(
+    text: &mut GatheredText,
+    atlas: &P,
+    writer: &mut W,
+) -> io::Result<()>
+    ensures ok { OnOk result (GathersMore (W.contents writer.old) text.old
+        (W.contents writer.new) text.new
+        (spec.drawn_lines (spec.picture_of (P.framed atlas.now) (P.shown atlas.now)))) }
+    ensures err { OnErr result (SendsBeginning (W.contents writer.old) text.old
+        (W.contents writer.new)
+        (spec.drawn_lines (spec.picture_of (P.framed atlas.now) (P.shown atlas.now)))) }
+{
+    push_drawn(text, &background(atlas.frame()), writer)?;
+    atlas.push_shown(text, writer)
+}
+
+/// Adds a document that shows an atlas.
+fn push_document<P: Pictured, W: Write>(
+    text: &mut GatheredText,
+    atlas: &P,
+    writer: &mut W,
+) -> io::Result<()>
+    ensures ok { OnOk result (GathersMore (W.contents writer.old) text.old
+        (W.contents writer.new) text.new
+        (spec.document (P.framed atlas.now).width (P.framed atlas.now).height
+        (spec.picture_of (P.framed atlas.now) (P.shown atlas.now)))) }
+    ensures err { OnErr result (SendsBeginning (W.contents writer.old) text.old
+        (W.contents writer.new)
+        (spec.document (P.framed atlas.now).width (P.framed atlas.now).height
+        (spec.picture_of (P.framed atlas.now) (P.shown atlas.now)))) }
+{
+    let frame = atlas.frame();
+    push_document_begin(text, frame.width, frame.height, writer)?;
+    push_picture(text, atlas, writer)?;
+    text.push("</svg>\n", writer)
+}
+
+/// Adds a picture that fills a rectangle of a document.
+fn push_part<P: Pictured, W: Write>(
+    text: &mut GatheredText,
+    atlas: &P,
+    rectangle: &Rectangle,
+    writer: &mut W,
+) -> io::Result<()>
+    ensures ok { OnOk result (GathersMore (W.contents writer.old) text.old
+        (W.contents writer.new) text.new
+        (spec.part (P.framed atlas.now).width (P.framed atlas.now).height
+        (spec.picture_of (P.framed atlas.now) (P.shown atlas.now)) rectangle.now)) }
+    ensures err { OnErr result (SendsBeginning (W.contents writer.old) text.old
+        (W.contents writer.new)
+        (spec.part (P.framed atlas.now).width (P.framed atlas.now).height
+        (spec.picture_of (P.framed atlas.now) (P.shown atlas.now)) rectangle.now)) }
+{
+    let frame = atlas.frame();
+    push_part_begin(text, frame.width, frame.height, rectangle, writer)?;
+    push_picture(text, atlas, writer)?;
+    text.push("    </svg>\n", writer)
+}
+
+/// Sends a document that shows an atlas. After a fault of the writer a beginning of it has gone out.
+pub fn send_document<P: Pictured, W: Write>(atlas: &P, writer: &mut W) -> io::Result<()>
+    ensures ok { OnOk result (Appends (W.contents writer.old) (W.contents writer.new)
+        (spec.document (P.framed atlas.now).width (P.framed atlas.now).height
+        (spec.picture_of (P.framed atlas.now) (P.shown atlas.now)))) }
+    ensures err { OnErr result (AppendsBeginning (W.contents writer.old) (W.contents writer.new)
+        (spec.document (P.framed atlas.now).width (P.framed atlas.now).height
+        (spec.picture_of (P.framed atlas.now) (P.shown atlas.now)))) }
+{
+    let mut text = GatheredText::new();
+    push_document(&mut text, atlas, writer)?;
+    text.finish(writer)
+}
+
+/// Sends the lines of all that a picture shows.
+fn send_picture<P: Pictured, W: Write>(atlas: &P, writer: &mut W) -> io::Result<()>
+    ensures ok { OnOk result (Appends (W.contents writer.old) (W.contents writer.new)
+        (spec.drawn_lines (spec.picture_of (P.framed atlas.now) (P.shown atlas.now)))) }
+    ensures err { OnErr result (AppendsBeginning (W.contents writer.old) (W.contents writer.new)
+        (spec.drawn_lines (spec.picture_of (P.framed atlas.now) (P.shown atlas.now)))) }
+{
+    let mut text = GatheredText::new();
+    push_picture(&mut text, atlas, writer)?;
+    text.finish(writer)
+}
+
+/// Sends a picture that fills a rectangle of a document, where the rectangle has an area.
+fn send_part<P: Pictured, W: Write>(
+    atlas: &P,
+    rectangle: &Rectangle,
+    writer: &mut W,
+) -> io::Result<()>
+    ensures ok { OnOk result (Appends (W.contents writer.old) (W.contents writer.new)
+        (spec.document_part (P.framed atlas.now).width (P.framed atlas.now).height
+        (spec.picture_of (P.framed atlas.now) (P.shown atlas.now)) (Some rectangle.now))) }
+    ensures err { OnErr result (AppendsBeginning (W.contents writer.old) (W.contents writer.new)
+        (spec.document_part (P.framed atlas.now).width (P.framed atlas.now).height
+        (spec.picture_of (P.framed atlas.now) (P.shown atlas.now)) (Some rectangle.now))) }
+{
+    if !has_area(rectangle) {
+        return Ok(());
+    }
+    let mut text = GatheredText::new();
+    push_part(&mut text, atlas, rectangle, writer)?;
+    text.finish(writer)
+}
+
+/// Sends the picture of an atlas as a part of a larger document: in its own place, or in a rectangle that has an area.
+/// After a fault of the writer a beginning of it has gone out.
+pub fn send_into<P: Pictured, W: Write>(
+    atlas: &P,
+    rectangle: Option<&Rectangle>,
+    writer: &mut W,
+) -> io::Result<()>
+    ensures ok { OnOk result (Appends (W.contents writer.old) (W.contents writer.new)
+        (spec.document_part (P.framed atlas.now).width (P.framed atlas.now).height
+        (spec.picture_of (P.framed atlas.now) (P.shown atlas.now))
+        (option_map (λ rectangle. rectangle.now) rectangle.entry))) }
+    ensures err { OnErr result (AppendsBeginning (W.contents writer.old) (W.contents writer.new)
+        (spec.document_part (P.framed atlas.now).width (P.framed atlas.now).height
+        (spec.picture_of (P.framed atlas.now) (P.shown atlas.now))
+        (option_map (λ rectangle. rectangle.now) rectangle.entry))) }
+{
+    match rectangle {
+        None => send_picture(atlas, writer),
+        Some(rectangle) => send_part(atlas, rectangle, writer),
+    }
 }

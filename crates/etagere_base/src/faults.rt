@@ -49,6 +49,18 @@ impl OptionsFault {
     }
 }
 
+/// Why an atlas can't get the sides of a size that it is to grow to, tested in this order. Each kind of atlas has a
+/// fault of its own for each.
+#[derive(Clone, Copy, Debug, PartialEq, Eq)]
+pub enum ResizeFault {
+    /// A side of the size is below 1, or longer than such an atlas may be.
+    Size,
+    /// A side of the size is below the atlas's present one.
+    Smaller,
+    /// Width times height is above 2147483647.
+    Area,
+}
+
 /// Why an atlas can't be restored from a snapshot: a rule that the snapshot breaks. Where it breaks several, any of
 /// them is returned.
 #[derive(Clone, Copy, Debug, PartialEq, Eq, Error)]

@@ -7,7 +7,7 @@
 ghost use Rattle.std.specs.Prelude.{◌≡◌, ◌<◌, ◌≤◌, ◌^◌};
 ghost use Rattle.etagere_base.specs.Frames as spec;
 ghost use Rattle.etagere_base.specs.Frames.{IsAccepted, IsFrame, alignments_of, column_width_of, longest_side};
-ghost use Rattle.etagere_base.specs.Sides.{side};
+ghost use Rattle.etagere_base.specs.Sides.{side, swapped_axes};
 
 use crate::faults::OptionsFault;
 use crate::geometry::Size;
@@ -18,7 +18,7 @@ use crate::sides::{Sides, side, swapped_axes, up};
 pub const LONGEST_SIDE: u16 = 65535;
 
 /// No atlas has a larger area, in square pixels.
-pub const LARGEST_AREA: u64 = 2147483647;
+const LARGEST_AREA: u64 = 2147483647;
 
 /// What an atlas keeps of its size and options: lengths in pixels, the direction of its shelves, and the
 /// number of its columns.
@@ -41,15 +41,41 @@ pub struct Frame {
 }
 
 impl Frame {
+    /// The side of the atlas along its shelves, in pixels.
+    pub fn along_side(&self) -> u32
+        ensures { result ≡ spec.along_side self.now }
+    {
+        self.sides().along
+    }
+
     /// The side of the atlas across its shelves, in pixels.
     pub fn across_side(&self) -> u32
         ensures { result ≡ spec.across_side self.now }
     {
-        if self.vertical {
-            self.width
-        } else {
-            self.height
-        }
+        self.sides().across
+    }
+
+    /// The alignment along the shelves, in pixels.
+    pub fn alignment_along(&self) -> u32
+        ensures value { result ≡ spec.alignment_along self.now }
+        ensures positive { 1 ≤ self.now.alignment_width → 1 ≤ self.now.alignment_height → 1 ≤ result }
+    {
+        let alignments = Sides {
+            along: self.alignment_width,
+            across: self.alignment_height,
+        };
+        swapped_axes(self.vertical, alignments).along
+    }
+
+    /// The sides along and across the shelves.
+    fn sides(&self) -> Sides
+        ensures { result ≡ swapped_axes self.now.vertical (record { along = self.now.width; across = self.now.height }) }
+    {
+        let sides = Sides {
+            along: self.width,
+            across: self.height,
+        };
+        swapped_axes(self.vertical, sides)
     }
 }
 
@@ -57,11 +83,10 @@ impl Frame {
 pub fn options_fault(longest: u16, size: Size, options: &AllocatorOptions) -> Option<OptionsFault>
     ensures { result ≡ spec.options_fault longest size options.now }
 {
-    if !is_side(longest, size.width) || !is_side(longest, size.height) {
+    if !are_sides(longest, size) {
         return Some(OptionsFault::Size);
     }
-    let area = u64::from(side(size.width)) * u64::from(side(size.height));
-    if area > LARGEST_AREA {
+    if is_too_large(size) {
         return Some(OptionsFault::Area);
     }
     if side(options.alignment.width) == 0 || side(options.alignment.height) == 0 {
@@ -82,11 +107,6 @@ pub fn atlas_frame(size: Size, options: &AllocatorOptions) -> Frame
     ensures value { result ≡ spec.atlas_frame size options.now }
     ensures frame { IsFrame longest_side result }
 {
-    let along = if options.vertical_shelves {
-        size.height
-    } else {
-        size.width
-    };
     let column_width = column_width(size, options);
     Frame {
         width: side(size.width),
@@ -95,7 +115,7 @@ pub fn atlas_frame(size: Size, options: &AllocatorOptions) -> Frame
         alignment_height: side(options.alignment.height),
         vertical: options.vertical_shelves,
         column_width,
-        columns: side(along) / column_width,
+        columns: sides_of(size, options).along / column_width,
     }
 }
 
@@ -108,7 +128,7 @@ pub fn asked(frame: &Frame, size: Size) -> Option<Sides>
         (frame.now.alignment_height < 2 ^ 31) }
     ensures { result ≡ spec.asked frame.now size }
 {
-    if !(is_side(LONGEST_SIDE, size.width) && is_side(LONGEST_SIDE, size.height)) {
+    if !are_sides(LONGEST_SIDE, size) {
         return None;
     }
     let sides = swapped_axes(
@@ -132,17 +152,49 @@ pub fn column_width(size: Size, options: &AllocatorOptions) -> u32
     requires columns { 0 < side options.now.num_columns }
     ensures { result ≡ column_width_of size options.now }
 {
-    let (along, alignment) = if options.vertical_shelves {
-        (side(size.height), side(options.alignment.height))
-    } else {
-        (side(size.width), side(options.alignment.width))
+    let alignment = alignments_of(options).along;
+    sides_of(size, options).along / side(options.num_columns) / alignment * alignment
+}
+
+/// The sides of an atlas of a size, along and across its shelves.
+fn sides_of(size: Size, options: &AllocatorOptions) -> Sides
+    ensures { result ≡ spec.sides_of size options.now }
+{
+    let sides = Sides {
+        along: side(size.width),
+        across: side(size.height),
     };
-    along / side(options.num_columns) / alignment * alignment
+    swapped_axes(options.vertical_shelves, sides)
+}
+
+/// The alignments along and across the shelves.
+fn alignments_of(options: &AllocatorOptions) -> Sides
+    ensures { result ≡ spec.alignments_of options.now }
+{
+    let alignments = Sides {
+        along: side(options.alignment.width),
+        across: side(options.alignment.height),
+    };
+    swapped_axes(options.vertical_shelves, alignments)
+}
+
+/// Whether both sides of a size are at least 1, and no longer than `longest`.
+pub(crate) fn are_sides(longest: u16, size: Size) -> bool
+    ensures { result ≡ spec.are_sides longest size }
+{
+    is_side(longest, size.width) && is_side(longest, size.height)
 }
 
 /// Whether an atlas may have a side of this length, where none may be longer than `longest`.
-pub fn is_side(longest: u16, length: i32) -> bool
+fn is_side(longest: u16, length: i32) -> bool
     ensures { result ≡ spec.is_side longest length }
 {
     0 < side(length) && side(length) <= u32::from(longest)
+}
+
+/// Whether the area of a size is above the largest.
+pub(crate) fn is_too_large(size: Size) -> bool
+    ensures { result ≡ spec.is_too_large size }
+{
+    u64::from(side(size.width)) * u64::from(side(size.height)) > LARGEST_AREA
 }

@@ -6,9 +6,11 @@
 
 mod drawing;
 mod faults;
+mod frame_ranges;
 mod frames;
 mod gathering;
 mod geometry;
+mod growing;
 mod ids;
 mod options;
 mod places;
@@ -17,15 +19,13 @@ mod sending;
 mod short_text;
 mod sides;
 
-pub use drawing::{
-    Colour, Drawn, background, drawn_at, has_area, push_document_begin, push_drawn, push_part_begin,
-};
-pub use faults::{OptionsFault, RestoreFault, UnknownId};
-pub use frames::{
-    Frame, LARGEST_AREA, LONGEST_SIDE, asked, atlas_frame, column_width, is_side, options_fault,
-};
+pub use drawing::{Colour, Drawn, Pictured, drawn_at, push_drawn, send_document, send_into};
+pub use faults::{OptionsFault, ResizeFault, RestoreFault, UnknownId};
+pub use frame_ranges::is_frame;
+pub use frames::{Frame, LONGEST_SIDE, asked, atlas_frame, column_width, options_fault};
 pub use gathering::GatheredText;
 pub use geometry::{Point, Rectangle, Size, point2, size2};
+pub use growing::{grown_frame, resize_fault};
 pub use ids::{AllocId, Allocation, INDEX_MODULUS};
 pub use options::{AllocatorOptions, DEFAULT_OPTIONS};
 pub use places::rectangle_at;

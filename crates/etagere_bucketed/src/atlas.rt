@@ -21,7 +21,7 @@ ghost use Rattle.bucketed_model.specs.Refusal as refusals;
 ghost use Rattle.bucketed_model.specs.Returning.{bucket_returned, is_known};
 ghost use Rattle.bucketed_model.specs.Space as space;
 ghost use Rattle.bucketed_model.specs.State.{fresh, is_idle};
-ghost use Rattle.bucketed_model.specs.Svg.{svg, svg_into};
+ghost use Rattle.bucketed_model.specs.Svg.{drawn_buckets, svg, svg_into};
 ghost use Rattle.bucketed_model.specs.Tied.{AreTied};
 ghost use Rattle.bucketed_model.specs.Usage as usages;
 ghost use Rattle.bucketed_model.specs.declared.faults.GrowFault.TheVariants as grow_faults;
@@ -32,22 +32,23 @@ ghost use Rattle.bucketed_records.specs.StandsFor.{StandsFor};
 use crate::restored::restore_bucketed;
 use bucketed_model::adding::Remaining;
 use bucketed_model::faults::GrowFault;
-use bucketed_model::frames::{LONGEST_BUCKETED_SIDE, bucketed_frame, grow_fault, grown_frame};
+use bucketed_model::frames::{LONGEST_BUCKETED_SIDE, bucketed_frame, grow_fault};
 use bucketed_model::refusals::{BucketedRefusal, size_refusal};
 use bucketed_model::usage::BucketedUsage;
 use bucketed_records::records::MOST_BUCKETS;
 use bucketed_records::saving::LinkedSnapshot;
 use bucketed_records::snapshots::{BucketedSnapshot, Totals, snapshot_of};
 use bucketed_restoring::restoring::JudgedSnapshot;
-use bucketed_store::drawing::{send_document, send_part, send_picture};
+use bucketed_store::drawing::push_store;
 use bucketed_store::placing::place_of;
 use bucketed_store::refusing::place_refusal;
 use bucketed_store::returning::bucket_number;
 use bucketed_store::store::Store;
 use bucketed_store::usage;
 use etagere_base::{
-    AllocId, Allocation, AllocatorOptions, DEFAULT_OPTIONS, Frame, OptionsFault, Rectangle,
-    RestoreFault, Size, UnknownId, asked, options_fault,
+    AllocId, Allocation, AllocatorOptions, DEFAULT_OPTIONS, Frame, GatheredText, OptionsFault,
+    Pictured, Rectangle, RestoreFault, Size, UnknownId, asked, grown_frame, options_fault,
+    send_document, send_into,
 };
 use std::alloc::{AllocError, Global};
 use std::io::{self, Write};
@@ -419,7 +420,7 @@ impl BucketedAtlasAllocator {
         ensures err { OnErr result
             (AppendsBeginning (W.contents output.old) (W.contents output.new) (svg self.now)) }
     {
-        send_document(&self.frame, &self.store, output)
+        send_document(self, output)
     }
 
     /// Writes the picture of `dump_svg` for a place within a larger SVG document: at the origin, or
@@ -440,10 +441,21 @@ impl BucketedAtlasAllocator {
             (AppendsBeginning (W.contents output.old) (W.contents output.new)
             (svg_into self.now (option_map (λ rectangle. rectangle.now) rectangle.entry))) }
     {
-        match rectangle {
-            None => send_picture(&self.frame, &self.store, output),
-            Some(rectangle) => send_part(&self.frame, &self.store, rectangle, output),
-        }
+        send_into(self, rectangle, output)
+    }
+}
+
+impl Pictured for BucketedAtlasAllocator {
+    ghost framed = { λ atlas. atlas.frame };
+
+    ghost shown = { drawn_buckets };
+
+    fn frame(&self) -> &Frame {
+        &self.frame
+    }
+
+    fn push_shown<W: Write>(&self, text: &mut GatheredText, writer: &mut W) -> io::Result<()> {
+        push_store(text, &self.frame, &self.store, writer)
     }
 }
 

@@ -48,11 +48,7 @@ Each-aligned old new all same each =
 
 -- a grown frame has the alignments and the direction that it had
 alignments-grown : (frame : Frame) (size : Size) → SameAlignments frame (grown_frame frame size)
-alignments-grown frame size = by_columns (frame.columns == 1) refl
-  where
-    by_columns : (b : Bool) → (frame.columns == 1) ≡ b → SameAlignments frame (grown_frame frame size)
-    by_columns true e = record { width = rw e refl; height = rw e refl; direction = rw e refl }
-    by_columns false e = record { width = rw e refl; height = rw e refl; direction = rw e refl }
+alignments-grown frame size = record { width = refl; height = refl; direction = refl }
 
 -- what is live at a position is known
 pub known-at : (entries : List Entry) (state : BucketedState) (position : ℕ) (allocation : Allocation)

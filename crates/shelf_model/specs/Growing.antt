@@ -1,11 +1,14 @@
 -- Growing: the first fault of a new size, and the state after a growth: something is added at the end
 -- of each shelf and of each column, and then all is merged.
-use Rattle.std.specs.Prelude.{ℕ, ◌+◌, ◌-◌, ◌*◌, ◌/◌, max, Bool, true, false, ◌&&◌, ◌||◌, not, Option, None, Some, List, [], ◌∷◌, ◌++◌, map, nat_lt, ◌==◌, if◌then◌else◌}
+use Rattle.std.specs.Prelude.{ℕ, ◌+◌, ◌-◌, max, Bool, true, false, ◌&&◌, not, Option, None, Some, option_map, List, [], ◌∷◌, ◌++◌, map, nat_lt, ◌==◌, if◌then◌else◌}
+use Rattle.etagere_base.specs.declared.faults.ResizeFault.{ResizeFault}
+use Rattle.etagere_base.specs.declared.faults.ResizeFault.TheVariants as resizes
 use Rattle.etagere_base.specs.declared.frames.Frame.{Frame}
 use Rattle.etagere_base.specs.declared.geometry.Size.{Size}
-use Rattle.etagere_base.specs.Frames.{across_side, along_side, alignment_along, is_side, largest_area, longest_side}
+use Rattle.etagere_base.specs.Frames.{across_side, longest_side}
+use Rattle.etagere_base.specs.Growing.{resize_fault}
+pub use Rattle.etagere_base.specs.Growing.{grown_column_width, grown_frame, resized}
 use Rattle.etagere_base.specs.Lists.{total}
-use Rattle.etagere_base.specs.Sides.{down, side}
 use Rattle.shelf_model.specs.declared.faults.AtlasGrowFault.{AtlasGrowFault}
 use Rattle.shelf_model.specs.declared.faults.AtlasGrowFault.TheVariants as faults
 use Rattle.shelf_model.specs.Choice.{most_items}
@@ -13,25 +16,6 @@ use Rattle.shelf_model.specs.Fresh.{empty_columns}
 use Rattle.shelf_model.specs.Merging.{merged}
 use Rattle.shelf_model.specs.Places.{column_place}
 use Rattle.shelf_model.specs.State.{Item, Shelf, AtlasState, empty_shelf, is_empty, is_free, items_in_use}
-
--- the frame with other sides
-abbrev pub resized : Frame → Size → Frame
-resized frame size = record frame { width = side size.width; height = side size.height }
-
--- the width of the columns after a growth: one column becomes as wide as the alignment allows, more
--- stay as they are
-abbrev pub grown_column_width : Frame → Size → ℕ
-grown_column_width frame size =
-    if frame.columns == 1 then down (along_side (resized frame size)) (alignment_along frame)
-    else frame.column_width
-
--- the frame after a growth, which has as many columns as fit
-abbrev pub grown_frame : Frame → Size → Frame
-grown_frame frame size =
-    record (resized frame size) {
-      column_width = grown_column_width frame size;
-      columns = along_side (resized frame size) / grown_column_width frame size;
-    }
 
 -- the width that each column gains
 abbrev pub added_width : Frame → Size → ℕ
@@ -79,15 +63,15 @@ records_needed state size =
     + needed_for_height (added_height state.frame size) state.shelves
     + added_columns state.frame size
 
+-- a fault of a size, as one of a growth
+abbrev pub of_resize : ResizeFault → AtlasGrowFault
+of_resize resizes.Size = faults.Size
+of_resize resizes.Smaller = faults.Smaller
+of_resize resizes.Area = faults.Area
+
 -- the first fault of a growth to a size, records and memory aside
 abbrev pub size_fault : Frame → Size → Option AtlasGrowFault
-size_fault frame size =
-    if not (is_side longest_side size.width && is_side longest_side size.height)
-    then Some faults.Size
-    else (if nat_lt (side size.width) frame.width || nat_lt (side size.height) frame.height
-    then Some faults.Smaller
-    else (if nat_lt largest_area (side size.width * side size.height) then Some faults.Area
-    else None))
+size_fault frame size = option_map of_resize (resize_fault longest_side frame size)
 
 -- the first of these faults, and then that of more items than an atlas can have
 abbrev pub or_records_fault : ℕ → Option AtlasGrowFault → Option AtlasGrowFault

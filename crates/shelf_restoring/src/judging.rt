@@ -7,7 +7,6 @@
 ghost use Rattle.etagere_links.specs.RecordLists.{Entry};
 
 pub mod filling;
-pub mod frame_ranges;
 pub mod freeing;
 pub mod linking;
 pub mod neighbouring;

@@ -3,19 +3,23 @@
 //! Definitions: `Snapshots`.
 
 ghost use Rattle.std.specs.Prelude.{◌≡◌, ◌≤◌, ◌⊎◌, IfErr, IfOk, OnOk};
+ghost use Rattle.etagere_base.specs.Deciding.{Decides};
 ghost use Rattle.etagere_base.specs.declared.faults.RestoreFault.TheVariants as faults;
 ghost use Rattle.etagere_base.specs.Frames.{IsFrame, longest_side};
+ghost use Rattle.etagere_links.specs.Links.{no_link};
 ghost use Rattle.shelf_records.specs.Snapshots as spec;
 ghost use Rattle.shelf_records.specs.Snapshots.{IsBroken, snapshot_records};
 ghost use Rattle.shelf_records.specs.StandsFor.{HasCounts};
 
-use crate::judging::frame_ranges::{has_counts, is_frame};
 use crate::loaded_atlas::LoadedAtlas;
-use etagere_base::{Frame, RestoreFault, Sides, side, swapped_axes};
+use etagere_base::{Frame, LONGEST_SIDE, RestoreFault, Sides, is_frame, side, swapped_axes};
 use etagere_links::{Link, Records};
 use shelf_records::saving::{linked_items, linked_shelves};
 use shelf_records::snapshots::AtlasSnapshot;
 use std::alloc::{AllocError, Global};
+
+/// No atlas has more records of a kind.
+const MOST_RECORDS: usize = 65535;
 
 impl LoadedAtlas {
     /// The atlas that a snapshot says, where its frame and the counts of its records keep their ranges, and there is
@@ -68,7 +72,7 @@ fn snapshot_frame(snapshot: &AtlasSnapshot) -> Result<Frame, RestoreFault>
         return Err(RestoreFault::Frame);
     }
     let frame = frame_of(snapshot, column_width);
-    if !is_frame(&frame) {
+    if !is_frame(LONGEST_SIDE, &frame) {
         return Err(RestoreFault::Frame);
     }
     Ok(frame)
@@ -98,4 +102,20 @@ fn frame_of(snapshot: &AtlasSnapshot, column_width: u32) -> Frame
         column_width,
         columns: sides.along / column_width,
     }
+}
+
+/// Whether a snapshot has as many records of each kind as an atlas may have.
+fn has_counts(snapshot: &AtlasSnapshot) -> bool
+    ensures { Decides result (HasCounts (snapshot_records snapshot.now)) }
+{
+    if !is_count(snapshot.shelves.len()) {
+        return false;
+    }
+    is_count(snapshot.items.len())
+}
+
+fn is_count(count: usize) -> bool
+    ensures { Decides result ((1 ≤ count) × (count ≤ no_link)) }
+{
+    1 <= count && count <= MOST_RECORDS
 }

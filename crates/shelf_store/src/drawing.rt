@@ -1,24 +1,17 @@
-//! The picture of an atlas as SVG text: one walk over the shelves, and along the items of each.
+//! What the picture of an atlas shows, as SVG text: one walk over the shelves, and along the items of each.
 //!
-//! Definitions: `Svg`, and `DrawnRecords` for the same by records. Lines are gathered in a buffer of fixed
-//! size, so no memory is taken. Nothing here changes the records.
+//! Definitions: `Svg`, and `DrawnRecords` for the same by records. Nothing here changes the records.
 
-ghost use Rattle.std.specs.Prelude.{◌≡◌, ◌≤◌, Some, OnOk, OnErr};
-ghost use Rattle.std.specs.Io.KnownBytes.{Appends};
+ghost use Rattle.std.specs.Prelude.{◌≡◌, ◌≤◌, OnOk, OnErr};
 ghost use Rattle.etagere_base.specs.Drawing.{drawn_lines};
-ghost use Rattle.etagere_base.specs.Drawing as base;
 ghost use Rattle.etagere_base.specs.Gathering.{GathersMore, SendsBeginning};
 ghost use Rattle.etagere_base.specs.Lists.{times};
-ghost use Rattle.etagere_base.specs.Sending.{AppendsBeginning};
 ghost use Rattle.etagere_links.specs.RecordLists.{IsLinked, shelf_walk, walked_lists};
 ghost use Rattle.shelf_store.specs.Private.DrawnRecords as recorded;
 ghost use Rattle.shelf_records.specs.Private.Kept.{AreKept, state_of};
 ghost use Rattle.shelf_model.specs.Svg as svg;
 
-use etagere_base::{
-    Colour, Drawn, Frame, GatheredText, Rectangle, Sides, background, drawn_at, has_area,
-    push_document_begin, push_drawn, push_part_begin,
-};
+use etagere_base::{Colour, Drawn, Frame, GatheredText, Sides, drawn_at, push_drawn};
 use etagere_links::{Chain, LinkedItem, LinkedShelf, Records, next_of};
 use shelf_records::fields;
 use std::io::{self, Write};
@@ -78,18 +71,20 @@ fn push_items<W: Write>(
     Ok(())
 }
 
-/// Adds the lines of every item.
-fn push_shelves<W: Write>(
+/// Adds the lines of every item. After a fault of the writer a beginning of the text has gone out.
+pub fn push_shelves<W: Write>(
     text: &mut GatheredText,
     frame: &Frame,
     records: &Records,
     writer: &mut W,
 ) -> io::Result<()>
-    requires { IsLinked records.now (walked_lists records.now) }
+    requires { AreKept frame.now records.now }
     ensures ok { OnOk result (GathersMore (W.contents writer.old) text.old
-        (W.contents writer.new) text.new (recorded.recorded_lines frame.now records.now)) }
+        (W.contents writer.new) text.new
+        (drawn_lines (svg.drawn_items (state_of frame.now records.now)))) }
     ensures err { OnErr result (SendsBeginning (W.contents writer.old) text.old
-        (W.contents writer.new) (recorded.recorded_lines frame.now records.now)) }
+        (W.contents writer.new)
+        (drawn_lines (svg.drawn_items (state_of frame.now records.now)))) }
 {
     let mut at = records.first_shelf().number();
     for _step in 0..records.shelves().len() {
@@ -100,108 +95,4 @@ fn push_shelves<W: Write>(
         at = next_of::<Chain, LinkedShelf>(records.shelves(), shelf).number();
     }
     Ok(())
-}
-
-/// Adds the lines of all that a picture shows.
-fn push_picture<W: Write>(
-    text: &mut GatheredText,
-    frame: &Frame,
-    records: &Records,
-    writer: &mut W,
-) -> io::Result<()>
-    requires { AreKept frame.now records.now }
-    ensures ok { OnOk result (GathersMore (W.contents writer.old) text.old
-        (W.contents writer.new) text.new
-        (drawn_lines (svg.picture (state_of frame.now records.now)))) }
-    ensures err { OnErr result (SendsBeginning (W.contents writer.old) text.old
-        (W.contents writer.new) (drawn_lines (svg.picture (state_of frame.now records.now)))) }
-{
-    push_drawn(text, &background(frame), writer)?;
-    push_shelves(text, frame, records, writer)
-}
-
-/// Adds a document that shows an atlas.
-fn push_document<W: Write>(
-    text: &mut GatheredText,
-    frame: &Frame,
-    records: &Records,
-    writer: &mut W,
-) -> io::Result<()>
-    requires { AreKept frame.now records.now }
-    ensures ok { OnOk result (GathersMore (W.contents writer.old) text.old
-        (W.contents writer.new) text.new (svg.svg (state_of frame.now records.now))) }
-    ensures err { OnErr result (SendsBeginning (W.contents writer.old) text.old
-        (W.contents writer.new) (svg.svg (state_of frame.now records.now))) }
-{
-    push_document_begin(text, frame.width, frame.height, writer)?;
-    push_picture(text, frame, records, writer)?;
-    text.push("</svg>\n", writer)
-}
-
-/// Adds a picture that fills a rectangle of a document.
-fn push_part<W: Write>(
-    text: &mut GatheredText,
-    frame: &Frame,
-    records: &Records,
-    rectangle: &Rectangle,
-    writer: &mut W,
-) -> io::Result<()>
-    requires { AreKept frame.now records.now }
-    ensures ok { OnOk result (GathersMore (W.contents writer.old) text.old
-        (W.contents writer.new) text.new (base.part frame.now.width frame.now.height
-        (svg.picture (state_of frame.now records.now)) rectangle.now)) }
-    ensures err { OnErr result (SendsBeginning (W.contents writer.old) text.old
-        (W.contents writer.new) (base.part frame.now.width frame.now.height
-        (svg.picture (state_of frame.now records.now)) rectangle.now)) }
-{
-    push_part_begin(text, frame.width, frame.height, rectangle, writer)?;
-    push_picture(text, frame, records, writer)?;
-    text.push("    </svg>\n", writer)
-}
-
-/// Sends a document that shows an atlas.
-pub fn send_document<W: Write>(frame: &Frame, records: &Records, writer: &mut W) -> io::Result<()>
-    requires { AreKept frame.now records.now }
-    ensures ok { OnOk result (Appends (W.contents writer.old) (W.contents writer.new)
-        (svg.svg (state_of frame.now records.now))) }
-    ensures err { OnErr result (AppendsBeginning (W.contents writer.old) (W.contents writer.new)
-        (svg.svg (state_of frame.now records.now))) }
-{
-    let mut text = GatheredText::new();
-    push_document(&mut text, frame, records, writer)?;
-    text.finish(writer)
-}
-
-/// Sends the lines of all that a picture shows.
-pub fn send_picture<W: Write>(frame: &Frame, records: &Records, writer: &mut W) -> io::Result<()>
-    requires { AreKept frame.now records.now }
-    ensures ok { OnOk result (Appends (W.contents writer.old) (W.contents writer.new)
-        (drawn_lines (svg.picture (state_of frame.now records.now)))) }
-    ensures err { OnErr result (AppendsBeginning (W.contents writer.old) (W.contents writer.new)
-        (drawn_lines (svg.picture (state_of frame.now records.now)))) }
-{
-    let mut text = GatheredText::new();
-    push_picture(&mut text, frame, records, writer)?;
-    text.finish(writer)
-}
-
-/// Sends a picture that fills a rectangle of a document.
-pub fn send_part<W: Write>(
-    frame: &Frame,
-    records: &Records,
-    rectangle: &Rectangle,
-    writer: &mut W,
-) -> io::Result<()>
-    requires { AreKept frame.now records.now }
-    ensures ok { OnOk result (Appends (W.contents writer.old) (W.contents writer.new)
-        (svg.svg_into (state_of frame.now records.now) (Some rectangle.now))) }
-    ensures err { OnErr result (AppendsBeginning (W.contents writer.old) (W.contents writer.new)
-        (svg.svg_into (state_of frame.now records.now) (Some rectangle.now))) }
-{
-    if !has_area(rectangle) {
-        return Ok(());
-    }
-    let mut text = GatheredText::new();
-    push_part(&mut text, frame, records, rectangle, writer)?;
-    text.finish(writer)
 }

@@ -6,13 +6,13 @@ ghost use Rattle.std.specs.Prelude.{◌≡◌, ◌+◌, ◌<◌, ◌≤◌, ◌|
 ghost use Rattle.etagere_base.specs.Frames as frames;
 ghost use Rattle.etagere_base.specs.Frames.{IsFrame, longest_side};
 ghost use Rattle.shelf_heights.specs.Private.ByHeight.{AreByHeight};
+ghost use Rattle.shelf_model.specs.Growing as growing;
 ghost use Rattle.shelf_records.specs.Private.Kept.{AreKept};
 ghost use Rattle.shelf_store.specs.Private.RecordsGrown as spec;
 ghost use Rattle.shelf_store.specs.Private.RecordsGrown.{CanGrow};
 
 pub mod appending;
 pub mod counting;
-pub mod grown_frames;
 pub mod heightening;
 pub mod inserting;
 pub mod widening;
@@ -21,10 +21,11 @@ use crate::growing::appending::append_columns;
 use crate::growing::heightening::heighten_columns;
 use crate::growing::widening::widen_shelves;
 use crate::starting::sort_shelves;
-use etagere_base::Frame;
+use etagere_base::{Frame, LONGEST_SIDE, ResizeFault, Size, resize_fault};
 use etagere_links::Records;
 use shelf_heights::by_height::ShelvesByHeight;
 use shelf_heights::heights::reserve_by_height;
+use shelf_model::faults::AtlasGrowFault;
 use std::alloc::AllocError;
 
 /// How many records a growth needs: of items, and of shelves.
@@ -39,6 +40,17 @@ pub struct Needed {
 pub struct Made {
     pub item: usize,
     pub shelf: usize,
+}
+
+/// The first fault of a growth to a size, records and memory aside.
+pub fn size_fault(frame: &Frame, size: Size) -> Option<AtlasGrowFault>
+    ensures { result ≡ growing.size_fault frame.now size }
+{
+    match resize_fault(LONGEST_SIDE, frame, size)? {
+        ResizeFault::Size => Some(AtlasGrowFault::Size),
+        ResizeFault::Smaller => Some(AtlasGrowFault::Smaller),
+        ResizeFault::Area => Some(AtlasGrowFault::Area),
+    }
 }
 
 /// Makes the records and the list of shelves by height grow to a frame, for which they need so many. An `Err`, which

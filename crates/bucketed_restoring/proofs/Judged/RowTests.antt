@@ -17,7 +17,7 @@ use Rattle.bucketed_records.specs.BucketRecords.{bucket_at, spelled_bucket}
 use Rattle.bucketed_records.specs.Private.Store.{record_room, live_items, room_of, widest_room}
 use Rattle.bucketed_records.specs.StandsFor.{AreBuckets, IsFilled, StandDown, free_of, live_of, place_of, shelf_of}
 use Rattle.bucketed_restoring.specs.Private.Judging.{begins_at, begins_by, has_buckets, is_filled, is_filled_at, is_owned, is_unused, last_stand, live_by, stand_at, stand_by, stand_together, used_by, widest_by}
-use Rattle.bucketed_restoring.proofs.Judged.FrameTests.{decides-eq, decides-le}
+use Rattle.bucketed_restoring.proofs.Judged.Comparisons.{decides-eq, decides-le}
 
 -- a record that is there
 pub record IsThere (buckets : List LinkedBucket) (n : ℕ) : Type 0 where

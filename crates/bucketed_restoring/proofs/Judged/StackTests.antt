@@ -18,7 +18,7 @@ use Rattle.bucketed_records.specs.BucketRecords.{BucketRecords, spelled_shelf, s
 use Rattle.bucketed_records.specs.StandsFor.{AreStacked, HasShelves, height_before}
 use Rattle.bucketed_restoring.specs.declared.judging.Stack.{Stack}
 use Rattle.bucketed_restoring.specs.Private.Judging.{is_stacked, stack_end}
-use Rattle.bucketed_restoring.proofs.Judged.FrameTests.{decides-eq, decides-le, decides-lt}
+use Rattle.bucketed_restoring.proofs.Judged.Comparisons.{decides-eq, decides-le, decides-lt}
 
 -- one of two tests
 decides-or : (b c : Bool) (P Q : Type 0) → Decides b P → Decides c Q → Decides (b || c) (P ⊎ Q)

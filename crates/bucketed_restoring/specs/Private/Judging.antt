@@ -5,10 +5,9 @@ use Rattle.std.specs.Option.{option_map_or}
 use Rattle.etagere_base.specs.declared.faults.RestoreFault.{RestoreFault}
 use Rattle.etagere_base.specs.declared.faults.RestoreFault.TheVariants.{Link, Runs}
 use Rattle.etagere_base.specs.declared.frames.Frame.{Frame}
-pub use Rattle.etagere_base.specs.Frames.{across_side, along_side, alignment_along}
+pub use Rattle.etagere_base.specs.Frames.{across_side, alignment_along}
 use Rattle.etagere_base.specs.Lists.{total}
 use Rattle.etagere_links.specs.RecordLists.{field_at}
-use Rattle.bucketed_model.specs.Frames.{longest_bucketed_side}
 use Rattle.bucketed_model.specs.Space.{used_width}
 use Rattle.bucketed_model.specs.State.{BucketShelf, generations, most_given}
 use Rattle.bucketed_records.specs.declared.records.LinkedBucket.{LinkedBucket}
@@ -20,28 +19,6 @@ use Rattle.bucketed_records.specs.StandsFor.{AreBuckets}
 pub use Rattle.bucketed_records.specs.StandsFor.{free_of, generation_of, live_of, shelf_of}
 pub use Rattle.bucketed_restoring.specs.declared.judging.Judged.{Judged}
 pub use Rattle.bucketed_restoring.specs.declared.judging.Stack.{Stack}
-
--- the sides of a frame and its area keep their ranges
-abbrev pub has_sides : Frame → Bool
-has_sides frame =
-    (nat_le 1 frame.width && nat_le frame.width longest_bucketed_side)
-    && ((nat_le 1 frame.height && nat_le frame.height longest_bucketed_side) && nat_lt (frame.width * frame.height) (2 ^ 31))
-
--- so do its alignments
-abbrev pub has_alignments : Frame → Bool
-has_alignments frame =
-    (nat_le 1 frame.alignment_width && nat_lt frame.alignment_width (2 ^ 31))
-    && (nat_le 1 frame.alignment_height && nat_lt frame.alignment_height (2 ^ 31))
-
--- its columns are aligned, and lie within its side
-abbrev pub has_columns : Frame → Bool
-has_columns frame =
-    (nat_le 1 frame.column_width && frame.column_width % alignment_along frame == 0)
-    && (nat_le 1 frame.columns && nat_le (frame.columns * frame.column_width) (along_side frame))
-
--- a frame keeps the ranges of a bucketed atlas
-abbrev pub is_frame : Frame → Bool
-is_frame frame = has_sides frame && (has_alignments frame && has_columns frame)
 
 -- the record of this number names this shelf
 abbrev pub is_owned : List LinkedBucket → ℕ → ℕ → Bool

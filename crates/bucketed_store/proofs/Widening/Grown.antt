@@ -5,6 +5,7 @@ use Rattle.std.proofs.lemmas.Bool.{eqb-true}
 use Rattle.std.specs.List.{AllByRecursion}
 use Rattle.etagere_base.specs.declared.frames.Frame.{Frame}
 use Rattle.etagere_base.specs.declared.geometry.Size.{Size}
+use Rattle.etagere_base.proofs.GrownFrames.{frame-grows}
 use Rattle.bucketed_model.specs.Adding.{AreNewTags}
 use Rattle.bucketed_model.specs.Atlas.{Grows}
 use Rattle.bucketed_model.specs.Frames.{IsBucketedFrame}
@@ -12,7 +13,7 @@ use Rattle.bucketed_model.specs.Growing.{grow_fault, grown, grown_counts, grown_
 use Rattle.bucketed_model.specs.Space.{allocated_space}
 use Rattle.bucketed_model.specs.State.{BucketShelf, BucketedState, Tag, buckets_in_use, buckets_left, column_place}
 use Rattle.bucketed_model.specs.Valid.{IsShelf}
-use Rattle.bucketed_model.proofs.Shelving.GrownFrames.{grow-fits, one-grows}
+use Rattle.bucketed_model.proofs.Shelving.GrownFrames.{grow-fits}
 use Rattle.bucketed_model.proofs.Spacing.Spaces.{space-grown}
 use Rattle.bucketed_model.proofs.Shelving.Shelves.{in-use-length}
 use Rattle.bucketed_model.proofs.Validity.GrownValid.{grown-valid}
@@ -125,8 +126,4 @@ grown-is stored unused state size witnessed fits =
 
 -- a growth makes no column narrower
 pub width-grows : (frame : Frame) (size : Size) → IsBucketedFrame frame → grow_fault frame size ≡ None → frame.column_width ≤ (grown_frame frame size).column_width
-width-grows frame size is_frame none = by_test (frame.columns == 1) refl
-  where
-    by_test : (t : Bool) → (frame.columns == 1) ≡ t → frame.column_width ≤ (grown_frame frame size).column_width
-    by_test true e = rw e (one-grows frame size is_frame (grow-fits frame size none) (eqb-true frame.columns 1 e)).1
-    by_test false e = rw e (omega arith)
+width-grows frame size is_frame none = (frame-grows 65534 frame size is_frame (grow-fits frame size none)).width.more

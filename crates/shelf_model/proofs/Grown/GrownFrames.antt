@@ -1,39 +1,21 @@
 -- The frame of a grown atlas keeps the ranges of a frame, and is no smaller.
-use Rattle.std.proofs.Common.{◌≡◌, ℕ, zero, suc, ◌+◌, ◌-◌, ◌*◌, ◌/◌, ◌%◌, ◌<◌, ◌≤◌, ◌^◌, Bool, true, false, cond, Option, Some, None, refl, arith, subst, ◌||◌, ◌&&◌, sym, ◌==◌}
-use Rattle.std.proofs.Math.Nat.{div-mul-le_self, mul-mod_left, mul-le-mul_right, suc-mul, zero-mul}
-use Rattle.std.proofs.lemmas.Bool.{eq-eqb, eqb-true}
-use Rattle.std.proofs.lemmas.Nat.{le-div}
-use Rattle.std.specs.Prelude.{nat_lt, nat_le, not}
+use Rattle.std.proofs.Common.{◌≡◌, ℕ, ◌+◌, ◌-◌, ◌≤◌, Bool, true, false, cond, Option, Some, None, refl, arith}
+use Rattle.std.specs.Prelude.{nat_lt}
 use Rattle.etagere_base.specs.declared.frames.Frame.{Frame}
 use Rattle.etagere_base.specs.declared.geometry.Size.{Size}
-use Rattle.etagere_base.specs.Frames.{IsFrame, across_side, alignment_along, along_side}
-use Rattle.etagere_base.specs.Sides.{down, side}
-use Rattle.etagere_base.proofs.AlignedPlaces.{multiple}
-use Rattle.etagere_base.proofs.FrameSides.{column_width-le}
+use Rattle.etagere_base.specs.Frames.{IsFrame, across_side}
+use Rattle.etagere_base.specs.Growing.{resize_fault}
+use Rattle.etagere_base.proofs.GrownFrames.{FitsSize, GrowsWidth, no-fault}
+use Rattle.etagere_base.proofs.GrownFrames as base
 use Rattle.shelf_model.specs.declared.faults.AtlasGrowFault.{AtlasGrowFault}
 use Rattle.shelf_model.specs.declared.faults.AtlasGrowFault.TheVariants as faults
-use Rattle.shelf_model.specs.Growing.{added_columns, added_height, added_width, grow_fault, grown_column_width, grown_frame, or_records_fault, records_needed, resized, size_fault}
+use Rattle.shelf_model.specs.Growing.{added_columns, added_height, added_width, grow_fault, grown_frame, of_resize, or_records_fault, records_needed, size_fault}
 use Rattle.shelf_model.specs.State.{AtlasState, items_in_use}
-
--- what the tests of a size have shown
-pub record FitsSize (frame : Frame) (size : Size) : Type 0 where
-  pub width : (1 ≤ side size.width) × (side size.width ≤ 65535)
-  pub height : (1 ≤ side size.height) × (side size.height ≤ 65535)
-  pub wider : frame.width ≤ side size.width
-  pub taller : frame.height ≤ side size.height
-  pub area : side size.width * side size.height < 2 ^ 31
 
 -- what the tests of a growth have shown
 pub record Fits (state : AtlasState) (size : Size) : Type 0 where
-  pub sizes : FitsSize state.frame size
+  pub sizes : FitsSize 65535 state.frame size
   pub records : items_in_use state.shelves + records_needed state size ≤ 65535
-
--- tests of which none passed
-none-passed : {A : Type 0} (a b c : Bool) (x y z : A) → cond a (Some x) (cond b (Some y) (cond c (Some z) None)) ≡ None → (a ≡ false) × (b ≡ false) × (c ≡ false)
-none-passed true b c x y z h = cc
-none-passed false true c x y z h = cc
-none-passed false false true x y z h = cc
-none-passed false false false x y z h = (refl, refl, refl)
 
 -- no fault is no fault of the size, and none of the items
 both-none : (items : ℕ) (fault : Option AtlasGrowFault) → or_records_fault items fault ≡ None → (fault ≡ None) × (items ≤ 65535)
@@ -44,26 +26,9 @@ both-none items None h = (refl, of (nat_lt 65535 items) refl h)
     of false e h = grind arith
 both-none items (Some fault) h = absurd (cc)
 
--- sides in range
-in-range : (n m : ℕ) → not ((nat_lt 0 n && nat_le n 65535) && (nat_lt 0 m && nat_le m 65535)) ≡ false → ((1 ≤ n) × (n ≤ 65535)) × ((1 ≤ m) × (m ≤ 65535))
-in-range n m h = ((grind arith, grind arith), (grind arith, grind arith))
-
--- sides that aren't smaller
-no-smaller : (n a m b : ℕ) → (nat_lt n a || nat_lt m b) ≡ false → (a ≤ n) × (b ≤ m)
-no-smaller n a m b h = (grind arith, grind arith)
-
--- a number that isn't larger
-no-larger : (n m : ℕ) → nat_lt n m ≡ false → m ≤ n
-no-larger n m h = grind arith
-
 -- a size without a fault
-pub size-fits : (frame : Frame) (size : Size) → size_fault frame size ≡ None → FitsSize frame size
-size-fits frame size h =
-    let tests = none-passed _ _ _ _ _ _ h in
-    let range = in-range (side size.width) (side size.height) tests.0 in
-    let sides = no-smaller (side size.width) frame.width (side size.height) frame.height tests.1 in
-    let area = no-larger (2 ^ 31 - 1) (side size.width * side size.height) tests.2 in
-    record { width = range.0; height = range.1; wider = sides.0; taller = sides.1; area = omega (arith, area) }
+pub size-fits : (frame : Frame) (size : Size) → size_fault frame size ≡ None → FitsSize 65535 frame size
+size-fits frame size h = base.size-fits 65535 frame size (no-fault of_resize (resize_fault 65535 frame size) h)
 
 -- a growth without a fault
 pub grow-fits : (state : AtlasState) (size : Size) → grow_fault state size ≡ None → Fits state size
@@ -71,103 +36,7 @@ grow-fits state size h =
     let none = both-none (items_in_use state.shelves + records_needed state size) (size_fault state.frame size) h in
     record { sizes = size-fits state.frame size none.0; records = none.1 }
 
--- the sides of the grown atlas are no shorter
-sides-grow : (frame : Frame) (size : Size) → FitsSize frame size
-    → (along_side frame ≤ along_side (resized frame size)) × (across_side frame ≤ across_side (resized frame size))
-sides-grow frame size fits = by_turn frame.vertical refl
-  where
-    by_turn : (b : Bool) → frame.vertical ≡ b → (along_side frame ≤ along_side (resized frame size)) × (across_side frame ≤ across_side (resized frame size))
-    by_turn true e = rw e (fits.taller, fits.wider)
-    by_turn false e = rw e (fits.wider, fits.taller)
-
--- one column becomes as wide as the alignment allows
-pub one-width : (frame : Frame) (size : Size) → frame.columns ≡ 1 → grown_column_width frame size ≡ down (along_side (resized frame size)) (alignment_along frame)
-one-width frame size one = rw (eq-eqb frame.columns 1 one) refl
-
--- the width of columns that grow: no smaller, aligned, within the atlas, and no two would fit for one
-pub record GrowsWidth (frame : Frame) (size : Size) : Type 0 where
-  pub more : frame.column_width ≤ grown_column_width frame size
-  pub aligned : grown_column_width frame size % alignment_along frame ≡ 0
-  pub within : grown_column_width frame size ≤ along_side (resized frame size)
-  pub one : frame.columns ≡ 1 → along_side (resized frame size) / grown_column_width frame size ≡ 1
-  pub many : 2 ≤ frame.columns → grown_column_width frame size ≡ frame.column_width
-
--- an alignment along the shelves is at least 1
-alignment-positive : (frame : Frame) → IsFrame 65535 frame → 1 ≤ alignment_along frame
-alignment-positive frame is_frame = by_turn frame.vertical refl
-  where
-    by_turn : (b : Bool) → frame.vertical ≡ b → 1 ≤ alignment_along frame
-    by_turn true e = rw e (is_frame.alignment_height.0)
-    by_turn false e = rw e (is_frame.alignment_width.0)
-
--- a length rounded down is no shorter than an aligned one within it, and more than half of it where one fits
-down-le : (length along alignment : ℕ) → 1 ≤ alignment → length % alignment ≡ 0 → length ≤ along → length ≤ down along alignment
-down-le length along alignment some even within =
-    omega (
-      arith,
-      multiple length alignment even,
-      mul-le-mul_right alignment (le-div (length / alignment) along alignment some (omega (arith, within, multiple length alignment even))),
-    )
-
--- what is left of a length that was rounded down is shorter than the alignment
-down-rest : (along alignment : ℕ) → 1 ≤ alignment → along < down along alignment + alignment
-down-rest along alignment some = grind arith
-
--- one of a length fits another that is shorter than two of it
-fits-once : (along width : ℕ) → 1 ≤ width → width ≤ along → along < width + width → along / width ≡ 1
-fits-once along width some within short = grind arith
-
--- a multiple that is something is no less than one time
-least : (n m : ℕ) → 1 ≤ n → n % m ≡ 0 → m ≤ n
-least n m some even = of (n / m) (multiple n m even)
-  where
-    of : (k : ℕ) → n ≡ k * m → m ≤ n
-    of zero h = absurd (omega (arith, some, h, zero-mul m))
-    of (suc k) h = omega (arith, h, suc-mul k m)
-
--- how the width of columns grows
-pub width-grows : (frame : Frame) (size : Size) → IsFrame 65535 frame → FitsSize frame size → GrowsWidth frame size
-width-grows frame size is_frame fits = by_test (frame.columns == 1) refl
-  where
-    along : ℕ
-    along = along_side (resized frame size)
-
-    longer : along_side frame ≤ along
-    longer = (sides-grow frame size fits).0
-
-    some : 1 ≤ alignment_along frame
-    some = alignment-positive frame is_frame
-
-    by_test : (b : Bool) → (frame.columns == 1) ≡ b → GrowsWidth frame size
-    by_test true e =
-        let width : grown_column_width frame size ≡ down along (alignment_along frame) = rw e refl in
-        let more : frame.column_width ≤ down along (alignment_along frame) =
-        down-le frame.column_width along (alignment_along frame) some is_frame.aligned (omega (arith, column_width-le 65535 frame is_frame, longer)) in
-        let single : alignment_along frame ≤ down along (alignment_along frame) =
-        omega (arith, more, least frame.column_width (alignment_along frame) is_frame.column_width is_frame.aligned) in
-        record {
-          more = rw width more;
-          aligned = rw width (mul-mod_left _ _);
-          within = rw width (div-mul-le_self along (alignment_along frame));
-          one = λ _. rw width
-              (fits-once along (down along (alignment_along frame)) (omega (arith, some, single)) (div-mul-le_self along (alignment_along frame))
-              (omega (arith, single, down-rest along (alignment_along frame) some)));
-          many = λ h. absurd (omega (arith, h, eqb-true frame.columns 1 e));
-        }
-    by_test false e =
-        let width : grown_column_width frame size ≡ frame.column_width = rw e refl in
-        record {
-          more = omega (arith, width);
-          aligned = rw width is_frame.aligned;
-          within = omega (arith, width, column_width-le 65535 frame is_frame, longer);
-          one = λ h. absurd (differs e (eq-eqb frame.columns 1 h));
-          many = λ _. width;
-        }
-      where
-        differs : {b : Bool} → b ≡ false → b ≡ true → ⊥
-        differs h k = cc
-
--- the grown frame, and that it has no fewer columns
+-- the grown frame, and what it gains
 pub record GrowsFrame (frame : Frame) (size : Size) : Type 0 where
   pub is_frame : IsFrame 65535 (grown_frame frame size)
   pub width : GrowsWidth frame size
@@ -175,40 +44,14 @@ pub record GrowsFrame (frame : Frame) (size : Size) : Type 0 where
   pub column_width : (grown_frame frame size).column_width ≡ frame.column_width + added_width frame size
   pub across : across_side (grown_frame frame size) ≡ across_side frame + added_height frame size
 
--- columns that aren't one are two at least
-several : (n : ℕ) → (n == 1) ≡ false → 1 ≤ n → 2 ≤ n
-several n h some = grind arith
-
 -- a growth without a fault makes a frame
-pub frame-grows : (frame : Frame) (size : Size) → IsFrame 65535 frame → FitsSize frame size → GrowsFrame frame size
+pub frame-grows : (frame : Frame) (size : Size) → IsFrame 65535 frame → FitsSize 65535 frame size → GrowsFrame frame size
 frame-grows frame size is_frame fits =
-    let along : ℕ = along_side (resized frame size) in
-    let width : GrowsWidth frame size = width-grows frame size is_frame fits in
-    let sides = sides-grow frame size fits in
-    let wide : 1 ≤ grown_column_width frame size = omega (arith, width.more, is_frame.column_width) in
-    let more : frame.columns ≤ along / grown_column_width frame size = by_test (frame.columns == 1) refl wide width in
+    let grows = base.frame-grows 65535 frame size is_frame fits in
     record {
-      is_frame =
-          record {
-            width = fits.width;
-            height = fits.height;
-            area = fits.area;
-            alignment_width = is_frame.alignment_width;
-            alignment_height = is_frame.alignment_height;
-            column_width = wide;
-            aligned = width.aligned;
-            columns = (omega (arith, more, is_frame.columns.0), div-mul-le_self along (grown_column_width frame size));
-          };
-      width = width;
-      columns = omega (arith, more);
-      column_width = omega (arith, width.more);
-      across = omega (arith, sides.1);
+      is_frame = grows.is_frame;
+      width = grows.width;
+      columns = omega (arith, grows.columns);
+      column_width = omega (arith, grows.width.more);
+      across = omega (arith, grows.across);
     }
-  where
-    by_test : (b : Bool) → (frame.columns == 1) ≡ b → 1 ≤ grown_column_width frame size → GrowsWidth frame size
-        → frame.columns ≤ along_side (resized frame size) / grown_column_width frame size
-    by_test true e wide width = omega (arith, width.one (eqb-true frame.columns 1 e), eqb-true frame.columns 1 e)
-    by_test false e wide width =
-        le-div frame.columns (along_side (resized frame size)) (grown_column_width frame size) wide
-        (subst (λ (w : ℕ). frame.columns * w ≤ along_side (resized frame size)) (sym (width.many (several frame.columns e is_frame.columns.0)))
-        (omega (arith, is_frame.columns.1, (sides-grow frame size fits).0)))

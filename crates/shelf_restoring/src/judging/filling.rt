@@ -15,7 +15,6 @@ ghost use Rattle.shelf_model.specs.State as state;
 ghost use Rattle.shelf_model.specs.Valid.{IsItem};
 
 use crate::judging::WalkedShelf;
-use crate::judging::frame_ranges::alignment_along;
 use etagere_base::Frame;
 use etagere_links::{LinkedItem, LinkedShelf};
 use shelf_records::fields;
@@ -101,7 +100,7 @@ fn is_item(frame: &Frame, items: &[LinkedItem], number: usize) -> bool
     if width == 0 {
         return false;
     }
-    width % alignment_along(frame) == 0
+    width % frame.alignment_along() == 0
 }
 
 /// The widths of items, added up.

@@ -2,8 +2,10 @@ use Rattle.std.proofs.Common.{pos, ◌≡◌, ◌∙◌, ◌%◌, ◌/◌, ◌<�
 use Rattle.std.proofs.lemmas.Result.{err_from_is_err_and}
 use Rattle.std.specs.List.{AllByRecursion}
 use Rattle.etagere_base.proofs.DecidingLemmas.{denied, granted}
+use Rattle.etagere_base.specs.Deciding.{Decides}
 use Rattle.etagere_base.specs.declared.faults.RestoreFault.TheVariants as faults
 use Rattle.etagere_base.specs.declared.frames.Frame.{Frame}
+use Rattle.bucketed_model.specs.Frames.{IsBucketedFrame}
 use Rattle.bucketed_model.specs.Valid.{ends_idle}
 use Rattle.bucketed_records.specs.declared.records.LinkedBucketShelf.{LinkedBucketShelf}
 use Rattle.bucketed_records.specs.BucketRecords.{BucketRecords}
@@ -13,9 +15,8 @@ use Rattle.bucketed_records.specs.Private.Restored.{linked_records}
 use Rattle.bucketed_records.specs.Restoring.{Keeps, state_of}
 use Rattle.bucketed_records.specs.StandsFor.{HasCounts, HasShelves}
 use Rattle.bucketed_restoring.specs.Private.Judging as judging
-use Rattle.bucketed_restoring.specs.Private.Judging.{is_frame, is_stacked}
+use Rattle.bucketed_restoring.specs.Private.Judging.{is_stacked}
 use Rattle.bucketed_restoring.proofs.Judged.Assembled.{area-judged, assembled, columns-said, idle-kept, restored, same-lists, totals}
-use Rattle.bucketed_restoring.proofs.Judged.FrameTests.{frame-decided}
 use Rattle.bucketed_restoring.proofs.Judged.LinksRead.{all-links, lists-read}
 use Rattle.bucketed_restoring.proofs.Judged.StackTests.{stacked-decided}
 use Rattle.bucketed_restoring.proofs.restoring.judged_snapshot.Goals as goal
@@ -28,9 +29,8 @@ pass atlas frame shelves result same_frame same_shelves is =
     ∙ ap (λ (ss : List LinkedBucketShelf). is_stacked atlas.frame ss atlas.current_column atlas.available_height) same_shelves)
 
 -- a frame that passes keeps its rule
-framed : (atlas : BucketRecords) (frame : Frame) (result : Bool) → frame ≡ atlas.frame → result ≡ is_frame frame → result ≡ true → Keeps atlas faults.Frame
-framed atlas frame result same is passed =
-    granted (is_frame atlas.frame) (Keeps atlas faults.Frame) (frame-decided atlas.frame) (ap (λ (f : Frame). is_frame f) (sym same) ∙ sym is ∙ passed)
+framed : (atlas : BucketRecords) (frame : Frame) (result : Bool) → frame ≡ atlas.frame → Decides result (IsBucketedFrame frame) → result ≡ true → Keeps atlas faults.Frame
+framed atlas frame result same decides passed = subst IsBucketedFrame same (granted result (IsBucketedFrame frame) decides passed)
 
 pub returns-then-not-is_stacked-clause-fault : goal.returns-then-not-is_stacked-clause-fault
 returns-then-not-is_stacked-clause-fault c =

@@ -16,7 +16,7 @@ returns-clause-frame c =
       alignment_height = c.side-4.result;
       vertical = c.args.options.now.vertical_shelves;
       column_width = c.column_width-column_width.result;
-      columns = c.side-5.result / c.column_width-column_width.result;
+      columns = c.sides_of.result.along / c.column_width-column_width.result;
     } in
     let value : made ≡ atlas_frame c.args.size c.args.options.now = search rules in
     subst (IsFrame 65535) (sym value) (accepted-frame 65535 c.args.size c.args.options.now c.requires short_width short_height)

@@ -1,9 +1,11 @@
-use Rattle.std.proofs.Common.{ap, arith, length, ◌∙◌}
+use Rattle.std.proofs.Common.{ap, arith, length, subst, ◌∙◌}
 use Rattle.etagere_base.proofs.GatheringLemmas.{on-err}
+use Rattle.etagere_base.specs.Gathering.{GathersMore, SendsBeginning}
 use Rattle.etagere_links.specs.Edits.{link_at}
 use Rattle.etagere_links.specs.RecordLists.{shelf_walk}
 use Rattle.etagere_links.specs.Records.{shelf_chain}
 use Rattle.shelf_store.specs.Private.DrawnRecords.{shelf_lines}
+use Rattle.shelf_store.proofs.Recorded.DrawnLines.{kept-lines}
 use Rattle.shelf_store.proofs.Recorded.DrawnWalks.{walk-begins, walk-begun, walk-ends, walk-here, walk-out, walk-passed}
 use Rattle.shelf_store.proofs.Searched.LinkedParts.{shelves-left}
 use Rattle.shelf_store.proofs.drawing.push_shelves.Goals as goal
@@ -13,14 +15,15 @@ pub loop-step-init : goal.loop-step-init
 loop-step-init g c =
     walk-begins shelf_chain.next c.args.records.now.shelves (shelf_lines c.args.frame.now c.args.records.now) (shelf_walk c.args.records.now).met (g.W.Write.contents c.args.writer.now) c.args.text.now
     (c.args.records.now.first_shelf) c.number-at.result
-    (shelves-left c.args.records.now c.requires)
+    (shelves-left c.args.records.now c.requires.linked)
     (c.number-at.ensures.value ∙ c.first_shelf.ensures)
 
 -- at the end all are drawn
 pub returns-in_default-clause-ok : goal.returns-in_default-clause-ok
 returns-in_default-clause-ok g c =
-    walk-ends shelf_chain.next c.args.records.now.shelves (shelf_lines c.args.frame.now c.args.records.now) (shelf_walk c.args.records.now).met (g.W.Write.contents c.args.writer.now) c.args.text.now
-    (g.W.Write.contents c.loop-step.writer) c.loop-step.text c.loop-step.at c.loop-step._step c.loop-step.invariant c.in_default.is
+    subst (GathersMore (g.W.Write.contents c.args.writer.now) c.args.text.now (g.W.Write.contents c.loop-step.writer) c.loop-step.text) (kept-lines c.args.frame.now c.args.records.now c.requires)
+    (walk-ends shelf_chain.next c.args.records.now.shelves (shelf_lines c.args.frame.now c.args.records.now) (shelf_walk c.args.records.now).met (g.W.Write.contents c.args.writer.now) c.args.text.now
+    (g.W.Write.contents c.loop-step.writer) c.loop-step.text c.loop-step.at c.loop-step._step c.loop-step.invariant c.in_default.is)
 
 -- the shelf at hand is in use
 pub push_items-requires-clause-stands : goal.push_items-requires-clause-stands
@@ -32,9 +35,10 @@ push_items-requires-clause-stands g c =
 pub returns-in_err-push_items-clause-err : goal.returns-in_err-push_items-clause-err
 returns-in_err-push_items-clause-err g c =
     on-err c.from_residual.result
+    (subst (SendsBeginning (g.W.Write.contents c.args.writer.now) c.args.text.now (g.W.Write.contents c.push_items.new.writer)) (kept-lines c.args.frame.now c.args.records.now c.requires)
     (walk-begun shelf_chain.next c.args.records.now.shelves (shelf_lines c.args.frame.now c.args.records.now) (shelf_walk c.args.records.now).met (g.W.Write.contents c.args.writer.now) c.args.text.now
     (g.W.Write.contents c.loop-step.writer) (g.W.Write.contents c.push_items.new.writer) c.loop-step.text c.loop-step.at c.in-Some.shelf c.loop-step._step c.loop-step.invariant c.in-Some.is
-    c.in_err-push_items.ensures.err)
+    c.in_err-push_items.ensures.err))
 
 -- one more was drawn
 pub loop-step-preserved : goal.loop-step-preserved
@@ -47,6 +51,7 @@ loop-step-preserved g c =
 -- after as many steps as there are records all are drawn
 pub returns-clause-ok : goal.returns-clause-ok
 returns-clause-ok g c =
-    walk-out shelf_chain.next c.args.records.now.shelves (shelf_lines c.args.frame.now c.args.records.now) (shelf_walk c.args.records.now).met (g.W.Write.contents c.args.writer.now) c.args.text.now
+    subst (GathersMore (g.W.Write.contents c.args.writer.now) c.args.text.now (g.W.Write.contents c.loop-step.writer) c.loop-step.text) (kept-lines c.args.frame.now c.args.records.now c.requires)
+    (walk-out shelf_chain.next c.args.records.now.shelves (shelf_lines c.args.frame.now c.args.records.now) (shelf_walk c.args.records.now).met (g.W.Write.contents c.args.writer.now) c.args.text.now
     (g.W.Write.contents c.loop-step.writer) c.loop-step.text c.loop-step.at c.loop-step._step c.loop-step.invariant
-    (omega (arith, ap length c.shelves-step-end.ensures))
+    (omega (arith, ap length c.shelves-step-end.ensures)))

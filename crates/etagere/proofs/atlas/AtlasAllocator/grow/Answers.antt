@@ -21,6 +21,7 @@ use Rattle.shelf_store.proofs.Grown.GrownKept.{grows-kept}
 use Rattle.shelf_store.proofs.Grown.HeightenedRecords.{heightens}
 use Rattle.shelf_store.proofs.Grown.InsertedShelves.{inserts}
 use Rattle.shelf_store.proofs.Grown.WidenedRecords.{widens}
+use Rattle.shelf_model.proofs.Grown.GrownFrames.{size-fits}
 use Rattle.shelf_model.proofs.Promises.{promises}
 use Rattle.etagere.proofs.atlas.AtlasAllocator.grow.Goals as goal
 
@@ -49,6 +50,17 @@ grows-inside inside size grown needed keeps none is_grown is_needed few =
 
 pub returns-in-Some-clause-promises : goal.returns-in-Some-clause-promises
 returns-in-Some-clause-promises c = subst KeepsPromises c.self.view_is (promises (state_in c.self.inside) c.self.invariant.kept.valid)
+
+pub grown_frame-grown-requires-clause-frame : goal.grown_frame-grown-requires-clause-frame
+grown_frame-grown-requires-clause-frame c = c.self.invariant.kept.valid.frame
+
+pub grown_frame-grown-requires-clause-wider : goal.grown_frame-grown-requires-clause-wider
+grown_frame-grown-requires-clause-wider c =
+    (size-fits c.self.inside.frame c.args.size (sym c.size_fault.ensures ∙ c.in_default.is)).no_smaller.wider
+
+pub grown_frame-grown-requires-clause-taller : goal.grown_frame-grown-requires-clause-taller
+grown_frame-grown-requires-clause-taller c =
+    (size-fits c.self.inside.frame c.args.size (sym c.size_fault.ensures ∙ c.in_default.is)).no_smaller.taller
 
 pub needed_for-needed-requires-clause-columns : goal.needed_for-needed-requires-clause-columns
 needed_for-needed-requires-clause-columns c =

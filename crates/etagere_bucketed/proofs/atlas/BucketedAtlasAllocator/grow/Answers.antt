@@ -1,7 +1,10 @@
 use Rattle.std.proofs.Common.{◌+◌, refl, ap, arith, sym, ◌∙◌, subst}
+use Rattle.etagere_base.proofs.GrownFrames.{frame-weaken}
 use Rattle.etagere_base.specs.declared.sides.Sides.{Sides}
 use Rattle.bucketed_model.specs.Atlas.{Grows, KeepsPromises, NeedsBuckets}
+use Rattle.bucketed_model.specs.Frames.{longest_bucketed_side}
 use Rattle.bucketed_model.specs.State.{BucketedState}
+use Rattle.bucketed_model.proofs.Shelving.GrownFrames.{grow-fits}
 use Rattle.bucketed_model.proofs.Promises.{valid-promises}
 use Rattle.bucketed_model.proofs.Ledger.KnownBusy.{grows-known}
 use Rattle.bucketed_model.proofs.Ledger.TiedGrown.{grows-tied}
@@ -15,6 +18,18 @@ use Rattle.etagere_bucketed.proofs.atlas.BucketedAtlasAllocator.grow.Goals as go
 
 pub returns-in-Some-clause-promises : goal.returns-in-Some-clause-promises
 returns-in-Some-clause-promises c = subst KeepsPromises c.self.view_is (valid-promises (state_in c.self.inside) c.self.invariant.witnessed.valid)
+
+pub grown_frame-frame-requires-clause-frame : goal.grown_frame-frame-requires-clause-frame
+grown_frame-frame-requires-clause-frame c =
+    frame-weaken longest_bucketed_side 65535 c.self.inside.frame (omega arith) c.self.invariant.witnessed.valid.frame
+
+pub grown_frame-frame-requires-clause-wider : goal.grown_frame-frame-requires-clause-wider
+grown_frame-frame-requires-clause-wider c =
+    (grow-fits c.self.inside.frame c.args.size (sym c.grow_fault.ensures ∙ c.in_default.is)).no_smaller.wider
+
+pub grown_frame-frame-requires-clause-taller : goal.grown_frame-frame-requires-clause-taller
+grown_frame-frame-requires-clause-taller c =
+    (grow-fits c.self.inside.frame c.args.size (sym c.grow_fault.ensures ∙ c.in_default.is)).no_smaller.taller
 
 pub overflow_sub-frame : goal.overflow_sub-frame
 overflow_sub-frame c =
