@@ -10,7 +10,7 @@ use Rattle.etagere_base.specs.Least.{Found, first_least, one_later}
 use Rattle.etagere_base.specs.declared.frames.Frame.{Frame}
 use Rattle.etagere_base.specs.declared.geometry.Size.{Size}
 use Rattle.etagere_base.specs.declared.sides.Sides.{Sides}
-use Rattle.etagere_base.specs.Frames.{across_side, asked}
+use Rattle.etagere_base.specs.Frames.{across_side, asked, rounded}
 use Rattle.etagere_base.specs.Sides.{side}
 use Rattle.bucketed_model.specs.declared.refusals.BucketedRefusal.{BucketedRefusal}
 use Rattle.bucketed_model.specs.declared.refusals.BucketedRefusal.TheVariants.{NotPositive, TooLong, WiderThanColumn, TallerThanAtlas, NoRoom, NoBuckets, ItemsUsedUp}
@@ -18,7 +18,7 @@ use Rattle.bucketed_model.specs.Adding.{Remaining, can_add, left_to, needs_fille
 use Rattle.bucketed_model.specs.Merging.{mergeable_shelves}
 use Rattle.bucketed_model.specs.Picking.{Spot, exact_or, free_width, has_room, is_eligible, or_else, pick, roomy_bucket, spot_in, waste}
 use Rattle.bucketed_model.specs.Placing.{BucketPlace, BucketPlacement, InAdded, InBucket, InMerged, bucket_place, placement_of}
-use Rattle.bucketed_model.specs.Refusal.{greatest, has_space, has_width, is_wide, place_refusal, refusal, room, rooms_in, rounded, shelves_refusal, size_refusal, widest}
+use Rattle.bucketed_model.specs.Refusal.{greatest, has_space, has_width, is_wide, place_refusal, refusal, room, rooms_in, shelves_refusal, size_refusal, widest}
 use Rattle.bucketed_model.specs.RefusalLaws.{IsUsedUp}
 use Rattle.bucketed_model.specs.State.{Bucket, BucketShelf, BucketedState, buckets_left, most_given}
 

@@ -4,23 +4,14 @@ use Rattle.std.specs.List.{list_any}
 use Rattle.etagere_base.specs.declared.frames.Frame.{Frame}
 use Rattle.etagere_base.specs.declared.geometry.Size.{Size}
 use Rattle.etagere_base.specs.declared.sides.Sides.{Sides}
-use Rattle.etagere_base.specs.Frames.{across_side, asked, longest_side}
-use Rattle.etagere_base.specs.Sides.{side, swapped_axes, up}
+use Rattle.etagere_base.specs.Frames.{across_side, asked, longest_side, rounded}
+use Rattle.etagere_base.specs.Sides.{side}
 use Rattle.bucketed_model.specs.declared.refusals.BucketedRefusal.{BucketedRefusal}
 use Rattle.bucketed_model.specs.declared.refusals.BucketedRefusal.TheVariants as reasons
 use Rattle.bucketed_model.specs.Adding.{Remaining, has_later_column, left_to}
 use Rattle.bucketed_model.specs.Picking.{free_width, or_else}
 use Rattle.bucketed_model.specs.Placing.{bucket_place}
 use Rattle.bucketed_model.specs.State.{Bucket, BucketShelf, BucketedState, most_given}
-
--- a size along and across the shelves, each side rounded up by its own axis
-abbrev pub rounded : Frame → Size → Sides
-rounded frame size =
-    swapped_axes frame.vertical
-    (record {
-      along = up (side size.width) frame.alignment_width;
-      across = up (side size.height) frame.alignment_height;
-    })
 
 -- the first reason why no shelf of a frame, however empty, could take a size
 abbrev pub size_refusal : Frame → Size → Option BucketedRefusal

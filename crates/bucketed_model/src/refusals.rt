@@ -7,7 +7,7 @@ ghost use Rattle.bucketed_model.specs.Adding as adding;
 ghost use Rattle.bucketed_model.specs.Refusal as spec;
 
 use crate::adding::{Remaining, has_later_column};
-use etagere_base::{Frame, LONGEST_SIDE, Sides, Size, side, swapped_axes, up};
+use etagere_base::{Frame, LONGEST_SIDE, Size, rounded, side};
 use thiserror::Error;
 
 /// Why a bucketed atlas has no place for a size. The first is returned, in this order. `along` and `across` are meant
@@ -59,23 +59,6 @@ impl BucketedRefusal {
             BucketedRefusal::ItemsUsedUp => 7,
         }
     }
-}
-
-/// The size along and across the shelves, each side rounded up by its own axis.
-fn rounded(frame: &Frame, size: Size) -> Sides
-    requires alignment_width { (1 ≤ frame.now.alignment_width) ×
-        (frame.now.alignment_width < 2 ^ 31) }
-    requires alignment_height { (1 ≤ frame.now.alignment_height) ×
-        (frame.now.alignment_height < 2 ^ 31) }
-    ensures { result ≡ spec.rounded frame.now size }
-{
-    swapped_axes(
-        frame.vertical,
-        Sides {
-            along: up(side(size.width), frame.alignment_width),
-            across: up(side(size.height), frame.alignment_height),
-        },
-    )
 }
 
 /// The first reason why no shelf of a frame could take a size, however empty. The alignments are at least 1 and below

@@ -1,9 +1,8 @@
 -- The records of a bucketed atlas, and the state that they spell.
 use Rattle.std.specs.Prelude.{ℕ, ℤ, ◌-◌, ◌/◌, Option, List, map}
 use Rattle.etagere_base.specs.declared.frames.Frame.{Frame}
-use Rattle.etagere_links.specs.Edits.{link_at}
-use Rattle.etagere_links.specs.RecordLists.{field_at, walk_by}
-use Rattle.etagere_links.specs.Walks.{Walked}
+use Rattle.etagere_links.specs.Edits.{link_at, field_at}
+use Rattle.etagere_links.specs.Walks.{walk_by, Walked}
 use Rattle.bucketed_model.specs.State.{Bucket, BucketShelf, BucketedState}
 use Rattle.bucketed_records.specs.declared.records.LinkedBucket.{LinkedBucket}
 use Rattle.bucketed_records.specs.declared.records.LinkedBucketShelf.{LinkedBucketShelf}

@@ -4,7 +4,8 @@ use Rattle.std.specs.List.{AllByRecursion}
 use Rattle.etagere_base.specs.declared.frames.Frame.{Frame}
 use Rattle.etagere_base.specs.Frames.{across_side, alignment_along}
 use Rattle.etagere_links.specs.Links.{no_link}
-use Rattle.etagere_links.specs.RecordLists.{HasEachOnce, field_at}
+use Rattle.etagere_links.specs.Lists.{HasEachOnce}
+use Rattle.etagere_links.specs.Edits.{field_at}
 use Rattle.etagere_links.specs.Walks.{Walked}
 use Rattle.bucketed_model.specs.Frames.{IsBucketedFrame}
 use Rattle.bucketed_model.specs.State.{BucketShelf, BucketedState, available_height, column_height, current_column, generations, most_buckets, most_given}

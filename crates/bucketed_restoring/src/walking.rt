@@ -8,7 +8,7 @@ ghost use Rattle.std.specs.List.{AllByRecursion};
 ghost use Rattle.etagere_base.specs.Frames.{alignment_along};
 ghost use Rattle.etagere_links.specs.Links.{no_link};
 ghost use Rattle.etagere_links.specs.Marks.{IsMarkedBy};
-ghost use Rattle.etagere_links.specs.RecordLists.{HasEachOnce};
+ghost use Rattle.etagere_links.specs.Lists.{HasEachOnce};
 ghost use Rattle.etagere_links.specs.Walks.{walk};
 ghost use Rattle.bucketed_model.specs.State.{most_buckets};
 ghost use Rattle.bucketed_records.specs.BucketRecords.{BucketRecords, bucket_walk};

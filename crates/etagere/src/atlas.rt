@@ -40,8 +40,8 @@ use etagere_base::{
     OptionsFault, Pictured, Rectangle, RestoreFault, Size, UnknownId, atlas_frame, grown_frame,
     options_fault, send_document, send_into, side,
 };
-use etagere_links::Records;
 use shelf_heights::by_height::ShelvesByHeight;
+use shelf_links::Records;
 use shelf_model::faults::{AtlasGrowFault, Refusal};
 use shelf_model::usage::Usage;
 use shelf_records::snapshots::{AtlasSnapshot, snapshot_of};

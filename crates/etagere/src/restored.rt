@@ -5,7 +5,7 @@
 
 ghost use Rattle.std.specs.Prelude.{◌≡◌, ◌+◌, ◌*◌, ◌<◌, ◌≤◌, ◌^◌, IfErr, IfOk, OnOk, length};
 ghost use Rattle.etagere_base.specs.Frames.{HasAllColumns, IsFrame, longest_side};
-ghost use Rattle.etagere_links.specs.RecordLists.{item_numbers, shelf_numbers, shelf_walk};
+ghost use Rattle.shelf_links.specs.RecordLists.{item_numbers, shelf_numbers, shelf_walk};
 ghost use Rattle.shelf_model.specs.Atlas.{KeepsPromises};
 ghost use Rattle.shelf_heights.specs.Private.ByHeight.{AreByHeight};
 ghost use Rattle.shelf_records.specs.Private.Kept.{AreKept};
@@ -16,8 +16,8 @@ ghost use Rattle.shelf_model.specs.State.{items_in_use};
 
 use crate::atlas::AtlasAllocator;
 use etagere_base::{Frame, RestoreFault};
-use etagere_links::Records;
 use shelf_heights::by_height::ShelvesByHeight;
+use shelf_links::Records;
 use shelf_records::snapshots::AtlasSnapshot;
 use shelf_restoring::judging::WalkedShelf;
 use shelf_restoring::loaded_atlas::LoadedAtlas;

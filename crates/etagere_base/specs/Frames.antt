@@ -97,17 +97,20 @@ fitting frame sides =
     then Some sides
     else None
 
--- what a size asks of the shelves: each side rounded up by its own axis, then swapped; none where
--- the size is empty, has a side above the longest or is larger than a column
-abbrev pub asked : Frame → Size → Option Sides
-asked frame size =
-    if are_sides longest_side size
-    then fitting frame (swapped_axes frame.vertical
+-- the sides of a size along and across the shelves, each rounded up by its own axis
+abbrev pub rounded : Frame → Size → Sides
+rounded frame size =
+    swapped_axes frame.vertical
     (record {
       along = up (side size.width) frame.alignment_width;
       across = up (side size.height) frame.alignment_height;
-    }))
-    else None
+    })
+
+-- what a size asks of the shelves: its rounded sides; none where the size is empty, has a side above
+-- the longest or is larger than a column
+abbrev pub asked : Frame → Size → Option Sides
+asked frame size =
+    if are_sides longest_side size then fitting frame (rounded frame size) else None
 
 -- a frame's sides, area and alignments keep their ranges, and its columns are aligned and lie
 -- within its side

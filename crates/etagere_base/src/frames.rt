@@ -119,6 +119,24 @@ pub fn atlas_frame(size: Size, options: &AllocatorOptions) -> Frame
     }
 }
 
+/// The sides of a size along and across the shelves, each rounded up by its own axis. The alignments are at least 1 and
+/// below 2^31.
+pub fn rounded(frame: &Frame, size: Size) -> Sides
+    requires alignment_width { (1 ≤ frame.now.alignment_width) ×
+        (frame.now.alignment_width < 2 ^ 31) }
+    requires alignment_height { (1 ≤ frame.now.alignment_height) ×
+        (frame.now.alignment_height < 2 ^ 31) }
+    ensures { result ≡ spec.rounded frame.now size }
+{
+    swapped_axes(
+        frame.vertical,
+        Sides {
+            along: up(side(size.width), frame.alignment_width),
+            across: up(side(size.height), frame.alignment_height),
+        },
+    )
+}
+
 /// The sides along and across that an allocation of a size requires; none where the size is empty, too long or larger
 /// than a column. The alignments are at least 1 and below 2^31.
 pub fn asked(frame: &Frame, size: Size) -> Option<Sides>
@@ -131,13 +149,7 @@ pub fn asked(frame: &Frame, size: Size) -> Option<Sides>
     if !are_sides(LONGEST_SIDE, size) {
         return None;
     }
-    let sides = swapped_axes(
-        frame.vertical,
-        Sides {
-            along: up(side(size.width), frame.alignment_width),
-            across: up(side(size.height), frame.alignment_height),
-        },
-    );
+    let sides = rounded(frame, size);
     if sides.along <= frame.column_width && sides.across <= frame.across_side() {
         Some(sides)
     } else {

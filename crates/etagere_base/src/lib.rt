@@ -22,7 +22,7 @@ mod sides;
 pub use drawing::{Colour, Drawn, Pictured, drawn_at, push_drawn, send_document, send_into};
 pub use faults::{OptionsFault, ResizeFault, RestoreFault, UnknownId};
 pub use frame_ranges::is_frame;
-pub use frames::{Frame, LONGEST_SIDE, asked, atlas_frame, column_width, options_fault};
+pub use frames::{Frame, LONGEST_SIDE, asked, atlas_frame, column_width, options_fault, rounded};
 pub use gathering::GatheredText;
 pub use geometry::{Point, Rectangle, Size, point2, size2};
 pub use growing::{grown_frame, resize_fault};

@@ -7,7 +7,7 @@ use Rattle.etagere_base.specs.Lists.{times}
 use Rattle.etagere_links.specs.Edits.{AreFitting, link_at}
 use Rattle.etagere_links.specs.Links.{bits_of, link_of, no_link}
 use Rattle.etagere_links.specs.Walks.{walk}
-use Rattle.etagere_links.proofs.AllLists.LinkedWalks.{bits-read}
+use Rattle.etagere_links.proofs.WalkedLists.{bits-read}
 use Rattle.etagere_links.proofs.ListEnds.{times-here}
 use Rattle.etagere_links.proofs.WalkChains.{walk-leads}
 

@@ -10,7 +10,7 @@ use Rattle.etagere_links.specs.declared.marking.WalkFault.TheVariants.{OutOfRang
 use Rattle.etagere_links.specs.Links.{no_link}
 use Rattle.etagere_links.specs.LinksRead.{has_each, is_own, links_in, links_until}
 use Rattle.etagere_links.specs.Marks.{HasTwice, IsMarkedBy}
-use Rattle.etagere_links.specs.RecordLists.{HasEachOnce}
+use Rattle.etagere_links.specs.Lists.{HasEachOnce}
 use Rattle.etagere_links.specs.WalkFaults.{BreaksOff, links_by}
 use Rattle.etagere_links.specs.Walks.{Walked}
 use Rattle.etagere_links.proofs.ListEnds.{times-here, times-other}

@@ -2,6 +2,7 @@
 use Rattle.std.specs.Prelude.{◌≡◌, ℕ, zero, suc, Option, None, Some, option_and_then, List, [], ◌∷◌, slice_get}
 use Rattle.etagere_links.specs.Families.{Family}
 use Rattle.etagere_links.specs.Links.{bits_of, link_of}
+use Rattle.std.specs.Option.{option_map_or}
 
 -- the list with the element of this number changed
 abbrev pub changed_at : {T : Type 0} → ℕ → (T → T) → List T → List T
@@ -17,6 +18,10 @@ changed_by (Some number) change xs = changed_at number change xs
 -- a link of the record of this number; none where there is no such record
 abbrev pub link_at : {T : Type 0} → (T → Option ℕ) → List T → ℕ → Option ℕ
 link_at link records number = option_and_then link (slice_get records number)
+
+-- a field of the record of this number; where there is none, the other value
+abbrev pub field_at : {T X : Type 0} → (T → X) → X → List T → ℕ → X
+field_at field other records number = option_map_or field (slice_get records number) other
 
 -- the links of these records fit their bits: none of them names the number whose bits stand for none
 abbrev pub AreFitting : {T : Type 0} → (T → Option ℕ) → List T → Type 0

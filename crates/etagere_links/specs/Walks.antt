@@ -1,7 +1,7 @@
 -- Following links through records.
-use Rattle.std.specs.Prelude.{ℕ, zero, suc, Bool, ◌||◌, List, [], ◌∷◌, ◌++◌, length, slice_index, nat_le, ◌==◌, if◌then◌else◌}
+use Rattle.std.specs.Prelude.{ℕ, zero, suc, Bool, ◌||◌, List, [], ◌∷◌, ◌++◌, length, slice_index, nat_le, ◌==◌, if◌then◌else◌, Option, map}
 use Rattle.std.specs.List.{list_any}
-use Rattle.etagere_links.specs.Links.{no_link}
+use Rattle.etagere_links.specs.Links.{no_link, bits_of}
 
 -- a walk: the numbers of the records that it met, in order, and the link at which it stopped
 pub record Walked : Type 0 where
@@ -24,3 +24,7 @@ walked_from (suc steps) links met at =
 -- the walk from a link on: at each record it follows that record's link
 abbrev pub walk : List ℕ → ℕ → Walked
 walk links start = walked_from (length links) links [] start
+
+-- the walk through records by one of their links
+abbrev pub walk_by : {T : Type 0} → (T → Option ℕ) → List T → Option ℕ → Walked
+walk_by link records start = walk (map (λ here. bits_of (link here)) records) (bits_of start)

@@ -6,7 +6,7 @@ ghost use Rattle.std.specs.Prelude.{◌≡◌, ℕ, ◌+◌, ◌^◌, ◌++◌, 
 ghost use Rattle.std.specs.List.{AllByRecursion};
 ghost use Rattle.etagere_links.specs.Links.{no_link};
 ghost use Rattle.etagere_links.specs.Marks.{HasTwice, IsMarkedBy};
-ghost use Rattle.etagere_links.specs.RecordLists.{HasEachOnce};
+ghost use Rattle.etagere_links.specs.Lists.{HasEachOnce};
 ghost use Rattle.etagere_links.specs.WalkFaults.{BreaksOff, IsFirst, first_fault, links_by};
 ghost use Rattle.etagere_links.specs.Walks as spec;
 

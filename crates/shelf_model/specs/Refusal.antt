@@ -4,8 +4,8 @@ use Rattle.std.specs.Option.{option_map_or}
 use Rattle.etagere_base.specs.declared.frames.Frame.{Frame}
 use Rattle.etagere_base.specs.declared.geometry.Size.{Size}
 use Rattle.etagere_base.specs.declared.sides.Sides.{Sides}
-use Rattle.etagere_base.specs.Frames.{across_side, longest_side}
-use Rattle.etagere_base.specs.Sides.{side, swapped_axes, up}
+use Rattle.etagere_base.specs.Frames.{across_side, longest_side, rounded}
+use Rattle.etagere_base.specs.Sides.{side}
 use Rattle.shelf_model.specs.declared.faults.Refusal.{Refusal}
 use Rattle.shelf_model.specs.declared.faults.Refusal.TheVariants.{NotPositive, TooLong, WiderThanColumn, TallerThanAtlas, NoRoom, NoRecords}
 use Rattle.shelf_model.specs.Choice.{chosen, most_items, shelf_height, splits}
@@ -20,15 +20,6 @@ refusal_number WiderThanColumn = 3
 refusal_number TallerThanAtlas = 4
 refusal_number (NoRoom widest) = 5
 refusal_number NoRecords = 6
-
--- the sides of a size along and across the shelves, each rounded up by its own axis
-abbrev pub rounded : Frame → Size → Sides
-rounded frame size =
-    swapped_axes frame.vertical
-    (record {
-      along = up (side size.width) frame.alignment_width;
-      across = up (side size.height) frame.alignment_height;
-    })
 
 -- a side is below 1
 abbrev pub is_not_positive : Size → Bool

@@ -1,11 +1,11 @@
 -- Laws of the reasons for which a size has no place.
 use Rattle.std.specs.Prelude.{◌≡◌, ◌↔◌, ℕ, ℤ, ◌≤◌, None, Some, List, IsTrue, is_some, pos, slice_get}
 use Rattle.etagere_base.specs.declared.geometry.Size.{Size}
-use Rattle.etagere_base.specs.Frames.{asked}
+use Rattle.etagere_base.specs.Frames.{asked, rounded}
 use Rattle.shelf_model.specs.declared.faults.Refusal.TheVariants.{NoRoom}
 use Rattle.shelf_model.specs.Choice.{placement_of, shelf_height}
 use Rattle.shelf_model.specs.Laws.{FitsShelf}
-use Rattle.shelf_model.specs.Refusal.{refusal, rounded, widest_for}
+use Rattle.shelf_model.specs.Refusal.{refusal, widest_for}
 use Rattle.shelf_model.specs.State.{Shelf, AtlasState}
 use Rattle.shelf_model.specs.Valid.{IsValid}
 use Rattle.shelf_model.specs.Widest.{widest_free}

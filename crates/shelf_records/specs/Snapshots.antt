@@ -6,10 +6,10 @@ use Rattle.etagere_base.specs.declared.frames.Frame as frames
 use Rattle.etagere_base.specs.Frames.{IsFrame, longest_side}
 use Rattle.std.specs.List.{AllByRecursion}
 use Rattle.etagere_base.specs.Sides.{side, swapped_axes}
-use Rattle.etagere_links.specs.declared.records.LinkedItem.{LinkedItem}
-use Rattle.etagere_links.specs.declared.records.LinkedShelf.{LinkedShelf}
+use Rattle.shelf_links.specs.declared.records.LinkedItem.{LinkedItem}
+use Rattle.shelf_links.specs.declared.records.LinkedShelf.{LinkedShelf}
 use Rattle.etagere_links.specs.Links.{link_of}
-use Rattle.etagere_links.specs.RecordLists.{unused_item_walk}
+use Rattle.shelf_links.specs.RecordLists.{unused_item_walk}
 use Rattle.shelf_records.specs.declared.snapshots.AtlasSnapshot.{AtlasSnapshot}
 use Rattle.shelf_records.specs.declared.snapshots.ItemRecord.{ItemRecord}
 use Rattle.shelf_records.specs.declared.snapshots.ShelfRecord.{ShelfRecord}

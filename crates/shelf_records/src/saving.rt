@@ -6,7 +6,8 @@ ghost use Rattle.std.specs.Prelude.{◌≡◌, IfOk, map};
 ghost use Rattle.shelf_records.specs.Snapshots as spec;
 
 use crate::snapshots::{ItemRecord, ShelfRecord};
-use etagere_links::{Link, LinkedItem, LinkedShelf};
+use etagere_links::Link;
+use shelf_links::{LinkedItem, LinkedShelf};
 use std::alloc::{AllocError, Global};
 
 /// The item that a saved one stands for.

@@ -8,8 +8,8 @@ ghost use Rattle.shelf_records.specs.Snapshots.{snapshot_records};
 
 use crate::saving::{saved_items, saved_shelves};
 use etagere_base::Frame;
-use etagere_links::Records;
 use serde::{Deserialize, Serialize};
+use shelf_links::Records;
 use std::alloc::AllocError;
 
 /// An item as it is saved: a stretch of a shelf, or an unused record for one.

@@ -4,7 +4,7 @@
 //! Definitions: `StandsFor`, whose fields are the rules, and `Judging` for some of them over lists.
 //! Each pass answers exactly: a yes says that the rule holds, a no that it is broken.
 
-ghost use Rattle.etagere_links.specs.RecordLists.{Entry};
+ghost use Rattle.shelf_links.specs.RecordLists.{Entry};
 
 pub mod filling;
 pub mod freeing;

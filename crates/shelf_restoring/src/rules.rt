@@ -7,7 +7,8 @@ ghost use Rattle.etagere_base.specs.Frames.{IsFrame, longest_side};
 ghost use Rattle.std.specs.List.{AllByRecursion};
 ghost use Rattle.etagere_base.specs.Lists.{times};
 ghost use Rattle.etagere_links.specs.Links.{no_link};
-ghost use Rattle.etagere_links.specs.RecordLists.{Entry, HasEachOnce, item_numbers, shelf_numbers};
+ghost use Rattle.shelf_links.specs.RecordLists.{Entry, item_numbers, shelf_numbers};
+ghost use Rattle.etagere_links.specs.Lists.{HasEachOnce};
 ghost use Rattle.shelf_restoring.specs.Private.Rules.{BreaksRule, KeepsRules};
 
 use crate::chains::WalkedItems;
@@ -18,7 +19,7 @@ use crate::judging::neighbouring::has_neighbours;
 use crate::judging::spacing::{is_space, none_allocated};
 use crate::judging::stacking::has_shelves;
 use etagere_base::{Frame, RestoreFault};
-use etagere_links::{LinkedItem, LinkedShelf};
+use shelf_links::{LinkedItem, LinkedShelf};
 use std::alloc::Global;
 
 /// Judges what walks have met; returns the first rule that is broken.

@@ -7,7 +7,7 @@ ghost use Rattle.etagere_links.specs.Edits.{AreFitting};
 ghost use Rattle.etagere_links.specs.Links.{bits_of, no_link};
 ghost use Rattle.etagere_links.specs.LinksRead.{links_in, links_until};
 ghost use Rattle.etagere_links.specs.Marks.{IsMarkedBy};
-ghost use Rattle.etagere_links.specs.Records.{shelf_chain};
+ghost use Rattle.shelf_links.specs.Records.{shelf_chain};
 ghost use Rattle.shelf_records.specs.Private.Restoring as spec;
 ghost use Rattle.shelf_records.specs.Private.Restoring.{HasShelfLists};
 ghost use Rattle.shelf_restoring.specs.RestoringSteps.{StopsAfter, shelf_walks};
@@ -15,9 +15,8 @@ ghost use Rattle.shelf_records.specs.Snapshots.{IsBroken};
 
 use crate::loaded_atlas::LoadedAtlas;
 use etagere_base::RestoreFault;
-use etagere_links::{
-    Chain, LinkedShelf, WalkFault, WalkRoom, all_marked, next_bits, unmarked, walk_marking,
-};
+use etagere_links::{Chain, WalkFault, WalkRoom, all_marked, next_bits, unmarked, walk_marking};
+use shelf_links::LinkedShelf;
 use std::alloc::Global;
 
 /// The numbers of the shelves in use, where each shelf record is in use or unused, and in one list.

@@ -5,7 +5,7 @@
 
 ghost use Rattle.std.specs.Prelude.{◌≡◌, ◌+◌, ◌*◌, ◌≤◌, IfOk, IfErr, OnOk, length};
 ghost use Rattle.etagere_links.specs.Links.{no_link};
-ghost use Rattle.etagere_links.specs.RecordLists.{item_numbers};
+ghost use Rattle.shelf_links.specs.RecordLists.{item_numbers};
 ghost use Rattle.shelf_records.specs.Private.Restoring.{IsWalked};
 ghost use Rattle.shelf_restoring.specs.RestoringSteps.{StopsAfter, links_followed, links_of_all};
 ghost use Rattle.shelf_records.specs.Snapshots.{IsBroken};
@@ -16,7 +16,8 @@ use crate::judging::linking::links_back;
 use crate::loaded_atlas::LoadedAtlas;
 use crate::shelf_lists::walk_shelves;
 use etagere_base::RestoreFault;
-use etagere_links::{Chain, LinkedShelf};
+use etagere_links::Chain;
+use shelf_links::LinkedShelf;
 use std::alloc::Global;
 
 /// The shelves in use with their items and free lists, and the unused items, where each record is in one list,

@@ -6,7 +6,7 @@ ghost use Rattle.std.specs.Prelude.{◌≡◌, ◌≤◌, ◌<◌, length, pos};
 ghost use Rattle.etagere_base.specs.Frames.{IsFrame, longest_side};
 ghost use Rattle.etagere_base.specs.Lists.{times};
 ghost use Rattle.etagere_links.specs.Links.{no_link};
-ghost use Rattle.etagere_links.specs.RecordLists.{IsLinked, shelf_walk, walked_lists};
+ghost use Rattle.shelf_links.specs.RecordLists.{IsLinked, shelf_walk, walked_lists};
 ghost use Rattle.shelf_model.specs.Choice as choice;
 ghost use Rattle.shelf_model.specs.Refusal as spec;
 ghost use Rattle.shelf_model.specs.declared.faults.Refusal.TheVariants.{NoRoom};
@@ -19,8 +19,9 @@ use crate::choosing::{
     Candidate, MOST_ITEMS, Searched, placement_at, rank_of, search_free_list, shelf_height,
 };
 use crate::free_items::free_items_of;
-use etagere_base::{Frame, LONGEST_SIDE, Sides, Size, side, swapped_axes, up};
-use etagere_links::{Chain, LinkedShelf, Records, next_of};
+use etagere_base::{Frame, LONGEST_SIDE, Sides, Size, rounded, side};
+use etagere_links::{Chain, next_of};
+use shelf_links::{LinkedShelf, Records};
 use shelf_model::faults::Refusal;
 use shelf_records::fields;
 
@@ -80,20 +81,6 @@ fn no_room(widest: u16) -> Refusal
     Refusal::NoRoom {
         widest: i32::from(widest),
     }
-}
-
-/// The sides of a size along and across the shelves, each rounded up by its own axis.
-fn rounded(frame: &Frame, size: Size) -> Sides
-    requires { IsFrame longest_side frame.now }
-    ensures { result ≡ spec.rounded frame.now size }
-{
-    swapped_axes(
-        frame.vertical,
-        Sides {
-            along: up(side(size.width), frame.alignment_width),
-            across: up(side(size.height), frame.alignment_height),
-        },
-    )
 }
 
 /// The width of the widest free item of the shelves that are at least this tall; 0 where there is none.

@@ -9,7 +9,7 @@
 ghost use Rattle.std.specs.Prelude.{◌≡◌, ◌+◌, ◌*◌, ◌/◌, ◌≤◌, ◌<◌, ◌^◌, None, Some, IfSome, drop, is_some, length, map, nat_lt, set};
 ghost use Rattle.etagere_base.specs.Frames.{IsFrame, longest_side};
 ghost use Rattle.etagere_base.specs.Lists.{times};
-ghost use Rattle.etagere_links.specs.RecordLists.{IsLinked, shelf_walk, walked_lists};
+ghost use Rattle.shelf_links.specs.RecordLists.{IsLinked, shelf_walk, walked_lists};
 ghost use Rattle.shelf_records.specs.AtlasRecords.{height_of, is_empty_at};
 ghost use Rattle.shelf_model.specs.Choice as choice;
 ghost use Rattle.shelf_model.specs.Choice.{bad_fit_rank};
@@ -24,9 +24,9 @@ ghost use Rattle.shelf_store.specs.Private.Searching.{AreTooTall, Finds, IsFirst
 ghost use Rattle.shelf_model.specs.State as state;
 
 use etagere_base::{Frame, Sides, Size, asked, step};
-use etagere_links::{LinkedShelf, Records};
 use shelf_heights::by_height::{BoundedShelf, ShelvesByHeight};
 use shelf_heights::heights::{chain_order, first_from};
+use shelf_links::{LinkedShelf, Records};
 use shelf_model::placements::Placement;
 
 /// An atlas has no more items than this.

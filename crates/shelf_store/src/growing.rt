@@ -22,9 +22,9 @@ use crate::growing::heightening::heighten_columns;
 use crate::growing::widening::widen_shelves;
 use crate::starting::sort_shelves;
 use etagere_base::{Frame, LONGEST_SIDE, ResizeFault, Size, resize_fault};
-use etagere_links::Records;
 use shelf_heights::by_height::ShelvesByHeight;
 use shelf_heights::heights::reserve_by_height;
+use shelf_links::Records;
 use shelf_model::faults::AtlasGrowFault;
 use std::alloc::AllocError;
 

@@ -14,9 +14,10 @@ ghost use Rattle.shelf_store.specs.Private.ReturnedByHeight.{CanMergeNamedByHeig
 ghost use Rattle.etagere_links.specs.Links.{no_link};
 ghost use Rattle.etagere_links.specs.Neighbours.{NamesOneOf};
 
-use etagere_links::{Chain, Link, LinkedItem, LinkedShelf, Records, next_of, previous_of};
+use etagere_links::{Chain, Link, next_of, previous_of};
 use shelf_heights::by_height::ShelvesByHeight;
 use shelf_heights::heights::{position_of, raise, settle, take_out};
+use shelf_links::{LinkedItem, LinkedShelf, Records};
 use shelf_records::fields;
 
 /// The item that remains where one was freed, and how many item records became unused.

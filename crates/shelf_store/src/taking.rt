@@ -6,15 +6,16 @@
 ghost use Rattle.std.specs.Prelude.{◌≡◌, ◌+◌, ◌<◌, ◌≤◌, Some, IfOk, OnOk, OnErr, IfSome, length};
 ghost use Rattle.etagere_base.specs.Frames.{longest_side};
 ghost use Rattle.etagere_links.specs.Links.{no_link};
-ghost use Rattle.etagere_links.specs.RecordUses.{rests_missing};
+ghost use Rattle.shelf_links.specs.RecordUses.{rests_missing};
 ghost use Rattle.shelf_model.specs.Choice.{splits};
 ghost use Rattle.shelf_store.specs.Private.PlacementTaken as spec;
 ghost use Rattle.shelf_store.specs.Private.PlacementTaken.{CanTakeByHeight, CanTakeFrom, HasSpare, IsItemSplittable, CanPutRestIn, CanPutShelfIn, IsShelfSplittable, placement_taken, taken_by_height};
 
 use etagere_base::{AllocId, INDEX_MODULUS};
-use etagere_links::{Link, LinkedItem, LinkedShelf, Records};
+use etagere_links::Link;
 use shelf_heights::by_height::ShelvesByHeight;
 use shelf_heights::heights::{bounded, position_of, put_in, reserve_by_height, settle};
+use shelf_links::{LinkedItem, LinkedShelf, Records};
 use shelf_model::placements::Placement;
 use std::alloc::AllocError;
 

@@ -5,7 +5,7 @@
 ghost use Rattle.std.specs.Prelude.{◌≡◌, ◌+◌, ◌≤◌, ◌<◌, length, if◌then◌else◌};
 ghost use Rattle.etagere_base.specs.Lists.{times};
 ghost use Rattle.etagere_links.specs.Links.{no_link};
-ghost use Rattle.etagere_links.specs.RecordLists.{IsLinked, shelf_walk, walked_lists};
+ghost use Rattle.shelf_links.specs.RecordLists.{IsLinked, shelf_walk, walked_lists};
 ghost use Rattle.shelf_model.specs.State as state;
 ghost use Rattle.shelf_model.specs.Usage as spec;
 ghost use Rattle.shelf_records.specs.Private.Kept.{AreKept, state_of};
@@ -15,7 +15,8 @@ ghost use Rattle.shelf_store.specs.Private.Asking.{free_of, tally_of, tally_with
 use crate::choosing::MOST_ITEMS;
 use crate::free_items::free_items_of;
 use etagere_base::{Frame, Size};
-use etagere_links::{Chain, LinkedShelf, Records, next_of};
+use etagere_links::{Chain, next_of};
+use shelf_links::{LinkedShelf, Records};
 use shelf_model::usage::Usage;
 use shelf_records::fields;
 

@@ -11,7 +11,7 @@ use Rattle.etagere_base.specs.Frames.{alignment_along}
 use Rattle.etagere_links.specs.Chains.{IsPile}
 use Rattle.etagere_links.specs.Links.{no_link}
 use Rattle.etagere_links.specs.Walks.{Walked}
-use Rattle.etagere_links.proofs.AllLists.LinkedWalks.{IsPart, part-of, walk_by-spelled}
+use Rattle.etagere_links.proofs.WalkedLists.{IsPart, part-of, walk_by-spelled}
 use Rattle.bucketed_model.specs.State.{Bucket, BucketShelf, BucketedState, bucket_numbers}
 use Rattle.bucketed_model.specs.Valid.{AreShelves, IsBucket, IsShelf}
 use Rattle.bucketed_model.proofs.Shelving.Shelves.{numbers_of}

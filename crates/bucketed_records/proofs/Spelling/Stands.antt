@@ -11,9 +11,9 @@ use Rattle.etagere_base.proofs.TimesLemmas.{times-append}
 use Rattle.etagere_base.specs.declared.frames.Frame.{Frame}
 use Rattle.etagere_base.specs.Frames.{alignment_along}
 use Rattle.etagere_links.specs.Links.{no_link}
-use Rattle.etagere_links.specs.RecordLists.{HasEachOnce}
+use Rattle.etagere_links.specs.Lists.{HasEachOnce}
 use Rattle.etagere_links.specs.Walks.{Walked}
-use Rattle.etagere_links.proofs.AllLists.LinkedWalks.{IsPart, part-of, walk_by-spelled}
+use Rattle.etagere_links.proofs.WalkedLists.{IsPart, part-of, walk_by-spelled}
 use Rattle.bucketed_model.specs.Space.{allocated_space}
 use Rattle.bucketed_model.specs.State.{Bucket, BucketShelf, BucketedState, bucket_numbers, column_height, column_place, generations}
 use Rattle.bucketed_model.specs.Valid.{IsBucket, IsShelf, StandBetween}

@@ -10,12 +10,12 @@ use Rattle.etagere_base.proofs.TimesLemmas.{times-append}
 use Rattle.etagere_base.specs.declared.frames.Frame.{Frame}
 use Rattle.etagere_base.specs.Frames.{alignment_along}
 use Rattle.etagere_base.specs.Lists.{times}
-use Rattle.etagere_links.proofs.AllLists.LinkedWalks.{IsPart, part-of, walk_by-leads}
+use Rattle.etagere_links.proofs.WalkedLists.{IsPart, part-of, walk_by-leads}
 use Rattle.etagere_links.proofs.ListEnds.{times-here}
 use Rattle.etagere_links.proofs.Tallies.{length-each}
 use Rattle.etagere_links.specs.Chains.{IsPile}
 use Rattle.etagere_links.specs.Links.{no_link}
-use Rattle.etagere_links.specs.RecordLists.{HasEachOnce}
+use Rattle.etagere_links.specs.Lists.{HasEachOnce}
 use Rattle.bucketed_model.specs.Frames.{IsBucketedFrame}
 use Rattle.bucketed_model.specs.State.{Bucket, BucketShelf, BucketedState, bucket_numbers, column_place, generations, most_buckets}
 use Rattle.bucketed_model.specs.Valid.{IsBucket, IsShelf, IsValid, StandBetween}

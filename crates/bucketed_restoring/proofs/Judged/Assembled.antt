@@ -11,7 +11,7 @@ use Rattle.etagere_base.proofs.EachLemmas.{Each-get}
 use Rattle.etagere_base.specs.declared.faults.RestoreFault.TheVariants as faults
 use Rattle.etagere_links.specs.Links.{no_link}
 use Rattle.etagere_links.specs.Walks.{Walked}
-use Rattle.etagere_links.proofs.AllLists.LinkedWalks.{walk_by-leads}
+use Rattle.etagere_links.proofs.WalkedLists.{walk_by-leads}
 use Rattle.bucketed_model.specs.State.{BucketShelf, column_height, column_place}
 use Rattle.bucketed_model.specs.Valid.{ends_idle}
 use Rattle.bucketed_model.proofs.Shelving.Shelves.{in-use-length}

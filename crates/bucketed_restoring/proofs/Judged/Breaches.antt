@@ -6,7 +6,7 @@ use Rattle.etagere_base.specs.declared.faults.RestoreFault.{RestoreFault}
 use Rattle.etagere_base.specs.declared.faults.RestoreFault.TheVariants.{Link, Sharing, Unused, Memory}
 use Rattle.etagere_base.specs.declared.frames.Frame.{Frame}
 use Rattle.etagere_base.proofs.EachLemmas.{Each-weaken}
-use Rattle.etagere_links.proofs.AllLists.LinkedWalks.{part-of}
+use Rattle.etagere_links.proofs.WalkedLists.{part-of}
 use Rattle.etagere_links.proofs.WalkChains.{walk-leads}
 use Rattle.etagere_links.specs.Links.{bits_of, no_link}
 use Rattle.etagere_links.specs.Marks.{IsMarkedBy}

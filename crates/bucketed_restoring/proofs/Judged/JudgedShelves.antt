@@ -12,7 +12,7 @@ use Rattle.etagere_base.specs.declared.frames.Frame.{Frame}
 use Rattle.etagere_base.specs.Lists.{times}
 use Rattle.etagere_links.specs.Links.{no_link}
 use Rattle.etagere_links.specs.Marks.{IsMarkedBy}
-use Rattle.etagere_links.proofs.AllLists.LinkedWalks.{part-of}
+use Rattle.etagere_links.proofs.WalkedLists.{part-of}
 use Rattle.etagere_links.proofs.Tallies.{length-once}
 use Rattle.bucketed_model.specs.Space.{space_in}
 use Rattle.bucketed_model.specs.State.{BucketShelf}

@@ -12,7 +12,7 @@ use Rattle.etagere_links.specs.Links.{bits_of, no_link}
 use Rattle.etagere_links.specs.LinksRead.{is_own, links_in}
 use Rattle.etagere_links.specs.Marks.{IsMarkedBy}
 use Rattle.etagere_links.specs.Walks.{Walked}
-use Rattle.etagere_links.proofs.AllLists.LinkedWalks.{part-of}
+use Rattle.etagere_links.proofs.WalkedLists.{part-of}
 use Rattle.etagere_links.proofs.ReadLinks.{marked-once, not-own, own-once}
 use Rattle.etagere_links.proofs.WalkChains.{walk-leads}
 use Rattle.bucketed_model.specs.State.{most_buckets}

@@ -7,7 +7,7 @@ use Rattle.etagere_base.specs.declared.faults.RestoreFault.TheVariants.{Link, Ru
 use Rattle.etagere_base.specs.declared.frames.Frame.{Frame}
 pub use Rattle.etagere_base.specs.Frames.{across_side, alignment_along}
 use Rattle.etagere_base.specs.Lists.{total}
-use Rattle.etagere_links.specs.RecordLists.{field_at}
+use Rattle.etagere_links.specs.Edits.{field_at}
 use Rattle.bucketed_model.specs.Space.{used_width}
 use Rattle.bucketed_model.specs.State.{BucketShelf, generations, most_given}
 use Rattle.bucketed_records.specs.declared.records.LinkedBucket.{LinkedBucket}

@@ -6,7 +6,7 @@ use Rattle.etagere_base.specs.declared.faults.RestoreFault.TheVariants.{Link, Ru
 use Rattle.etagere_base.specs.declared.frames.Frame.{Frame}
 use Rattle.etagere_links.specs.Links.{bits_of, no_link}
 use Rattle.etagere_links.specs.Marks.{HasTwice, IsMarkedBy}
-use Rattle.etagere_links.specs.RecordLists.{HasEachOnce}
+use Rattle.etagere_links.specs.Lists.{HasEachOnce}
 use Rattle.etagere_links.specs.Walks.{Walked}
 use Rattle.bucketed_model.specs.Space.{space_in, used_width}
 use Rattle.bucketed_model.specs.State.{generations}

@@ -12,8 +12,8 @@ use Rattle.etagere_base.specs.declared.frames.Frame.{Frame}
 use Rattle.etagere_base.specs.Lists.{times}
 use Rattle.etagere_links.specs.Chains.{Leads}
 use Rattle.etagere_links.specs.Edits.{changed_by}
-use Rattle.etagere_links.proofs.AllLists.LinkedWalks.{once-part}
-use Rattle.etagere_links.proofs.FirstLinks.{field_at-kept}
+use Rattle.etagere_links.proofs.WalkedLists.{once-part}
+use Rattle.etagere_links.proofs.FieldChanges.{field_at-kept}
 use Rattle.etagere_links.proofs.RecordChanges.{get-changed_by-other, length-changed_by, link_at-changed, link_at-other}
 use Rattle.bucketed_model.specs.Picking.{or_else}
 use Rattle.bucketed_model.specs.State.{Bucket, BucketShelf, bucket_numbers, is_idle, is_idle_bucket}

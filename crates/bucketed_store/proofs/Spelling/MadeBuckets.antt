@@ -10,7 +10,7 @@ use Rattle.etagere_base.proofs.TimesLemmas.{times-append}
 use Rattle.etagere_base.specs.Lists.{times}
 use Rattle.etagere_links.specs.Edits.{changed_by}
 use Rattle.etagere_links.proofs.Chains.{Leads-frame}
-use Rattle.etagere_links.proofs.FirstLinks.{field_at-other}
+use Rattle.etagere_links.proofs.FieldChanges.{field_at-other}
 use Rattle.etagere_links.proofs.ListEnds.{times-here, times-other}
 use Rattle.etagere_links.proofs.RecordChanges.{get-changed_by, get-changed_by-other, length-changed_by, link_at-other}
 use Rattle.bucketed_model.specs.Adding.{IsTag, new_bucket, new_buckets}

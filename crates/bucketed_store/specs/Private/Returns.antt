@@ -1,8 +1,7 @@
 -- What a return does to records: a bucket has one item less, and shelves at the end are dropped.
 use Rattle.std.specs.Prelude.{ℕ, zero, suc, ◌+◌, ◌-◌, ◌*◌, ◌/◌, ◌%◌, Bool, false, ◌&&◌, Option, None, Some, List, length, take, slice_get, nat_le, nat_lt, ◌==◌, if◌then◌else◌}
 use Rattle.std.specs.Option.{option_map_or}
-use Rattle.etagere_links.specs.Edits.{changed_by}
-use Rattle.etagere_links.specs.RecordLists.{field_at}
+use Rattle.etagere_links.specs.Edits.{changed_by, field_at}
 use Rattle.bucketed_model.specs.Picking.{or_else}
 use Rattle.bucketed_model.specs.Returning.{given_of, tag_of}
 use Rattle.bucketed_model.specs.State.{generation_unit, generations}

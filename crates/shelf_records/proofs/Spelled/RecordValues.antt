@@ -4,10 +4,9 @@ use Rattle.std.specs.Prelude.{◌*◌, filter, slice_get, if◌then◌else◌}
 use Rattle.std.specs.Option.{option_map_or}
 use Rattle.std.specs.List.{AllByRecursion}
 use Rattle.etagere_base.specs.Lists.{times}
-use Rattle.etagere_links.specs.declared.records.LinkedItem.{LinkedItem}
-use Rattle.etagere_links.specs.declared.records.LinkedShelf.{LinkedShelf}
-use Rattle.etagere_links.specs.RecordLists.{field_at}
-use Rattle.etagere_links.specs.Edits.{changed_by}
+use Rattle.shelf_links.specs.declared.records.LinkedItem.{LinkedItem}
+use Rattle.shelf_links.specs.declared.records.LinkedShelf.{LinkedShelf}
+use Rattle.etagere_links.specs.Edits.{field_at, changed_by}
 use Rattle.etagere_links.proofs.RecordChanges.{get-changed_by-other}
 use Rattle.etagere_links.proofs.ListEnds.{times-here}
 use Rattle.shelf_records.specs.AtlasRecords.{is_allocated_at, item_place_of, shelf_of, along_of, across_of, height_of, is_empty_at, item_at, spelled_item}

@@ -9,9 +9,10 @@ use Rattle.std.specs.List.{AllByRecursion}
 use Rattle.etagere_base.specs.Lists.{NoNeighbours, times}
 use Rattle.etagere_base.proofs.EachLemmas.{Each-weaken}
 use Rattle.etagere_base.proofs.TimesLemmas.{times-append}
-use Rattle.etagere_links.proofs.AllLists.LinkedWalks.{IsPart, part-of, walked-numbers}
+use Rattle.etagere_links.proofs.WalkedLists.{IsPart, part-of}
+use Rattle.shelf_links.proofs.AllLists.LinkedWalks.{walked-numbers}
 use Rattle.etagere_links.proofs.Tallies.{length-once}
-use Rattle.etagere_links.specs.RecordLists.{Records, Entry, item_numbers, shelf_walk, unused_item_walk, walked_lists}
+use Rattle.shelf_links.specs.RecordLists.{Records, Entry, item_numbers, shelf_walk, unused_item_walk, walked_lists}
 use Rattle.shelf_records.specs.AtlasRecords.{AtlasRecords, along_of, is_allocated_at, item_at, item_place_of, spelled_shelf, spelled_state, walked_entries}
 use Rattle.shelf_model.specs.Merging.{both_free}
 use Rattle.shelf_model.specs.Places.{allocations, column_place, free_places, record_number}

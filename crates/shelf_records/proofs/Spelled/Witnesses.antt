@@ -5,20 +5,20 @@ use Rattle.etagere_base.specs.declared.frames.Frame.{Frame}
 use Rattle.etagere_base.specs.Frames.{HasAllColumns, IsFrame}
 use Rattle.etagere_links.specs.Chains.{LeadsBack}
 use Rattle.etagere_links.specs.Edits.{link_at}
-use Rattle.etagere_links.specs.Records.{shelf_chain}
+use Rattle.shelf_links.specs.Records.{shelf_chain}
 use Rattle.etagere_base.proofs.EachLemmas.{Each-weaken}
 use Rattle.etagere_base.proofs.TimesLemmas.{times-append}
 use Rattle.std.specs.List.{AllByRecursion}
 use Rattle.etagere_base.specs.Lists.{NoNeighbours}
 use Rattle.etagere_links.specs.Links.{no_link}
-use Rattle.etagere_links.specs.RecordLists.{Entry, Lists, shelf_walk, item_walk, free_walk, unused_item_walk, unused_shelf_walk, walked_lists, shelf_numbers, item_numbers, HasEachOnce, IsEntry, IsLinked}
+use Rattle.shelf_links.specs.RecordLists.{Entry, Lists, shelf_walk, item_walk, free_walk, unused_item_walk, unused_shelf_walk, walked_lists, shelf_numbers, item_numbers, IsEntry, IsLinked, Records}
+use Rattle.etagere_links.specs.Lists.{HasEachOnce}
 use Rattle.etagere_links.specs.Walks.{Walked}
-use Rattle.etagere_links.proofs.AllLists.LinkedUnused.{three-count}
-use Rattle.etagere_links.proofs.AllLists.LinkedWalks.{AreWalks, HasWalks, linked-walks, linked-lists}
+use Rattle.shelf_links.proofs.AllLists.LinkedUnused.{three-count}
+use Rattle.shelf_links.proofs.AllLists.LinkedWalks.{AreWalks, HasWalks, linked-walks, linked-lists}
 use Rattle.shelf_records.specs.AtlasRecords.{AtlasRecords, is_allocated_at, along_of, spelled_shelf, spelled_state, walked_entries}
 use Rattle.shelf_model.specs.Merging.{both_free}
 use Rattle.shelf_records.specs.Private.Kept.{AreKept, HasFlag, IsPlaced, Witnessed, atlas_of, bare, state_of}
-use Rattle.etagere_links.specs.RecordLists.{Records}
 use Rattle.shelf_model.specs.Space.{space_in}
 use Rattle.shelf_records.specs.StandsFor.{StopsInRange, HasItemLinks, AreStacked, HasItems, HasFreeList, StandsFor}
 use Rattle.shelf_model.specs.State.{Shelf, AtlasState}

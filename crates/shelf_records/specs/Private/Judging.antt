@@ -5,12 +5,12 @@ use Rattle.etagere_base.specs.declared.frames.Frame.{Frame}
 use Rattle.etagere_base.specs.Frames.{across_side}
 use Rattle.std.specs.List.{AllByRecursion}
 use Rattle.etagere_base.specs.Lists.{NoNeighbours, times}
-use Rattle.etagere_links.specs.declared.records.LinkedItem.{LinkedItem}
-use Rattle.etagere_links.specs.declared.records.LinkedShelf.{LinkedShelf}
+use Rattle.shelf_links.specs.declared.records.LinkedItem.{LinkedItem}
+use Rattle.shelf_links.specs.declared.records.LinkedShelf.{LinkedShelf}
 use Rattle.etagere_links.specs.Chains.{LeadsBack}
 use Rattle.etagere_links.specs.Edits.{link_at}
-use Rattle.etagere_links.specs.RecordLists.{Entry, shelf_numbers}
-use Rattle.etagere_links.specs.Records.{free_list, item_chain}
+use Rattle.shelf_links.specs.RecordLists.{Entry, shelf_numbers}
+use Rattle.shelf_links.specs.Records.{free_list, item_chain}
 use Rattle.shelf_records.specs.AtlasRecords.{AtlasRecords, along_of, across_of, height_of, is_allocated_at, shelf_of, spelled_shelf}
 use Rattle.shelf_model.specs.Places.{column_height}
 use Rattle.shelf_records.specs.StandsFor.{AreStacked}

@@ -2,8 +2,8 @@
 use Rattle.std.proofs.Common.{◌≡◌, List, [], subst, sym}
 use Rattle.std.specs.List.{AllByRecursion}
 use Rattle.etagere_base.proofs.EachLemmas.{Each-weaken}
-use Rattle.etagere_links.proofs.AllLists.LinkedWalks.{walked-numbers}
-use Rattle.etagere_links.specs.RecordLists.{Entry, free_walk, shelf_numbers, shelf_walk}
+use Rattle.shelf_links.proofs.AllLists.LinkedWalks.{walked-numbers}
+use Rattle.shelf_links.specs.RecordLists.{Entry, free_walk, shelf_numbers, shelf_walk}
 use Rattle.etagere_links.specs.Links.{no_link}
 use Rattle.shelf_records.specs.AtlasRecords.{AtlasRecords, spelled_state, walked_entries}
 use Rattle.shelf_records.specs.Private.Judging.{FreeBack, HasShelvesIn, atlas_of_records}

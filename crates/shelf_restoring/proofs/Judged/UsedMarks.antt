@@ -6,7 +6,7 @@ use Rattle.std.specs.Prelude.{◌==◌, nat_lt, nat_le, slice_index_or, if◌the
 use Rattle.etagere_base.proofs.TimesLemmas.{times-append}
 use Rattle.etagere_base.specs.Lists.{times}
 use Rattle.etagere_links.proofs.ListEnds.{times-here, times-other}
-use Rattle.etagere_links.specs.RecordLists.{HasEachOnce}
+use Rattle.etagere_links.specs.Lists.{HasEachOnce}
 use Rattle.shelf_records.specs.Private.Judging.{AreUsed}
 
 -- what is marked and what is unused makes all

@@ -2,7 +2,7 @@
 use Rattle.etagere_base.specs.declared.faults.RestoreFault.{RestoreFault}
 use Rattle.etagere_base.specs.declared.faults.RestoreFault.TheVariants.{Frame, Counts, Link, Shelves, Runs, Neighbours, FreeList, Sharing, Unused, Space, Memory}
 use Rattle.etagere_base.proofs.EachLemmas.{Each-weaken}
-use Rattle.etagere_links.specs.RecordLists.{Entry, unused_item_walk}
+use Rattle.shelf_links.specs.RecordLists.{Entry, unused_item_walk}
 use Rattle.shelf_records.specs.AtlasRecords.{AtlasRecords, walked_entries}
 use Rattle.shelf_records.specs.Private.Judging.{FreeBack, LinkBack}
 use Rattle.shelf_restoring.specs.Private.Rules.{BreaksRule}

@@ -8,10 +8,11 @@ use Rattle.etagere_links.specs.declared.marking.WalkFault.{WalkFault}
 use Rattle.etagere_links.specs.declared.marking.WalkFault.TheVariants.{OutOfRange, Marked, Circular, Memory}
 use Rattle.etagere_links.specs.Links.{no_link}
 use Rattle.etagere_links.specs.Marks.{HasTwice, IsMarkedBy}
-use Rattle.etagere_links.specs.RecordLists.{Records, Entry, HasEachOnce, free_walk, item_numbers, item_walk, shelf_walk, unused_item_walk, unused_shelf_walk, walked_entry}
+use Rattle.shelf_links.specs.RecordLists.{Records, Entry, free_walk, item_numbers, item_walk, shelf_walk, unused_item_walk, unused_shelf_walk, walked_entry}
+use Rattle.etagere_links.specs.Lists.{HasEachOnce}
 use Rattle.etagere_links.specs.WalkFaults.{BreaksOff}
 use Rattle.etagere_links.specs.Walks.{Walked}
-use Rattle.etagere_links.proofs.AllLists.LinkedWalks.{once-part}
+use Rattle.etagere_links.proofs.WalkedLists.{once-part}
 use Rattle.shelf_records.specs.AtlasRecords.{AtlasRecords, is_allocated_at, walked_entries}
 use Rattle.shelf_records.specs.Private.Restoring.{chain_entry, chain_fault, free_fault, free_numbers}
 use Rattle.shelf_records.specs.Snapshots.{IsBroken}

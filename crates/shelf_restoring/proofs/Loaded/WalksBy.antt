@@ -4,9 +4,8 @@ use Rattle.std.proofs.lemmas.List.{length-map}
 use Rattle.etagere_links.specs.declared.marking.WalkFault.{WalkFault}
 use Rattle.etagere_links.specs.Links.{bits_of}
 use Rattle.etagere_links.specs.Marks.{IsMarkedBy}
-use Rattle.etagere_links.specs.RecordLists.{walk_by}
+use Rattle.etagere_links.specs.Walks.{walk_by, Walked, walk}
 use Rattle.etagere_links.specs.WalkFaults.{BreaksOff}
-use Rattle.etagere_links.specs.Walks.{Walked, walk}
 
 -- the walk is that through the records
 pub walks-by : {T : Type 0} (link : T → Option ℕ) (records : List T) (start : Option ℕ) (links : List ℕ) (bits : ℕ)

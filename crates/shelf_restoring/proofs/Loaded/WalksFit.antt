@@ -5,12 +5,13 @@ use Rattle.std.proofs.lemmas.List.{length-map}
 use Rattle.std.specs.List.{AllByRecursion}
 use Rattle.etagere_base.specs.Lists.{times}
 use Rattle.etagere_base.proofs.EachLemmas.{Each-weaken}
-use Rattle.etagere_links.proofs.AllLists.LinkedWalks.{walked-numbers}
+use Rattle.shelf_links.proofs.AllLists.LinkedWalks.{walked-numbers}
 use Rattle.etagere_links.proofs.WalkChains.{walk-leads}
-use Rattle.etagere_links.specs.declared.records.LinkedItem.{LinkedItem}
+use Rattle.shelf_links.specs.declared.records.LinkedItem.{LinkedItem}
 use Rattle.etagere_links.specs.Links.{bits_of, no_link}
-use Rattle.etagere_links.specs.RecordLists.{Records, Entry, HasEachOnce, first_free_of, first_item_of, item_numbers, item_walk, shelf_numbers, shelf_walk, unused_item_walk, unused_shelf_walk, walked_entry}
-use Rattle.etagere_links.specs.Records.{free_list}
+use Rattle.shelf_links.specs.RecordLists.{Records, Entry, first_free_of, first_item_of, item_numbers, item_walk, shelf_numbers, shelf_walk, unused_item_walk, unused_shelf_walk, walked_entry}
+use Rattle.etagere_links.specs.Lists.{HasEachOnce}
+use Rattle.shelf_links.specs.Records.{free_list}
 use Rattle.shelf_records.specs.AtlasRecords.{AtlasRecords, walked_entries}
 use Rattle.shelf_records.specs.Private.Restoring.{Fits, HasChain, HasFree, IsWalked, chain_entry}
 use Rattle.shelf_restoring.proofs.Judged.ShortLists.{few-shelves, once-shelves, short-items}

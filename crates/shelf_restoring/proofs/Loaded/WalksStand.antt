@@ -4,7 +4,8 @@ use Rattle.std.proofs.Common.{◌≡◌, ℕ, ℤ, List, [], ◌∷◌, ◌++◌
 use Rattle.etagere_base.specs.Frames.{HasAllColumns, IsFrame, longest_side}
 use Rattle.std.specs.List.{AllByRecursion}
 use Rattle.etagere_links.specs.Links.{no_link}
-use Rattle.etagere_links.specs.RecordLists.{Entry, HasEachOnce, free_walk, item_walk, shelf_walk, unused_item_walk, unused_shelf_walk, walked_entry}
+use Rattle.shelf_links.specs.RecordLists.{Entry, free_walk, item_walk, shelf_walk, unused_item_walk, unused_shelf_walk, walked_entry}
+use Rattle.etagere_links.specs.Lists.{HasEachOnce}
 use Rattle.etagere_links.specs.Walks.{Walked}
 use Rattle.shelf_records.specs.AtlasRecords.{AtlasRecords, walked_entries}
 use Rattle.shelf_records.specs.Private.Judging.{FreeBack, LinkBack}

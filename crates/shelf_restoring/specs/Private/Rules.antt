@@ -4,9 +4,9 @@ use Rattle.etagere_base.specs.declared.faults.RestoreFault.{RestoreFault}
 use Rattle.etagere_base.specs.declared.faults.RestoreFault.TheVariants.{Link, Shelves, Runs, Neighbours, FreeList, Unused, Space, Memory}
 use Rattle.etagere_base.specs.declared.frames.Frame.{Frame}
 use Rattle.std.specs.List.{AllByRecursion}
-use Rattle.etagere_links.specs.declared.records.LinkedItem.{LinkedItem}
-use Rattle.etagere_links.specs.declared.records.LinkedShelf.{LinkedShelf}
-use Rattle.etagere_links.specs.RecordLists.{Entry}
+use Rattle.shelf_links.specs.declared.records.LinkedItem.{LinkedItem}
+use Rattle.shelf_links.specs.declared.records.LinkedShelf.{LinkedShelf}
+use Rattle.shelf_links.specs.RecordLists.{Entry}
 use Rattle.shelf_records.specs.AtlasRecords.{is_allocated_at, spelled_shelf, spelled_state}
 use Rattle.shelf_records.specs.Private.Judging.{FreeBack, HasShelvesIn, LinkBack, atlas_of_records}
 use Rattle.shelf_model.specs.Space.{space_in}

@@ -7,7 +7,7 @@ ghost use Rattle.etagere_base.specs.Deciding.{Decides};
 ghost use Rattle.etagere_base.specs.Frames.{IsFrame, longest_side};
 ghost use Rattle.std.specs.List.{AllByRecursion};
 ghost use Rattle.etagere_links.specs.Links.{no_link};
-ghost use Rattle.etagere_links.specs.RecordLists.{Entry};
+ghost use Rattle.shelf_links.specs.RecordLists.{Entry};
 ghost use Rattle.shelf_records.specs.AtlasRecords.{item_at};
 ghost use Rattle.shelf_records.specs.Private.Judging.{atlas_of_records};
 ghost use Rattle.shelf_records.specs.StandsFor.{HasItems, LieFrom};
@@ -16,7 +16,7 @@ ghost use Rattle.shelf_model.specs.Valid.{IsItem};
 
 use crate::judging::WalkedShelf;
 use etagere_base::Frame;
-use etagere_links::{LinkedItem, LinkedShelf};
+use shelf_links::{LinkedItem, LinkedShelf};
 use shelf_records::fields;
 
 /// Whether the items of each of these shelves fill its column.

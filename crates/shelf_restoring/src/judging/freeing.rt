@@ -7,13 +7,15 @@ ghost use Rattle.std.specs.Prelude.{◌≡◌, ℕ, ◌≤◌, ◌++◌, true, I
 ghost use Rattle.etagere_base.specs.Deciding.{Decides};
 ghost use Rattle.std.specs.List.{AllByRecursion};
 ghost use Rattle.etagere_base.specs.Lists.{times};
-ghost use Rattle.etagere_links.specs.RecordLists.{Entry, HasEachOnce, item_numbers, shelf_numbers};
+ghost use Rattle.shelf_links.specs.RecordLists.{Entry, item_numbers, shelf_numbers};
+ghost use Rattle.etagere_links.specs.Lists.{HasEachOnce};
 ghost use Rattle.shelf_records.specs.Private.Judging as judging;
 ghost use Rattle.shelf_records.specs.Private.Judging.{AreOwn, AreUsed, FreeBack, LinkBack, ListsFree};
 
 use crate::judging::WalkedShelf;
 use crate::judging::linking::links_back;
-use etagere_links::{FreeList, LinkedItem};
+use etagere_links::FreeList;
+use shelf_links::LinkedItem;
 use shelf_records::fields;
 use std::alloc::{AllocError, Global};
 

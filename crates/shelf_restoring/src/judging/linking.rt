@@ -10,7 +10,8 @@ ghost use Rattle.shelf_records.specs.AtlasRecords as spec;
 ghost use Rattle.shelf_records.specs.Private.Judging.{ItemsLinkBack, LinkBack};
 
 use crate::judging::WalkedShelf;
-use etagere_links::{Chain, Link, Linked, LinkedItem, previous_of};
+use etagere_links::{Chain, Link, Linked, previous_of};
+use shelf_links::LinkedItem;
 use shelf_records::fields;
 
 /// Whether the items of each of these shelves link back, and name their shelf.

@@ -6,7 +6,7 @@ ghost use Rattle.std.specs.Prelude.{◌≡◌, ◌≤◌, map};
 ghost use Rattle.etagere_base.specs.Deciding.{Decides};
 ghost use Rattle.std.specs.List.{AllByRecursion};
 ghost use Rattle.etagere_base.specs.Lists.{NoNeighbours};
-ghost use Rattle.etagere_links.specs.RecordLists.{Entry};
+ghost use Rattle.shelf_links.specs.RecordLists.{Entry};
 ghost use Rattle.shelf_records.specs.AtlasRecords as spec;
 ghost use Rattle.shelf_model.specs.Merging as merging;
 ghost use Rattle.shelf_records.specs.Private.Judging.{atlas_of_records};
@@ -16,7 +16,7 @@ use crate::judging::WalkedShelf;
 use crate::judging::filling::is_one_free;
 use crate::judging::stacking::column_of;
 use etagere_base::Frame;
-use etagere_links::{LinkedItem, LinkedShelf};
+use shelf_links::{LinkedItem, LinkedShelf};
 use shelf_records::fields;
 
 /// Whether no two free items stand side by side in a shelf, and no two empty shelves in a column.

@@ -8,13 +8,13 @@ ghost use Rattle.etagere_base.specs.Deciding.{Decides};
 ghost use Rattle.etagere_base.specs.declared.frames.Frame.{Frame};
 ghost use Rattle.std.specs.List.{AllByRecursion};
 ghost use Rattle.etagere_links.specs.Links.{no_link};
-ghost use Rattle.etagere_links.specs.RecordLists.{Entry};
+ghost use Rattle.shelf_links.specs.RecordLists.{Entry};
 ghost use Rattle.shelf_records.specs.AtlasRecords as spec;
 ghost use Rattle.shelf_records.specs.Private.Judging.{atlas_of_records};
 ghost use Rattle.shelf_model.specs.Space as space;
 
 use crate::judging::WalkedShelf;
-use etagere_links::{LinkedItem, LinkedShelf};
+use shelf_links::{LinkedItem, LinkedShelf};
 use shelf_records::fields;
 
 /// Whether none of these items is allocated.

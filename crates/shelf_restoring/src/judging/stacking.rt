@@ -9,15 +9,15 @@ ghost use Rattle.etagere_base.specs.Frames.{IsFrame, longest_side};
 ghost use Rattle.std.specs.List.{AllByRecursion};
 ghost use Rattle.etagere_base.specs.Lists.{NoNeighbours};
 ghost use Rattle.etagere_links.specs.Links.{no_link};
-ghost use Rattle.etagere_links.specs.RecordLists.{Entry};
-ghost use Rattle.etagere_links.specs.declared.records.LinkedItem.{LinkedItem};
+ghost use Rattle.shelf_links.specs.RecordLists.{Entry};
+ghost use Rattle.shelf_links.specs.declared.records.LinkedItem.{LinkedItem};
 ghost use Rattle.shelf_records.specs.AtlasRecords as spec;
 ghost use Rattle.shelf_records.specs.Private.Judging as judging;
 ghost use Rattle.shelf_records.specs.Private.Judging.{HasShelvesIn, atlas_of_records};
 
 use crate::judging::WalkedShelf;
 use etagere_base::Frame;
-use etagere_links::LinkedShelf;
+use shelf_links::LinkedShelf;
 use shelf_records::fields;
 
 /// Whether the shelves fill each column, column after column, and each says rightly where it

@@ -4,7 +4,7 @@ use Rattle.std.proofs.Common.{◌≡◌, ℕ, zero, suc, ◌+◌, ◌<◌, ◌�
 use Rattle.std.proofs.lemmas.Bool.Decides.{nat_tests}
 use Rattle.std.specs.Prelude.{◌*◌, ◌==◌, IfSome, nat_lt}
 use Rattle.std.specs.List.{AllByRecursion}
-use Rattle.etagere_links.specs.declared.records.LinkedShelf.{LinkedShelf}
+use Rattle.shelf_links.specs.declared.records.LinkedShelf.{LinkedShelf}
 use Rattle.shelf_records.specs.AtlasRecords.{height_of}
 use Rattle.shelf_model.specs.Listing.{RiseFrom}
 use Rattle.shelf_heights.specs.Private.ByHeight.{AreInOrder, IsFirstAsWide, IsStart, order_at, order_of, chain_order, bounded_at, numbers_by_height}

@@ -4,11 +4,11 @@ use Rattle.std.proofs.Common.{◌≡◌, ℕ, Some, List, ◌∷◌, ◌++◌, m
 use Rattle.std.proofs.lemmas.List.{map-append}
 use Rattle.etagere_base.proofs.EachLemmas.{Each-middle}
 use Rattle.std.specs.List.{AllByRecursion}
-use Rattle.etagere_links.specs.declared.records.LinkedShelf.{LinkedShelf}
-use Rattle.etagere_links.specs.RecordLists.{Records, Entry, IsEntry, first_item_of}
-use Rattle.etagere_links.proofs.AllLists.LinkedMerges.{entry_of}
-use Rattle.etagere_links.proofs.AllLists.LinkedUnused.{lists_of}
-use Rattle.etagere_links.proofs.FirstLinks.{field_at-kept}
+use Rattle.shelf_links.specs.declared.records.LinkedShelf.{LinkedShelf}
+use Rattle.shelf_links.specs.RecordLists.{Records, Entry, IsEntry, first_item_of}
+use Rattle.shelf_links.proofs.AllLists.LinkedMerges.{entry_of}
+use Rattle.shelf_links.proofs.AllLists.LinkedUnused.{lists_of}
+use Rattle.etagere_links.proofs.FieldChanges.{field_at-kept}
 use Rattle.etagere_links.proofs.RecordChanges.{length-changed_by}
 use Rattle.shelf_records.specs.AtlasRecords.{AtlasRecords, across_of, along_of, height_of, spelled_shelf}
 use Rattle.shelf_heights.specs.Private.ByHeight.{AreInOrder, chain_order, raised}

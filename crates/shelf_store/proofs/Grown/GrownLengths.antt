@@ -3,12 +3,12 @@ use Rattle.std.proofs.Common.{◌≡◌, ℕ, zero, suc, ◌+◌, ◌-◌, ◌*�
 use Rattle.std.specs.Prelude.{is_some, nat_lt}
 use Rattle.etagere_base.specs.Frames.{across_side}
 use Rattle.etagere_base.specs.declared.frames.Frame.{Frame}
-use Rattle.etagere_links.specs.declared.records.LinkedShelf.{LinkedShelf}
+use Rattle.shelf_links.specs.declared.records.LinkedShelf.{LinkedShelf}
 use Rattle.etagere_links.specs.Edits.{changed_by, link_at}
-use Rattle.etagere_links.specs.RecordLists.{Records}
-use Rattle.etagere_links.specs.RecordUses.{missing, shelves_used}
-use Rattle.etagere_links.specs.Records.{shelf_chain}
-use Rattle.etagere_links.proofs.FirstLinks.{to_first_free}
+use Rattle.shelf_links.specs.RecordLists.{Records}
+use Rattle.shelf_links.specs.RecordUses.{missing, shelves_used}
+use Rattle.shelf_links.specs.Records.{shelf_chain}
+use Rattle.shelf_links.proofs.FirstLinks.{to_first_free}
 use Rattle.etagere_links.proofs.RecordChanges.{length-changed_by}
 use Rattle.etagere_links.proofs.RecordFrames.{length-linked_between}
 use Rattle.shelf_store.specs.declared.growing.Needed.{Needed}

@@ -5,23 +5,23 @@ use Rattle.std.specs.Prelude.{◌%◌, ◌==◌, is_some, slice_get}
 use Rattle.etagere_base.specs.declared.frames.Frame.{Frame}
 use Rattle.std.specs.List.{AllByRecursion}
 use Rattle.etagere_base.specs.Lists.{times}
-use Rattle.etagere_links.specs.declared.records.LinkedItem.{LinkedItem}
-use Rattle.etagere_links.specs.declared.records.LinkedShelf.{LinkedShelf}
+use Rattle.shelf_links.specs.declared.records.LinkedItem.{LinkedItem}
+use Rattle.shelf_links.specs.declared.records.LinkedShelf.{LinkedShelf}
 use Rattle.etagere_links.specs.Edits.{changed_by, link_at, linked_between}
-use Rattle.etagere_links.specs.RecordEdits.{item_changed, shelf_changed, shelf_inserted_after}
-use Rattle.etagere_links.specs.RecordLists.{Entry, IsEntry, IsLinkedExcept, Records, item_numbers, shelf_numbers}
-use Rattle.etagere_links.specs.RecordMaking.{started}
-use Rattle.etagere_links.specs.RecordUses.{shelves_used}
-use Rattle.etagere_links.specs.Records.{free_list, item_chain, shelf_chain}
-use Rattle.etagere_links.proofs.FirstLinks.{field_at-changed}
+use Rattle.shelf_links.specs.RecordEdits.{item_changed, shelf_changed, shelf_inserted_after}
+use Rattle.shelf_links.specs.RecordLists.{Entry, IsEntry, IsLinkedExcept, Records, item_numbers, shelf_numbers}
+use Rattle.shelf_links.specs.RecordMaking.{started}
+use Rattle.shelf_links.specs.RecordUses.{shelves_used}
+use Rattle.shelf_links.specs.Records.{free_list, item_chain, shelf_chain}
+use Rattle.etagere_links.proofs.FieldChanges.{field_at-changed}
 use Rattle.etagere_links.proofs.ListEnds.{times-here}
-use Rattle.etagere_links.proofs.AllLists.LinkedFields.{item_written-linked, shelf_written-linked}
-use Rattle.etagere_links.proofs.AllLists.LinkedFrames.{shelf_numbers-append}
-use Rattle.etagere_links.proofs.AllLists.LinkedItems.{IsApart, linked-apart}
-use Rattle.etagere_links.proofs.AllLists.LinkedMerges.{entry_of}
-use Rattle.etagere_links.proofs.AllLists.LinkedShelves.{shelf_inserted_after-linked}
-use Rattle.etagere_links.proofs.AllLists.LinkedUnused.{IsLoose, lists_of, loose-of}
-use Rattle.etagere_links.proofs.AllLists.LinkedUses.{but_first}
+use Rattle.shelf_links.proofs.AllLists.LinkedFields.{item_written-linked, shelf_written-linked}
+use Rattle.shelf_links.proofs.AllLists.LinkedFrames.{shelf_numbers-append}
+use Rattle.shelf_links.proofs.AllLists.LinkedItems.{IsApart, linked-apart}
+use Rattle.shelf_links.proofs.AllLists.LinkedMerges.{entry_of}
+use Rattle.shelf_links.proofs.AllLists.LinkedShelves.{shelf_inserted_after-linked}
+use Rattle.shelf_links.proofs.AllLists.LinkedUnused.{IsLoose, lists_of, loose-of}
+use Rattle.shelf_links.proofs.AllLists.LinkedUses.{but_first}
 use Rattle.etagere_links.proofs.RecordChanges.{get-changed_by-other, length-changed_by, link_at-changed}
 use Rattle.etagere_links.proofs.RecordFrames.{length-linked_between, map-linked_between}
 use Rattle.shelf_records.specs.AtlasRecords.{across_of, along_of, height_of, is_allocated_at, is_empty_at, item_at, item_place_of, shelf_of, spelled_item, spelled_shelf}

@@ -2,12 +2,12 @@
 use Rattle.std.proofs.Common.{◌≡◌, ℕ, zero, suc, List, [], ◌∷◌, ◌++◌, length, length-append, refl, arith}
 use Rattle.etagere_base.specs.Lists.{times}
 use Rattle.etagere_base.proofs.TimesLemmas.{times-append}
-use Rattle.etagere_links.specs.RecordEdits.{item_made, shelf_made}
-use Rattle.etagere_links.specs.RecordLists.{Entry, IsLinkedExcept, Records, item_numbers, shelf_numbers}
-use Rattle.etagere_links.specs.RecordMaking.{records_made, with_new_items, with_new_shelves}
-use Rattle.etagere_links.specs.RecordUses.{new_item, new_shelf}
-use Rattle.etagere_links.proofs.AllLists.LinkedFields.{item_made-linked, shelf_made-linked}
-use Rattle.etagere_links.proofs.AllLists.LinkedUnused.{lists_of, three-count}
+use Rattle.shelf_links.specs.RecordEdits.{item_made, shelf_made}
+use Rattle.shelf_links.specs.RecordLists.{Entry, IsLinkedExcept, Records, item_numbers, shelf_numbers}
+use Rattle.shelf_links.specs.RecordMaking.{records_made, with_new_items, with_new_shelves}
+use Rattle.shelf_links.specs.RecordUses.{new_item, new_shelf}
+use Rattle.shelf_links.proofs.AllLists.LinkedFields.{item_made-linked, shelf_made-linked}
+use Rattle.shelf_links.proofs.AllLists.LinkedUnused.{lists_of, three-count}
 use Rattle.shelf_store.specs.Private.FreshRecords.{numbered}
 
 -- so many numbers from this one on

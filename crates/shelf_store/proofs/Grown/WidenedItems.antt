@@ -7,13 +7,13 @@ use Rattle.etagere_base.proofs.EachLemmas.{Each-append, Each-back, Each-front}
 use Rattle.std.specs.List.{AllByRecursion}
 use Rattle.etagere_base.specs.Lists.{times}
 use Rattle.etagere_base.proofs.TimesLemmas.{times-append}
-use Rattle.etagere_links.specs.declared.records.LinkedItem.{LinkedItem}
+use Rattle.shelf_links.specs.declared.records.LinkedItem.{LinkedItem}
 use Rattle.etagere_links.specs.Edits.{link_at}
-use Rattle.etagere_links.specs.RecordEdits.{item_changed, item_inserted_after}
-use Rattle.etagere_links.specs.RecordLists.{Records, first_free_of}
-use Rattle.etagere_links.specs.RecordMaking.{started}
-use Rattle.etagere_links.specs.Records.{free_list, item_chain}
-use Rattle.etagere_links.proofs.FirstLinks.{field_at-changed}
+use Rattle.shelf_links.specs.RecordEdits.{item_changed, item_inserted_after}
+use Rattle.shelf_links.specs.RecordLists.{Records, first_free_of}
+use Rattle.shelf_links.specs.RecordMaking.{started}
+use Rattle.shelf_links.specs.Records.{free_list, item_chain}
+use Rattle.etagere_links.proofs.FieldChanges.{field_at-changed}
 use Rattle.etagere_links.proofs.ListEnds.{times-here}
 use Rattle.etagere_links.proofs.RecordChanges.{get-changed_by-other, length-changed_by}
 use Rattle.etagere_links.proofs.RecordFrames.{length-linked_between, map-linked_between}

@@ -7,12 +7,12 @@ use Rattle.std.specs.List.{AllByRecursion}
 use Rattle.etagere_base.specs.Lists.{total}
 use Rattle.etagere_links.specs.Edits.{link_at}
 use Rattle.etagere_links.specs.Lists.{first_or}
-use Rattle.etagere_links.specs.RecordLists.{Entry, shelf_numbers}
-use Rattle.etagere_links.specs.Records.{shelf_chain}
+use Rattle.shelf_links.specs.RecordLists.{Entry, shelf_numbers}
+use Rattle.shelf_links.specs.Records.{shelf_chain}
 use Rattle.etagere_links.proofs.Chains.{Leads-start, next-is}
-use Rattle.etagere_links.proofs.AllLists.LinkedFrames.{shelf_numbers-append}
-use Rattle.etagere_links.proofs.AllLists.LinkedUnused.{three-count}
-use Rattle.etagere_links.proofs.AllLists.LinkedWalks.{IsPart, part-of}
+use Rattle.shelf_links.proofs.AllLists.LinkedFrames.{shelf_numbers-append}
+use Rattle.shelf_links.proofs.AllLists.LinkedUnused.{three-count}
+use Rattle.etagere_links.proofs.WalkedLists.{IsPart, part-of}
 use Rattle.etagere_links.proofs.Tallies.{length-once}
 use Rattle.shelf_records.specs.AtlasRecords.{spelled_shelf}
 use Rattle.shelf_model.specs.Growing.{ends_free}

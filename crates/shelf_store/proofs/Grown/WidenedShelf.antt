@@ -6,11 +6,11 @@ use Rattle.etagere_base.specs.declared.frames.Frame.{Frame}
 use Rattle.etagere_base.proofs.AlignedPlaces.{multiple}
 use Rattle.etagere_base.proofs.EachLemmas.{Each-middle}
 use Rattle.etagere_links.specs.Links.{no_link}
-use Rattle.etagere_links.specs.Records.{item_chain}
-use Rattle.etagere_links.specs.RecordLists.{Entry, IsEntry, Records, first_item_of}
-use Rattle.etagere_links.proofs.AllLists.LinkedItems.{IsApart, linked-apart}
-use Rattle.etagere_links.proofs.AllLists.LinkedMerges.{entry_of}
-use Rattle.etagere_links.proofs.AllLists.LinkedUses.{but_first}
+use Rattle.shelf_links.specs.Records.{item_chain}
+use Rattle.shelf_links.specs.RecordLists.{Entry, IsEntry, Records, first_item_of}
+use Rattle.shelf_links.proofs.AllLists.LinkedItems.{IsApart, linked-apart}
+use Rattle.shelf_links.proofs.AllLists.LinkedMerges.{entry_of}
+use Rattle.shelf_links.proofs.AllLists.LinkedUses.{but_first}
 use Rattle.etagere_links.proofs.Tallies.{length-once}
 use Rattle.shelf_records.specs.AtlasRecords.{along_of, is_allocated_at, item_at, spelled_shelf, width_of}
 use Rattle.shelf_model.specs.Growing.{ends_free}

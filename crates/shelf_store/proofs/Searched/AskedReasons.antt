@@ -5,11 +5,11 @@ use Rattle.std.specs.Prelude.{pos}
 use Rattle.etagere_base.specs.declared.frames.Frame.{Frame}
 use Rattle.etagere_base.specs.declared.geometry.Size.{Size}
 use Rattle.etagere_base.specs.declared.sides.Sides.{Sides}
-use Rattle.etagere_base.specs.Frames.{across_side}
-use Rattle.etagere_links.specs.RecordLists.{Records}
+use Rattle.etagere_base.specs.Frames.{across_side, rounded}
+use Rattle.shelf_links.specs.RecordLists.{Records}
 use Rattle.shelf_model.specs.declared.faults.Refusal.TheVariants.{NoRoom, NoRecords}
 use Rattle.shelf_model.specs.Choice.{shelf_height}
-use Rattle.shelf_model.specs.Refusal.{has_no_room, is_not_positive, is_taller_than_atlas, is_too_long, is_wider_than_column, lacks_records, refusal, rounded, widest_for}
+use Rattle.shelf_model.specs.Refusal.{has_no_room, is_not_positive, is_taller_than_atlas, is_too_long, is_wider_than_column, lacks_records, refusal, widest_for}
 use Rattle.shelf_model.specs.State.{AtlasState}
 use Rattle.shelf_model.specs.Widest.{widest_free}
 use Rattle.shelf_records.specs.Private.Kept.{AreKept, state_of}

@@ -5,15 +5,15 @@ use Rattle.etagere_base.proofs.EachLemmas.{Each-append, Each-middle}
 use Rattle.etagere_base.proofs.TimesLemmas.{times-append}
 use Rattle.std.specs.List.{AllByRecursion}
 use Rattle.etagere_base.specs.Lists.{times}
-use Rattle.etagere_links.specs.declared.records.LinkedItem.{LinkedItem}
-use Rattle.etagere_links.specs.declared.records.LinkedShelf.{LinkedShelf}
+use Rattle.shelf_links.specs.declared.records.LinkedItem.{LinkedItem}
+use Rattle.shelf_links.specs.declared.records.LinkedShelf.{LinkedShelf}
 use Rattle.etagere_links.specs.Chains.{IsChainIn}
-use Rattle.etagere_links.specs.RecordLists.{Records, Entry, Lists, IsEntry, first_item_of, shelf_numbers}
-use Rattle.etagere_links.specs.Records.{item_chain}
-use Rattle.etagere_links.proofs.AllLists.LinkedFields.{KeepsShelfLinks, shelf_changed-linked}
-use Rattle.etagere_links.proofs.AllLists.LinkedItems.{IsApart, linked-apart}
-use Rattle.etagere_links.proofs.AllLists.LinkedUnused.{lists_of}
-use Rattle.etagere_links.proofs.FirstLinks.{field_at-changed, field_at-kept, field_at-other}
+use Rattle.shelf_links.specs.RecordLists.{Records, Entry, Lists, IsEntry, first_item_of, shelf_numbers}
+use Rattle.shelf_links.specs.Records.{item_chain}
+use Rattle.shelf_links.proofs.AllLists.LinkedFields.{KeepsShelfLinks, shelf_changed-linked}
+use Rattle.shelf_links.proofs.AllLists.LinkedItems.{IsApart, linked-apart}
+use Rattle.shelf_links.proofs.AllLists.LinkedUnused.{lists_of}
+use Rattle.etagere_links.proofs.FieldChanges.{field_at-changed, field_at-kept, field_at-other}
 use Rattle.etagere_links.proofs.ListEnds.{times-here}
 use Rattle.shelf_records.specs.AtlasRecords.{AtlasRecords, along_of, across_of, height_of, is_empty_at, is_allocated_at, item_at, item_place_of, spelled_shelf}
 use Rattle.shelf_store.specs.Private.ItemReturned.{emptiness_said, names_one_free}

@@ -3,10 +3,9 @@ use Rattle.std.proofs.Common.{◌≡◌, ◌≢◌, ℕ, zero, suc, ◌+◌, ◌
 use Rattle.std.specs.Prelude.{filter, not, ◌==◌}
 use Rattle.etagere_base.proofs.TimesLemmas.{times-append}
 use Rattle.etagere_base.specs.Lists.{times}
-use Rattle.etagere_links.specs.declared.records.LinkedItem.{LinkedItem}
-use Rattle.etagere_links.specs.Edits.{changed_by}
-use Rattle.etagere_links.specs.RecordLists.{field_at}
-use Rattle.etagere_links.proofs.FirstLinks.{field_at-changed, field_at-kept}
+use Rattle.shelf_links.specs.declared.records.LinkedItem.{LinkedItem}
+use Rattle.etagere_links.specs.Edits.{changed_by, field_at}
+use Rattle.etagere_links.proofs.FieldChanges.{field_at-changed, field_at-kept}
 use Rattle.etagere_links.proofs.ListEnds.{times-here, times-other}
 use Rattle.etagere_links.proofs.RecordChanges.{get-changed_by-other}
 use Rattle.shelf_records.specs.AtlasRecords.{is_allocated_at, item_place_of, shelf_of, item_at, spelled_item}

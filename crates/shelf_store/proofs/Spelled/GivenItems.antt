@@ -7,19 +7,19 @@ use Rattle.etagere_base.proofs.EachLemmas.{Each-append, Each-front, Each-back, E
 use Rattle.etagere_base.proofs.TimesLemmas.{times-append}
 use Rattle.std.specs.List.{AllByRecursion}
 use Rattle.etagere_base.specs.Lists.{times}
-use Rattle.etagere_links.specs.declared.records.LinkedItem.{LinkedItem}
-use Rattle.etagere_links.specs.declared.records.LinkedShelf.{LinkedShelf}
-use Rattle.etagere_links.specs.Edits.{first_without, link_at, linked_between, unlinked}
+use Rattle.shelf_links.specs.declared.records.LinkedItem.{LinkedItem}
+use Rattle.shelf_links.specs.declared.records.LinkedShelf.{LinkedShelf}
+use Rattle.etagere_links.specs.Edits.{first_without, link_at, linked_between, unlinked, field_at}
 use Rattle.etagere_links.specs.Links.{no_link}
-use Rattle.etagere_links.specs.RecordEdits.{item_changed}
-use Rattle.etagere_links.specs.RecordLists.{Records, Entry, field_at, first_free_of, shelf_numbers, item_numbers, IsEntry}
-use Rattle.etagere_links.specs.RecordMerges.{item_given, front_given}
-use Rattle.etagere_links.specs.Records.{item_chain, free_list}
-use Rattle.etagere_links.proofs.FirstLinks.{field_at-changed}
-use Rattle.etagere_links.proofs.AllLists.LinkedFrames.{item_numbers-append}
-use Rattle.etagere_links.proofs.AllLists.LinkedItems.{IsApart, linked-apart}
-use Rattle.etagere_links.proofs.AllLists.LinkedMerges.{entry_of}
-use Rattle.etagere_links.proofs.AllLists.LinkedUnused.{lists_of}
+use Rattle.shelf_links.specs.RecordEdits.{item_changed}
+use Rattle.shelf_links.specs.RecordLists.{Records, Entry, first_free_of, shelf_numbers, item_numbers, IsEntry}
+use Rattle.shelf_links.specs.RecordMerges.{item_given, front_given}
+use Rattle.shelf_links.specs.Records.{item_chain, free_list}
+use Rattle.etagere_links.proofs.FieldChanges.{field_at-changed}
+use Rattle.shelf_links.proofs.AllLists.LinkedFrames.{item_numbers-append}
+use Rattle.shelf_links.proofs.AllLists.LinkedItems.{IsApart, linked-apart}
+use Rattle.shelf_links.proofs.AllLists.LinkedMerges.{entry_of}
+use Rattle.shelf_links.proofs.AllLists.LinkedUnused.{lists_of}
 use Rattle.etagere_links.proofs.ListEnds.{times-here}
 use Rattle.etagere_links.proofs.RecordChanges.{length-changed_by}
 use Rattle.etagere_links.proofs.RecordFrames.{length-linked_between, length-unlinked}

@@ -5,14 +5,14 @@ use Rattle.etagere_base.specs.Frames.{IsFrame}
 use Rattle.etagere_base.proofs.EachLemmas.{Each-middle}
 use Rattle.etagere_base.proofs.FrameSides.{column_width-le, sides_low}
 use Rattle.etagere_base.specs.Lists.{times}
-use Rattle.etagere_links.specs.declared.records.LinkedItem.{LinkedItem}
+use Rattle.shelf_links.specs.declared.records.LinkedItem.{LinkedItem}
 use Rattle.etagere_links.specs.Edits.{link_at}
 use Rattle.etagere_links.specs.Lists.{first_or, last_or}
-use Rattle.etagere_links.specs.RecordLists.{Entry, IsEntry, first_item_of}
-use Rattle.etagere_links.specs.Records.{item_chain}
+use Rattle.shelf_links.specs.RecordLists.{Entry, IsEntry, first_item_of}
+use Rattle.shelf_links.specs.Records.{item_chain}
 use Rattle.etagere_links.proofs.Chains.{next-is, previous-is}
-use Rattle.etagere_links.proofs.AllLists.LinkedMerges.{entry_of}
-use Rattle.etagere_links.proofs.AllLists.LinkedUnused.{lists_of}
+use Rattle.shelf_links.proofs.AllLists.LinkedMerges.{entry_of}
+use Rattle.shelf_links.proofs.AllLists.LinkedUnused.{lists_of}
 use Rattle.etagere_links.proofs.ListEnds.{first-stands, last-stands-in}
 use Rattle.shelf_records.specs.AtlasRecords.{AtlasRecords, is_allocated_at, spelled_shelf, width_of}
 use Rattle.shelf_store.specs.Private.ItemReturned.{CanMergeItem, Step, free_next, next_absorbed}

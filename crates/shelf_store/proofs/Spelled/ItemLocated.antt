@@ -5,11 +5,12 @@ use Rattle.std.specs.Prelude.{nat_lt}
 use Rattle.etagere_base.proofs.TimesLemmas.{times-append}
 use Rattle.std.specs.List.{AllByRecursion}
 use Rattle.etagere_base.specs.Lists.{times}
-use Rattle.etagere_links.specs.declared.records.LinkedItem.{LinkedItem}
-use Rattle.etagere_links.specs.RecordLists.{Entry, Lists, HasEachOnce, IsLinked, item_numbers}
-use Rattle.etagere_links.proofs.AllLists.LinkedMerges.{entry_of}
-use Rattle.etagere_links.proofs.AllLists.LinkedUnused.{three-count}
-use Rattle.etagere_links.proofs.AllLists.LinkedWalks.{once-part}
+use Rattle.shelf_links.specs.declared.records.LinkedItem.{LinkedItem}
+use Rattle.shelf_links.specs.RecordLists.{Entry, Lists, IsLinked, item_numbers}
+use Rattle.etagere_links.specs.Lists.{HasEachOnce}
+use Rattle.shelf_links.proofs.AllLists.LinkedMerges.{entry_of}
+use Rattle.shelf_links.proofs.AllLists.LinkedUnused.{three-count}
+use Rattle.etagere_links.proofs.WalkedLists.{once-part}
 use Rattle.etagere_links.proofs.Tallies.{length-each}
 use Rattle.shelf_records.specs.AtlasRecords.{AtlasRecords, is_allocated_at, item_at, spelled_shelf}
 use Rattle.shelf_model.specs.State.{items_in_use}

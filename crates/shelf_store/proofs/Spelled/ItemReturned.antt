@@ -9,12 +9,13 @@ use Rattle.etagere_base.proofs.TimesLemmas.{times-append}
 use Rattle.std.specs.List.{AllByRecursion}
 use Rattle.etagere_base.specs.Lists.{times}
 use Rattle.etagere_base.specs.MergingAt.{merged_at, merged_before}
-use Rattle.etagere_links.specs.declared.records.LinkedItem.{LinkedItem}
-use Rattle.etagere_links.specs.RecordLists.{Records, field_at, Entry, Lists, IsLinked, shelf_numbers, walked_lists}
-use Rattle.etagere_links.proofs.AllLists.LinkedFrames.{shelf_numbers-append}
-use Rattle.etagere_links.proofs.AllLists.LinkedMerges.{entry_of}
-use Rattle.etagere_links.proofs.AllLists.LinkedUnused.{lists_of}
-use Rattle.etagere_links.proofs.AllLists.LinkedWalks.{linked-lists, linked-walks}
+use Rattle.shelf_links.specs.declared.records.LinkedItem.{LinkedItem}
+use Rattle.shelf_links.specs.RecordLists.{Records, Entry, Lists, IsLinked, shelf_numbers, walked_lists}
+use Rattle.etagere_links.specs.Edits.{field_at}
+use Rattle.shelf_links.proofs.AllLists.LinkedFrames.{shelf_numbers-append}
+use Rattle.shelf_links.proofs.AllLists.LinkedMerges.{entry_of}
+use Rattle.shelf_links.proofs.AllLists.LinkedUnused.{lists_of}
+use Rattle.shelf_links.proofs.AllLists.LinkedWalks.{linked-lists, linked-walks}
 use Rattle.etagere_links.proofs.ListEnds.{times-here}
 use Rattle.shelf_records.specs.AtlasRecords.{AtlasRecords, is_allocated_at, item_at, shelf_of, spelled_item, spelled_shelf, spelled_state}
 use Rattle.shelf_model.specs.Merging.{both_empty, combined_shelves, merged_shelf}

@@ -7,8 +7,8 @@ use Rattle.etagere_base.proofs.TimesLemmas.{times-append}
 use Rattle.std.specs.List.{AllByRecursion}
 use Rattle.etagere_base.specs.Lists.{times}
 use Rattle.etagere_base.specs.MergingAt.{merged_at, merged_before}
-use Rattle.etagere_links.specs.declared.records.LinkedItem.{LinkedItem}
-use Rattle.etagere_links.specs.RecordLists.{field_at}
+use Rattle.shelf_links.specs.declared.records.LinkedItem.{LinkedItem}
+use Rattle.etagere_links.specs.Edits.{field_at}
 use Rattle.etagere_links.proofs.ListEnds.{times-other}
 use Rattle.shelf_records.specs.AtlasRecords.{is_allocated_at, item_place_of, item_at, spelled_item}
 use Rattle.shelf_model.specs.Merging.{both_free, combined_items}

@@ -3,9 +3,9 @@ use Rattle.std.proofs.Common.{◌≡◌, suc, ◌≤◌, List, [], ◌∷◌, le
 use Rattle.std.proofs.lemmas.List.{length-map}
 use Rattle.etagere_base.specs.declared.frames.Frame.{Frame}
 use Rattle.std.specs.List.{AllByRecursion}
-use Rattle.etagere_links.specs.RecordLists.{Records, Entry, shelf_numbers, walked_lists}
-use Rattle.etagere_links.proofs.AllLists.LinkedUnused.{three-count}
-use Rattle.etagere_links.proofs.AllLists.LinkedWalks.{IsPart, part-of}
+use Rattle.shelf_links.specs.RecordLists.{Records, Entry, shelf_numbers, walked_lists}
+use Rattle.shelf_links.proofs.AllLists.LinkedUnused.{three-count}
+use Rattle.etagere_links.proofs.WalkedLists.{IsPart, part-of}
 use Rattle.etagere_links.proofs.Tallies.{length-once}
 use Rattle.shelf_records.specs.AtlasRecords.{spelled_shelf}
 use Rattle.shelf_records.specs.Private.Kept.{AreKept, bare, state_of}

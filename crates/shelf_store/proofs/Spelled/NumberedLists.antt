@@ -4,8 +4,7 @@ use Rattle.std.proofs.lemmas.Bool.{eqb-true, eqb-false}
 use Rattle.std.specs.Prelude.{slice_get}
 use Rattle.std.specs.List.{AllByRecursion}
 use Rattle.etagere_base.specs.Lists.{times}
-use Rattle.etagere_links.specs.Edits.{changed_at, link_at}
-use Rattle.etagere_links.specs.RecordLists.{field_at}
+use Rattle.etagere_links.specs.Edits.{changed_at, link_at, field_at}
 use Rattle.etagere_links.proofs.ListEnds.{times-here, times-other}
 use Rattle.shelf_store.specs.Private.FreshRecords.{numbered}
 

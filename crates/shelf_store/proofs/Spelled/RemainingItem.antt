@@ -6,16 +6,16 @@ use Rattle.std.specs.Prelude.{not}
 use Rattle.etagere_base.proofs.EachLemmas.{Each-middle}
 use Rattle.etagere_base.proofs.TimesLemmas.{times-append, times-here}
 use Rattle.etagere_base.specs.Lists.{times}
-use Rattle.etagere_links.specs.declared.records.LinkedItem.{LinkedItem}
+use Rattle.shelf_links.specs.declared.records.LinkedItem.{LinkedItem}
 use Rattle.etagere_links.specs.Chains.{IsChainIn}
 use Rattle.etagere_links.specs.Edits.{link_at}
 use Rattle.etagere_links.specs.Lists.{first_or, last_or}
-use Rattle.etagere_links.specs.RecordLists.{Records, Entry, IsEntry, first_item_of}
-use Rattle.etagere_links.specs.Records.{item_chain}
+use Rattle.shelf_links.specs.RecordLists.{Records, Entry, IsEntry, first_item_of}
+use Rattle.shelf_links.specs.Records.{item_chain}
 use Rattle.etagere_links.proofs.Chains.{Leads-start, next-is, previous-is}
-use Rattle.etagere_links.proofs.AllLists.LinkedItems.{IsApart, linked-apart}
-use Rattle.etagere_links.proofs.AllLists.LinkedMerges.{entry_of}
-use Rattle.etagere_links.proofs.AllLists.LinkedUnused.{lists_of}
+use Rattle.shelf_links.proofs.AllLists.LinkedItems.{IsApart, linked-apart}
+use Rattle.shelf_links.proofs.AllLists.LinkedMerges.{entry_of}
+use Rattle.shelf_links.proofs.AllLists.LinkedUnused.{lists_of}
 use Rattle.etagere_links.proofs.ListEnds.{last-stands-in}
 use Rattle.shelf_records.specs.AtlasRecords.{AtlasRecords, is_allocated_at, is_empty_at, item_at, spelled_shelf, width_of}
 use Rattle.shelf_store.specs.Private.ItemReturned.{IsRemaining, Step, free_named, free_next, free_previous, freed_after, is_alone, item_merged, remaining_in, names_one_free, next_absorbed}

@@ -1,12 +1,12 @@
 -- A return changes the number of no records.
 use Rattle.std.proofs.Common.{◌≡◌, ℕ, ◌+◌, false, Option, None, Some, length, refl, ◌∙◌}
-use Rattle.etagere_links.specs.declared.records.LinkedItem.{LinkedItem}
-use Rattle.etagere_links.specs.declared.records.LinkedShelf.{LinkedShelf}
+use Rattle.shelf_links.specs.declared.records.LinkedItem.{LinkedItem}
+use Rattle.shelf_links.specs.declared.records.LinkedShelf.{LinkedShelf}
 use Rattle.etagere_links.specs.Edits.{link_at, first_without}
-use Rattle.etagere_links.specs.RecordEdits.{item_changed, item_unlinked, free_unlinked, free_inserted_front, item_made_unused, shelf_changed, shelf_made_unused, shelf_unlinked}
-use Rattle.etagere_links.specs.RecordLists.{Records, first_item_of, first_free_of}
-use Rattle.etagere_links.specs.Records.{item_chain, free_list, shelf_chain}
-use Rattle.etagere_links.proofs.FirstLinks.{to_first_item, to_first_free}
+use Rattle.shelf_links.specs.RecordEdits.{item_changed, item_unlinked, free_unlinked, free_inserted_front, item_made_unused, shelf_changed, shelf_made_unused, shelf_unlinked}
+use Rattle.shelf_links.specs.RecordLists.{Records, first_item_of, first_free_of}
+use Rattle.shelf_links.specs.Records.{item_chain, free_list, shelf_chain}
+use Rattle.shelf_links.proofs.FirstLinks.{to_first_item, to_first_free}
 use Rattle.etagere_links.proofs.RecordChanges.{length-changed_by}
 use Rattle.etagere_links.proofs.RecordFrames.{length-linked_between, length-made_unused, length-unlinked}
 use Rattle.shelf_records.specs.AtlasRecords.{height_of, shelf_of, width_of}

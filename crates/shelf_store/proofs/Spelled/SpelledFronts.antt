@@ -4,15 +4,15 @@ use Rattle.std.specs.Prelude.{◌%◌}
 use Rattle.etagere_base.proofs.EachLemmas.{Each-append, Each-front, Each-back, Each-middle}
 use Rattle.etagere_base.proofs.TimesLemmas.{times-append}
 use Rattle.etagere_base.specs.Lists.{times}
-use Rattle.etagere_links.specs.declared.records.LinkedItem.{LinkedItem}
-use Rattle.etagere_links.specs.Edits.{changed_by, link_at, first_without, linked_between, unlinked}
-use Rattle.etagere_links.specs.RecordLists.{Records, Entry, field_at, first_free_of, item_numbers}
-use Rattle.etagere_links.specs.RecordMerges.{front_given}
-use Rattle.etagere_links.specs.Records.{item_chain, free_list}
-use Rattle.etagere_links.proofs.FirstLinks.{field_at-changed, field_at-kept}
-use Rattle.etagere_links.proofs.AllLists.LinkedItems.{IsApart, linked-apart}
-use Rattle.etagere_links.proofs.AllLists.LinkedMerges.{entry_of, front_given-linked}
-use Rattle.etagere_links.proofs.AllLists.LinkedUnused.{lists_of}
+use Rattle.shelf_links.specs.declared.records.LinkedItem.{LinkedItem}
+use Rattle.etagere_links.specs.Edits.{changed_by, link_at, first_without, linked_between, unlinked, field_at}
+use Rattle.shelf_links.specs.RecordLists.{Records, Entry, first_free_of, item_numbers}
+use Rattle.shelf_links.specs.RecordMerges.{front_given}
+use Rattle.shelf_links.specs.Records.{item_chain, free_list}
+use Rattle.etagere_links.proofs.FieldChanges.{field_at-changed, field_at-kept}
+use Rattle.shelf_links.proofs.AllLists.LinkedItems.{IsApart, linked-apart}
+use Rattle.shelf_links.proofs.AllLists.LinkedMerges.{entry_of, front_given-linked}
+use Rattle.shelf_links.proofs.AllLists.LinkedUnused.{lists_of}
 use Rattle.etagere_links.proofs.ListEnds.{times-here}
 use Rattle.etagere_links.proofs.RecordChanges.{get-changed_by-other}
 use Rattle.etagere_links.proofs.RecordFrames.{length-unlinked, length-linked_between, map-linked_between, map-unlinked}

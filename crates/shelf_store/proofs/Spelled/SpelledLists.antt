@@ -6,11 +6,11 @@ use Rattle.etagere_base.proofs.EachLemmas.{Each-append, Each-front, Each-back}
 use Rattle.etagere_base.proofs.TimesLemmas.{times-append}
 use Rattle.std.specs.List.{AllByRecursion}
 use Rattle.etagere_base.specs.Lists.{times}
-use Rattle.etagere_links.specs.declared.records.LinkedShelf.{LinkedShelf}
-use Rattle.etagere_links.specs.RecordLists.{Records, Entry, Lists, shelf_numbers, item_numbers, IsEntry, IsLinkedExcept}
-use Rattle.etagere_links.proofs.AllLists.LinkedEdits.{same-numbers}
-use Rattle.etagere_links.proofs.AllLists.LinkedItems.{IsApart, linked-apart}
-use Rattle.etagere_links.proofs.AllLists.LinkedUnused.{lists_of}
+use Rattle.shelf_links.specs.declared.records.LinkedShelf.{LinkedShelf}
+use Rattle.shelf_links.specs.RecordLists.{Records, Entry, Lists, shelf_numbers, item_numbers, IsEntry, IsLinkedExcept}
+use Rattle.shelf_links.proofs.AllLists.LinkedEdits.{same-numbers}
+use Rattle.shelf_links.proofs.AllLists.LinkedItems.{IsApart, linked-apart}
+use Rattle.shelf_links.proofs.AllLists.LinkedUnused.{lists_of}
 use Rattle.shelf_records.specs.AtlasRecords.{AtlasRecords, is_allocated_at, item_place_of, along_of, height_of, item_at, spelled_shelf}
 use Rattle.shelf_records.specs.StandsFor.{AreStacked, height_before}
 use Rattle.shelf_model.specs.State.{Shelf}

@@ -5,16 +5,16 @@ use Rattle.etagere_base.proofs.EachLemmas.{Each-append, Each-front, Each-back, E
 use Rattle.etagere_base.proofs.TimesLemmas.{times-append}
 use Rattle.std.specs.List.{AllByRecursion}
 use Rattle.etagere_base.specs.Lists.{times}
-use Rattle.etagere_links.specs.declared.records.LinkedItem.{LinkedItem}
-use Rattle.etagere_links.specs.declared.records.LinkedShelf.{LinkedShelf}
-use Rattle.etagere_links.specs.Edits.{changed_by, link_at, first_without, linked_between, unlinked}
-use Rattle.etagere_links.specs.RecordEdits.{free_unlinked, with_first_item, with_first_free}
-use Rattle.etagere_links.specs.RecordLists.{Records, Entry, first_item_of, first_free_of, item_numbers, field_at}
-use Rattle.etagere_links.specs.RecordMerges.{free_absorbed, allocated_absorbed, item_freed, item_given}
-use Rattle.etagere_links.specs.Records.{item_chain, free_list}
-use Rattle.etagere_links.proofs.AllLists.LinkedItems.{IsApart, linked-apart}
-use Rattle.etagere_links.proofs.AllLists.LinkedMerges.{entry_of, free_absorbed-linked, allocated_absorbed-linked, item_freed-linked, item_given-linked}
-use Rattle.etagere_links.proofs.AllLists.LinkedUnused.{lists_of}
+use Rattle.shelf_links.specs.declared.records.LinkedItem.{LinkedItem}
+use Rattle.shelf_links.specs.declared.records.LinkedShelf.{LinkedShelf}
+use Rattle.etagere_links.specs.Edits.{changed_by, link_at, first_without, linked_between, unlinked, field_at}
+use Rattle.shelf_links.specs.RecordEdits.{free_unlinked, with_first_item, with_first_free}
+use Rattle.shelf_links.specs.RecordLists.{Records, Entry, first_item_of, first_free_of, item_numbers}
+use Rattle.shelf_links.specs.RecordMerges.{free_absorbed, allocated_absorbed, item_freed, item_given}
+use Rattle.shelf_links.specs.Records.{item_chain, free_list}
+use Rattle.shelf_links.proofs.AllLists.LinkedItems.{IsApart, linked-apart}
+use Rattle.shelf_links.proofs.AllLists.LinkedMerges.{entry_of, free_absorbed-linked, allocated_absorbed-linked, item_freed-linked, item_given-linked}
+use Rattle.shelf_links.proofs.AllLists.LinkedUnused.{lists_of}
 use Rattle.etagere_links.proofs.ListEnds.{times-here}
 use Rattle.etagere_links.proofs.RecordChanges.{map-changed_by}
 use Rattle.etagere_links.proofs.RecordFrames.{length-unlinked, map-linked_between, map-unlinked}

@@ -4,18 +4,18 @@ use Rattle.etagere_base.proofs.EachLemmas.{Each-append, Each-front, Each-back}
 use Rattle.etagere_base.proofs.TimesLemmas.{times-append}
 use Rattle.std.specs.List.{AllByRecursion}
 use Rattle.etagere_base.specs.Lists.{times}
-use Rattle.etagere_links.specs.declared.records.LinkedItem.{LinkedItem}
-use Rattle.etagere_links.specs.declared.records.LinkedShelf.{LinkedShelf}
+use Rattle.shelf_links.specs.declared.records.LinkedItem.{LinkedItem}
+use Rattle.shelf_links.specs.declared.records.LinkedShelf.{LinkedShelf}
 use Rattle.etagere_links.specs.Edits.{unlinked, made_unused}
 use Rattle.etagere_links.specs.Families.{IsUnchanged}
-use Rattle.etagere_links.specs.RecordLists.{Records, Entry, shelf_numbers}
-use Rattle.etagere_links.specs.RecordMerges.{shelf_absorbed}
-use Rattle.etagere_links.specs.Records.{item_chain, shelf_chain}
-use Rattle.etagere_links.proofs.FirstLinks.{field_at-changed, field_at-kept}
-use Rattle.etagere_links.proofs.AllLists.LinkedItems.{IsApart, linked-apart}
-use Rattle.etagere_links.proofs.AllLists.LinkedMerges.{entry_of, shelf_absorbed-linked}
-use Rattle.etagere_links.proofs.AllLists.LinkedFrames.{shelf_numbers-append}
-use Rattle.etagere_links.proofs.AllLists.LinkedUnused.{lists_of}
+use Rattle.shelf_links.specs.RecordLists.{Records, Entry, shelf_numbers}
+use Rattle.shelf_links.specs.RecordMerges.{shelf_absorbed}
+use Rattle.shelf_links.specs.Records.{item_chain, shelf_chain}
+use Rattle.etagere_links.proofs.FieldChanges.{field_at-changed, field_at-kept}
+use Rattle.shelf_links.proofs.AllLists.LinkedItems.{IsApart, linked-apart}
+use Rattle.shelf_links.proofs.AllLists.LinkedMerges.{entry_of, shelf_absorbed-linked}
+use Rattle.shelf_links.proofs.AllLists.LinkedFrames.{shelf_numbers-append}
+use Rattle.shelf_links.proofs.AllLists.LinkedUnused.{lists_of}
 use Rattle.etagere_links.proofs.RecordChanges.{length-changed_by}
 use Rattle.etagere_links.proofs.RecordFrames.{map-unlinked, map-made_unused, length-unlinked, length-made_unused}
 use Rattle.shelf_records.specs.AtlasRecords.{AtlasRecords, is_allocated_at, is_empty_at, along_of, across_of, height_of}

@@ -7,14 +7,14 @@ use Rattle.etagere_base.proofs.TimesLemmas.{times-append}
 use Rattle.etagere_base.specs.Lists.{times}
 use Rattle.etagere_base.specs.declared.frames.Frame.{Frame}
 use Rattle.etagere_base.specs.declared.geometry.Size.{Size}
-use Rattle.etagere_links.specs.declared.records.LinkedItem.{LinkedItem}
-use Rattle.etagere_links.specs.declared.records.LinkedShelf.{LinkedShelf}
+use Rattle.shelf_links.specs.declared.records.LinkedItem.{LinkedItem}
+use Rattle.shelf_links.specs.declared.records.LinkedShelf.{LinkedShelf}
 use Rattle.etagere_links.specs.Links.{no_link}
-use Rattle.etagere_links.specs.RecordLists.{Records, Entry, Lists, item_numbers, shelf_walk, walked_entry, walked_lists}
-use Rattle.etagere_links.specs.RecordUses.{number_used, rests_used}
-use Rattle.etagere_links.proofs.AllLists.LinkedFrames.{item_numbers-append}
-use Rattle.etagere_links.proofs.AllLists.LinkedItems.{IsApart, linked-apart}
-use Rattle.etagere_links.proofs.AllLists.LinkedMerges.{entry_of}
+use Rattle.shelf_links.specs.RecordLists.{Records, Entry, Lists, item_numbers, shelf_walk, walked_entry, walked_lists}
+use Rattle.shelf_links.specs.RecordUses.{number_used, rests_used}
+use Rattle.shelf_links.proofs.AllLists.LinkedFrames.{item_numbers-append}
+use Rattle.shelf_links.proofs.AllLists.LinkedItems.{IsApart, linked-apart}
+use Rattle.shelf_links.proofs.AllLists.LinkedMerges.{entry_of}
 use Rattle.etagere_links.proofs.ListEnds.{times-here}
 use Rattle.etagere_links.proofs.RecordChanges.{length-changed_by}
 use Rattle.shelf_records.specs.AtlasRecords.{AtlasRecords, across_of, along_of, height_of, item_at, spelled_shelf}

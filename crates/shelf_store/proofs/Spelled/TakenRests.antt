@@ -2,11 +2,11 @@
 use Rattle.std.proofs.Common.{◌≡◌, ℕ, ◌+◌, ◌-◌, ◌≤◌, Bool, true, false, Option, None, Some, List, [], ◌∷◌, ◌++◌, length, refl, arith, subst, sym}
 use Rattle.std.specs.Prelude.{◌/◌, if◌then◌else◌}
 use Rattle.etagere_links.specs.Links.{no_link}
-use Rattle.etagere_links.specs.RecordLists.{Records, Entry, item_numbers}
-use Rattle.etagere_links.specs.RecordUses.{number_used, item_used, shelf_used, rests_used}
-use Rattle.etagere_links.proofs.AllLists.LinkedMerges.{entry_of}
-use Rattle.etagere_links.proofs.AllLists.LinkedUnused.{lists_of, three-count}
-use Rattle.etagere_links.proofs.AllLists.LinkedUses.{but_first}
+use Rattle.shelf_links.specs.RecordLists.{Records, Entry, item_numbers}
+use Rattle.shelf_links.specs.RecordUses.{number_used, item_used, shelf_used, rests_used}
+use Rattle.shelf_links.proofs.AllLists.LinkedMerges.{entry_of}
+use Rattle.shelf_links.proofs.AllLists.LinkedUnused.{lists_of, three-count}
+use Rattle.shelf_links.proofs.AllLists.LinkedUses.{but_first}
 use Rattle.shelf_records.specs.AtlasRecords.{AtlasRecords, along_of, height_of}
 use Rattle.shelf_model.specs.Choice.{Placement}
 use Rattle.shelf_store.specs.Private.PlacementTaken.{with_shelf_rest}

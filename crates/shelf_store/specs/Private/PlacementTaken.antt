@@ -3,14 +3,15 @@ use Rattle.std.specs.Prelude.{ℕ, ◌+◌, ◌-◌, ◌*◌, ◌<◌, ◌≤◌
 use Rattle.etagere_base.specs.Frames.{longest_side}
 use Rattle.etagere_base.specs.Ids.{index_modulus}
 use Rattle.etagere_base.specs.Lists.{times}
-use Rattle.etagere_links.specs.declared.records.LinkedItem.{LinkedItem}
-use Rattle.etagere_links.specs.declared.records.LinkedShelf.{LinkedShelf}
+use Rattle.shelf_links.specs.declared.records.LinkedItem.{LinkedItem}
+use Rattle.shelf_links.specs.declared.records.LinkedShelf.{LinkedShelf}
 use Rattle.etagere_links.specs.Links.{no_link}
-use Rattle.etagere_links.specs.RecordEdits.{item_changed, shelf_changed}
-use Rattle.etagere_links.specs.RecordLists.{Records, field_at}
-use Rattle.etagere_links.specs.Records.{shelf_chain}
-use Rattle.etagere_links.specs.RecordMerges.{item_given, front_given, shelf_split}
-use Rattle.etagere_links.specs.RecordUses.{missing, new_item, new_shelf, rests_of, rests_used}
+use Rattle.shelf_links.specs.RecordEdits.{item_changed, shelf_changed}
+use Rattle.shelf_links.specs.RecordLists.{Records}
+use Rattle.etagere_links.specs.Edits.{field_at}
+use Rattle.shelf_links.specs.Records.{shelf_chain}
+use Rattle.shelf_links.specs.RecordMerges.{item_given, front_given, shelf_split}
+use Rattle.shelf_links.specs.RecordUses.{missing, new_item, new_shelf, rests_of, rests_used}
 use Rattle.shelf_model.specs.Choice.{Placement}
 use Rattle.shelf_heights.specs.Private.ByHeight.{AreInOrder, bound_of, put_in, numbers_by_height, taken_out}
 use Rattle.shelf_heights.specs.declared.by_height.BoundedShelf.{BoundedShelf}

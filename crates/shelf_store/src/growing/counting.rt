@@ -8,7 +8,8 @@ ghost use Rattle.shelf_store.specs.Private.RecordsGrown as spec;
 
 use crate::growing::Needed;
 use etagere_base::Frame;
-use etagere_links::{Chain, LinkedItem, LinkedShelf, Records, next_of};
+use etagere_links::{Chain, next_of};
+use shelf_links::{LinkedItem, LinkedShelf, Records};
 use shelf_records::fields;
 
 /// How many records a growth to a frame needs.

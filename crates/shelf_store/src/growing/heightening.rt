@@ -9,7 +9,8 @@ ghost use Rattle.shelf_store.specs.Private.RecordsGrown.{CanHeighten, CanHeighte
 use crate::growing::Made;
 use crate::growing::counting::ends_column;
 use crate::growing::inserting::{NewShelf, insert_shelf};
-use etagere_links::{Chain, LinkedShelf, Records, next_of};
+use etagere_links::{Chain, next_of};
+use shelf_links::{LinkedShelf, Records};
 use shelf_records::fields;
 
 /// Adds a height at the end of each column.

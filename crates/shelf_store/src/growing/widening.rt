@@ -9,7 +9,8 @@ ghost use Rattle.shelf_store.specs.Private.RecordsGrown.{CanWiden, CanWidenAll};
 use crate::growing::Made;
 use crate::growing::counting::last_item;
 use crate::growing::inserting::use_item;
-use etagere_links::{Chain, LinkedShelf, Records, next_of};
+use etagere_links::{Chain, next_of};
+use shelf_links::{LinkedShelf, Records};
 use shelf_records::fields;
 
 /// Adds a width at the end of each shelf, which is at this place.

@@ -1,5 +1,5 @@
 use Rattle.std.proofs.Common.{◌≡◌, ◌+◌, drop, length}
-use Rattle.etagere_links.specs.RecordLists.{item_numbers}
+use Rattle.shelf_links.specs.RecordLists.{item_numbers}
 use Rattle.etagere.proofs.restored.count_items.Given as goal
 
 -- the count so far and that of the rest make the whole

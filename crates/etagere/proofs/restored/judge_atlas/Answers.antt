@@ -4,10 +4,11 @@ use Rattle.std.proofs.lemmas.Int.{to_z-of_z}
 use Rattle.std.proofs.lemmas.List.{length-map}
 use Rattle.std.proofs.lemmas.Result.{err_from_is_err_and}
 use Rattle.etagere_base.specs.declared.frames.Frame.{Frame}
-use Rattle.etagere_links.specs.declared.records.LinkedItem.{LinkedItem}
-use Rattle.etagere_links.specs.declared.records.LinkedShelf.{LinkedShelf}
-use Rattle.etagere_links.specs.RecordLists.{Entry, HasEachOnce, item_numbers, shelf_numbers, shelf_walk}
-use Rattle.etagere_links.proofs.AllLists.LinkedWalks.{walked-numbers}
+use Rattle.shelf_links.specs.declared.records.LinkedItem.{LinkedItem}
+use Rattle.shelf_links.specs.declared.records.LinkedShelf.{LinkedShelf}
+use Rattle.shelf_links.specs.RecordLists.{Entry, item_numbers, shelf_numbers, shelf_walk}
+use Rattle.etagere_links.specs.Lists.{HasEachOnce}
+use Rattle.shelf_links.proofs.AllLists.LinkedWalks.{walked-numbers}
 use Rattle.shelf_records.specs.AtlasRecords.{AtlasRecords, spelled_shelf, walked_entries}
 use Rattle.shelf_restoring.specs.Private.Rules.{BreaksRule, KeepsRules}
 use Rattle.shelf_records.specs.Snapshots.{state_spelled}

@@ -1,7 +1,7 @@
 use Rattle.std.proofs.Common.{◌≡◌, ℕ, ◌<◌, ◌≢◌, Bool, true, false, refl, ap, arith, sym, ◌∙◌}
 use Rattle.std.specs.Prelude.{◌*◌, nat_lt}
 use Rattle.std.proofs.lemmas.Bool.Decides.{nat_tests}
-use Rattle.etagere_links.specs.declared.records.LinkedShelf.{LinkedShelf}
+use Rattle.shelf_links.specs.declared.records.LinkedShelf.{LinkedShelf}
 use Rattle.shelf_records.specs.AtlasRecords.{across_of, along_of, height_of}
 use Rattle.shelf_heights.specs.Private.ByHeight.{order_at, chain_order}
 use Rattle.shelf_records.proofs.Recorded.RecordsOfIds.{field_at-read}

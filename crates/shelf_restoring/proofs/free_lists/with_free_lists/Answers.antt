@@ -5,8 +5,8 @@ use Rattle.std.proofs.lemmas.Iterator.Adapters.{YieldsList-from_vec}
 use Rattle.std.specs.List.{AllByRecursion}
 use Rattle.etagere_links.specs.Links.{bits_of, link_of}
 use Rattle.etagere_links.specs.Marks.{IsMarkedBy}
-use Rattle.etagere_links.specs.RecordLists.{Entry, first_free_of, free_walk, shelf_walk, walked_entry}
-use Rattle.etagere_links.specs.Records.{free_list}
+use Rattle.shelf_links.specs.RecordLists.{Entry, first_free_of, free_walk, shelf_walk, walked_entry}
+use Rattle.shelf_links.specs.Records.{free_list}
 use Rattle.etagere_links.specs.Walks.{Walked, walk}
 use Rattle.etagere_links.proofs.MarkLemmas.{marked-length}
 use Rattle.shelf_records.specs.AtlasRecords.{AtlasRecords}

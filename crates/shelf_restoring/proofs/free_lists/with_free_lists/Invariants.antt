@@ -1,7 +1,7 @@
 use Rattle.std.proofs.Common.{◌≡◌, ◌+◌, length, map, take}
 use Rattle.std.specs.List.{AllByRecursion}
 use Rattle.etagere_links.specs.Marks.{IsMarkedBy}
-use Rattle.etagere_links.specs.RecordLists.{shelf_walk, walked_entry}
+use Rattle.shelf_links.specs.RecordLists.{shelf_walk, walked_entry}
 use Rattle.shelf_records.specs.Private.Restoring.{HasFree, free_numbers}
 use Rattle.shelf_restoring.proofs.free_lists.with_free_lists.Given as goal
 

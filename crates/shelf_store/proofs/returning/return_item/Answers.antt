@@ -1,8 +1,8 @@
 use Rattle.std.proofs.Common.{◌≡◌, ℕ, Bool, true, false, List, refl, ap, sym, arith, ◌∙◌}
-use Rattle.etagere_links.specs.declared.records.LinkedItem.{LinkedItem}
-use Rattle.etagere_links.specs.declared.records.LinkedShelf.{LinkedShelf}
-use Rattle.etagere_links.specs.RecordEdits.{shelf_changed}
-use Rattle.etagere_links.specs.RecordLists.{Records}
+use Rattle.shelf_links.specs.declared.records.LinkedItem.{LinkedItem}
+use Rattle.shelf_links.specs.declared.records.LinkedShelf.{LinkedShelf}
+use Rattle.shelf_links.specs.RecordEdits.{shelf_changed}
+use Rattle.shelf_links.specs.RecordLists.{Records}
 use Rattle.shelf_records.specs.AtlasRecords.{shelf_of, width_of}
 use Rattle.shelf_heights.specs.Private.ByHeight.{raised}
 use Rattle.shelf_store.specs.Private.ItemReturned.{emptiness_said, has_one_free, item_merged, merged_width}

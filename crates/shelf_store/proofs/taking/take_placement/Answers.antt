@@ -1,7 +1,7 @@
 use Rattle.std.proofs.Common.{◌≡◌, ◌+◌, ◌≤◌, ap, arith, length, rules, sym, if◌then◌else◌}
-use Rattle.etagere_links.specs.RecordLists.{Records}
-use Rattle.etagere_links.specs.RecordUses.{missing}
-use Rattle.etagere_links.specs.Records.{shelf_chain}
+use Rattle.shelf_links.specs.RecordLists.{Records}
+use Rattle.shelf_links.specs.RecordUses.{missing}
+use Rattle.shelf_links.specs.Records.{shelf_chain}
 use Rattle.shelf_model.specs.Choice.{Placement}
 use Rattle.shelf_store.specs.Private.PlacementTaken.{placement_taken}
 use Rattle.shelf_store.proofs.ByHeight.RoomByHeight.{taken-count}

@@ -1,7 +1,7 @@
 use Rattle.std.specs.Prelude.{OnErr, Result, Ok, Err}
 use Rattle.std.proofs.Common.{List, ap, sym, subst, arith, ◌∙◌}
 use Rattle.etagere_base.specs.Rectangles.{IsLarge}
-use Rattle.etagere_links.specs.RecordLists.{Records}
+use Rattle.shelf_links.specs.RecordLists.{Records}
 use Rattle.shelf_model.specs.Atlas.{Adds, Allocates, KeepsPromises, NeedsSplit}
 use Rattle.shelf_model.specs.Choice.{Placement}
 use Rattle.shelf_model.specs.ById.{IsClear, KeepsRectangles}

@@ -1,7 +1,7 @@
 use Rattle.std.proofs.Common.{◌≤◌, List, drop, length}
 use Rattle.std.specs.List.{AllByRecursion}
 use Rattle.etagere_base.proofs.DecidingLemmas.{IsLeft}
-use Rattle.etagere_links.specs.RecordLists.{Entry}
+use Rattle.shelf_links.specs.RecordLists.{Entry}
 use Rattle.shelf_records.specs.Private.Judging.{atlas_of_records}
 use Rattle.shelf_records.specs.StandsFor.{HasItems}
 use Rattle.shelf_restoring.proofs.judging.filling.have_items.Given as goal

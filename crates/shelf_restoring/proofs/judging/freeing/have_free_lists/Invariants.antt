@@ -2,7 +2,7 @@ use Rattle.std.proofs.Common.{ℕ, ◌≤◌, List, drop}
 use Rattle.std.specs.List.{AllByRecursion}
 use Rattle.etagere_base.specs.Lists.{times}
 use Rattle.etagere_base.proofs.DecidingLemmas.{IsLeft}
-use Rattle.etagere_links.specs.RecordLists.{Entry}
+use Rattle.shelf_links.specs.RecordLists.{Entry}
 use Rattle.shelf_records.specs.Private.Judging.{AreOwn, FreeBack}
 use Rattle.shelf_restoring.proofs.judging.freeing.have_free_lists.Given as goal
 

@@ -2,7 +2,7 @@
 use Rattle.std.proofs.Common.{List, Bool, sym, subst}
 use Rattle.etagere_base.proofs.EachLemmas.{Each-weaken}
 use Rattle.std.specs.List.{AllByRecursion}
-use Rattle.etagere_links.specs.RecordLists.{item_numbers}
+use Rattle.shelf_links.specs.RecordLists.{item_numbers}
 use Rattle.shelf_records.specs.Private.Judging.{AreOwn, LinkBack}
 use Rattle.shelf_restoring.proofs.Judged.OwnItems.{NamesItsOwn, own-items}
 use Rattle.shelf_restoring.proofs.Judged.UsedMarks.{used-times}

@@ -1,7 +1,7 @@
 use Rattle.std.proofs.Common.{List}
 use Rattle.std.specs.List.{AllByRecursion}
 use Rattle.etagere_base.proofs.DecidingLemmas.{IsLeft}
-use Rattle.etagere_links.specs.RecordLists.{Entry}
+use Rattle.shelf_links.specs.RecordLists.{Entry}
 use Rattle.shelf_records.specs.Private.Judging.{LinkBack}
 use Rattle.shelf_restoring.proofs.judging.linking.have_links_back.Given as goal
 

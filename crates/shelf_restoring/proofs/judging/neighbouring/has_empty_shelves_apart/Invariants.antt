@@ -1,7 +1,7 @@
 use Rattle.std.proofs.Common.{List, map}
 use Rattle.etagere_base.specs.Lists.{NoNeighbours}
 use Rattle.etagere_base.proofs.DecidingLemmas.{IsLeft}
-use Rattle.etagere_links.specs.RecordLists.{Entry}
+use Rattle.shelf_links.specs.RecordLists.{Entry}
 use Rattle.shelf_records.specs.AtlasRecords.{spelled_shelf}
 use Rattle.shelf_model.specs.Merging.{both_empty}
 use Rattle.shelf_records.specs.Private.Judging.{atlas_of_records}

@@ -2,7 +2,7 @@ use Rattle.std.proofs.Common.{List, map}
 use Rattle.std.specs.List.{AllByRecursion}
 use Rattle.etagere_base.specs.Lists.{NoNeighbours}
 use Rattle.etagere_base.proofs.DecidingLemmas.{IsLeft}
-use Rattle.etagere_links.specs.RecordLists.{Entry}
+use Rattle.shelf_links.specs.RecordLists.{Entry}
 use Rattle.shelf_records.specs.AtlasRecords.{item_at}
 use Rattle.shelf_model.specs.Merging.{both_free}
 use Rattle.shelf_restoring.proofs.judging.neighbouring.has_free_items_apart.Given as goal

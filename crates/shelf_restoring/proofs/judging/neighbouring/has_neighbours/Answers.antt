@@ -3,7 +3,7 @@ use Rattle.std.proofs.Common.{map}
 use Rattle.etagere_base.proofs.DecidingLemmas.{decides-map, denied, granted}
 use Rattle.std.specs.List.{AllByRecursion}
 use Rattle.etagere_base.specs.Lists.{NoNeighbours}
-use Rattle.etagere_links.specs.RecordLists.{Entry}
+use Rattle.shelf_links.specs.RecordLists.{Entry}
 use Rattle.shelf_records.specs.AtlasRecords.{item_at, spelled_shelf, spelled_state}
 use Rattle.shelf_model.specs.Merging.{both_empty, both_free}
 use Rattle.shelf_records.specs.Private.Judging.{atlas_of_records}

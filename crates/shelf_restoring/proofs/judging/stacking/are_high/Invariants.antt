@@ -2,7 +2,7 @@ use Rattle.std.proofs.Common.{◌≤◌, List}
 use Rattle.std.specs.List.{AllByRecursion}
 use Rattle.shelf_records.specs.AtlasRecords.{height_of}
 use Rattle.etagere_base.proofs.DecidingLemmas.{IsLeft}
-use Rattle.etagere_links.specs.RecordLists.{Entry}
+use Rattle.shelf_links.specs.RecordLists.{Entry}
 use Rattle.shelf_restoring.proofs.judging.stacking.are_high.Given as goal
 
 -- the shelves that are left keep the fact where all do

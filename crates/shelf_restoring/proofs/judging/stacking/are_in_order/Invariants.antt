@@ -1,7 +1,7 @@
 use Rattle.std.proofs.Common.{List}
 use Rattle.etagere_base.specs.Lists.{NoNeighbours}
 use Rattle.etagere_base.proofs.DecidingLemmas.{IsLeft}
-use Rattle.etagere_links.specs.RecordLists.{Entry}
+use Rattle.shelf_links.specs.RecordLists.{Entry}
 use Rattle.shelf_records.specs.Private.Judging.{is_later}
 use Rattle.shelf_restoring.proofs.judging.stacking.are_in_order.Given as goal
 

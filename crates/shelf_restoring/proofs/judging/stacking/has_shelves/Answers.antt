@@ -4,7 +4,7 @@ use Rattle.std.specs.Prelude.{◌%◌}
 use Rattle.etagere_base.proofs.DecidingLemmas.{decides-map, denied, granted}
 use Rattle.std.specs.List.{AllByRecursion}
 use Rattle.etagere_base.specs.Lists.{NoNeighbours}
-use Rattle.etagere_links.specs.RecordLists.{Entry}
+use Rattle.shelf_links.specs.RecordLists.{Entry}
 use Rattle.shelf_records.specs.AtlasRecords.{along_of, height_of, spelled_shelf}
 use Rattle.shelf_records.specs.Private.Judging.{FillFrom, HasShelvesIn, StackFrom, column_at, is_later, atlas_of_records}
 use Rattle.shelf_model.specs.State.{Shelf}

@@ -1,0 +1,63 @@
+-- Linked records stay linked when a shelf is split.
+use Rattle.std.proofs.Common.{◌≡◌, ℕ, ◌<◌, None, Some, List, [], ◌∷◌, ◌++◌, length, refl, arith}
+use Rattle.shelf_links.specs.declared.records.LinkedItem.{LinkedItem}
+use Rattle.shelf_links.specs.declared.records.LinkedShelf.{LinkedShelf}
+use Rattle.shelf_links.specs.RecordEdits.{item_changed, shelf_changed, shelf_inserted_after}
+use Rattle.shelf_links.specs.RecordLists.{Records, Entry, shelf_numbers, item_numbers, IsEntry, IsLinkedExcept}
+use Rattle.shelf_links.specs.RecordMerges.{shelf_split}
+use Rattle.shelf_links.specs.Records.{item_chain, free_list}
+use Rattle.etagere_links.proofs.FieldChanges.{field_at-changed}
+use Rattle.shelf_links.proofs.AllLists.LinkedFields.{item_written-linked, shelf_written-linked, shelf_changed-linked}
+use Rattle.shelf_links.proofs.AllLists.LinkedMerges.{entry_of, keeps-height}
+use Rattle.shelf_links.proofs.AllLists.LinkedShelves.{shelf_inserted_after-linked}
+use Rattle.shelf_links.proofs.AllLists.LinkedUnused.{lists_of, IsLoose, loose-of}
+use Rattle.etagere_links.proofs.RecordChanges.{link_at-changed}
+
+-- records for a shelf of one free item, which stands in no list yet
+pub record IsAlone (item : LinkedItem) (shelf : LinkedShelf) (number : ℕ) : Type 0 where
+  pub next : item.next ≡ None
+  pub prev : item.prev ≡ None
+  pub next_unallocated : item.next_unallocated ≡ None
+  pub prev_unallocated : item.prev_unallocated ≡ None
+  pub first_item : shelf.first_item ≡ Some number
+  pub first_unallocated : shelf.first_unallocated ≡ Some number
+
+-- the records of an item and of a shelf were written so that they spell a shelf of one free item
+alone-entry : (records : Records) (shelf item : ℕ) (shelf_record : LinkedShelf) (item_record : LinkedItem) → IsAlone item_record shelf_record item → shelf < length records.shelves → item < length records.items → IsEntry (shelf_changed shelf (λ _. shelf_record) (item_changed item (λ _. item_record) records)) (entry_of shelf (item ∷ []) (item ∷ []))
+alone-entry records shelf item shelf_record item_record alone shelf_within item_within =
+    let items : List LinkedItem = records.items in
+    let shelves : List LinkedShelf = records.shelves in
+    record {
+      items = record {
+        forward = (
+          field_at-changed (λ (x : LinkedShelf). x.first_item) None (λ _. shelf_record) shelves shelf (Some item) shelf_within (λ x. alone.first_item),
+          link_at-changed item_chain.next (λ _. item_record) items (Some item) None item refl item_within (λ x. alone.next),
+        );
+        backward = (link_at-changed item_chain.previous (λ _. item_record) items (Some item) None item refl item_within (λ x. alone.prev), tt);
+      };
+      free_list = record {
+        forward = (
+          field_at-changed (λ (x : LinkedShelf). x.first_unallocated) None (λ _. shelf_record) shelves shelf (Some item) shelf_within (λ x. alone.first_unallocated),
+          link_at-changed free_list.next (λ _. item_record) items (Some item) None item refl item_within (λ x. alone.next_unallocated),
+        );
+        backward = (link_at-changed free_list.previous (λ _. item_record) items (Some item) None item refl item_within (λ x. alone.prev_unallocated), tt);
+      };
+      members = λ k. omega arith;
+    }
+
+-- a shelf was split: the rest stands after it, with one free item
+pub shelf_split-linked : (records : Records) (before after : List Entry) (entry : Entry) (rest rest_item height : ℕ) (rest_shelf : LinkedShelf) (item : LinkedItem) (unused_items unused_shelves loose loose_shelves : List ℕ) → IsAlone item rest_shelf rest_item → IsLinkedExcept records (lists_of (before ++ entry ∷ after) unused_items unused_shelves) (rest_item ∷ loose) (rest ∷ loose_shelves) → IsLinkedExcept (shelf_split entry.number rest rest_item height rest_shelf item records) (lists_of (before ++ entry ∷ entry_of rest (rest_item ∷ []) (rest_item ∷ []) ∷ after) unused_items unused_shelves) loose loose_shelves
+shelf_split-linked records before after entry rest rest_item height rest_shelf item unused_items unused_shelves loose loose_shelves alone linked =
+    let entries : List Entry = before ++ entry ∷ after in
+    let added : Entry = entry_of rest (rest_item ∷ []) (rest_item ∷ []) in
+    let one : Records = item_changed rest_item (λ _. item) records in
+    let two : Records = shelf_changed rest (λ _. rest_shelf) one in
+    let three : Records = shelf_inserted_after entry.number rest two in
+    let loose_item : IsLoose (length records.items) (item_numbers entries) unused_items rest_item = loose-of (length records.items) (item_numbers entries) unused_items loose rest_item linked.items_once in
+    let loose_shelf : IsLoose (length records.shelves) (shelf_numbers entries) unused_shelves rest = loose-of (length records.shelves) (shelf_numbers entries) unused_shelves loose_shelves rest linked.shelves_once in
+    let written : IsLinkedExcept two (lists_of entries unused_items unused_shelves) (rest_item ∷ loose) (rest ∷ loose_shelves) =
+    shelf_written-linked one rest (λ _. rest_shelf) entries unused_items unused_shelves (rest_item ∷ loose) loose_shelves
+    (item_written-linked records rest_item (λ _. item) entries unused_items unused_shelves loose (rest ∷ loose_shelves) linked) in
+    shelf_changed-linked three entry.number (λ (here : LinkedShelf). record here { height = height }) (before ++ entry ∷ added ∷ after) unused_items unused_shelves loose loose_shelves (keeps-height height)
+    (shelf_inserted_after-linked two before after entry added unused_items unused_shelves loose loose_shelves
+    (alone-entry records rest rest_item rest_shelf item alone loose_shelf.within loose_item.within) written)
