@@ -41,7 +41,7 @@ pub sides-least : refusal page (size 1 1) ≡ None
 sides-least = refl
 
 -- a page that is full
-pub full_page : refusal (allocated page (size 1000 1000) 1) (size 100 100) ≡ Some (NoRoom (pos 0))
+pub full_page : refusal (allocated page (size 1000 1000) 1) (size 100 100) ≡ Some (NoRoom 0)
 full_page = refl
 
 -- what is left beside an item, and below its shelf
@@ -54,7 +54,7 @@ started-beside = refl
 pub started-below : refusal started (size 1000 832) ≡ None
 started-below = refl
 
-pub started-stepped : refusal started (size 1000 888) ≡ Some (NoRoom (pos 0))
+pub started-stepped : refusal started (size 1000 888) ≡ Some (NoRoom 0)
 started-stepped = refl
 
 -- in one shelf 40 are left of 100
@@ -64,7 +64,7 @@ strip = allocated (plain_atlas 100 16) (size 60 16) 1
 pub strip-fits : refusal strip (size 40 10) ≡ None
 strip-fits = refl
 
-pub strip-wider : refusal strip (size 41 10) ≡ Some (NoRoom (pos 40))
+pub strip-wider : refusal strip (size 41 10) ≡ Some (NoRoom 40)
 strip-wider = refl
 
 pub strip-returned : refusal (returned strip 1) (size 41 10) ≡ None
@@ -99,7 +99,7 @@ upright_one = allocated upright (size 30 8) 1
 pub upright-other_column : refusal upright_one (size 30 20) ≡ None
 upright-other_column = refl
 
-pub upright-left : refusal (allocated upright_one (size 30 20) 2) (size 30 13) ≡ Some (NoRoom (pos 12))
+pub upright-left : refusal (allocated upright_one (size 30 20) 2) (size 30 13) ≡ Some (NoRoom 12)
 upright-left = refl
 
 -- counts, and the widest of what is free

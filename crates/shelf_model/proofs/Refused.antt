@@ -1,7 +1,7 @@
 -- A size has no place exactly where there is a reason, and the widest that is free tells whether there is room.
 use Rattle.std.proofs.Common.{◌≡◌, ℕ, zero, suc, ◌≤◌, ◌+◌, Bool, true, false, cond, Option, None, Some, List, [], ◌∷◌, nat_le, nat_lt, refl, ap, arith, subst, sym, ◌∙◌}
 use Rattle.std.proofs.lemmas.Bool.Decides.{nat_tests}
-use Rattle.std.specs.Prelude.{◌↔◌, ◌==◌, ◌&&◌, ◌||◌, IsTrue, ℤ, filter, is_some, option_and_then, pos, slice_get}
+use Rattle.std.specs.Prelude.{◌↔◌, ◌==◌, ◌&&◌, ◌||◌, IsTrue, filter, is_some, option_and_then, slice_get}
 use Rattle.std.specs.Option.{option_map_or}
 use Rattle.etagere_base.specs.declared.frames.Frame.{Frame}
 use Rattle.etagere_base.specs.declared.geometry.Size.{Size}
@@ -208,7 +208,7 @@ module _ (state : AtlasState) (valid : IsValid state) (size : Size) where
       (cond long (Some TooLong)
       (cond wide (Some WiderThanColumn)
       (cond tall (Some TallerThanAtlas)
-      (cond no_room (Some (NoRoom (pos (widest_for state asks)))) (cond no_records (Some NoRecords) None)))))
+      (cond no_room (Some (NoRoom (widest_for state asks))) (cond no_records (Some NoRecords) None)))))
 
   -- there is no reason exactly where there is a place
   pub exact : (refusal state size ≡ None) ↔ IsTrue (is_some (placement_of state size))
@@ -234,7 +234,7 @@ module _ (state : AtlasState) (valid : IsValid state) (size : Size) where
       by_tests false false true tall no_room a b c d e = neither _ _ WiderThanColumn refl (ap placed (asked-wide state.frame size c))
       by_tests false false false true no_room a b c d e = neither _ _ TallerThanAtlas refl (ap placed (asked-tall state.frame size d))
       by_tests false false false false true a b c d e =
-          neither _ _ (NoRoom (pos (widest_for state asks))) refl (ap placed (asked-rounded state.frame size a b c d) ∙ ap with_records (chosen-no_room e))
+          neither _ _ (NoRoom (widest_for state asks)) refl (ap placed (asked-rounded state.frame size a b c d) ∙ ap with_records (chosen-no_room e))
       by_tests false false false false false a b c d e =
           let is = asked-rounded state.frame size a b c d in
           let found = chosen-room is e in
@@ -243,7 +243,7 @@ module _ (state : AtlasState) (valid : IsValid state) (size : Size) where
           rw (place, lack) (by_records found.0 (nat_le (items_in_use state.shelves + splits found.0) 65535) refl)
 
   -- no room is the reason exactly where no shelf fits
-  pub no_room : (widest : ℤ) → (refusal state size ≡ Some (NoRoom widest)) ↔ HasNoRoom state size widest
+  pub no_room : (widest : ℕ) → (refusal state size ≡ Some (NoRoom widest)) ↔ HasNoRoom state size widest
   no_room widest =
       by_tests (is_not_positive size) (is_too_long size) (is_wider_than_column state.frame size) (is_taller_than_atlas state.frame size) (has_no_room state asks) (lacks_records state asks) refl refl refl refl refl
     where

@@ -1,5 +1,5 @@
 -- Why a size has no place: each reason as a test of the state and the size, and the first that holds.
-use Rattle.std.specs.Prelude.{ℕ, ◌+◌, Bool, false, ◌||◌, Option, None, Some, pos, nat_lt, ◌==◌, if◌then◌else◌}
+use Rattle.std.specs.Prelude.{ℕ, ◌+◌, Bool, false, ◌||◌, Option, None, Some, nat_lt, ◌==◌, if◌then◌else◌}
 use Rattle.std.specs.Option.{option_map_or}
 use Rattle.etagere_base.specs.declared.frames.Frame.{Frame}
 use Rattle.etagere_base.specs.declared.geometry.Size.{Size}
@@ -61,6 +61,6 @@ refusal state size =
     else (if is_too_long size then Some TooLong
     else (if is_wider_than_column state.frame size then Some WiderThanColumn
     else (if is_taller_than_atlas state.frame size then Some TallerThanAtlas
-    else (if has_no_room state sides then Some (NoRoom (pos (widest_for state sides)))
+    else (if has_no_room state sides then Some (NoRoom (widest_for state sides))
     else (if lacks_records state sides then Some NoRecords
     else None)))))

@@ -1,5 +1,5 @@
 -- Laws of the reasons for which a size has no place.
-use Rattle.std.specs.Prelude.{◌≡◌, ◌↔◌, ℕ, ℤ, ◌≤◌, None, Some, List, IsTrue, is_some, pos, slice_get}
+use Rattle.std.specs.Prelude.{◌≡◌, ◌↔◌, ℕ, ◌≤◌, None, Some, List, IsTrue, is_some, slice_get}
 use Rattle.etagere_base.specs.declared.geometry.Size.{Size}
 use Rattle.etagere_base.specs.Frames.{asked, rounded}
 use Rattle.shelf_model.specs.declared.faults.Refusal.TheVariants.{NoRoom}
@@ -31,16 +31,16 @@ RefusesExactly =
 
 -- a size is one that may be asked for, but no shelf fits it; what is told is the widest of what is free in the shelves
 -- that are tall enough
-pub record HasNoRoom (state : AtlasState) (size : Size) (told : ℤ) : Type 0 where
+pub record HasNoRoom (state : AtlasState) (size : Size) (told : ℕ) : Type 0 where
   pub asks : asked state.frame size ≡ Some (rounded state.frame size)
   pub none :
       SomeFits (rounded state.frame size).along
       (shelf_height state.frame (rounded state.frame size).across) state.shelves
       → ⊥
-  pub widest : told ≡ pos (widest_for state (rounded state.frame size))
+  pub widest : told ≡ widest_for state (rounded state.frame size)
 
 -- no room is the reason exactly where no shelf fits
 abbrev pub NoRoomExactly : Type 0
 NoRoomExactly =
-    (state : AtlasState) (size : Size) (widest : ℤ) → IsValid state
+    (state : AtlasState) (size : Size) (widest : ℕ) → IsValid state
     → (refusal state size ≡ Some (NoRoom widest)) ↔ HasNoRoom state size widest

@@ -63,7 +63,7 @@ pub enum Refusal {
     NoRoom {
         /// How long the widest free item of the shelves that are tall enough is along them, in pixels; 0 where they
         /// have none.
-        widest: i32,
+        widest: u32,
     },
     /// A shelf has room, but the splits of the chosen place would make more than 65535 items.
     #[error("NoRecords")]

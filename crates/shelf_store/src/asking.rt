@@ -2,7 +2,7 @@
 //!
 //! Definitions: `Refusal`, and `Asking` for the widest by records.
 
-ghost use Rattle.std.specs.Prelude.{◌≡◌, ◌≤◌, ◌<◌, length, pos};
+ghost use Rattle.std.specs.Prelude.{◌≡◌, ◌≤◌, ◌<◌, length};
 ghost use Rattle.etagere_base.specs.Frames.{IsFrame, longest_side};
 ghost use Rattle.etagere_base.specs.Lists.{times};
 ghost use Rattle.etagere_links.specs.Links.{no_link};
@@ -76,10 +76,10 @@ fn is_too_long(size: Size) -> bool
 
 /// That a size has no room, where the widest free item is so wide.
 fn no_room(widest: u16) -> Refusal
-    ensures { result ≡ NoRoom (pos widest) }
+    ensures { result ≡ NoRoom widest }
 {
     Refusal::NoRoom {
-        widest: i32::from(widest),
+        widest: u32::from(widest),
     }
 }
 

@@ -1,7 +1,6 @@
 -- Which reason the tests of a size leave, where its sides fit a column.
 use Rattle.std.proofs.Common.{◌≡◌, ℕ, ◌<◌, ◌≤◌, true, false, nat_lt, None, Some, refl, ap, arith, sym, ◌∙◌}
 use Rattle.std.proofs.lemmas.Bool.Decides.{nat_tests}
-use Rattle.std.specs.Prelude.{pos}
 use Rattle.etagere_base.specs.declared.frames.Frame.{Frame}
 use Rattle.etagere_base.specs.declared.geometry.Size.{Size}
 use Rattle.etagere_base.specs.declared.sides.Sides.{Sides}
@@ -49,11 +48,11 @@ widest-told frame records size sides height widest kept is stepped found =
 
 module _ (state : AtlasState) (size : Size) (fits : FitsColumn state.frame size) (sides : Sides) (is : sides ≡ rounded state.frame size) (widest : ℕ) (told : widest ≡ widest_for state (rounded state.frame size)) where
   -- the widest is less wide
-  pub room-lacking : widest < sides.along → Some (NoRoom (pos widest)) ≡ refusal state size
+  pub room-lacking : widest < sides.along → Some (NoRoom widest) ≡ refusal state size
   room-lacking narrow =
       let none : has_no_room state (rounded state.frame size) ≡ true =
       is-below (widest_for state (rounded state.frame size)) (rounded state.frame size).along (omega (arith, ap (λ (s : Sides). s.along) is, told, narrow)) in
-      rw (fits.positive, fits.short, fits.narrow, fits.low, none) (ap (λ n. Some (NoRoom (pos n))) told)
+      rw (fits.positive, fits.short, fits.narrow, fits.low, none) (ap (λ n. Some (NoRoom n)) told)
 
   -- it is as wide
   has-room : sides.along ≤ widest → has_no_room state (rounded state.frame size) ≡ false
