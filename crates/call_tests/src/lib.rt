@@ -1,6 +1,6 @@
 //! Tests of calls that no row of `call_rows` can say: pictures over writers that fail, large atlases, the plain types
 //! and their JSON text, the end of an iterator, walks along links, and how many of these are read; a long text through
-//! a cache of glyphs; the caller `two_pictures`.
+//! a cache of glyphs.
 #![tactic(auto)]
 
 #[cfg(test)]
@@ -15,8 +15,6 @@ mod json;
 mod large_atlases;
 #[cfg(test)]
 mod listing;
-#[cfg(test)]
-mod pairs;
 #[cfg(test)]
 mod plain_types;
 #[cfg(test)]

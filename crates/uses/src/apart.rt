@@ -1,8 +1,7 @@
-//! A caller of `etagere`: places two pictures in an atlas, and shows that they lie apart.
+//! Two pictures that share no unit square: `allocate_two` places both, or neither.
 //!
 //! The public clauses of the atlas are enough, with no lemma of its own; only `inside` has an answer
 //! that is written out, by `allocated` and `promises` of `allocate`.
-#![tactic(auto)]
 
 ghost use Rattle.std.specs.Prelude.{◌≡◌, true, IfOk, IfNone, IfSome, OnErr};
 ghost use Rattle.shelf_model.specs.ById.{Undoes};

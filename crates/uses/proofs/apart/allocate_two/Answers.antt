@@ -5,7 +5,7 @@ use Rattle.std.specs.List.{AllByRecursion}
 use Rattle.etagere_base.specs.Rectangles.{IsInside}
 use Rattle.shelf_model.specs.Atlas.{Adds}
 use Rattle.shelf_model.specs.Places.{allocations}
-use Rattle.two_pictures.proofs.allocate_two.Goals as goal
+use Rattle.uses.proofs.apart.allocate_two.Goals as goal
 
 pub returns-in-Ok-Some-clause-inside : goal.returns-in-Ok-Some-clause-inside
 returns-in-Ok-Some-clause-inside c =

@@ -1,0 +1,4 @@
+pub mod Counting
+pub mod Paging
+pub mod Pixels
+pub mod Placing

@@ -1,0 +1,35 @@
+//! A sprite sheet: a list of sizes gets places in its order.
+//!
+//! Definition: `Sheet`.
+
+ghost use Rattle.std.specs.Prelude.{◌≡◌, IfOk, Some, length, slice_get};
+ghost use Rattle.etagere_base.specs.declared.geometry.Size as declared;
+ghost use Rattle.shelf_model.specs.Choice.{IsRefused};
+ghost use Rattle.uses.specs.Sheet.{ArePlaces};
+
+use etagere::{Allocation, AtlasAllocator, Size};
+use std::alloc::{AllocError, Global};
+
+/// Places sprites of these sizes in pixels, and gives their places in the order of the list. They are as many as the
+/// sizes, or end before the first size that has no place; what was placed until then stays.
+///
+/// `Err` comes only where memory was refused, and leaves in the atlas what was placed until then. Takes memory for the
+/// places, and that of the allocations.
+pub fn place_sheet(
+    alloc: Global,
+    atlas: &mut AtlasAllocator,
+    sizes: &[Size],
+) -> Result<Vec<Allocation>, AllocError>
+    ensures places { IfOk result (λ places. ArePlaces atlas.new sizes.now places.items) }
+    ensures ends { IfOk result (λ places. (size : declared.Size)
+        → slice_get sizes.now (length places.items) ≡ Some size → IsRefused atlas.new size) }
+{
+    let mut places = Vec::with_capacity(alloc, sizes.len())?;
+    for size in sizes {
+        let Some(place) = atlas.allocate(*size)? else {
+            return Ok(places);
+        };
+        places.push(place)?;
+    }
+    Ok(places)
+}
