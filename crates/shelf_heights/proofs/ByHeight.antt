@@ -1,8 +1,10 @@
 -- The shelves in use by height: how the list is searched and changed.
 pub mod Edited
+pub mod LeftOver
 pub mod MovedLists
 pub mod PairedShelves
 pub mod PassedBounds
 pub mod Positions
 pub mod ShiftedLists
+pub mod UsedLists
 pub mod WideBounds

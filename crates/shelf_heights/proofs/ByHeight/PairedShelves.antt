@@ -1,12 +1,12 @@
 -- Shelves of numbers and bounds: what edits of both make of them.
-use Rattle.std.proofs.Common.{◌≡◌, ℕ, zero, suc, ◌<◌, ◌≤◌, Option, None, Some, List, [], ◌∷◌, ◌++◌, drop, get_or, length, map, set, take, refl, ap, arith, sym, subst, ◌∙◌}
+use Rattle.std.proofs.Common.{◌≡◌, ℕ, zero, suc, ◌<◌, ◌≤◌, Option, None, Some, List, [], ◌∷◌, ◌++◌, drop, get_or, length, map, set, take, refl, ap, arith, subst, ◌∙◌}
 use Rattle.std.proofs.lemmas.List.{drop-map, length-map, take-map}
 use Rattle.std.specs.Prelude.{◌*◌, insert, remove, vec_capacity}
 use Rattle.std.specs.List.{AllByRecursion}
-use Rattle.shelf_heights.specs.Private.ByHeight.{IsFirstAsWide, bounded_at, numbers_by_height}
+use Rattle.shelf_heights.specs.Private.ByHeight.{IsFirstAsWide, numbers_by_height}
 use Rattle.shelf_heights.specs.Private.ListFields.{IsCovered, IsFirstWide, ListByHeight, list_in, paired}
 use Rattle.shelf_heights.specs.declared.by_height.BoundedShelf.{BoundedShelf}
-use Rattle.shelf_heights.specs.declared.by_height.ShelvesByHeight.TheInside.{Inside}
+use Rattle.shelf_heights.specs.declared.bounded_list.BoundedList.TheInside.{Inside}
 use Rattle.shelf_records.proofs.Spelled.Witnesses.{Each-unmap}
 
 -- a shelf of this number and bound
@@ -60,14 +60,14 @@ paired-remove (n ∷ ns) (b ∷ bs) zero same within = refl
 paired-remove (n ∷ ns) (b ∷ bs) (suc index) same within =
     ap (λ (l : List BoundedShelf). shelf_of n b ∷ l) (paired-remove ns bs index (omega (arith, same)) (omega (arith, within)))
 
--- one gets another bound
-pub paired-set : (numbers bounds : List ℕ) (index : ℕ) (one : BoundedShelf) → length numbers ≡ length bounds → index < length numbers → one.shelf ≡ (bounded_at (paired numbers bounds) index).shelf
-    → paired numbers (set bounds index one.widest) ≡ set (paired numbers bounds) index one
-paired-set [] bounds index one same within is = absurd (omega (arith, within))
-paired-set (n ∷ ns) [] index one same within is = absurd (omega (arith, same))
-paired-set (n ∷ ns) (b ∷ bs) zero one same within is = ap (λ (k : ℕ). shelf_of k one.widest ∷ paired ns bs) (sym is)
-paired-set (n ∷ ns) (b ∷ bs) (suc index) one same within is =
-    ap (λ (l : List BoundedShelf). shelf_of n b ∷ l) (paired-set ns bs index one (omega (arith, same)) (omega (arith, within)) is)
+-- one is written over another
+pub paired-set : (numbers bounds : List ℕ) (index : ℕ) (one : BoundedShelf) → length numbers ≡ length bounds → index < length numbers
+    → paired (set numbers index one.shelf) (set bounds index one.widest) ≡ set (paired numbers bounds) index one
+paired-set [] bounds index one same within = absurd (omega (arith, within))
+paired-set (n ∷ ns) [] index one same within = absurd (omega (arith, same))
+paired-set (n ∷ ns) (b ∷ bs) zero one same within = refl
+paired-set (n ∷ ns) (b ∷ bs) (suc index) one same within =
+    ap (λ (l : List BoundedShelf). shelf_of n b ∷ l) (paired-set ns bs index one (omega (arith, same)) (omega (arith, within)))
 
 -- one put in at the end
 pub insert-end : (by_height : List BoundedShelf) (one : BoundedShelf) → insert by_height (length by_height) one ≡ by_height ++ one ∷ []

@@ -1,8 +1,8 @@
--- The list of the shelves in use as its fields have it: their numbers, their bounds, and the widest bound of each block.
+-- A list of shelves with bounds as its fields have it: their numbers, their bounds, and the widest bound of each block.
 use Rattle.std.specs.Prelude.{◌≡◌, ℕ, ◌+◌, ◌*◌, ◌<◌, ◌≤◌, Option, None, Some, List, [], ◌∷◌, drop, get_or, length, min, take, vec_capacity}
 use Rattle.std.specs.List.{AllByRecursion}
 use Rattle.shelf_heights.specs.declared.by_height.BoundedShelf.{BoundedShelf}
-use Rattle.shelf_heights.specs.declared.by_height.ShelvesByHeight.TheInside.{Inside}
+use Rattle.shelf_heights.specs.declared.bounded_list.BoundedList.TheInside.{Inside}
 
 -- what the list stands for: the shelves, and for how many there is room
 pub record ListByHeight : Type 0 where

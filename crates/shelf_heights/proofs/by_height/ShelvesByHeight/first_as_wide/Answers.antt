@@ -1,17 +1,17 @@
-use Rattle.std.proofs.Common.{ℕ, List, ap, arith, length, subst, sym, ◌∙◌}
-use Rattle.std.proofs.lemmas.List.{length-map}
+use Rattle.std.proofs.Common.{◌-◌, List, Some, arith, subst}
+use Rattle.shelf_heights.specs.Private.ByHeight.{IsFirstAsWide}
 use Rattle.shelf_heights.specs.declared.by_height.BoundedShelf.{BoundedShelf}
-use Rattle.shelf_heights.specs.Private.ListFields.{IsFirstWide}
-use Rattle.shelf_heights.proofs.ByHeight.PairedShelves.{bounds-of, wide-shelves}
+use Rattle.shelf_heights.proofs.ByHeight.LeftOver.{first-drop}
+use Rattle.shelf_heights.proofs.ByHeight.UsedLists.{used, used-count, used-few}
 use Rattle.shelf_heights.proofs.by_height.ShelvesByHeight.first_as_wide.Goals as goal
+
+pub overflow_add-self-inside : goal.overflow_add-self-inside
+overflow_add-self-inside c = omega (arith, used-few c.self.inside c.args.self.now c.self.invariant c.self.view_is c.args.from c.requires)
+
+pub first_as_wide-requires : goal.first_as_wide-requires
+first_as_wide-requires c = omega (arith, c.requires, used-count c.self.inside c.args.self.now c.self.invariant c.self.view_is)
 
 pub returns-clause-first : goal.returns-clause-first
 returns-clause-first c =
-    wide-shelves c.args.from c.args.width c.args.self.now.items c.search_blocks.result
-    (subst (λ (bounds : List ℕ). IsFirstWide c.args.from c.args.width bounds c.search_blocks.result)
-    (c.deref.ensures.value ∙ sym (bounds-of c.self.inside c.args.self.now c.self.invariant c.self.view_is)) c.search_blocks.ensures.first)
-
-pub search_blocks-requires-clause-from : goal.search_blocks-requires-clause-from
-search_blocks-requires-clause-from c =
-    let bounds = bounds-of c.self.inside c.args.self.now c.self.invariant c.self.view_is in
-    omega (arith, c.requires, ap length bounds, ap length c.deref.ensures.value, length-map c.args.self.now.items (λ (one : BoundedShelf). one.widest))
+    subst (λ (items : List BoundedShelf). IsFirstAsWide c.args.from c.args.width items (Some (c.in_ok-place.place - c.self.inside.start))) (used c.self.inside c.args.self.now c.self.invariant c.self.view_is)
+    (first-drop c.self.inside.start c.args.from c.args.width c.in_ok-place.place c.self.inside.list.items c.self.invariant.within c.in_ok-place.ensures.first)

@@ -1,0 +1,33 @@
+-- The list in use, read from the list that has some left over before it.
+use Rattle.std.proofs.Common.{◌≡◌, ℕ, ◌+◌, ◌<◌, ◌≤◌, ◌^◌, ap, arith, drop, get_or, length, sym, ◌∙◌}
+use Rattle.std.proofs.lemmas.List.{get_or-drop, length-drop}
+use Rattle.shelf_heights.specs.Private.FrontRoom.{HasFrontRoom, used_list}
+use Rattle.shelf_heights.specs.Private.ListFields.{ListByHeight}
+use Rattle.shelf_heights.specs.declared.by_height.BoundedShelf.{BoundedShelf}
+use Rattle.shelf_heights.specs.declared.by_height.ShelvesByHeight.TheInside.{Inside}
+
+module _ (by_height : Inside) (value : ListByHeight) (rules : HasFrontRoom by_height) (is : used_list by_height ≡ value) where
+  -- it is what stands behind them
+  pub used : drop by_height.start by_height.list.items ≡ value.items
+  used = ap (λ (v : ListByHeight). v.items) is
+
+  -- so many stand in both together
+  pub used-count : length value.items + by_height.start ≡ length by_height.list.items
+  used-count =
+      let size : length (drop by_height.start by_height.list.items) ≡ length value.items = ap (λ (v : ListByHeight). length v.items) is in
+      omega (arith, rules.within, size, length-drop by_height.start by_height.list.items)
+
+  pub used-capacity : by_height.room ≡ value.capacity
+  used-capacity = ap (λ (v : ListByHeight). v.capacity) is
+
+  -- a position is a place of the whole list
+  pub used-place : (index : ℕ) → index < length value.items → by_height.start + index < length by_height.list.items
+  used-place index within = omega (arith, within, used-count)
+
+  -- and a number of the machine
+  pub used-few : (index : ℕ) → index ≤ length value.items → by_height.start + index < 2 ^ 64
+  used-few index within = omega (arith, within, used-count, rules.fits, rules.few)
+
+  -- the one at a position
+  pub used-at : (index : ℕ) (other : BoundedShelf) → get_or by_height.list.items (by_height.start + index) other ≡ get_or value.items index other
+  used-at index other = sym (get_or-drop by_height.start by_height.list.items index other) ∙ ap (λ (v : ListByHeight). get_or v.items index other) is
