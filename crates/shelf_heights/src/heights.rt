@@ -124,7 +124,8 @@ fn start_of(shelves: &[LinkedShelf], by_height: &ShelvesByHeight, shelf: usize) 
     first_from(shelves, by_height, u32::from(record.height), place)
 }
 
-/// Where the shelves begin that don't come before this one, among all but the one at a position.
+/// Where the shelves begin that don't come before this one, among all but the one at a position, near which the search
+/// starts.
 fn start_beside(
     shelves: &[LinkedShelf],
     by_height: &ShelvesByHeight,
@@ -144,7 +145,7 @@ fn start_beside(
     let mut from = 0;
     let mut end = by_height.len() - 1;
     while from < end {
-        let middle = from + (end - from) / 2;
+        let middle = probed_near(left_out, from, end);
         if order_of(shelves, shelf_beside(by_height, left_out, middle)) < order {
             from = middle + 1;
         } else {
@@ -152,6 +153,22 @@ fn start_beside(
         }
     }
     from
+}
+
+/// Where to look next between two positions: at this one or the one before it while they are among those in question,
+/// since most shelves stay where they are, and else in the middle.
+fn probed_near(near: usize, from: usize, end: usize) -> usize
+    requires { from < end }
+    ensures from { from ≤ result }
+    ensures end { result < end }
+{
+    if from <= near && near < end {
+        near
+    } else if near == end {
+        end - 1
+    } else {
+        from + (end - from) / 2
+    }
 }
 
 /// The number of the shelf at a position among all but the one at another.

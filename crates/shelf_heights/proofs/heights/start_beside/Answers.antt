@@ -10,31 +10,27 @@ use Rattle.shelf_heights.proofs.heights.start_beside.Goals as goal
 abbrev none : BoundedShelf
 none = record { widest = 0; shelf = 0 }
 
--- the middle is before the end
-below : (from end : ℕ) → from < end → from + (end - from) / 2 < end
-below from end less = omega (arith, less)
-
 pub order_of-requires : goal.order_of-requires
 order_of-requires c =
     let from : ℕ = c.loop-from.from in
     let end : ℕ = c.loop-from.end in
     let others : List BoundedShelf = remove c.args.by_height.now.items c.args.left_out in
     subst (λ (n : ℕ). n < length c.args.shelves.now) (sym c.shelf_beside.ensures)
-    (read-number (λ n. n < length c.args.shelves.now) (from + (end - from) / 2) others none (omega (arith, below from end c.loop-from-test.true, c.loop-from.invariant.within)) c.requires.order.within)
+    (read-number (λ n. n < length c.args.shelves.now) c.probed_near-middle.result others none (omega (arith, c.probed_near-middle.ensures.end, c.loop-from.invariant.within)) c.requires.order.within)
 
 pub loop-from-preserved-then-order_of-order : goal.loop-from-preserved-then-order_of-order
 loop-from-preserved-then-order_of-order c =
     let from : ℕ = c.loop-from.from in
     let end : ℕ = c.loop-from.end in
-    let middle : ℕ = from + (end - from) / 2 in
+    let middle : ℕ = c.probed_near-middle.result in
     let others : List BoundedShelf = remove c.args.by_height.now.items c.args.left_out in
     let order : ℕ = c.order_of-order.result in
-    let within : middle < length others = omega (arith, below from end c.loop-from-test.true, c.loop-from.invariant.within) in
+    let within : middle < length others = omega (arith, c.probed_near-middle.ensures.end, c.loop-from.invariant.within) in
     let less : order_of c.args.shelves.now (bounded_at others middle).shelf < order =
     omega (arith, c.if-order_of-order.true, c.order_of.ensures, ap (order_of c.args.shelves.now) c.shelf_beside.ensures) in
     let next : suc middle ≡ middle + 1 = omega arith in
     record {
-      bounds = omega (arith, below from end c.loop-from-test.true);
+      bounds = omega (arith, c.probed_near-middle.ensures.end);
       few = c.loop-from.invariant.few;
       within = c.loop-from.invariant.within;
       before = subst (λ (n : ℕ). AllByRecursion (λ (one : BoundedShelf). order_of c.args.shelves.now one.shelf < order) (take n others)) next
@@ -46,14 +42,14 @@ pub loop-from-preserved : goal.loop-from-preserved
 loop-from-preserved c =
     let from : ℕ = c.loop-from.from in
     let end : ℕ = c.loop-from.end in
-    let middle : ℕ = from + (end - from) / 2 in
+    let middle : ℕ = c.probed_near-middle.result in
     let others : List BoundedShelf = remove c.args.by_height.now.items c.args.left_out in
     let order : ℕ = c.order_of-order.result in
-    let within : middle < length others = omega (arith, below from end c.loop-from-test.true, c.loop-from.invariant.within) in
+    let within : middle < length others = omega (arith, c.probed_near-middle.ensures.end, c.loop-from.invariant.within) in
     let more : order ≤ order_of c.args.shelves.now (bounded_at others middle).shelf =
     omega (arith, c.if-order_of-order.false, c.order_of.ensures, ap (order_of c.args.shelves.now) c.shelf_beside.ensures) in
     record {
-      bounds = omega arith;
+      bounds = c.probed_near-middle.ensures.from;
       few = c.loop-from.invariant.few;
       within = omega (arith, within);
       before = c.loop-from.invariant.before;
