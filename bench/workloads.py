@@ -180,6 +180,18 @@ WORKLOADS = {
     "bucketed": buckets,
 }
 
+ORIGINAL = {
+    "glyph churn": 847,
+    "sprites": 931,
+    "sprites, vertical, aligned, 2 columns": 869,
+    "tall shelves": 126678,
+    "fill and drain": 578,
+    "fill only": 2511,
+    "narrow gaps": 15172,
+    "bucketed": 4442,
+}
+"""The instructions that the Rust crate takes for each command of a workload, library calls alone, counted once."""
+
 LIVE = (1000, 4000, 16000, 64000)
 """How many items are live in the series that shows how costs grow."""
 

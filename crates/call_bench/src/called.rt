@@ -1,0 +1,75 @@
+//! An atlas of either kind, and the call that a command makes.
+
+use etagere::{AllocId, AtlasAllocator, BucketedAtlasAllocator};
+use run_commands::commands::{AtlasCommand, BucketedCommand};
+use std::alloc::AllocError;
+
+/// An atlas that is called by commands.
+pub trait Called {
+    type Command: Copy;
+
+    /// Makes the call of a command, and gives the id of what it was given. `ids` has those of the commands before.
+    fn call(
+        &mut self,
+        command: Self::Command,
+        ids: &[Option<AllocId>],
+    ) -> Result<Option<AllocId>, AllocError>;
+}
+
+impl Called for AtlasAllocator {
+    type Command = AtlasCommand;
+
+    fn call(
+        &mut self,
+        command: AtlasCommand,
+        ids: &[Option<AllocId>],
+    ) -> Result<Option<AllocId>, AllocError> {
+        match command {
+            AtlasCommand::Allocate(size) => return Ok(self.allocate(size)?.map(|it| it.id)),
+            AtlasCommand::Return(other) => {
+                if let Some(id) = id_at(ids, other) {
+                    let _ = self.deallocate(id);
+                }
+            }
+            AtlasCommand::Look(other) => {
+                if let Some(id) = id_at(ids, other) {
+                    let _ = self.get(id);
+                }
+            }
+            AtlasCommand::Grow(size) => {
+                let _ = self.grow(size);
+            }
+            AtlasCommand::Clear => self.clear(),
+        }
+        Ok(None)
+    }
+}
+
+impl Called for BucketedAtlasAllocator {
+    type Command = BucketedCommand;
+
+    fn call(
+        &mut self,
+        command: BucketedCommand,
+        ids: &[Option<AllocId>],
+    ) -> Result<Option<AllocId>, AllocError> {
+        match command {
+            BucketedCommand::Allocate(size) => return Ok(self.allocate(size)?.map(|it| it.id)),
+            BucketedCommand::Return(other) => {
+                if let Some(id) = id_at(ids, other) {
+                    let _ = self.deallocate(id);
+                }
+            }
+            BucketedCommand::Grow(size) => {
+                let _ = self.grow(size);
+            }
+            BucketedCommand::Clear => self.clear(),
+        }
+        Ok(None)
+    }
+}
+
+/// The id that the command at a position was given, if any.
+fn id_at(ids: &[Option<AllocId>], position: usize) -> Option<AllocId> {
+    *ids.get(position)?
+}
