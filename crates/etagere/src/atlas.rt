@@ -208,7 +208,7 @@ impl AtlasAllocator {
     /// and of a shelf with its entry in the list by height. A split for which there are unused records takes none, nor
     /// does a size that needs no split. Finds the first shelf that is tall enough by binary search, and goes on by
     /// height; of each shelf that may have an item wide enough it searches the free list up to the first that is. Where
-    /// a shelf is split, the taller ones move in the list by height.
+    /// a shelf is split, one end of the list by height moves to make room for the new one.
     pub fn allocate(&mut self, size: Size) -> Result<Option<Allocation>, AllocError>
         ensures placed { IfOk result
             (λ answer. IfSome answer (λ allocation. Allocates self.old size allocation self.new)) }
@@ -300,7 +300,7 @@ impl AtlasAllocator {
     ///
     /// `Err` comes exactly where nothing is allocated under the id; then nothing changes. Takes no memory. It looks at
     /// the record of the id, and at those beside it and its shelf, whose entry in the list by height it finds at once
-    /// or by binary search. Where shelves merge, the taller ones move in that list.
+    /// or by binary search. Where shelves merge, the nearer end of that list moves.
     pub fn deallocate(&mut self, id: AllocId) -> Result<(), UnknownId>
         ensures ok { OnOk result (self.new ≡ returned self.old id) }
         ensures unknown { IsErr result ↔ (is_allocated self.old id ≡ false) }
