@@ -125,6 +125,40 @@ enum {
     ETAGERE_CACHE_MEMORY = 602
 };
 
+/* Why a size has no place in an atlas of shelves: the first that holds is told, in this order. */
+enum {
+    /* A side of the size is below 1. */
+    ETAGERE_REFUSAL_NOT_POSITIVE = 1,
+    /* A side of the size is above 65535. */
+    ETAGERE_REFUSAL_TOO_LONG = 2,
+    /* The side along the shelves, rounded up to its alignment, is above the width of a column. */
+    ETAGERE_REFUSAL_WIDER_THAN_COLUMN = 3,
+    /* The side across the shelves, rounded up to its alignment, is above that of the atlas. */
+    ETAGERE_REFUSAL_TALLER_THAN_ATLAS = 4,
+    /* No shelf that is tall enough has a free item that is wide enough. */
+    ETAGERE_REFUSAL_NO_ROOM = 5,
+    /* A shelf has room, but the splits of the chosen place would make more than 65535 items. */
+    ETAGERE_REFUSAL_NO_RECORDS = 6
+};
+
+/* Why a size has no place in a bucketed atlas: the first that holds is told, in this order. */
+enum {
+    /* A side of the size is below 1. */
+    ETAGERE_BUCKETED_REFUSAL_NOT_POSITIVE = 1,
+    /* A side of the size is above 65535. */
+    ETAGERE_BUCKETED_REFUSAL_TOO_LONG = 2,
+    /* The size, rounded up to the alignment, is wider along the shelves than a column. */
+    ETAGERE_BUCKETED_REFUSAL_WIDER_THAN_COLUMN = 3,
+    /* The size, rounded up to the alignment, is taller across the shelves than the atlas. */
+    ETAGERE_BUCKETED_REFUSAL_TALLER_THAN_ATLAS = 4,
+    /* No shelf that is tall enough has a bucket with the width left, and there is no space for a new shelf. */
+    ETAGERE_BUCKETED_REFUSAL_NO_ROOM = 5,
+    /* There is space for a new shelf, but too few of the 4095 buckets are left for it. */
+    ETAGERE_BUCKETED_REFUSAL_NO_BUCKETS = 6,
+    /* A bucket of a shelf that is tall enough has the width left, but has given 4095 items. */
+    ETAGERE_BUCKETED_REFUSAL_ITEMS_USED_UP = 7
+};
+
 /* A place in pixels. */
 typedef struct EtagerePoint {
     int32_t x;
@@ -148,6 +182,44 @@ typedef struct EtagereAllocation {
     uint32_t id;
     EtagereRectangle rectangle;
 } EtagereAllocation;
+
+/* Why a size has no place. Both are 0 where it has one. */
+typedef struct EtagereRefusal {
+    /* ETAGERE_REFUSAL_.., of a bucketed atlas ETAGERE_BUCKETED_REFUSAL_.. */
+    uint32_t reason;
+    /* Where the reason is .._NO_ROOM, how long the widest item along the shelves is that those which are tall enough
+     * have room for, 0 where they have none; of any other reason 0. */
+    uint32_t widest;
+} EtagereRefusal;
+
+/* How full an atlas of shelves is. */
+typedef struct EtagereUsage {
+    /* How many shelves there are, and how many of them are empty. */
+    uint32_t shelves;
+    uint32_t empty_shelves;
+    /* How many items are allocated, how many are free, and how many more there can be, of 65535 in all. */
+    uint32_t items;
+    uint32_t free_items;
+    uint32_t unused_records;
+    /* As etagere_atlas_largest_free gives it. */
+    EtagereSize largest_free;
+} EtagereUsage;
+
+/* How full a bucketed atlas is. */
+typedef struct EtagereBucketedUsage {
+    /* How many shelves there are, and how many of them hold nothing. */
+    uint32_t shelves;
+    uint32_t idle_shelves;
+    /* How many buckets they have, and how many of these hold nothing. */
+    uint32_t buckets;
+    uint32_t idle_buckets;
+    /* How many items are allocated. */
+    uint32_t items;
+    /* How many buckets can still be made, of 4095. */
+    uint32_t unused_buckets;
+    /* As etagere_bucketed_largest_free gives it. */
+    EtagereSize largest_free;
+} EtagereBucketedUsage;
 
 /* How an atlas is divided and what it rounds sizes to. */
 typedef struct EtagereOptions {
@@ -248,6 +320,21 @@ EtagereStatus etagere_atlas_free_space(EtagereAtlas *atlas, int32_t *space);
 /* Gives 1 where the atlas would have a place for the size if it were empty, and else 0. The atlas stays.
  * Answers ETAGERE_OK; ETAGERE_NULL_HANDLE. Takes constant time. */
 EtagereStatus etagere_atlas_fits_when_empty(EtagereAtlas *atlas, EtagereSize size, uint32_t *fits);
+
+/* Tells why the size has no place: refusal->reason is ETAGERE_REFUSAL_.., the first that holds, or 0 exactly where
+ * etagere_atlas_allocate has a place for it, memory aside. The atlas stays.
+ * Answers ETAGERE_OK; ETAGERE_NULL_HANDLE. Takes no memory. Takes constant time where the size alone is the reason,
+ * and else goes through all shelves and the free items of those that are tall enough. */
+EtagereStatus etagere_atlas_refusal(EtagereAtlas *atlas, EtagereSize size, EtagereRefusal *refusal);
+
+/* Gives how full the atlas is. The atlas stays.
+ * Answers ETAGERE_OK; ETAGERE_NULL_HANDLE. Takes no memory, and goes through all shelves and free items. */
+EtagereStatus etagere_atlas_usage(EtagereAtlas *atlas, EtagereUsage *usage);
+
+/* Gives the widest free item along the shelves, and of equally wide ones the tallest; 0 by 0 where none is free. A
+ * size as large may have no place, where its rounded height is above that of the shelf. The atlas stays.
+ * Answers ETAGERE_OK; ETAGERE_NULL_HANDLE. Takes no memory, and goes through all shelves and free items. */
+EtagereStatus etagere_atlas_largest_free(EtagereAtlas *atlas, EtagereSize *size);
 
 /* Makes the atlas larger. What is allocated keeps its place, its id and its index.
  * Answers ETAGERE_OK; ETAGERE_NULL_HANDLE; ETAGERE_GROW_.., the first fault, ETAGERE_GROW_MEMORY only where there is
@@ -361,6 +448,22 @@ EtagereStatus etagere_bucketed_allocated_space(EtagereBucketed *atlas, int32_t *
 /* Gives the area of the atlas less what the buckets have used, in square pixels. The atlas stays.
  * Answers ETAGERE_OK; ETAGERE_NULL_HANDLE. Takes constant time. */
 EtagereStatus etagere_bucketed_free_space(EtagereBucketed *atlas, int32_t *space);
+
+/* Tells why the size has no place: refusal->reason is ETAGERE_BUCKETED_REFUSAL_.., the first that holds, or 0
+ * exactly where etagere_bucketed_allocate has a place for it, memory aside. The atlas stays.
+ * Answers ETAGERE_OK; ETAGERE_NULL_HANDLE. Takes no memory. Where there is a place, it costs the search of
+ * etagere_bucketed_allocate; else it goes through the shelves once more, and through the buckets of those that are
+ * tall enough. */
+EtagereStatus etagere_bucketed_refusal(EtagereBucketed *atlas, EtagereSize size, EtagereRefusal *refusal);
+
+/* Gives how full the atlas is. The atlas stays.
+ * Answers ETAGERE_OK; ETAGERE_NULL_HANDLE. Takes no memory, and goes through all shelves and buckets. */
+EtagereStatus etagere_bucketed_usage(EtagereBucketed *atlas, EtagereBucketedUsage *usage);
+
+/* Gives the widest item that a shelf can give, with the height of that shelf; 0 by 0 where no shelf has room. The
+ * space for a new shelf doesn't count, nor what several idle shelves could make together. The atlas stays.
+ * Answers ETAGERE_OK; ETAGERE_NULL_HANDLE. Takes no memory, and goes through the shelves. */
+EtagereStatus etagere_bucketed_largest_free(EtagereBucketed *atlas, EtagereSize *size);
 
 /* Makes the atlas larger. What is allocated keeps its place and its id.
  * Answers ETAGERE_OK; ETAGERE_NULL_HANDLE; ETAGERE_BUCKETED_GROW_.., the first fault, ETAGERE_BUCKETED_GROW_MEMORY

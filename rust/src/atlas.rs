@@ -10,8 +10,8 @@ use crate::outcome::{known, or_panic, restore_refused, room, with_memory};
 use crate::picture;
 use crate::sys::{self, Status};
 use crate::{
-    AllocError, AllocId, Allocation, AllocatorOptions, AtlasGrowFault, JsonFault, OptionsFault, Rectangle, Size,
-    UnknownId, DEFAULT_OPTIONS,
+    AllocError, AllocId, Allocation, AllocatorOptions, AtlasGrowFault, JsonFault, OptionsFault, Rectangle, Refusal,
+    Size, UnknownId, Usage, DEFAULT_OPTIONS,
 };
 
 /// An atlas that places rectangles on shelves, and merges what is free.
@@ -313,6 +313,48 @@ impl AtlasAllocator {
     #[must_use]
     pub fn fits_when_empty(&self, size: Size) -> bool {
         self.handle.fits_when_empty(size)
+    }
+
+    /// Why the size has no place; none exactly where [`allocate`](Self::allocate) has one, memory aside.
+    ///
+    /// ```
+    /// use etagere::{size2, AtlasAllocator, Refusal};
+    ///
+    /// let mut atlas = AtlasAllocator::new(size2(64, 64));
+    /// atlas.allocate(size2(40, 64)).unwrap();
+    ///
+    /// assert_eq!(atlas.refusal(size2(24, 64)), None);
+    /// assert_eq!(atlas.refusal(size2(25, 64)), Some(Refusal::NoRoom { widest: 24 }));
+    /// assert_eq!(atlas.refusal(size2(65, 1)), Some(Refusal::WiderThanColumn));
+    /// ```
+    #[must_use]
+    pub fn refusal(&self, size: Size) -> Option<Refusal> {
+        let reason = self.handle.refusal(size);
+        Refusal::of_number(reason.number, reason.widest)
+    }
+
+    /// How full the atlas is.
+    ///
+    /// ```
+    /// use etagere::{size2, AtlasAllocator};
+    ///
+    /// let mut atlas = AtlasAllocator::new(size2(64, 64));
+    /// atlas.allocate(size2(40, 64)).unwrap();
+    ///
+    /// let usage = atlas.usage();
+    /// assert_eq!((usage.shelves, usage.items, usage.free_items), (1, 1, 1));
+    /// assert_eq!(usage.largest_free, size2(24, 64));
+    /// ```
+    #[must_use]
+    pub fn usage(&self) -> Usage {
+        self.handle.usage()
+    }
+
+    /// The widest free item along the shelves, and of equally wide ones the tallest; 0 by 0 where none is free. A size
+    /// as large may have no place, where its rounded height is above that of the shelf.
+    #[must_use]
+    pub fn largest_free(&self) -> Size {
+        self.handle.largest_free()
     }
 
     /// Writes an SVG document: the atlas and every item, what is allocated in blue, what is free in grey.

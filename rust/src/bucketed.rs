@@ -7,8 +7,8 @@ use crate::outcome::{known, or_panic, restore_refused, room, with_memory};
 use crate::picture;
 use crate::sys::{self, Status};
 use crate::{
-    AllocError, AllocId, Allocation, AllocatorOptions, GrowFault, JsonFault, OptionsFault, Rectangle, Size, UnknownId,
-    DEFAULT_OPTIONS,
+    AllocError, AllocId, Allocation, AllocatorOptions, BucketedRefusal, BucketedUsage, GrowFault, JsonFault,
+    OptionsFault, Rectangle, Size, UnknownId, DEFAULT_OPTIONS,
 };
 
 /// An atlas that places rectangles in the buckets of shelves, for many small items that go at about the same time.
@@ -232,6 +232,35 @@ impl BucketedAtlasAllocator {
     #[must_use]
     pub fn free_space(&self) -> i32 {
         self.handle.free_space()
+    }
+
+    /// Why the size has no place; none exactly where [`allocate`](Self::allocate) has one, memory aside.
+    ///
+    /// ```
+    /// use etagere::{size2, BucketedAtlasAllocator, BucketedRefusal};
+    ///
+    /// let atlas = BucketedAtlasAllocator::new(size2(64, 64));
+    ///
+    /// assert_eq!(atlas.refusal(size2(24, 24)), None);
+    /// assert_eq!(atlas.refusal(size2(24, 65)), Some(BucketedRefusal::TallerThanAtlas));
+    /// ```
+    #[must_use]
+    pub fn refusal(&self, size: Size) -> Option<BucketedRefusal> {
+        let reason = self.handle.refusal(size);
+        BucketedRefusal::of_number(reason.number, reason.widest)
+    }
+
+    /// How full the atlas is.
+    #[must_use]
+    pub fn usage(&self) -> BucketedUsage {
+        self.handle.usage()
+    }
+
+    /// The widest item that a shelf can give, with the height of that shelf; 0 by 0 where no shelf has room. The space
+    /// for a new shelf doesn't count, nor what several idle shelves could make together.
+    #[must_use]
+    pub fn largest_free(&self) -> Size {
+        self.handle.largest_free()
     }
 
     /// Writes an SVG document: the atlas and every bucket, what is used in blue, what is free in grey.

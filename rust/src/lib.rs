@@ -38,6 +38,7 @@ mod atlas;
 mod bucketed;
 mod cache;
 mod faults;
+mod fullness;
 mod geometry;
 mod number;
 mod outcome;
@@ -57,6 +58,7 @@ pub use atlas::{AtlasAllocator, Iter};
 pub use bucketed::BucketedAtlasAllocator;
 pub use cache::{GlyphCache, Placed};
 pub use faults::{AllocError, AtlasGrowFault, GlyphFault, GrowFault, JsonFault, OptionsFault, RestoreFault, UnknownId};
+pub use fullness::{BucketedRefusal, BucketedUsage, Refusal, Usage};
 pub use geometry::{point2, size2};
 
 /// A place in pixels.

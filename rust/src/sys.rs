@@ -11,7 +11,7 @@ use std::marker::PhantomData;
 use std::ptr;
 use std::sync::{Mutex, MutexGuard, PoisonError};
 
-use crate::{AllocId, Allocation, AllocatorOptions, Rectangle, Size};
+use crate::{AllocId, Allocation, AllocatorOptions, BucketedUsage, Rectangle, Size, Usage};
 
 /// What a call answers.
 #[repr(transparent)]
@@ -92,6 +92,14 @@ impl From<&AllocatorOptions> for Options {
     }
 }
 
+/// Why a size has no place: the number of the reason, and the widest that has room.
+#[repr(C)]
+#[derive(Copy, Clone, Debug, Default, PartialEq, Eq)]
+pub struct Reason {
+    pub number: u32,
+    pub widest: u32,
+}
+
 /// A call that changes a handle and gives nothing.
 type Change = unsafe extern "C" fn(*mut Raw) -> Status;
 /// A call that looks at a handle and gives one value.
@@ -121,6 +129,7 @@ pub trait Kind {
 
 /// What handles of atlases are also asked for by.
 pub trait AtlasKind: Kind {
+    type Usage: Copy + Default;
     const NEW: Fill;
     const ALLOCATE: unsafe extern "C" fn(*mut Raw, Size, *mut Allocation) -> Status;
     const DEALLOCATE: unsafe extern "C" fn(*mut Raw, u32) -> Status;
@@ -128,6 +137,9 @@ pub trait AtlasKind: Kind {
     const CLONE: unsafe extern "C" fn(*mut Raw, *mut Raw) -> Status;
     const SNAPSHOT: Tell;
     const RESTORE: FillFrom;
+    const REFUSAL: unsafe extern "C" fn(*mut Raw, Size, *mut Reason) -> Status;
+    const USAGE: Look<Self::Usage>;
+    const LARGEST_FREE: Look<Size>;
 }
 
 /// A handle that was filled, and is deleted when it is dropped.
@@ -256,6 +268,27 @@ impl<K: AtlasKind> Handle<K> {
     pub fn restore(text: &[u8]) -> Result<Self, Status> {
         // SAFETY: the handle is null and alone; `text` with its length is a place.
         Self::filled(|raw| unsafe { K::RESTORE(raw, text.as_ptr(), text.len()) })
+    }
+
+    pub fn refusal(&self, size: Size) -> Reason {
+        let mut reason = Reason::default();
+        // SAFETY: the handle is held and alone; `reason` is a place.
+        unsafe { K::REFUSAL(&mut *self.look(), size, &mut reason) }.always();
+        reason
+    }
+
+    pub fn usage(&self) -> K::Usage {
+        let mut usage = K::Usage::default();
+        // SAFETY: the handle is held and alone; `usage` is a place.
+        unsafe { K::USAGE(&mut *self.look(), &mut usage) }.always();
+        usage
+    }
+
+    pub fn largest_free(&self) -> Size {
+        let mut size = Size::default();
+        // SAFETY: the handle is held and alone; `size` is a place.
+        unsafe { K::LARGEST_FREE(&mut *self.look(), &mut size) }.always();
+        size
     }
 }
 
@@ -391,6 +424,7 @@ impl Kind for Shelves {
 }
 
 impl AtlasKind for Shelves {
+    type Usage = Usage;
     const NEW: Fill = etagere_atlas_new;
     const ALLOCATE: unsafe extern "C" fn(*mut Raw, Size, *mut Allocation) -> Status = etagere_atlas_allocate;
     const DEALLOCATE: unsafe extern "C" fn(*mut Raw, u32) -> Status = etagere_atlas_deallocate;
@@ -398,6 +432,9 @@ impl AtlasKind for Shelves {
     const CLONE: unsafe extern "C" fn(*mut Raw, *mut Raw) -> Status = etagere_atlas_clone;
     const SNAPSHOT: Tell = etagere_atlas_snapshot;
     const RESTORE: FillFrom = etagere_atlas_restore;
+    const REFUSAL: unsafe extern "C" fn(*mut Raw, Size, *mut Reason) -> Status = etagere_atlas_refusal;
+    const USAGE: Look<Usage> = etagere_atlas_usage;
+    const LARGEST_FREE: Look<Size> = etagere_atlas_largest_free;
 }
 
 impl Kind for Buckets {
@@ -414,6 +451,7 @@ impl Kind for Buckets {
 }
 
 impl AtlasKind for Buckets {
+    type Usage = BucketedUsage;
     const NEW: Fill = etagere_bucketed_new;
     const ALLOCATE: unsafe extern "C" fn(*mut Raw, Size, *mut Allocation) -> Status = etagere_bucketed_allocate;
     const DEALLOCATE: unsafe extern "C" fn(*mut Raw, u32) -> Status = etagere_bucketed_deallocate;
@@ -421,6 +459,9 @@ impl AtlasKind for Buckets {
     const CLONE: unsafe extern "C" fn(*mut Raw, *mut Raw) -> Status = etagere_bucketed_clone;
     const SNAPSHOT: Tell = etagere_bucketed_snapshot;
     const RESTORE: FillFrom = etagere_bucketed_restore;
+    const REFUSAL: unsafe extern "C" fn(*mut Raw, Size, *mut Reason) -> Status = etagere_bucketed_refusal;
+    const USAGE: Look<BucketedUsage> = etagere_bucketed_usage;
+    const LARGEST_FREE: Look<Size> = etagere_bucketed_largest_free;
 }
 
 impl Kind for Keys {
@@ -449,6 +490,9 @@ extern "C" {
     fn etagere_atlas_allocated_space(atlas: *mut Raw, space: *mut i32) -> Status;
     fn etagere_atlas_free_space(atlas: *mut Raw, space: *mut i32) -> Status;
     fn etagere_atlas_fits_when_empty(atlas: *mut Raw, size: Size, fits: *mut u32) -> Status;
+    fn etagere_atlas_refusal(atlas: *mut Raw, size: Size, refusal: *mut Reason) -> Status;
+    fn etagere_atlas_usage(atlas: *mut Raw, usage: *mut Usage) -> Status;
+    fn etagere_atlas_largest_free(atlas: *mut Raw, size: *mut Size) -> Status;
     fn etagere_atlas_grow(atlas: *mut Raw, size: Size) -> Status;
     fn etagere_atlas_clone(atlas: *mut Raw, copy: *mut Raw) -> Status;
     fn etagere_atlas_picture_length(atlas: *mut Raw, text_length: *mut usize) -> Status;
@@ -463,6 +507,9 @@ extern "C" {
     fn etagere_bucketed_is_empty(atlas: *mut Raw, is_empty: *mut u32) -> Status;
     fn etagere_bucketed_allocated_space(atlas: *mut Raw, space: *mut i32) -> Status;
     fn etagere_bucketed_free_space(atlas: *mut Raw, space: *mut i32) -> Status;
+    fn etagere_bucketed_refusal(atlas: *mut Raw, size: Size, refusal: *mut Reason) -> Status;
+    fn etagere_bucketed_usage(atlas: *mut Raw, usage: *mut BucketedUsage) -> Status;
+    fn etagere_bucketed_largest_free(atlas: *mut Raw, size: *mut Size) -> Status;
     fn etagere_bucketed_grow(atlas: *mut Raw, size: Size) -> Status;
     fn etagere_bucketed_clone(atlas: *mut Raw, copy: *mut Raw) -> Status;
     fn etagere_bucketed_picture_length(atlas: *mut Raw, text_length: *mut usize) -> Status;
@@ -588,6 +635,7 @@ mod tests {
     fn of_null_atlas<K: AtlasKind>() -> Vec<Status> {
         let raw = &mut Raw::null();
         let (mut allocation, mut copy, mut length, mut byte) = (NOTHING, Raw::null(), 0, 0);
+        let (mut reason, mut usage, mut size) = (Reason::default(), K::Usage::default(), SIZE);
         // SAFETY: both handles are null and alone; all else are places.
         unsafe {
             vec![
@@ -596,6 +644,9 @@ mod tests {
                 K::GROW(raw, SIZE),
                 K::CLONE(raw, &mut copy),
                 K::SNAPSHOT(raw, &mut byte, 1, &mut length),
+                K::REFUSAL(raw, SIZE, &mut reason),
+                K::USAGE(raw, &mut usage),
+                K::LARGEST_FREE(raw, &mut size),
             ]
         }
     }
@@ -625,7 +676,7 @@ mod tests {
     fn a_null_handle_is_told() {
         let mut statuses = [of_null::<Shelves>(), of_null::<Buckets>(), of_null::<Keys>()].concat();
         statuses.extend([of_null_atlas::<Shelves>(), of_null_atlas::<Buckets>(), of_null_of_one_kind()].concat());
-        assert_eq!(statuses.len(), 49);
+        assert_eq!(statuses.len(), 55);
         assert!(statuses.iter().all(|&status| status == Status::NULL_HANDLE), "{statuses:?}");
     }
 

@@ -57,6 +57,71 @@ static void shelf_atlas(void) {
     CHECK(etagere_atlas_delete(&atlas) == ETAGERE_NULL_HANDLE);
 }
 
+static void refusals_of_shelves(void) {
+    EtagereAtlas atlas = ETAGERE_NULL;
+    EtagereOptions options = ETAGERE_DEFAULT_OPTIONS;
+    EtagereAllocation item;
+    EtagereRefusal refusal = { 7, 7 };
+    EtagereUsage usage;
+    EtagereSize size = size2(7, 7);
+
+    usage.shelves = 7;
+    CHECK(etagere_atlas_refusal(&atlas, size2(1, 1), &refusal) == ETAGERE_NULL_HANDLE && refusal.reason == 7);
+    CHECK(etagere_atlas_usage(&atlas, &usage) == ETAGERE_NULL_HANDLE && usage.shelves == 7);
+    CHECK(etagere_atlas_largest_free(&atlas, &size) == ETAGERE_NULL_HANDLE && size.width == 7);
+
+    CHECK(etagere_atlas_new(&atlas, size2(64, 64), &options) == ETAGERE_OK);
+    CHECK(etagere_atlas_allocate(&atlas, size2(40, 64), &item) == ETAGERE_OK);
+    CHECK(etagere_atlas_refusal(&atlas, size2(24, 64), &refusal) == ETAGERE_OK);
+    CHECK(refusal.reason == 0 && refusal.widest == 0);
+    CHECK(etagere_atlas_refusal(&atlas, size2(25, 64), &refusal) == ETAGERE_OK);
+    CHECK(refusal.reason == ETAGERE_REFUSAL_NO_ROOM && refusal.widest == 24);
+    CHECK(etagere_atlas_refusal(&atlas, size2(0, 1), &refusal) == ETAGERE_OK);
+    CHECK(refusal.reason == ETAGERE_REFUSAL_NOT_POSITIVE && refusal.widest == 0);
+    CHECK(etagere_atlas_refusal(&atlas, size2(1, 65536), &refusal) == ETAGERE_OK);
+    CHECK(refusal.reason == ETAGERE_REFUSAL_TOO_LONG);
+    CHECK(etagere_atlas_refusal(&atlas, size2(65, 1), &refusal) == ETAGERE_OK);
+    CHECK(refusal.reason == ETAGERE_REFUSAL_WIDER_THAN_COLUMN);
+    CHECK(etagere_atlas_refusal(&atlas, size2(1, 65), &refusal) == ETAGERE_OK);
+    CHECK(refusal.reason == ETAGERE_REFUSAL_TALLER_THAN_ATLAS);
+    CHECK(etagere_atlas_usage(&atlas, &usage) == ETAGERE_OK);
+    CHECK(usage.shelves == 1 && usage.empty_shelves == 0 && usage.items == 1 && usage.free_items == 1);
+    CHECK(usage.unused_records == 65533 && usage.largest_free.width == 24 && usage.largest_free.height == 64);
+    CHECK(etagere_atlas_largest_free(&atlas, &size) == ETAGERE_OK && size.width == 24 && size.height == 64);
+    CHECK(etagere_atlas_delete(&atlas) == ETAGERE_OK);
+}
+
+static void refusals_of_buckets(void) {
+    EtagereBucketed atlas = ETAGERE_NULL;
+    EtagereOptions options = ETAGERE_DEFAULT_OPTIONS;
+    EtagereAllocation item;
+    EtagereRefusal refusal = { 7, 7 };
+    EtagereBucketedUsage usage;
+    EtagereSize size = size2(7, 7);
+
+    usage.shelves = 7;
+    CHECK(etagere_bucketed_refusal(&atlas, size2(1, 1), &refusal) == ETAGERE_NULL_HANDLE && refusal.reason == 7);
+    CHECK(etagere_bucketed_usage(&atlas, &usage) == ETAGERE_NULL_HANDLE && usage.shelves == 7);
+    CHECK(etagere_bucketed_largest_free(&atlas, &size) == ETAGERE_NULL_HANDLE && size.width == 7);
+
+    CHECK(etagere_bucketed_new(&atlas, size2(32, 16), &options) == ETAGERE_OK);
+    CHECK(etagere_bucketed_largest_free(&atlas, &size) == ETAGERE_OK && size.width == 0 && size.height == 0);
+    CHECK(etagere_bucketed_allocate(&atlas, size2(20, 16), &item) == ETAGERE_OK);
+    CHECK(etagere_bucketed_refusal(&atlas, size2(12, 16), &refusal) == ETAGERE_OK);
+    CHECK(refusal.reason == 0 && refusal.widest == 0);
+    CHECK(etagere_bucketed_refusal(&atlas, size2(13, 16), &refusal) == ETAGERE_OK);
+    CHECK(refusal.reason == ETAGERE_BUCKETED_REFUSAL_NO_ROOM && refusal.widest == 12);
+    CHECK(etagere_bucketed_refusal(&atlas, size2(1, -1), &refusal) == ETAGERE_OK);
+    CHECK(refusal.reason == ETAGERE_BUCKETED_REFUSAL_NOT_POSITIVE && refusal.widest == 0);
+    CHECK(etagere_bucketed_refusal(&atlas, size2(1, 17), &refusal) == ETAGERE_OK);
+    CHECK(refusal.reason == ETAGERE_BUCKETED_REFUSAL_TALLER_THAN_ATLAS);
+    CHECK(etagere_bucketed_usage(&atlas, &usage) == ETAGERE_OK);
+    CHECK(usage.shelves == 1 && usage.idle_shelves == 0 && usage.buckets == 1 && usage.idle_buckets == 0);
+    CHECK(usage.items == 1 && usage.unused_buckets == 4094 && usage.largest_free.width == 12);
+    CHECK(etagere_bucketed_largest_free(&atlas, &size) == ETAGERE_OK && size.width == 12 && size.height == 16);
+    CHECK(etagere_bucketed_delete(&atlas) == ETAGERE_OK);
+}
+
 static void atlas_that_cannot_be_made(void) {
     EtagereAtlas atlas = ETAGERE_NULL;
     EtagereOptions options = ETAGERE_DEFAULT_OPTIONS;
@@ -488,6 +553,8 @@ static void cache_that_cannot_be_made(void) {
 
 int main(void) {
     shelf_atlas();
+    refusals_of_shelves();
+    refusals_of_buckets();
     atlas_that_cannot_be_made();
     growth_without_records();
     upright_shelves();

@@ -2,7 +2,9 @@ pub mod Batches
 pub mod Calls
 pub mod Crossing
 pub mod Evicted
+pub mod Fullness
 pub mod Held
+pub mod Lent
 pub mod Listed
 pub mod Saving
 pub mod Statuses

@@ -1,4 +1,4 @@
-//! The calls of a shelf atlas. Each takes what the handle holds, calls it, and puts it back.
+//! The calls of a shelf atlas. Each calls what the handle holds, in its place.
 //!
 //! Definitions: `Calls`, `Crossing`, `Statuses`, and those of `etagere`.
 
@@ -67,8 +67,7 @@ pub extern "C" fn etagere_atlas_new(
     ensures stays { result ≢ statuses.ok → atlas.new.state ≡ atlas.old.state }
     ensures promises { result ≡ statuses.ok → IfSome atlas.new.state KeepsPromises }
 {
-    if let Some(held) = atlas.take(alloc) {
-        atlas.put(held);
+    if let Some(_held) = atlas.lend() {
         return HANDLE_IN_USE;
     }
     match made(alloc, size, options) {
@@ -96,7 +95,7 @@ pub extern "C" fn etagere_atlas_delete(alloc: Global, atlas: &mut EtagereAtlas) 
 }
 
 /// Allocates a size, and says by a status how that went.
-fn allocate(
+pub(crate) fn allocate(
     atlas: &mut AtlasAllocator,
     size: EtagereSize,
     allocation: &mut EtagereAllocation,
@@ -127,7 +126,6 @@ fn allocate(
 /// and goes through them by height, in each that may have an item wide enough through its free list.
 #[unsafe(no_mangle)]
 pub extern "C" fn etagere_atlas_allocate(
-    alloc: Global,
     atlas: &mut EtagereAtlas,
     size: EtagereSize,
     allocation: &mut EtagereAllocation,
@@ -141,12 +139,10 @@ pub extern "C" fn etagere_atlas_allocate(
     ensures unwritten { result ≢ statuses.ok → allocation.new ≡ allocation.old }
     ensures promises { IfSome atlas.new.state KeepsPromises }
 {
-    let Some(mut held) = atlas.take(alloc) else {
+    let Some(held) = atlas.lend() else {
         return NULL_HANDLE;
     };
-    let status = allocate(&mut held, size, allocation);
-    atlas.put(held);
-    status
+    allocate(held, size, allocation)
 }
 
 /// Takes back the rectangle that is allocated under an id, and merges what is free with its neighbours.
@@ -154,7 +150,7 @@ pub extern "C" fn etagere_atlas_allocate(
 /// Answers ETAGERE_OK; ETAGERE_NULL_HANDLE; ETAGERE_UNKNOWN_ID exactly where nothing is allocated under the id. Takes
 /// no memory, and looks at the record and those beside it.
 #[unsafe(no_mangle)]
-pub extern "C" fn etagere_atlas_deallocate(alloc: Global, atlas: &mut EtagereAtlas, id: u32) -> u32
+pub extern "C" fn etagere_atlas_deallocate(atlas: &mut EtagereAtlas, id: u32) -> u32
     ensures null { (result ≡ statuses.null_handle) ↔ (atlas.old.state ≡ None) }
     ensures status { IsAmong (statuses.ok ∷ statuses.null_handle ∷ statuses.unknown_id ∷ []) result }
     ensures returned { result ≡ statuses.ok → Leads atlas.old.state atlas.new.state (λ before after. after ≡ returned before id) }
@@ -162,12 +158,10 @@ pub extern "C" fn etagere_atlas_deallocate(alloc: Global, atlas: &mut EtagereAtl
     ensures stays { result ≢ statuses.ok → atlas.new.state ≡ atlas.old.state }
     ensures promises { IfSome atlas.new.state KeepsPromises }
 {
-    let Some(mut held) = atlas.take(alloc) else {
+    let Some(held) = atlas.lend() else {
         return NULL_HANDLE;
     };
-    let returned = held.deallocate(AllocId::deserialize(id));
-    atlas.put(held);
-    match returned {
+    match held.deallocate(AllocId::deserialize(id)) {
         Ok(()) => OK,
         Err(_) => UNKNOWN_ID,
     }
@@ -179,7 +173,6 @@ pub extern "C" fn etagere_atlas_deallocate(alloc: Global, atlas: &mut EtagereAtl
 /// no memory, and constant time.
 #[unsafe(no_mangle)]
 pub extern "C" fn etagere_atlas_get(
-    alloc: Global,
     atlas: &mut EtagereAtlas,
     id: u32,
     rectangle: &mut EtagereRectangle,
@@ -191,12 +184,10 @@ pub extern "C" fn etagere_atlas_get(
     ensures unwritten { result ≢ statuses.ok → rectangle.new ≡ rectangle.old }
     ensures stays { atlas.new.state ≡ atlas.old.state }
 {
-    let Some(held) = atlas.take(alloc) else {
+    let Some(held) = atlas.lend() else {
         return NULL_HANDLE;
     };
-    let found = held.get(AllocId::deserialize(id));
-    atlas.put(held);
-    match found {
+    match held.get(AllocId::deserialize(id)) {
         Some(found) => {
             *rectangle = EtagereRectangle::of(found);
             OK
@@ -211,12 +202,7 @@ pub extern "C" fn etagere_atlas_get(
 /// Answers ETAGERE_OK; ETAGERE_NULL_HANDLE; ETAGERE_UNKNOWN_ID exactly where nothing is allocated under the id. Takes
 /// no memory, and constant time.
 #[unsafe(no_mangle)]
-pub extern "C" fn etagere_atlas_get_index(
-    alloc: Global,
-    atlas: &mut EtagereAtlas,
-    id: u32,
-    index: &mut u32,
-) -> u32
+pub extern "C" fn etagere_atlas_get_index(atlas: &mut EtagereAtlas, id: u32, index: &mut u32) -> u32
     ensures null { (result ≡ statuses.null_handle) ↔ (atlas.old.state ≡ None) }
     ensures status { IsAmong (statuses.ok ∷ statuses.null_handle ∷ statuses.unknown_id ∷ []) result }
     ensures found { result ≡ statuses.ok → IfSome atlas.old.state (λ held. places.index_of held id ≡ Some index.new) }
@@ -224,12 +210,10 @@ pub extern "C" fn etagere_atlas_get_index(
     ensures unwritten { result ≢ statuses.ok → index.new ≡ index.old }
     ensures stays { atlas.new.state ≡ atlas.old.state }
 {
-    let Some(held) = atlas.take(alloc) else {
+    let Some(held) = atlas.lend() else {
         return NULL_HANDLE;
     };
-    let found = held.get_index(AllocId::deserialize(id));
-    atlas.put(held);
-    match found {
+    match held.get_index(AllocId::deserialize(id)) {
         Some(found) => {
             *index = found;
             OK
@@ -242,18 +226,17 @@ pub extern "C" fn etagere_atlas_get_index(
 ///
 /// Answers ETAGERE_OK; ETAGERE_NULL_HANDLE. Takes no memory, and goes through the columns.
 #[unsafe(no_mangle)]
-pub extern "C" fn etagere_atlas_clear(alloc: Global, atlas: &mut EtagereAtlas) -> u32
+pub extern "C" fn etagere_atlas_clear(atlas: &mut EtagereAtlas) -> u32
     ensures null { (result ≡ statuses.null_handle) ↔ (atlas.old.state ≡ None) }
     ensures status { IsAmong (statuses.ok ∷ statuses.null_handle ∷ []) result }
     ensures cleared { Leads atlas.old.state atlas.new.state (λ before after. after ≡ fresh before.frame) }
     ensures null_stays { IfNone atlas.old.state (atlas.new.state ≡ None) }
     ensures promises { IfSome atlas.new.state KeepsPromises }
 {
-    let Some(mut held) = atlas.take(alloc) else {
+    let Some(held) = atlas.lend() else {
         return NULL_HANDLE;
     };
     held.clear();
-    atlas.put(held);
     OK
 }
 
@@ -261,22 +244,17 @@ pub extern "C" fn etagere_atlas_clear(alloc: Global, atlas: &mut EtagereAtlas) -
 ///
 /// Answers ETAGERE_OK; ETAGERE_NULL_HANDLE. Takes constant time.
 #[unsafe(no_mangle)]
-pub extern "C" fn etagere_atlas_size(
-    alloc: Global,
-    atlas: &mut EtagereAtlas,
-    size: &mut EtagereSize,
-) -> u32
+pub extern "C" fn etagere_atlas_size(atlas: &mut EtagereAtlas, size: &mut EtagereSize) -> u32
     ensures null { (result ≡ statuses.null_handle) ↔ (atlas.old.state ≡ None) }
     ensures status { IsAmong (statuses.ok ∷ statuses.null_handle ∷ []) result }
     ensures size { result ≡ statuses.ok → IfSome atlas.old.state (λ held. size_in size.new ≡ record { width = pos held.frame.width; height = pos held.frame.height }) }
     ensures unwritten { result ≢ statuses.ok → size.new ≡ size.old }
     ensures stays { atlas.new.state ≡ atlas.old.state }
 {
-    let Some(held) = atlas.take(alloc) else {
+    let Some(held) = atlas.lend() else {
         return NULL_HANDLE;
     };
     *size = EtagereSize::of(held.size());
-    atlas.put(held);
     OK
 }
 
@@ -284,22 +262,17 @@ pub extern "C" fn etagere_atlas_size(
 ///
 /// Answers ETAGERE_OK; ETAGERE_NULL_HANDLE. Takes constant time.
 #[unsafe(no_mangle)]
-pub extern "C" fn etagere_atlas_is_empty(
-    alloc: Global,
-    atlas: &mut EtagereAtlas,
-    is_empty: &mut u32,
-) -> u32
+pub extern "C" fn etagere_atlas_is_empty(atlas: &mut EtagereAtlas, is_empty: &mut u32) -> u32
     ensures null { (result ≡ statuses.null_handle) ↔ (atlas.old.state ≡ None) }
     ensures status { IsAmong (statuses.ok ∷ statuses.null_handle ∷ []) result }
     ensures is_empty { result ≡ statuses.ok → IfSome atlas.old.state (λ held. IsFlag is_empty.new (allocations held ≡ [])) }
     ensures unwritten { result ≢ statuses.ok → is_empty.new ≡ is_empty.old }
     ensures stays { atlas.new.state ≡ atlas.old.state }
 {
-    let Some(held) = atlas.take(alloc) else {
+    let Some(held) = atlas.lend() else {
         return NULL_HANDLE;
     };
     *is_empty = u32::from(held.is_empty());
-    atlas.put(held);
     OK
 }
 
@@ -307,22 +280,17 @@ pub extern "C" fn etagere_atlas_is_empty(
 ///
 /// Answers ETAGERE_OK; ETAGERE_NULL_HANDLE. Takes constant time.
 #[unsafe(no_mangle)]
-pub extern "C" fn etagere_atlas_allocated_space(
-    alloc: Global,
-    atlas: &mut EtagereAtlas,
-    space: &mut i32,
-) -> u32
+pub extern "C" fn etagere_atlas_allocated_space(atlas: &mut EtagereAtlas, space: &mut i32) -> u32
     ensures null { (result ≡ statuses.null_handle) ↔ (atlas.old.state ≡ None) }
     ensures status { IsAmong (statuses.ok ∷ statuses.null_handle ∷ []) result }
     ensures allocated_space { result ≡ statuses.ok → IfSome atlas.old.state (λ held. space.new ≡ pos (spaces.allocated_space held)) }
     ensures unwritten { result ≢ statuses.ok → space.new ≡ space.old }
     ensures stays { atlas.new.state ≡ atlas.old.state }
 {
-    let Some(held) = atlas.take(alloc) else {
+    let Some(held) = atlas.lend() else {
         return NULL_HANDLE;
     };
     *space = held.allocated_space();
-    atlas.put(held);
     OK
 }
 
@@ -330,22 +298,17 @@ pub extern "C" fn etagere_atlas_allocated_space(
 ///
 /// Answers ETAGERE_OK; ETAGERE_NULL_HANDLE. Takes constant time.
 #[unsafe(no_mangle)]
-pub extern "C" fn etagere_atlas_free_space(
-    alloc: Global,
-    atlas: &mut EtagereAtlas,
-    space: &mut i32,
-) -> u32
+pub extern "C" fn etagere_atlas_free_space(atlas: &mut EtagereAtlas, space: &mut i32) -> u32
     ensures null { (result ≡ statuses.null_handle) ↔ (atlas.old.state ≡ None) }
     ensures status { IsAmong (statuses.ok ∷ statuses.null_handle ∷ []) result }
     ensures free_space { result ≡ statuses.ok → IfSome atlas.old.state (λ held. space.new ≡ pos (held.frame.width * held.frame.height - spaces.allocated_space held)) }
     ensures unwritten { result ≢ statuses.ok → space.new ≡ space.old }
     ensures stays { atlas.new.state ≡ atlas.old.state }
 {
-    let Some(held) = atlas.take(alloc) else {
+    let Some(held) = atlas.lend() else {
         return NULL_HANDLE;
     };
     *space = held.free_space();
-    atlas.put(held);
     OK
 }
 
@@ -354,7 +317,6 @@ pub extern "C" fn etagere_atlas_free_space(
 /// Answers ETAGERE_OK; ETAGERE_NULL_HANDLE. Takes constant time.
 #[unsafe(no_mangle)]
 pub extern "C" fn etagere_atlas_fits_when_empty(
-    alloc: Global,
     atlas: &mut EtagereAtlas,
     size: EtagereSize,
     fits: &mut u32,
@@ -365,11 +327,10 @@ pub extern "C" fn etagere_atlas_fits_when_empty(
     ensures unwritten { result ≢ statuses.ok → fits.new ≡ fits.old }
     ensures stays { atlas.new.state ≡ atlas.old.state }
 {
-    let Some(held) = atlas.take(alloc) else {
+    let Some(held) = atlas.lend() else {
         return NULL_HANDLE;
     };
     *fits = u32::from(held.fits_when_empty(size.size()));
-    atlas.put(held);
     OK
 }
 
@@ -379,11 +340,7 @@ pub extern "C" fn etagere_atlas_fits_when_empty(
 /// no other, the growth needs records and there was no memory. Goes through all shelves, for wider columns through all
 /// items too, and sorts the shelves.
 #[unsafe(no_mangle)]
-pub extern "C" fn etagere_atlas_grow(
-    alloc: Global,
-    atlas: &mut EtagereAtlas,
-    size: EtagereSize,
-) -> u32
+pub extern "C" fn etagere_atlas_grow(atlas: &mut EtagereAtlas, size: EtagereSize) -> u32
     ensures null { (result ≡ statuses.null_handle) ↔ (atlas.old.state ≡ None) }
     ensures grown { result ≡ statuses.ok → Leads atlas.old.state atlas.new.state (λ before after. after ≡ atlas_grown before (size_in size)) }
     ensures fault { IfSome atlas.old.state (λ held. IfSome (grow_fault held (size_in size)) (λ fault. result ≡ statuses.grow_refused fault)) }
@@ -391,12 +348,10 @@ pub extern "C" fn etagere_atlas_grow(
     ensures stays { result ≢ statuses.ok → atlas.new.state ≡ atlas.old.state }
     ensures promises { IfSome atlas.new.state KeepsPromises }
 {
-    let Some(mut held) = atlas.take(alloc) else {
+    let Some(held) = atlas.lend() else {
         return NULL_HANDLE;
     };
-    let grown = held.grow(size.size());
-    atlas.put(held);
-    match grown {
+    match held.grow(size.size()) {
         Ok(()) => OK,
         Err(fault) => grow_refused(fault),
     }
@@ -428,22 +383,17 @@ pub extern "C" fn etagere_atlas_clone(
     ensures uncopied { result ≢ statuses.ok → copy.new.state ≡ copy.old.state }
     ensures stays { atlas.new.state ≡ atlas.old.state }
 {
-    let Some(held) = atlas.take(alloc) else {
+    let Some(held) = atlas.lend() else {
         return NULL_HANDLE;
     };
-    let status = match copy.take(alloc) {
-        Some(other) => {
-            copy.put(other);
-            HANDLE_IN_USE
+    if let Some(_held) = copy.lend() {
+        return HANDLE_IN_USE;
+    }
+    match copied(alloc, held) {
+        Some(boxed) => {
+            copy.put(boxed);
+            OK
         }
-        None => match copied(alloc, &held) {
-            Some(boxed) => {
-                copy.put(boxed);
-                OK
-            }
-            None => MEMORY,
-        },
-    };
-    atlas.put(held);
-    status
+        None => MEMORY,
+    }
 }

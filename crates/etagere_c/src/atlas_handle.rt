@@ -3,6 +3,7 @@
 //! Definitions: `Held`.
 
 ghost use Rattle.std.specs.Prelude.{◌≡◌, None, Some, IfNone, IfSome, option_map};
+ghost use Rattle.std.specs.Borrow.{sem};
 ghost use Rattle.std.specs.declared.option.Option.{Option};
 ghost use Rattle.shelf_model.specs.State.{AtlasState};
 ghost use Rattle.etagere_c.specs.Held.{atlas_coded, atlas_owns};
@@ -61,6 +62,20 @@ impl EtagereAtlas {
 }
 
 impl EtagereAtlas {
+    ghost use Rattle.etagere_c.specs.Lent.{LendsAtlas};
+
+    /// What the handle holds, to be used in its place; none where it is null.
+    pub(crate) fn lend(&mut self) -> Option<&mut AtlasAllocator>
+        ensures* writes_back { sem 𝓛 (LendsAtlas self.entry result) }
+        ensures lent { option_map (λ held. held.now) result ≡ self.old.state }
+    {
+        if self.pointer.is_null() {
+            return None;
+        }
+        let pointer = self.pointer as *mut AtlasAllocator;
+        Some(unsafe { &mut *pointer })
+    }
+
     /// What the handle holds, which is null after.
     pub(crate) fn take(&mut self, alloc: Global) -> Option<Box<AtlasAllocator>>
         ensures some { IfSome result (λ boxed. self.old.state ≡ Some boxed.value) }

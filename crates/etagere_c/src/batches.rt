@@ -15,12 +15,13 @@ ghost use Rattle.etagere_c.specs.Calls.{IsAmong, Leads};
 ghost use Rattle.etagere_c.specs.Crossing.{allocation_in, size_in};
 ghost use Rattle.etagere_c.specs.Statuses as statuses;
 
+use crate::atlas::allocate;
 use crate::atlas_handle::EtagereAtlas;
+use crate::bucketed::allocate as allocate_bucketed;
 use crate::bucketed_handle::EtagereBucketed;
 use crate::geometry::{EtagereAllocation, EtagereSize};
-use crate::statuses::{LENGTH, MEMORY, NO_ROOM, NULL_HANDLE, OK, UNKNOWN_ID};
+use crate::statuses::{LENGTH, NULL_HANDLE, OK, UNKNOWN_ID};
 use etagere::{AllocId, AtlasAllocator, BucketedAtlasAllocator};
-use std::alloc::Global;
 
 /// Allocates sizes in turn up to the first that isn't given a place, and counts them.
 fn allocate_each(
@@ -38,12 +39,11 @@ fn allocate_each(
     ensures refused { result ≡ statuses.no_room → IfSome (slice_get sizes.now count.new) (λ size. IsRefused atlas.new (size_in size)) }
 {
     for i in 0..sizes.len() {
-        let answer = atlas.allocate(sizes[i].size());
-        let Ok(Some(given)) = answer else {
+        let status = allocate(atlas, sizes[i], &mut allocations[i]);
+        if status != OK {
             *count = i;
-            return if answer.is_ok() { NO_ROOM } else { MEMORY };
-        };
-        allocations[i] = EtagereAllocation::of(given);
+            return status;
+        }
     }
     *count = sizes.len();
     OK
@@ -76,7 +76,6 @@ fn return_each(atlas: &mut AtlasAllocator, ids: &[u32], count: &mut usize) -> u3
 /// calls.
 #[unsafe(no_mangle)]
 pub extern "C" fn etagere_atlas_allocate_many(
-    alloc: Global,
     atlas: &mut EtagereAtlas,
     sizes: &[EtagereSize],
     allocations: &mut [EtagereAllocation],
@@ -94,16 +93,13 @@ pub extern "C" fn etagere_atlas_allocate_many(
     ensures null_stays { result ≡ statuses.null_handle → (atlas.new.state ≡ atlas.old.state) × (allocations.new ≡ allocations.old) × (count.new ≡ count.old) }
     ensures short_stays { result ≡ statuses.too_short → (atlas.new.state ≡ atlas.old.state) × (allocations.new ≡ allocations.old) × (count.new ≡ count.old) }
 {
-    let Some(mut held) = atlas.take(alloc) else {
+    let Some(held) = atlas.lend() else {
         return NULL_HANDLE;
     };
     if allocations.len() < sizes.len() {
-        atlas.put(held);
         return LENGTH;
     }
-    let status = allocate_each(&mut held, sizes, allocations, count);
-    atlas.put(held);
-    status
+    allocate_each(held, sizes, allocations, count)
 }
 
 /// Takes many ids back, one after the other, as etagere_atlas_deallocate does, up to the first that is unknown. Writes
@@ -113,7 +109,6 @@ pub extern "C" fn etagere_atlas_allocate_many(
 /// number *count. Costs as the single calls.
 #[unsafe(no_mangle)]
 pub extern "C" fn etagere_atlas_deallocate_many(
-    alloc: Global,
     atlas: &mut EtagereAtlas,
     ids: &[u32],
     count: &mut usize,
@@ -126,12 +121,10 @@ pub extern "C" fn etagere_atlas_deallocate_many(
     ensures unknown { result ≡ statuses.unknown_id → IfSome atlas.new.state (λ held. is_allocated held (slice_index ids.now count.new) ≡ false) }
     ensures null_stays { result ≡ statuses.null_handle → (atlas.new.state ≡ atlas.old.state) × (count.new ≡ count.old) }
 {
-    let Some(mut held) = atlas.take(alloc) else {
+    let Some(held) = atlas.lend() else {
         return NULL_HANDLE;
     };
-    let status = return_each(&mut held, ids, count);
-    atlas.put(held);
-    status
+    return_each(held, ids, count)
 }
 
 /// Allocates sizes in turn up to the first that isn't given a place, and counts them.
@@ -150,12 +143,11 @@ fn allocate_each_bucketed(
     ensures refused { result ≡ statuses.no_room → IfSome (slice_get sizes.now count.new) (λ size. IsBucketRefused atlas.new (size_in size)) }
 {
     for i in 0..sizes.len() {
-        let answer = atlas.allocate(sizes[i].size());
-        let Ok(Some(given)) = answer else {
+        let status = allocate_bucketed(atlas, sizes[i], &mut allocations[i]);
+        if status != OK {
             *count = i;
-            return if answer.is_ok() { NO_ROOM } else { MEMORY };
-        };
-        allocations[i] = EtagereAllocation::of(given);
+            return status;
+        }
     }
     *count = sizes.len();
     OK
@@ -188,7 +180,6 @@ fn return_each_bucketed(atlas: &mut BucketedAtlasAllocator, ids: &[u32], count: 
 /// calls.
 #[unsafe(no_mangle)]
 pub extern "C" fn etagere_bucketed_allocate_many(
-    alloc: Global,
     atlas: &mut EtagereBucketed,
     sizes: &[EtagereSize],
     allocations: &mut [EtagereAllocation],
@@ -206,16 +197,13 @@ pub extern "C" fn etagere_bucketed_allocate_many(
     ensures null_stays { result ≡ statuses.null_handle → (atlas.new.state ≡ atlas.old.state) × (allocations.new ≡ allocations.old) × (count.new ≡ count.old) }
     ensures short_stays { result ≡ statuses.too_short → (atlas.new.state ≡ atlas.old.state) × (allocations.new ≡ allocations.old) × (count.new ≡ count.old) }
 {
-    let Some(mut held) = atlas.take(alloc) else {
+    let Some(held) = atlas.lend() else {
         return NULL_HANDLE;
     };
     if allocations.len() < sizes.len() {
-        atlas.put(held);
         return LENGTH;
     }
-    let status = allocate_each_bucketed(&mut held, sizes, allocations, count);
-    atlas.put(held);
-    status
+    allocate_each_bucketed(held, sizes, allocations, count)
 }
 
 /// Takes many ids back, one after the other, as etagere_bucketed_deallocate does, up to the first that is unknown.
@@ -225,7 +213,6 @@ pub extern "C" fn etagere_bucketed_allocate_many(
 /// number *count. Costs as the single calls.
 #[unsafe(no_mangle)]
 pub extern "C" fn etagere_bucketed_deallocate_many(
-    alloc: Global,
     atlas: &mut EtagereBucketed,
     ids: &[u32],
     count: &mut usize,
@@ -238,10 +225,8 @@ pub extern "C" fn etagere_bucketed_deallocate_many(
     ensures unknown { result ≡ statuses.unknown_id → IfSome atlas.new.state (λ held. is_known held (slice_index ids.now count.new) ≡ false) }
     ensures null_stays { result ≡ statuses.null_handle → (atlas.new.state ≡ atlas.old.state) × (count.new ≡ count.old) }
 {
-    let Some(mut held) = atlas.take(alloc) else {
+    let Some(held) = atlas.lend() else {
         return NULL_HANDLE;
     };
-    let status = return_each_bucketed(&mut held, ids, count);
-    atlas.put(held);
-    status
+    return_each_bucketed(held, ids, count)
 }

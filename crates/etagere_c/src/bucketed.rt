@@ -1,4 +1,4 @@
-//! The calls of a bucketed atlas. Each takes what the handle holds, calls it, and puts it back.
+//! The calls of a bucketed atlas. Each calls what the handle holds, in its place.
 //!
 //! Definitions: `Calls`, `Crossing`, `Statuses`, and those of `bucketed_model`.
 
@@ -66,8 +66,7 @@ pub extern "C" fn etagere_bucketed_new(
     ensures stays { result ≢ statuses.ok → atlas.new.state ≡ atlas.old.state }
     ensures promises { result ≡ statuses.ok → IfSome atlas.new.state KeepsPromises }
 {
-    if let Some(held) = atlas.take(alloc) {
-        atlas.put(held);
+    if let Some(_held) = atlas.lend() {
         return HANDLE_IN_USE;
     }
     match made(alloc, size, options) {
@@ -95,7 +94,7 @@ pub extern "C" fn etagere_bucketed_delete(alloc: Global, atlas: &mut EtagereBuck
 }
 
 /// Allocates a size, and says by a status how that went.
-fn allocate(
+pub(crate) fn allocate(
     atlas: &mut BucketedAtlasAllocator,
     size: EtagereSize,
     allocation: &mut EtagereAllocation,
@@ -125,7 +124,6 @@ fn allocate(
 /// is to be added and there was no memory. Goes through all shelves a few times.
 #[unsafe(no_mangle)]
 pub extern "C" fn etagere_bucketed_allocate(
-    alloc: Global,
     atlas: &mut EtagereBucketed,
     size: EtagereSize,
     allocation: &mut EtagereAllocation,
@@ -139,12 +137,10 @@ pub extern "C" fn etagere_bucketed_allocate(
     ensures unwritten { result ≢ statuses.ok → allocation.new ≡ allocation.old }
     ensures promises { IfSome atlas.new.state KeepsPromises }
 {
-    let Some(mut held) = atlas.take(alloc) else {
+    let Some(held) = atlas.lend() else {
         return NULL_HANDLE;
     };
-    let status = allocate(&mut held, size, allocation);
-    atlas.put(held);
-    status
+    allocate(held, size, allocation)
 }
 
 /// Takes back the rectangle that was given under an id. The last one of a bucket makes that empty, and shelves at the
@@ -155,11 +151,7 @@ pub extern "C" fn etagere_bucketed_allocate(
 /// taken for that of another item of its bucket. Takes no memory, and constant time but for the shelves that are
 /// dropped.
 #[unsafe(no_mangle)]
-pub extern "C" fn etagere_bucketed_deallocate(
-    alloc: Global,
-    atlas: &mut EtagereBucketed,
-    id: u32,
-) -> u32
+pub extern "C" fn etagere_bucketed_deallocate(atlas: &mut EtagereBucketed, id: u32) -> u32
     ensures null { (result ≡ statuses.null_handle) ↔ (atlas.old.state ≡ None) }
     ensures status { IsAmong (statuses.ok ∷ statuses.null_handle ∷ statuses.unknown_id ∷ []) result }
     ensures returned { result ≡ statuses.ok → Leads atlas.old.state atlas.new.state (λ before after. after ≡ bucket_returned before id) }
@@ -167,12 +159,10 @@ pub extern "C" fn etagere_bucketed_deallocate(
     ensures stays { result ≢ statuses.ok → atlas.new.state ≡ atlas.old.state }
     ensures promises { IfSome atlas.new.state KeepsPromises }
 {
-    let Some(mut held) = atlas.take(alloc) else {
+    let Some(held) = atlas.lend() else {
         return NULL_HANDLE;
     };
-    let returned = held.deallocate(AllocId::deserialize(id));
-    atlas.put(held);
-    match returned {
+    match held.deallocate(AllocId::deserialize(id)) {
         Ok(()) => OK,
         Err(_) => UNKNOWN_ID,
     }
@@ -182,18 +172,17 @@ pub extern "C" fn etagere_bucketed_deallocate(
 ///
 /// Answers ETAGERE_OK; ETAGERE_NULL_HANDLE. Takes no memory, and constant time.
 #[unsafe(no_mangle)]
-pub extern "C" fn etagere_bucketed_clear(alloc: Global, atlas: &mut EtagereBucketed) -> u32
+pub extern "C" fn etagere_bucketed_clear(atlas: &mut EtagereBucketed) -> u32
     ensures null { (result ≡ statuses.null_handle) ↔ (atlas.old.state ≡ None) }
     ensures status { IsAmong (statuses.ok ∷ statuses.null_handle ∷ []) result }
     ensures cleared { Leads atlas.old.state atlas.new.state (λ before after. after ≡ fresh before.frame) }
     ensures null_stays { IfNone atlas.old.state (atlas.new.state ≡ None) }
     ensures promises { IfSome atlas.new.state KeepsPromises }
 {
-    let Some(mut held) = atlas.take(alloc) else {
+    let Some(held) = atlas.lend() else {
         return NULL_HANDLE;
     };
     held.clear();
-    atlas.put(held);
     OK
 }
 
@@ -201,22 +190,17 @@ pub extern "C" fn etagere_bucketed_clear(alloc: Global, atlas: &mut EtagereBucke
 ///
 /// Answers ETAGERE_OK; ETAGERE_NULL_HANDLE. Takes constant time.
 #[unsafe(no_mangle)]
-pub extern "C" fn etagere_bucketed_size(
-    alloc: Global,
-    atlas: &mut EtagereBucketed,
-    size: &mut EtagereSize,
-) -> u32
+pub extern "C" fn etagere_bucketed_size(atlas: &mut EtagereBucketed, size: &mut EtagereSize) -> u32
     ensures null { (result ≡ statuses.null_handle) ↔ (atlas.old.state ≡ None) }
     ensures status { IsAmong (statuses.ok ∷ statuses.null_handle ∷ []) result }
     ensures size { result ≡ statuses.ok → IfSome atlas.old.state (λ held. size_in size.new ≡ record { width = pos held.frame.width; height = pos held.frame.height }) }
     ensures unwritten { result ≢ statuses.ok → size.new ≡ size.old }
     ensures stays { atlas.new.state ≡ atlas.old.state }
 {
-    let Some(held) = atlas.take(alloc) else {
+    let Some(held) = atlas.lend() else {
         return NULL_HANDLE;
     };
     *size = EtagereSize::of(held.size());
-    atlas.put(held);
     OK
 }
 
@@ -224,22 +208,17 @@ pub extern "C" fn etagere_bucketed_size(
 ///
 /// Answers ETAGERE_OK; ETAGERE_NULL_HANDLE. Takes constant time.
 #[unsafe(no_mangle)]
-pub extern "C" fn etagere_bucketed_is_empty(
-    alloc: Global,
-    atlas: &mut EtagereBucketed,
-    is_empty: &mut u32,
-) -> u32
+pub extern "C" fn etagere_bucketed_is_empty(atlas: &mut EtagereBucketed, is_empty: &mut u32) -> u32
     ensures null { (result ≡ statuses.null_handle) ↔ (atlas.old.state ≡ None) }
     ensures status { IsAmong (statuses.ok ∷ statuses.null_handle ∷ []) result }
     ensures is_empty { result ≡ statuses.ok → IfSome atlas.old.state (λ held. IsFlag is_empty.new (list_all is_idle held.shelves ≡ true)) }
     ensures unwritten { result ≢ statuses.ok → is_empty.new ≡ is_empty.old }
     ensures stays { atlas.new.state ≡ atlas.old.state }
 {
-    let Some(held) = atlas.take(alloc) else {
+    let Some(held) = atlas.lend() else {
         return NULL_HANDLE;
     };
     *is_empty = u32::from(held.is_empty());
-    atlas.put(held);
     OK
 }
 
@@ -248,7 +227,6 @@ pub extern "C" fn etagere_bucketed_is_empty(
 /// Answers ETAGERE_OK; ETAGERE_NULL_HANDLE. Takes constant time.
 #[unsafe(no_mangle)]
 pub extern "C" fn etagere_bucketed_allocated_space(
-    alloc: Global,
     atlas: &mut EtagereBucketed,
     space: &mut i32,
 ) -> u32
@@ -258,11 +236,10 @@ pub extern "C" fn etagere_bucketed_allocated_space(
     ensures unwritten { result ≢ statuses.ok → space.new ≡ space.old }
     ensures stays { atlas.new.state ≡ atlas.old.state }
 {
-    let Some(held) = atlas.take(alloc) else {
+    let Some(held) = atlas.lend() else {
         return NULL_HANDLE;
     };
     *space = held.allocated_space();
-    atlas.put(held);
     OK
 }
 
@@ -270,22 +247,17 @@ pub extern "C" fn etagere_bucketed_allocated_space(
 ///
 /// Answers ETAGERE_OK; ETAGERE_NULL_HANDLE. Takes constant time.
 #[unsafe(no_mangle)]
-pub extern "C" fn etagere_bucketed_free_space(
-    alloc: Global,
-    atlas: &mut EtagereBucketed,
-    space: &mut i32,
-) -> u32
+pub extern "C" fn etagere_bucketed_free_space(atlas: &mut EtagereBucketed, space: &mut i32) -> u32
     ensures null { (result ≡ statuses.null_handle) ↔ (atlas.old.state ≡ None) }
     ensures status { IsAmong (statuses.ok ∷ statuses.null_handle ∷ []) result }
     ensures free_space { result ≡ statuses.ok → IfSome atlas.old.state (λ held. space.new ≡ pos (held.frame.width * held.frame.height - spaces.allocated_space held)) }
     ensures unwritten { result ≢ statuses.ok → space.new ≡ space.old }
     ensures stays { atlas.new.state ≡ atlas.old.state }
 {
-    let Some(held) = atlas.take(alloc) else {
+    let Some(held) = atlas.lend() else {
         return NULL_HANDLE;
     };
     *space = held.free_space();
-    atlas.put(held);
     OK
 }
 
@@ -294,11 +266,7 @@ pub extern "C" fn etagere_bucketed_free_space(
 /// Answers ETAGERE_OK; ETAGERE_NULL_HANDLE; ETAGERE_BUCKETED_GROW_.., the first fault, ETAGERE_BUCKETED_GROW_MEMORY
 /// only where there is no other, buckets are to be made and there was no memory. Goes through all shelves.
 #[unsafe(no_mangle)]
-pub extern "C" fn etagere_bucketed_grow(
-    alloc: Global,
-    atlas: &mut EtagereBucketed,
-    size: EtagereSize,
-) -> u32
+pub extern "C" fn etagere_bucketed_grow(atlas: &mut EtagereBucketed, size: EtagereSize) -> u32
     ensures null { (result ≡ statuses.null_handle) ↔ (atlas.old.state ≡ None) }
     ensures grown { result ≡ statuses.ok → Leads atlas.old.state atlas.new.state (λ before after. Grows before (size_in size) after) }
     ensures fault { IfSome atlas.old.state (λ held. IfSome (growing.grow_fault held.frame (size_in size)) (λ fault. result ≡ statuses.bucketed_grow_refused fault)) }
@@ -306,12 +274,10 @@ pub extern "C" fn etagere_bucketed_grow(
     ensures stays { result ≢ statuses.ok → atlas.new.state ≡ atlas.old.state }
     ensures promises { IfSome atlas.new.state KeepsPromises }
 {
-    let Some(mut held) = atlas.take(alloc) else {
+    let Some(held) = atlas.lend() else {
         return NULL_HANDLE;
     };
-    let grown = held.grow(size.size());
-    atlas.put(held);
-    match grown {
+    match held.grow(size.size()) {
         Ok(()) => OK,
         Err(fault) => bucketed_grow_refused(fault),
     }
@@ -343,22 +309,17 @@ pub extern "C" fn etagere_bucketed_clone(
     ensures uncopied { result ≢ statuses.ok → copy.new.state ≡ copy.old.state }
     ensures stays { atlas.new.state ≡ atlas.old.state }
 {
-    let Some(held) = atlas.take(alloc) else {
+    let Some(held) = atlas.lend() else {
         return NULL_HANDLE;
     };
-    let status = match copy.take(alloc) {
-        Some(other) => {
-            copy.put(other);
-            HANDLE_IN_USE
+    if let Some(_held) = copy.lend() {
+        return HANDLE_IN_USE;
+    }
+    match copied(alloc, held) {
+        Some(boxed) => {
+            copy.put(boxed);
+            OK
         }
-        None => match copied(alloc, &held) {
-            Some(boxed) => {
-                copy.put(boxed);
-                OK
-            }
-            None => MEMORY,
-        },
-    };
-    atlas.put(held);
-    status
+        None => MEMORY,
+    }
 }

@@ -3,6 +3,7 @@
 //! Definitions: `Held`.
 
 ghost use Rattle.std.specs.Prelude.{◌≡◌, None, Some, IfNone, IfSome, option_map};
+ghost use Rattle.std.specs.Borrow.{sem};
 ghost use Rattle.std.specs.declared.option.Option.{Option};
 ghost use Rattle.bucketed_model.specs.State.{BucketedState};
 ghost use Rattle.etagere_c.specs.Held.{bucketed_coded, bucketed_owns};
@@ -61,6 +62,20 @@ impl EtagereBucketed {
 }
 
 impl EtagereBucketed {
+    ghost use Rattle.etagere_c.specs.Lent.{LendsBucketed};
+
+    /// What the handle holds, to be used in its place; none where it is null.
+    pub(crate) fn lend(&mut self) -> Option<&mut BucketedAtlasAllocator>
+        ensures* writes_back { sem 𝓛 (LendsBucketed self.entry result) }
+        ensures lent { option_map (λ held. held.now) result ≡ self.old.state }
+    {
+        if self.pointer.is_null() {
+            return None;
+        }
+        let pointer = self.pointer as *mut BucketedAtlasAllocator;
+        Some(unsafe { &mut *pointer })
+    }
+
     /// What the handle holds, which is null after.
     pub(crate) fn take(&mut self, alloc: Global) -> Option<Box<BucketedAtlasAllocator>>
         ensures some { IfSome result (λ boxed. self.old.state ≡ Some boxed.value) }

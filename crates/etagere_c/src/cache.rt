@@ -1,4 +1,4 @@
-//! The calls of a cache. Each takes what the handle holds, calls it, and puts it back.
+//! The calls of a cache. Each calls what the handle holds, in its place.
 //!
 //! Definitions: `Calls`, `Crossing`, `Statuses`, and those of `glyph_shelf`.
 
@@ -69,8 +69,7 @@ pub extern "C" fn etagere_cache_new(
     ensures stays { result ≢ statuses.ok → cache.new.state ≡ cache.old.state }
     ensures promises { result ≡ statuses.ok → IfSome cache.new.state KeepsCachePromises }
 {
-    if let Some(held) = cache.take(alloc) {
-        cache.put(held);
+    if let Some(_held) = cache.lend() {
         return HANDLE_IN_USE;
     }
     let Some(capacity) = NonZeroUsize::new(capacity) else {
@@ -140,7 +139,6 @@ fn write_placed(
 /// too, these keys are gone, and the others stand. Asks the atlas once, and once more for each key that is evicted.
 #[unsafe(no_mangle)]
 pub extern "C" fn etagere_cache_place(
-    alloc: Global,
     cache: &mut EtagereCache,
     key: u64,
     size: EtagereSize,
@@ -165,15 +163,13 @@ pub extern "C" fn etagere_cache_place(
     ensures behind { drop count.new evicted.new ≡ drop count.new evicted.old }
     ensures promises { IfSome cache.new.state KeepsCachePromises }
 {
-    let Some(mut held) = cache.take(alloc) else {
+    let Some(held) = cache.lend() else {
         return NULL_HANDLE;
     };
     if evicted.len() < held.len() {
-        cache.put(held);
         return LENGTH;
     }
     let placed = held.place(key, size.size());
-    cache.put(held);
     write_placed(placed, rectangle, evicted, count)
 }
 
@@ -182,7 +178,6 @@ pub extern "C" fn etagere_cache_place(
 /// Answers ETAGERE_OK; ETAGERE_NULL_HANDLE; ETAGERE_UNKNOWN_KEY. Takes no memory, and constant time on average.
 #[unsafe(no_mangle)]
 pub extern "C" fn etagere_cache_get(
-    alloc: Global,
     cache: &mut EtagereCache,
     key: u64,
     rectangle: &mut EtagereRectangle,
@@ -196,12 +191,10 @@ pub extern "C" fn etagere_cache_get(
     ensures unwritten { result ≢ statuses.ok → rectangle.new ≡ rectangle.old }
     ensures promises { IfSome cache.new.state KeepsCachePromises }
 {
-    let Some(mut held) = cache.take(alloc) else {
+    let Some(held) = cache.lend() else {
         return NULL_HANDLE;
     };
-    let found = held.get(key);
-    cache.put(held);
-    match found {
+    match held.get(key) {
         Some(found) => {
             *rectangle = EtagereRectangle::of(found);
             OK
@@ -216,7 +209,6 @@ pub extern "C" fn etagere_cache_get(
 /// etagere_atlas_deallocate does.
 #[unsafe(no_mangle)]
 pub extern "C" fn etagere_cache_remove(
-    alloc: Global,
     cache: &mut EtagereCache,
     key: u64,
     rectangle: &mut EtagereRectangle,
@@ -230,12 +222,10 @@ pub extern "C" fn etagere_cache_remove(
     ensures unwritten { result ≢ statuses.ok → rectangle.new ≡ rectangle.old }
     ensures promises { IfSome cache.new.state KeepsCachePromises }
 {
-    let Some(mut held) = cache.take(alloc) else {
+    let Some(held) = cache.lend() else {
         return NULL_HANDLE;
     };
-    let found = held.remove(key);
-    cache.put(held);
-    match found {
+    match held.remove(key) {
         Some(found) => {
             *rectangle = EtagereRectangle::of(found);
             OK
@@ -248,18 +238,17 @@ pub extern "C" fn etagere_cache_remove(
 ///
 /// Answers ETAGERE_OK; ETAGERE_NULL_HANDLE. Takes no memory, and goes through the keys and the columns.
 #[unsafe(no_mangle)]
-pub extern "C" fn etagere_cache_clear(alloc: Global, cache: &mut EtagereCache) -> u32
+pub extern "C" fn etagere_cache_clear(cache: &mut EtagereCache) -> u32
     ensures null { (result ≡ statuses.null_handle) ↔ (cache.old.state ≡ None) }
     ensures status { IsAmong (statuses.ok ∷ statuses.null_handle ∷ []) result }
     ensures cleared { Leads cache.old.state cache.new.state (λ before after. after ≡ empty_cache before.atlas.frame before.capacity) }
     ensures null_stays { IfNone cache.old.state (cache.new.state ≡ None) }
     ensures promises { IfSome cache.new.state KeepsCachePromises }
 {
-    let Some(mut held) = cache.take(alloc) else {
+    let Some(held) = cache.lend() else {
         return NULL_HANDLE;
     };
     held.clear();
-    cache.put(held);
     OK
 }
 
@@ -267,18 +256,17 @@ pub extern "C" fn etagere_cache_clear(alloc: Global, cache: &mut EtagereCache) -
 ///
 /// Answers ETAGERE_OK; ETAGERE_NULL_HANDLE. Takes constant time.
 #[unsafe(no_mangle)]
-pub extern "C" fn etagere_cache_len(alloc: Global, cache: &mut EtagereCache, len: &mut usize) -> u32
+pub extern "C" fn etagere_cache_len(cache: &mut EtagereCache, len: &mut usize) -> u32
     ensures null { (result ≡ statuses.null_handle) ↔ (cache.old.state ≡ None) }
     ensures status { IsAmong (statuses.ok ∷ statuses.null_handle ∷ []) result }
     ensures len { result ≡ statuses.ok → IfSome cache.old.state (λ held. len.new ≡ length held.entries) }
     ensures unwritten { result ≢ statuses.ok → len.new ≡ len.old }
     ensures stays { cache.new.state ≡ cache.old.state }
 {
-    let Some(held) = cache.take(alloc) else {
+    let Some(held) = cache.lend() else {
         return NULL_HANDLE;
     };
     *len = held.len();
-    cache.put(held);
     OK
 }
 
@@ -286,22 +274,17 @@ pub extern "C" fn etagere_cache_len(alloc: Global, cache: &mut EtagereCache, len
 ///
 /// Answers ETAGERE_OK; ETAGERE_NULL_HANDLE. Takes constant time.
 #[unsafe(no_mangle)]
-pub extern "C" fn etagere_cache_is_empty(
-    alloc: Global,
-    cache: &mut EtagereCache,
-    is_empty: &mut u32,
-) -> u32
+pub extern "C" fn etagere_cache_is_empty(cache: &mut EtagereCache, is_empty: &mut u32) -> u32
     ensures null { (result ≡ statuses.null_handle) ↔ (cache.old.state ≡ None) }
     ensures status { IsAmong (statuses.ok ∷ statuses.null_handle ∷ []) result }
     ensures is_empty { result ≡ statuses.ok → IfSome cache.old.state (λ held. IsFlag is_empty.new (held.entries ≡ [])) }
     ensures unwritten { result ≢ statuses.ok → is_empty.new ≡ is_empty.old }
     ensures stays { cache.new.state ≡ cache.old.state }
 {
-    let Some(held) = cache.take(alloc) else {
+    let Some(held) = cache.lend() else {
         return NULL_HANDLE;
     };
     *is_empty = u32::from(held.is_empty());
-    cache.put(held);
     OK
 }
 
@@ -309,22 +292,17 @@ pub extern "C" fn etagere_cache_is_empty(
 ///
 /// Answers ETAGERE_OK; ETAGERE_NULL_HANDLE. Takes constant time.
 #[unsafe(no_mangle)]
-pub extern "C" fn etagere_cache_capacity(
-    alloc: Global,
-    cache: &mut EtagereCache,
-    capacity: &mut usize,
-) -> u32
+pub extern "C" fn etagere_cache_capacity(cache: &mut EtagereCache, capacity: &mut usize) -> u32
     ensures null { (result ≡ statuses.null_handle) ↔ (cache.old.state ≡ None) }
     ensures status { IsAmong (statuses.ok ∷ statuses.null_handle ∷ []) result }
     ensures capacity { result ≡ statuses.ok → IfSome cache.old.state (λ held. capacity.new ≡ held.capacity) }
     ensures unwritten { result ≢ statuses.ok → capacity.new ≡ capacity.old }
     ensures stays { cache.new.state ≡ cache.old.state }
 {
-    let Some(held) = cache.take(alloc) else {
+    let Some(held) = cache.lend() else {
         return NULL_HANDLE;
     };
     *capacity = held.capacity().get();
-    cache.put(held);
     OK
 }
 
@@ -332,22 +310,17 @@ pub extern "C" fn etagere_cache_capacity(
 ///
 /// Answers ETAGERE_OK; ETAGERE_NULL_HANDLE. Takes constant time.
 #[unsafe(no_mangle)]
-pub extern "C" fn etagere_cache_size(
-    alloc: Global,
-    cache: &mut EtagereCache,
-    size: &mut EtagereSize,
-) -> u32
+pub extern "C" fn etagere_cache_size(cache: &mut EtagereCache, size: &mut EtagereSize) -> u32
     ensures null { (result ≡ statuses.null_handle) ↔ (cache.old.state ≡ None) }
     ensures status { IsAmong (statuses.ok ∷ statuses.null_handle ∷ []) result }
     ensures size { result ≡ statuses.ok → IfSome cache.old.state (λ held. size_in size.new ≡ record { width = pos held.atlas.frame.width; height = pos held.atlas.frame.height }) }
     ensures unwritten { result ≢ statuses.ok → size.new ≡ size.old }
     ensures stays { cache.new.state ≡ cache.old.state }
 {
-    let Some(held) = cache.take(alloc) else {
+    let Some(held) = cache.lend() else {
         return NULL_HANDLE;
     };
     *size = EtagereSize::of(held.atlas().size());
-    cache.put(held);
     OK
 }
 
@@ -355,22 +328,17 @@ pub extern "C" fn etagere_cache_size(
 ///
 /// Answers ETAGERE_OK; ETAGERE_NULL_HANDLE. Takes constant time.
 #[unsafe(no_mangle)]
-pub extern "C" fn etagere_cache_allocated_space(
-    alloc: Global,
-    cache: &mut EtagereCache,
-    space: &mut i32,
-) -> u32
+pub extern "C" fn etagere_cache_allocated_space(cache: &mut EtagereCache, space: &mut i32) -> u32
     ensures null { (result ≡ statuses.null_handle) ↔ (cache.old.state ≡ None) }
     ensures status { IsAmong (statuses.ok ∷ statuses.null_handle ∷ []) result }
     ensures allocated_space { result ≡ statuses.ok → IfSome cache.old.state (λ held. space.new ≡ pos (spaces.allocated_space held.atlas)) }
     ensures unwritten { result ≢ statuses.ok → space.new ≡ space.old }
     ensures stays { cache.new.state ≡ cache.old.state }
 {
-    let Some(held) = cache.take(alloc) else {
+    let Some(held) = cache.lend() else {
         return NULL_HANDLE;
     };
     *space = held.atlas().allocated_space();
-    cache.put(held);
     OK
 }
 
@@ -378,21 +346,16 @@ pub extern "C" fn etagere_cache_allocated_space(
 ///
 /// Answers ETAGERE_OK; ETAGERE_NULL_HANDLE. Takes constant time.
 #[unsafe(no_mangle)]
-pub extern "C" fn etagere_cache_free_space(
-    alloc: Global,
-    cache: &mut EtagereCache,
-    space: &mut i32,
-) -> u32
+pub extern "C" fn etagere_cache_free_space(cache: &mut EtagereCache, space: &mut i32) -> u32
     ensures null { (result ≡ statuses.null_handle) ↔ (cache.old.state ≡ None) }
     ensures status { IsAmong (statuses.ok ∷ statuses.null_handle ∷ []) result }
     ensures free_space { result ≡ statuses.ok → IfSome cache.old.state (λ held. space.new ≡ pos (held.atlas.frame.width * held.atlas.frame.height - spaces.allocated_space held.atlas)) }
     ensures unwritten { result ≢ statuses.ok → space.new ≡ space.old }
     ensures stays { cache.new.state ≡ cache.old.state }
 {
-    let Some(held) = cache.take(alloc) else {
+    let Some(held) = cache.lend() else {
         return NULL_HANDLE;
     };
     *space = held.atlas().free_space();
-    cache.put(held);
     OK
 }

@@ -13,6 +13,7 @@ mod bucketed_handle;
 mod buffers;
 mod cache;
 mod cache_handle;
+mod fullness;
 mod geometry;
 mod listing;
 mod parts;
@@ -47,6 +48,11 @@ pub use cache::{
     etagere_cache_size,
 };
 pub use cache_handle::EtagereCache;
+pub use fullness::{
+    EtagereBucketedUsage, EtagereRefusal, EtagereUsage, etagere_atlas_largest_free,
+    etagere_atlas_refusal, etagere_atlas_usage, etagere_bucketed_largest_free,
+    etagere_bucketed_refusal, etagere_bucketed_usage,
+};
 pub use geometry::{
     EtagereAllocation, EtagereOptions, EtagerePoint, EtagereRectangle, EtagereSize,
     etagere_default_options,

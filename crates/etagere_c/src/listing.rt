@@ -12,7 +12,6 @@ use crate::atlas_handle::EtagereAtlas;
 use crate::geometry::EtagereAllocation;
 use crate::statuses::{LENGTH, NULL_HANDLE, OK};
 use etagere::AtlasAllocator;
-use std::alloc::Global;
 
 /// Writes all that is allocated to the front of a buffer that has room for it.
 fn write_each(atlas: &AtlasAllocator, allocations: &mut [EtagereAllocation])
@@ -53,7 +52,6 @@ fn write_all(
 /// *count is written too, and nothing else. Takes no memory, and goes through all records twice.
 #[unsafe(no_mangle)]
 pub extern "C" fn etagere_atlas_allocations(
-    alloc: Global,
     atlas: &mut EtagereAtlas,
     allocations: &mut [EtagereAllocation],
     count: &mut usize,
@@ -67,10 +65,8 @@ pub extern "C" fn etagere_atlas_allocations(
     ensures uncounted { result ≡ statuses.null_handle → count.new ≡ count.old }
     ensures stays { atlas.new.state ≡ atlas.old.state }
 {
-    let Some(held) = atlas.take(alloc) else {
+    let Some(held) = atlas.lend() else {
         return NULL_HANDLE;
     };
-    let status = write_all(&held, allocations, count);
-    atlas.put(held);
-    status
+    write_all(held, allocations, count)
 }

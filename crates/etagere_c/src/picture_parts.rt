@@ -60,11 +60,10 @@ pub extern "C" fn etagere_atlas_picture_lines(
     ensures uncounted { result ≢ statuses.ok → result ≢ statuses.too_short → text_length.new ≡ text_length.old }
     ensures stays { atlas.new.state ≡ atlas.old.state }
 {
-    let Some(held) = atlas.take(alloc) else {
+    let Some(held) = atlas.lend() else {
         return NULL_HANDLE;
     };
-    let text = lines_of(alloc, &held, None);
-    atlas.put(held);
+    let text = lines_of(alloc, held, None);
     match text {
         Some(text) => hand_out(text.as_slice(), buffer, text_length),
         None => MEMORY,
@@ -92,12 +91,11 @@ pub extern "C" fn etagere_atlas_picture_part(
     ensures uncounted { result ≢ statuses.ok → result ≢ statuses.too_short → text_length.new ≡ text_length.old }
     ensures stays { atlas.new.state ≡ atlas.old.state }
 {
-    let Some(held) = atlas.take(alloc) else {
+    let Some(held) = atlas.lend() else {
         return NULL_HANDLE;
     };
     let rectangle = rectangle.rectangle();
-    let text = lines_of(alloc, &held, Some(&rectangle));
-    atlas.put(held);
+    let text = lines_of(alloc, held, Some(&rectangle));
     match text {
         Some(text) => hand_out(text.as_slice(), buffer, text_length),
         None => MEMORY,
@@ -124,11 +122,10 @@ pub extern "C" fn etagere_bucketed_picture_lines(
     ensures uncounted { result ≢ statuses.ok → result ≢ statuses.too_short → text_length.new ≡ text_length.old }
     ensures stays { atlas.new.state ≡ atlas.old.state }
 {
-    let Some(held) = atlas.take(alloc) else {
+    let Some(held) = atlas.lend() else {
         return NULL_HANDLE;
     };
-    let text = bucketed_lines_of(alloc, &held, None);
-    atlas.put(held);
+    let text = bucketed_lines_of(alloc, held, None);
     match text {
         Some(text) => hand_out(text.as_slice(), buffer, text_length),
         None => MEMORY,
@@ -156,12 +153,11 @@ pub extern "C" fn etagere_bucketed_picture_part(
     ensures uncounted { result ≢ statuses.ok → result ≢ statuses.too_short → text_length.new ≡ text_length.old }
     ensures stays { atlas.new.state ≡ atlas.old.state }
 {
-    let Some(held) = atlas.take(alloc) else {
+    let Some(held) = atlas.lend() else {
         return NULL_HANDLE;
     };
     let rectangle = rectangle.rectangle();
-    let text = bucketed_lines_of(alloc, &held, Some(&rectangle));
-    atlas.put(held);
+    let text = bucketed_lines_of(alloc, held, Some(&rectangle));
     match text {
         Some(text) => hand_out(text.as_slice(), buffer, text_length),
         None => MEMORY,
@@ -188,11 +184,10 @@ pub extern "C" fn etagere_cache_picture_lines(
     ensures uncounted { result ≢ statuses.ok → result ≢ statuses.too_short → text_length.new ≡ text_length.old }
     ensures stays { cache.new.state ≡ cache.old.state }
 {
-    let Some(held) = cache.take(alloc) else {
+    let Some(held) = cache.lend() else {
         return NULL_HANDLE;
     };
     let text = lines_of(alloc, held.atlas(), None);
-    cache.put(held);
     match text {
         Some(text) => hand_out(text.as_slice(), buffer, text_length),
         None => MEMORY,
@@ -220,12 +215,11 @@ pub extern "C" fn etagere_cache_picture_part(
     ensures uncounted { result ≢ statuses.ok → result ≢ statuses.too_short → text_length.new ≡ text_length.old }
     ensures stays { cache.new.state ≡ cache.old.state }
 {
-    let Some(held) = cache.take(alloc) else {
+    let Some(held) = cache.lend() else {
         return NULL_HANDLE;
     };
     let rectangle = rectangle.rectangle();
     let text = lines_of(alloc, held.atlas(), Some(&rectangle));
-    cache.put(held);
     match text {
         Some(text) => hand_out(text.as_slice(), buffer, text_length),
         None => MEMORY,

@@ -49,11 +49,10 @@ pub extern "C" fn etagere_atlas_picture_length(
     ensures uncounted { result ≢ statuses.ok → text_length.new ≡ text_length.old }
     ensures stays { atlas.new.state ≡ atlas.old.state }
 {
-    let Some(held) = atlas.take(alloc) else {
+    let Some(held) = atlas.lend() else {
         return NULL_HANDLE;
     };
-    let text = picture_of(alloc, &held);
-    atlas.put(held);
+    let text = picture_of(alloc, held);
     match text {
         Some(text) => {
             *text_length = text.len();
@@ -84,11 +83,10 @@ pub extern "C" fn etagere_atlas_picture(
     ensures uncounted { result ≢ statuses.ok → text_length.new ≡ text_length.old }
     ensures stays { atlas.new.state ≡ atlas.old.state }
 {
-    let Some(held) = atlas.take(alloc) else {
+    let Some(held) = atlas.lend() else {
         return NULL_HANDLE;
     };
-    let text = picture_of(alloc, &held);
-    atlas.put(held);
+    let text = picture_of(alloc, held);
     match text {
         Some(text) => write_text(text.as_slice(), buffer, text_length),
         None => MEMORY,
@@ -110,11 +108,10 @@ pub extern "C" fn etagere_bucketed_picture_length(
     ensures uncounted { result ≢ statuses.ok → text_length.new ≡ text_length.old }
     ensures stays { atlas.new.state ≡ atlas.old.state }
 {
-    let Some(held) = atlas.take(alloc) else {
+    let Some(held) = atlas.lend() else {
         return NULL_HANDLE;
     };
-    let text = bucketed_picture_of(alloc, &held);
-    atlas.put(held);
+    let text = bucketed_picture_of(alloc, held);
     match text {
         Some(text) => {
             *text_length = text.len();
@@ -145,11 +142,10 @@ pub extern "C" fn etagere_bucketed_picture(
     ensures uncounted { result ≢ statuses.ok → text_length.new ≡ text_length.old }
     ensures stays { atlas.new.state ≡ atlas.old.state }
 {
-    let Some(held) = atlas.take(alloc) else {
+    let Some(held) = atlas.lend() else {
         return NULL_HANDLE;
     };
-    let text = bucketed_picture_of(alloc, &held);
-    atlas.put(held);
+    let text = bucketed_picture_of(alloc, held);
     match text {
         Some(text) => write_text(text.as_slice(), buffer, text_length),
         None => MEMORY,
@@ -171,11 +167,10 @@ pub extern "C" fn etagere_cache_picture_length(
     ensures uncounted { result ≢ statuses.ok → text_length.new ≡ text_length.old }
     ensures stays { cache.new.state ≡ cache.old.state }
 {
-    let Some(held) = cache.take(alloc) else {
+    let Some(held) = cache.lend() else {
         return NULL_HANDLE;
     };
     let text = picture_of(alloc, held.atlas());
-    cache.put(held);
     match text {
         Some(text) => {
             *text_length = text.len();
@@ -205,11 +200,10 @@ pub extern "C" fn etagere_cache_picture(
     ensures uncounted { result ≢ statuses.ok → text_length.new ≡ text_length.old }
     ensures stays { cache.new.state ≡ cache.old.state }
 {
-    let Some(held) = cache.take(alloc) else {
+    let Some(held) = cache.lend() else {
         return NULL_HANDLE;
     };
     let text = picture_of(alloc, held.atlas());
-    cache.put(held);
     match text {
         Some(text) => write_text(text.as_slice(), buffer, text_length),
         None => MEMORY,

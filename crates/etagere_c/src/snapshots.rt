@@ -85,11 +85,10 @@ pub extern "C" fn etagere_atlas_snapshot(
     ensures uncounted { result ≢ statuses.ok → result ≢ statuses.too_short → text_length.new ≡ text_length.old }
     ensures stays { atlas.new.state ≡ atlas.old.state }
 {
-    let Some(held) = atlas.take(alloc) else {
+    let Some(held) = atlas.lend() else {
         return NULL_HANDLE;
     };
-    let text = text_of(alloc, &held);
-    atlas.put(held);
+    let text = text_of(alloc, held);
     match text {
         Some(text) => hand_out(text.as_slice(), buffer, text_length),
         None => MEMORY,
@@ -111,8 +110,7 @@ pub extern "C" fn etagere_atlas_restore(alloc: Global, atlas: &mut EtagereAtlas,
     ensures broken { statuses.unreadable < result → result < statuses.restore_memory → Breaks text.now result }
     ensures stays { result ≢ statuses.ok → atlas.new.state ≡ atlas.old.state }
 {
-    if let Some(held) = atlas.take(alloc) {
-        atlas.put(held);
+    if let Some(_held) = atlas.lend() {
         return HANDLE_IN_USE;
     }
     match made_of(alloc, text) {
@@ -168,11 +166,10 @@ pub extern "C" fn etagere_bucketed_snapshot(
     ensures uncounted { result ≢ statuses.ok → result ≢ statuses.too_short → text_length.new ≡ text_length.old }
     ensures stays { atlas.new.state ≡ atlas.old.state }
 {
-    let Some(held) = atlas.take(alloc) else {
+    let Some(held) = atlas.lend() else {
         return NULL_HANDLE;
     };
-    let text = bucketed_text_of(alloc, &held);
-    atlas.put(held);
+    let text = bucketed_text_of(alloc, held);
     match text {
         Some(text) => hand_out(text.as_slice(), buffer, text_length),
         None => MEMORY,
@@ -198,8 +195,7 @@ pub extern "C" fn etagere_bucketed_restore(
     ensures broken { statuses.unreadable < result → result < statuses.restore_memory → BreaksBucketed text.now result }
     ensures stays { result ≢ statuses.ok → atlas.new.state ≡ atlas.old.state }
 {
-    if let Some(held) = atlas.take(alloc) {
-        atlas.put(held);
+    if let Some(_held) = atlas.lend() {
         return HANDLE_IN_USE;
     }
     match bucketed_made_of(alloc, text) {

@@ -1,11 +1,9 @@
-use Rattle.std.proofs.Common.{arith, refl, ap, length, ℕ}
-use Rattle.glyph_shelf.specs.Cache.{CacheState}
+use Rattle.std.proofs.Common.{arith, refl}
 use Rattle.etagere_c.proofs.Evicted.{placed_fits}
 use Rattle.etagere_c.proofs.cache.etagere_cache_place.Goals as goal
 
 pub write_placed-requires : goal.write_placed-requires
 write_placed-requires c =
-    let entries : CacheState → ℕ = λ state. length state.entries in
-    placed_fits c.deref_mut.result.now c.place-placed.new.self c.args.key c.size.result c.args.evicted.now
-    (omega (arith, c.if-evicted-len.false, c.len.ensures.len, ap entries c.deref.ensures, ap entries c.deref_mut.ensures.value))
+    placed_fits c.in-Some.held.now c.place-placed.new.self c.args.key c.size.result c.args.evicted.now
+    (omega (arith, c.if-evicted-len.false, c.len.ensures.len))
     c.place-placed.result _ refl c.place-placed.ensures.found c.place-placed.ensures.placed c.place-placed.ensures.left

@@ -5,10 +5,10 @@ use Rattle.etagere_c.proofs.snapshots.etagere_bucketed_snapshot.Goals as goal
 
 pub returns-in-Some-text-clause-written : goal.returns-in-Some-text-clause-written
 returns-in-Some-text-clause-written c ok =
-    saved_in SavesBucketed c.args.atlas.now.state c.in-Some.held.value (search rules) c.in-Some-text.text.items (search rules)
+    saved_in SavesBucketed c.args.atlas.now.state c.in-Some.held.now (search rules) c.in-Some-text.text.items (search rules)
     c.args.buffer.now c.hand_out.new.buffer c.hand_out.new.needed (search rules)
 
 pub returns-in-Some-text-clause-short : goal.returns-in-Some-text-clause-short
 returns-in-Some-text-clause-short c short =
-    saved_beyond SavesBucketed c.args.atlas.now.state c.in-Some.held.value (search rules) c.in-Some-text.text.items (search rules)
+    saved_beyond SavesBucketed c.args.atlas.now.state c.in-Some.held.now (search rules) c.in-Some-text.text.items (search rules)
     (length c.args.buffer.now) c.hand_out.new.needed (search rules) (search rules)
