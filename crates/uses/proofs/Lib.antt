@@ -1,4 +1,0 @@
-pub mod Counting
-pub mod Paging
-pub mod Pixels
-pub mod Placing

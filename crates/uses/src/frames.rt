@@ -1,6 +1,6 @@
 //! A cache of glyphs that is drawn from frame by frame.
 
-ghost use Rattle.std.specs.Prelude.{◌≡◌, ◌+◌, ◌*◌, ◌≤◌, IfOk, OnOk, length};
+ghost use Rattle.std.specs.Prelude.{◌≡◌, ◌+◌, ◌*◌, ◌≤◌, IfOk, IfSome, IfNone, length};
 ghost use Rattle.glyph_shelf.specs.Promises.{KeepsCachePromises};
 
 use etagere::size2;
@@ -10,7 +10,7 @@ use glyph_shelf::{GlyphCache, GlyphFault};
 pub const SHOWN: u64 = 5;
 
 /// How many glyphs were rendered into the texture, and how many of these were evicted again.
-#[derive(Clone, Copy, Debug, PartialEq, Eq)]
+#[derive(Clone, Copy, Debug, Default, PartialEq, Eq)]
 pub struct Drawn {
     pub rendered: usize,
     pub evicted: usize,
@@ -26,32 +26,30 @@ pub fn draw_frames(cache: &mut GlyphCache, frames: u16) -> Result<Drawn, GlyphFa
     ensures promises { KeepsCachePromises cache.new }
 {
     cache.clear();
-    let mut drawn = Drawn {
-        rendered: 0,
-        evicted: 0,
-    };
+    let mut drawn = Drawn::default();
     for frame in 0..frames {
         for shown in 0..SHOWN {
-            draw_glyph(cache, u64::from(frame) + shown, &mut drawn)?;
+            if let Some(evicted) = render(cache, u64::from(frame) + shown)? {
+                drawn.rendered += 1;
+                drawn.evicted += evicted;
+            }
         }
     }
     Ok(drawn)
 }
 
-/// Looks a glyph up, and renders it into the texture where it isn't there.
-fn draw_glyph(cache: &mut GlyphCache, key: u64, drawn: &mut Drawn) -> Result<(), GlyphFault>
-    requires counted { length cache.old.entries + drawn.old.evicted ≡ drawn.old.rendered }
-    requires few { drawn.old.rendered + 1 ≤ usize.MAX }
-    ensures counted { OnOk result
-        (length cache.new.entries + drawn.new.evicted ≡ drawn.new.rendered) }
-    ensures few { drawn.new.rendered ≤ drawn.old.rendered + 1 }
+/// Renders a glyph into the texture, and answers how many were evicted for it; none where it is there already.
+fn render(cache: &mut GlyphCache, key: u64) -> Result<Option<usize>, GlyphFault>
+    requires { KeepsCachePromises cache.old }
+    ensures there { IfOk result (λ answer. IfNone answer
+        (length cache.new.entries ≡ length cache.old.entries)) }
+    ensures counted { IfOk result (λ answer. IfSome answer
+        (λ evicted. length cache.new.entries + evicted ≡ length cache.old.entries + 1)) }
     ensures promises { KeepsCachePromises cache.new }
 {
     if let Some(_rectangle) = cache.get(key) {
-        return Ok(());
+        return Ok(None);
     }
     let placed = cache.place(key, size2(10, 12))?;
-    drawn.rendered += 1;
-    drawn.evicted += placed.evicted.len();
-    Ok(())
+    Ok(Some(placed.evicted.len()))
 }

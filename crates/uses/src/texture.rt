@@ -2,10 +2,13 @@
 //!
 //! Definition: `Texture`.
 
-ghost use Rattle.std.specs.Prelude.{◌+◌, ◌*◌, ◌≤◌, IfSome, IfNone};
+ghost use Rattle.std.specs.Prelude.{◌≡◌, ◌+◌, ◌*◌, ◌^◌, ◌<◌, ◌≤◌, ◌≤ℤ◌, pos, IfSome, IfNone};
+ghost use Rattle.etagere_base.specs.Rectangles.{IsInside};
+ghost use Rattle.shelf_model.specs.Atlas.{KeepsPromises};
+ghost use Rattle.shelf_model.specs.Places.{rectangle_of};
 ghost use Rattle.uses.specs.Texture.{IsNoPixel, IsPixel};
 
-use etagere::{AllocId, AtlasAllocator, Rectangle};
+use etagere::{AllocId, AtlasAllocator, Rectangle, Size};
 
 /// How many bytes a pixel has: red, green, blue and how opaque it is.
 pub const PIXEL_BYTES: usize = 4;
@@ -21,12 +24,40 @@ pub fn pixel_offset(atlas: &AtlasAllocator, id: AllocId, x: u32, y: u32) -> Opti
     ensures within { IfSome result (λ offset. offset + PIXEL_BYTES
         ≤ atlas.now.frame.width * atlas.now.frame.height * PIXEL_BYTES) }
 {
-    let Rectangle { min, max } = atlas.get(id)?;
-    let width = atlas.size().width as usize;
-    let left = min.x as usize + x as usize;
-    let top = min.y as usize + y as usize;
-    if left >= max.x as usize || top >= max.y as usize {
+    let Size { width, height } = atlas.size();
+    let Rectangle { min, max } = rectangle_inside(atlas, id)?;
+    let left = whole(min.x) + x as usize;
+    let top = whole(min.y) + y as usize;
+    if left >= whole(max.x) || top >= whole(max.y) {
         return None;
     }
-    Some((top * width + left) * PIXEL_BYTES)
+    Some(byte_at(whole(width), whole(height), left, top))
+}
+
+/// What is allocated under an id lies inside the atlas.
+fn rectangle_inside(atlas: &AtlasAllocator, id: AllocId) -> Option<Rectangle>
+    requires { KeepsPromises atlas.now }
+    ensures found { result ≡ rectangle_of atlas.now id }
+    ensures inside { IfSome result (IsInside atlas.now.frame) }
+{
+    atlas.get(id)
+}
+
+/// A place, which is none below 0, as a number.
+fn whole(place: i32) -> usize
+    requires { pos 0 ≤ℤ place }
+    ensures { pos result ≡ place }
+{
+    place as usize
+}
+
+/// Where the pixel at a place begins in a buffer of these sides.
+fn byte_at(width: usize, height: usize, left: usize, top: usize) -> usize
+    requires small { width * height < 2 ^ 31 }
+    requires across { left < width }
+    requires down { top < height }
+    ensures begins { result ≡ (top * width + left) * PIXEL_BYTES }
+    ensures within { result + PIXEL_BYTES ≤ width * height * PIXEL_BYTES }
+{
+    (top * width + left) * PIXEL_BYTES
 }
