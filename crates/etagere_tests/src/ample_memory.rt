@@ -2,6 +2,7 @@
 //! the one of the rules.
 
 use crate::assertions::{equal, holds};
+use crate::squares::{Grid, MANY_SHELVES, SQUARE, VERTICAL_COLUMNS, comes_again};
 use etagere::{AllocatorOptions, DEFAULT_OPTIONS, Size, size2};
 use etagere_run::{AtlasCommand, BucketedCommand, Outcome, Reply, replay, run_atlas, run_bucketed};
 use std::alloc::{AllocError, Global};
@@ -9,7 +10,6 @@ use std::fmt::Write;
 use std::io::{self, Read};
 use std::process::Abort;
 use std::test::Fail;
-use test_support::squares::{Grid, MANY_SHELVES, SQUARE, VERTICAL_COLUMNS, comes_again};
 
 /// How many commands the longest runs have.
 const MANY: usize = 1_100_000;

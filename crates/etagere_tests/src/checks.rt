@@ -1,9 +1,9 @@
 //! Checks of snapshots in JSON over readers and writers that move few bytes at once, and fail.
 
 use crate::assertions::{equal, equal_at, holds, holds_at};
+use crate::fake_streams::{End, FakeReader, FakeWriter};
 use etagere_run::{Checked, ReplayFault, check};
 use std::test::Fail;
-use test_support::fake_streams::{End, FakeReader, FakeWriter};
 
 /// A new atlas of 10x10.
 const NEW_ATLAS: &str =

@@ -1,9 +1,9 @@
 //! Drawings of scripts and snapshots over readers and writers that move few bytes at once, and fail.
 
 use crate::assertions::{equal, equal_at, holds, holds_at};
+use crate::fake_streams::{End, FakeReader, FakeWriter};
 use etagere_run::{ReplayFault, draw};
 use std::test::Fail;
-use test_support::fake_streams::{End, FakeReader, FakeWriter};
 
 const SCRIPT: &[u8] = b"atlas 20 30 1 1 1 h\na 20 9\na 6 8\nr 0\nc\na 6 8\na 2 2\nr 5\n";
 

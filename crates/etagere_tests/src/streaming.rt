@@ -3,11 +3,11 @@
 //! The lines are those of the README's example.
 
 use crate::assertions::{equal, equal_at};
+use crate::fake_streams::{End, FakeWriter, FewWrites, first_lines};
 use etagere::{DEFAULT_OPTIONS, size2};
 use etagere_run::{AtlasCommand, BucketedCommand, StreamFault, stream_atlas, stream_bucketed};
 use std::io::Write;
 use std::test::Fail;
-use test_support::fake_streams::{End, FakeWriter, FewWrites, first_lines};
 
 const TEXT: &[u8] = b"placed 65536 0 0 100 112\nplaced 65537 0 112 900 336\nreturned\n\
     placed 65539 0 336 300 560\nat 0 336 300 560 3\nnot live\n";

@@ -3,12 +3,12 @@
 //! what a replay answers.
 
 use crate::assertions::{equal, equal_at, holds, holds_at};
+use crate::fake_streams::{End, FakeReader, FakeWriter, FewWrites, first_lines};
 use etagere_base::send;
 use etagere_run::{Outcome, ReplayFault, replay};
 use std::io::ErrorKind;
 use std::process::Abort;
 use std::test::Fail;
-use test_support::fake_streams::{End, FakeReader, FakeWriter, FewWrites, first_lines};
 
 /// The script of the README's example.
 const SCRIPT: &[u8] = b"atlas 1000 1000 1 1 1 h\na 100 100\na 900 200\nr 0\na 300 200\nl 3\nr 2\n";

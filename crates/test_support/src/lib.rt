@@ -1,9 +1,4 @@
-//! What tests of several crates share: calls of atlases, streams that fail, atlases that are filled whole,
-//! corners, links followed in the plainest way.
+//! What tests of several crates share: atlases of either kind by one trait.
 #![tactic(auto)]
 
-pub mod calls;
-pub mod corners;
-pub mod fake_streams;
-pub mod plain_walks;
-pub mod squares;
+pub mod atlases;

@@ -2,20 +2,21 @@
 //! that was there before, writes its answer, and draws the one that it made; after `no memory` the one that was there.
 
 use crate::lines::say;
-use crate::tried::{Tried, Used};
-use etagere::{OptionsFault, RestoreFault};
+use crate::tried::{OPTIONS, Used};
+use etagere::{OptionsFault, RestoreFault, size2};
 use etagere_run::ReplayFault;
 use std::io;
+use test_support::atlases::Atlas;
 
-pub fn new<A: Tried + Drop, R: Print + AllocGlobal>(rt: &R) -> Result<(), ReplayFault> {
-    is_made(rt, A::made(rt.alloc()))
+pub fn new<A: Atlas + Drop, R: Print + AllocGlobal>(rt: &R) -> Result<(), ReplayFault> {
+    is_made(rt, A::made(rt.alloc(), size2(1000, 1000)))
 }
 
-pub fn with_options<A: Tried + Drop, R: Print + AllocGlobal>(rt: &R) -> Result<(), ReplayFault> {
-    is_made(rt, A::made_with_options(rt.alloc()))
+pub fn with_options<A: Atlas + Drop, R: Print + AllocGlobal>(rt: &R) -> Result<(), ReplayFault> {
+    is_made(rt, A::made_with(rt.alloc(), size2(100, 80), &OPTIONS))
 }
 
-fn is_made<A: Tried + Drop>(
+fn is_made<A: Atlas + Drop>(
     rt: &impl Print,
     made: Result<A, OptionsFault>,
 ) -> Result<(), ReplayFault> {
@@ -65,7 +66,7 @@ pub fn restore<A: Used + Drop, R: Print + AllocGlobal>(rt: &R) -> Result<(), Rep
     }
 }
 
-fn draw<A: Tried>(rt: &impl Print, atlas: &A) -> Result<(), ReplayFault> {
+fn draw<A: Atlas>(rt: &impl Print, atlas: &A) -> Result<(), ReplayFault> {
     atlas
         .draw(&mut io::writer(rt))
         .map_err(|_| ReplayFault::Write)

@@ -2,40 +2,15 @@
 //! the commands of each.
 
 use crate::lines::say_reply;
-use crate::tried::Tried;
-use etagere::{AtlasAllocator, AtlasGrowFault, BucketedAtlasAllocator, GrowFault, Size, size2};
-use etagere_run::{ReplayFault, Reply};
-
-/// An atlas that grows.
-pub trait Grows: Tried {
-    fn grow_to(&mut self, size: Size) -> Reply;
-}
-
-impl Grows for AtlasAllocator {
-    fn grow_to(&mut self, size: Size) -> Reply {
-        match self.grow(size) {
-            Ok(()) => Reply::Grown,
-            Err(AtlasGrowFault::Memory) => Reply::NoMemory,
-            Err(fault) => Reply::GrowRefused(fault.number()),
-        }
-    }
-}
-
-impl Grows for BucketedAtlasAllocator {
-    fn grow_to(&mut self, size: Size) -> Reply {
-        match self.grow(size) {
-            Ok(()) => Reply::Grown,
-            Err(GrowFault::Memory) => Reply::NoMemory,
-            Err(fault) => Reply::GrowRefused(fault.number()),
-        }
-    }
-}
+use crate::tried::{grow, new_atlas, place};
+use etagere::{AtlasAllocator, BucketedAtlasAllocator, Size, size2};
+use etagere_run::ReplayFault;
+use test_support::atlases::Atlas;
 
 /// Four shelves are filled, so each list has no room left where the first growth adds an item to each shelf, and a
 /// shelf.
 pub fn grow_shelves(rt: &(impl Print + AllocGlobal)) -> Result<(), ReplayFault> {
-    let made = AtlasAllocator::new(rt.alloc(), size2(40, 64));
-    let mut atlas = made.map_err(|_| ReplayFault::Memory)?;
+    let mut atlas: AtlasAllocator = new_atlas(rt.alloc(), size2(40, 64))?;
     fill(rt, &mut atlas, &[size2(40, 16); 4])?;
     grow_and_fill(
         rt,
@@ -52,8 +27,7 @@ pub fn grow_shelves(rt: &(impl Print + AllocGlobal)) -> Result<(), ReplayFault> 
 }
 
 pub fn grow_buckets(rt: &(impl Print + AllocGlobal)) -> Result<(), ReplayFault> {
-    let made = BucketedAtlasAllocator::new(rt.alloc(), size2(32, 32));
-    let mut atlas = made.map_err(|_| ReplayFault::Memory)?;
+    let mut atlas: BucketedAtlasAllocator = new_atlas(rt.alloc(), size2(32, 32))?;
     fill(rt, &mut atlas, &[size2(8, 8), size2(32, 24)])?;
     grow_and_fill(
         rt,
@@ -69,19 +43,19 @@ pub fn grow_buckets(rt: &(impl Print + AllocGlobal)) -> Result<(), ReplayFault> 
     )
 }
 
-fn grow_and_fill<A: Grows>(
+fn grow_and_fill<A: Atlas>(
     rt: &impl Print,
     atlas: &mut A,
     grown: Size,
     sizes: &[Size],
 ) -> Result<(), ReplayFault> {
-    say_reply(rt, &atlas.grow_to(grown))?;
+    say_reply(rt, &grow(atlas, grown))?;
     fill(rt, atlas, sizes)
 }
 
-fn fill<A: Grows>(rt: &impl Print, atlas: &mut A, sizes: &[Size]) -> Result<(), ReplayFault> {
+fn fill<A: Atlas>(rt: &impl Print, atlas: &mut A, sizes: &[Size]) -> Result<(), ReplayFault> {
     for size in sizes {
-        say_reply(rt, &atlas.ask(*size))?;
+        say_reply(rt, &place(atlas, *size))?;
     }
     Ok(())
 }

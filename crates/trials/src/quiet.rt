@@ -1,13 +1,13 @@
 //! Trials of calls that take no memory, on an atlas that was used, on its clone, and on what its snapshot restores.
 //! These three are made first, so that a trial asks for no growth once it has written a line.
 
-use crate::growing::Grows;
 use crate::lines::say_reply;
-use crate::tried::{Tried, Used};
+use crate::tried::{Used, grow, place, take_back};
 use etagere::{AllocId, AtlasAllocator, BucketedAtlasAllocator, Rectangle, Size, point2, size2};
 use etagere_run::{ReplayFault, Reply};
 use std::alloc::Global;
 use std::io;
+use test_support::atlases::Atlas;
 
 /// An atlas that was used, its clone, and what its snapshot restores.
 fn three_of<A: Used + Drop>(alloc: Global) -> Result<(A, A, A, AllocId), ReplayFault> {
@@ -38,10 +38,10 @@ fn try_shelves(
     let sizes = [size2(696, 200), size2(500, 300), size2(200, 100)];
     try_all(rt, &mut atlas, kept, &sizes)?;
     let larger = size2(1200, 1100);
-    say_reply(rt, &atlas.grow_to(larger))?;
-    say_reply(rt, &atlas.ask(larger))?;
+    say_reply(rt, &grow(&mut atlas, larger))?;
+    say_reply(rt, &place(&mut atlas, larger))?;
     for size in [larger, size2(1199, 1100)] {
-        say_reply(rt, &atlas.grow_to(size))?;
+        say_reply(rt, &grow(&mut atlas, size))?;
     }
     Ok(())
 }
@@ -60,12 +60,12 @@ fn try_buckets(
     kept: AllocId,
 ) -> Result<(), ReplayFault> {
     try_all(rt, &mut atlas, kept, &[size2(64, 24), size2(8, 8)])?;
-    say_reply(rt, &atlas.grow_to(size2(64, 48)))?;
-    say_reply(rt, &atlas.grow_to(size2(63, 48)))
+    say_reply(rt, &grow(&mut atlas, size2(64, 48)))?;
+    say_reply(rt, &grow(&mut atlas, size2(63, 48)))
 }
 
 /// The calls that both atlases have: counts, pictures, refusals, sizes that need no record, returns, a clear.
-fn try_all<A: Tried>(
+fn try_all<A: Atlas>(
     rt: &impl Print,
     atlas: &mut A,
     kept: AllocId,
@@ -74,26 +74,26 @@ fn try_all<A: Tried>(
     say_counts(rt, atlas)?;
     draw_all(rt, atlas)?;
     for refused in [size2(0, 1), size2(65536, 1), size2(2000, 1)] {
-        say_reply(rt, &atlas.ask(refused))?;
+        say_reply(rt, &place(atlas, refused))?;
     }
     for size in sizes {
-        say_reply(rt, &atlas.ask(*size))?;
+        say_reply(rt, &place(atlas, *size))?;
     }
     for id in [kept, AllocId::deserialize(0)] {
-        say_reply(rt, &atlas.give_back(id))?;
+        say_reply(rt, &take_back(atlas, id))?;
     }
-    atlas.clear();
+    atlas.empty();
     say_counts(rt, atlas)
 }
 
-fn say_counts<A: Tried>(rt: &impl Print, atlas: &A) -> Result<(), ReplayFault> {
+fn say_counts<A: Atlas>(rt: &impl Print, atlas: &A) -> Result<(), ReplayFault> {
     let (size, is_empty, allocated, free) = atlas.counts();
     let Size { width, height } = size;
     println!(rt; "{width} {height} {is_empty} {allocated} {free}").map_err(|_| ReplayFault::Write)
 }
 
 /// Draws an atlas as a document, as a part of one, and into a rectangle.
-fn draw_all<A: Tried>(rt: &impl Print, atlas: &A) -> Result<(), ReplayFault> {
+fn draw_all<A: Atlas>(rt: &impl Print, atlas: &A) -> Result<(), ReplayFault> {
     let area = Rectangle {
         min: point2(5, 6),
         max: point2(45, 66),

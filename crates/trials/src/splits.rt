@@ -1,9 +1,10 @@
 //! A trial of a split for which a record of an item is made, and none of a shelf.
 
 use crate::lines::say_reply;
-use crate::tried::{Tried, Used, given};
+use crate::tried::{Used, given, place};
 use etagere::{AtlasAllocator, size2};
 use etagere_run::ReplayFault;
+use test_support::atlases::Atlas;
 
 /// In a restored atlas all records are put to use, and its list of shelves by height is full. Then an item is split, which
 /// asks for one growth, that of the item records, and another one, which asks for none.
@@ -16,7 +17,7 @@ pub fn split_items(rt: &(impl Print + AllocGlobal)) -> Result<(), ReplayFault> {
         given(&mut restored, width, height)?;
     }
     for _split in 0..2 {
-        say_reply(rt, &restored.ask(size2(100, 100)))?;
+        say_reply(rt, &place(&mut restored, size2(100, 100)))?;
     }
     Ok(())
 }

@@ -1,15 +1,14 @@
 //! What the trials ask of an atlas of either kind, and one of each kind that was used before.
 
 use etagere::{
-    AllocId, Allocation, AllocatorOptions, AtlasAllocator, AtlasSnapshot, BucketedAtlasAllocator,
-    BucketedSnapshot, OptionsFault, Rectangle, RestoreFault, Size, UnknownId, size2,
+    AllocId, AllocatorOptions, AtlasAllocator, BucketedAtlasAllocator, OptionsFault, Size, size2,
 };
 use etagere_run::{ReplayFault, Reply};
-use std::alloc::{AllocError, Global};
-use std::io::{self, Write};
+use std::alloc::Global;
+use test_support::atlases::{Atlas, NotGrown};
 
 /// Two columns of vertical shelves.
-const OPTIONS: AllocatorOptions = AllocatorOptions {
+pub const OPTIONS: AllocatorOptions = AllocatorOptions {
     alignment: Size {
         width: 2,
         height: 4,
@@ -18,148 +17,22 @@ const OPTIONS: AllocatorOptions = AllocatorOptions {
     num_columns: 2,
 };
 
-/// An atlas with the calls that both kinds have.
-pub trait Tried: Sized {
-    type Snapshot: Drop;
-
-    fn made(alloc: Global) -> Result<Self, OptionsFault>;
-
-    fn made_with_options(alloc: Global) -> Result<Self, OptionsFault>;
-
-    fn copied(&self) -> Result<Self, AllocError>;
-
-    fn saved(&self) -> Result<Self::Snapshot, AllocError>;
-
-    fn restored(alloc: Global, saved: Self::Snapshot) -> Result<Self, RestoreFault>;
-
-    fn ask(&mut self, size: Size) -> Reply;
-
-    fn give_back(&mut self, id: AllocId) -> Reply;
-
-    fn clear(&mut self);
-
-    /// What the counts tell: the size, whether nothing is live, and the two spaces.
-    fn counts(&self) -> (Size, bool, i32, i32);
-
-    fn draw<W: Write>(&self, writer: &mut W) -> io::Result<()>;
-
-    fn draw_into<W: Write>(&self, area: Option<&Rectangle>, writer: &mut W) -> io::Result<()>;
-}
-
-impl Tried for AtlasAllocator {
-    type Snapshot = AtlasSnapshot;
-
-    fn made(alloc: Global) -> Result<Self, OptionsFault> {
-        AtlasAllocator::new(alloc, size2(1000, 1000))
-    }
-
-    fn made_with_options(alloc: Global) -> Result<Self, OptionsFault> {
-        AtlasAllocator::with_options(alloc, size2(100, 80), &OPTIONS)
-    }
-
-    fn copied(&self) -> Result<Self, AllocError> {
-        self.clone()
-    }
-
-    fn saved(&self) -> Result<AtlasSnapshot, AllocError> {
-        self.snapshot()
-    }
-
-    fn restored(alloc: Global, saved: AtlasSnapshot) -> Result<Self, RestoreFault> {
-        AtlasAllocator::restore(alloc, saved)
-    }
-
-    fn ask(&mut self, size: Size) -> Reply {
-        placed(self.allocate(size))
-    }
-
-    fn give_back(&mut self, id: AllocId) -> Reply {
-        returned(self.deallocate(id))
-    }
-
-    fn clear(&mut self) {
-        self.clear();
-    }
-
-    fn counts(&self) -> (Size, bool, i32, i32) {
-        let (allocated, free) = (self.allocated_space(), self.free_space());
-        (self.size(), self.is_empty(), allocated, free)
-    }
-
-    fn draw<W: Write>(&self, writer: &mut W) -> io::Result<()> {
-        self.dump_svg(writer)
-    }
-
-    fn draw_into<W: Write>(&self, area: Option<&Rectangle>, writer: &mut W) -> io::Result<()> {
-        self.dump_into_svg(area, writer)
-    }
-}
-
-impl Tried for BucketedAtlasAllocator {
-    type Snapshot = BucketedSnapshot;
-
-    fn made(alloc: Global) -> Result<Self, OptionsFault> {
-        BucketedAtlasAllocator::new(alloc, size2(1000, 1000))
-    }
-
-    fn made_with_options(alloc: Global) -> Result<Self, OptionsFault> {
-        BucketedAtlasAllocator::with_options(alloc, size2(100, 80), &OPTIONS)
-    }
-
-    fn copied(&self) -> Result<Self, AllocError> {
-        self.clone()
-    }
-
-    fn saved(&self) -> Result<BucketedSnapshot, AllocError> {
-        self.snapshot()
-    }
-
-    fn restored(alloc: Global, saved: BucketedSnapshot) -> Result<Self, RestoreFault> {
-        BucketedAtlasAllocator::restore(alloc, saved)
-    }
-
-    fn ask(&mut self, size: Size) -> Reply {
-        placed(self.allocate(size))
-    }
-
-    fn give_back(&mut self, id: AllocId) -> Reply {
-        returned(self.deallocate(id))
-    }
-
-    fn clear(&mut self) {
-        self.clear();
-    }
-
-    fn counts(&self) -> (Size, bool, i32, i32) {
-        let (allocated, free) = (self.allocated_space(), self.free_space());
-        (self.size(), self.is_empty(), allocated, free)
-    }
-
-    fn draw<W: Write>(&self, writer: &mut W) -> io::Result<()> {
-        self.dump_svg(writer)
-    }
-
-    fn draw_into<W: Write>(&self, area: Option<&Rectangle>, writer: &mut W) -> io::Result<()> {
-        self.dump_into_svg(area, writer)
-    }
-}
-
 /// An atlas that was used.
-pub trait Used: Tried {
+pub trait Used: Atlas {
     /// An atlas that gave several items and got some back, and the id of one that it still has.
     fn used(alloc: Global) -> Result<(Self, AllocId), ReplayFault>;
 }
 
 impl Used for AtlasAllocator {
     fn used(alloc: Global) -> Result<(Self, AllocId), ReplayFault> {
-        let mut atlas = AtlasAllocator::made(alloc).map_err(|_| ReplayFault::Memory)?;
+        let mut atlas: AtlasAllocator = new_atlas(alloc, size2(1000, 1000))?;
         let first = given(&mut atlas, 100, 100)?;
         given(&mut atlas, 900, 200)?;
-        atlas.give_back(first);
+        let _ = atlas.give_back(first);
         let kept = given(&mut atlas, 300, 200)?;
         let returned = [given(&mut atlas, 500, 300)?, given(&mut atlas, 200, 100)?];
         for id in returned {
-            atlas.give_back(id);
+            let _ = atlas.give_back(id);
         }
         Ok((atlas, kept))
     }
@@ -167,9 +40,7 @@ impl Used for AtlasAllocator {
 
 impl Used for BucketedAtlasAllocator {
     fn used(alloc: Global) -> Result<(Self, AllocId), ReplayFault> {
-        let mut atlas = BucketedAtlasAllocator::new(alloc, size2(64, 40)).map_err(
-            |_| ReplayFault::Memory,
-        )?;
+        let mut atlas: BucketedAtlasAllocator = new_atlas(alloc, size2(64, 40))?;
         let returned = [
             given(&mut atlas, 64, 8)?,
             given(&mut atlas, 64, 8)?,
@@ -178,15 +49,20 @@ impl Used for BucketedAtlasAllocator {
         given(&mut atlas, 64, 8)?;
         let kept = given(&mut atlas, 8, 8)?;
         for id in returned {
-            atlas.give_back(id);
+            let _ = atlas.give_back(id);
         }
         Ok((atlas, kept))
     }
 }
 
+/// A new atlas.
+pub fn new_atlas<A: Atlas>(alloc: Global, size: Size) -> Result<A, ReplayFault> {
+    A::made(alloc, size).map_err(|_fault: OptionsFault| ReplayFault::Memory)
+}
+
 /// The reply to an allocation.
-fn placed(answer: Result<Option<Allocation>, AllocError>) -> Reply {
-    match answer {
+pub fn place<A: Atlas>(atlas: &mut A, size: Size) -> Reply {
+    match atlas.ask(size) {
         Ok(Some(allocation)) => Reply::Placed(allocation),
         Ok(None) => Reply::Refused,
         Err(_) => Reply::NoMemory,
@@ -194,16 +70,25 @@ fn placed(answer: Result<Option<Allocation>, AllocError>) -> Reply {
 }
 
 /// The reply to a return.
-fn returned(answer: Result<(), UnknownId>) -> Reply {
-    match answer {
+pub fn take_back<A: Atlas>(atlas: &mut A, id: AllocId) -> Reply {
+    match atlas.give_back(id) {
         Ok(()) => Reply::Returned,
-        Err(UnknownId) => Reply::NotLive,
+        Err(_) => Reply::NotLive,
+    }
+}
+
+/// The reply to a growth.
+pub fn grow<A: Atlas>(atlas: &mut A, size: Size) -> Reply {
+    match atlas.enlarge(size) {
+        Ok(()) => Reply::Grown,
+        Err(NotGrown::Memory) => Reply::NoMemory,
+        Err(NotGrown::Refused(number)) => Reply::GrowRefused(number),
     }
 }
 
 /// The id of what a size is given that has a place.
-pub fn given<A: Tried>(atlas: &mut A, width: i32, height: i32) -> Result<AllocId, ReplayFault> {
-    match atlas.ask(size2(width, height)) {
+pub fn given<A: Atlas>(atlas: &mut A, width: i32, height: i32) -> Result<AllocId, ReplayFault> {
+    match place(atlas, size2(width, height)) {
         Reply::Placed(allocation) => Ok(allocation.id),
         _ => Err(ReplayFault::Memory),
     }
