@@ -1,0 +1,5 @@
+pub mod GoingOn
+pub mod Refusals
+pub mod Resuming
+pub mod Saving
+pub mod Tallies

@@ -1,0 +1,40 @@
+-- What is saved of an atlas that a script leaves.
+use Rattle.std.specs.Prelude.{◌≡◌, ◌≢◌, ℕ, All, List, []}
+use Rattle.etagere_base.specs.declared.frames.Frame.{Frame}
+use Rattle.bucketed_model.specs.State.{BucketedState}
+use Rattle.bucketed_records.specs.declared.snapshots.BucketedSnapshot.{BucketedSnapshot}
+use Rattle.bucketed_records.specs.Restoring as buckets
+use Rattle.bucketed_records.specs.StandsFor as bucket_rules
+use Rattle.shelf_model.specs.State.{AtlasState}
+use Rattle.shelf_records.specs.declared.snapshots.AtlasSnapshot.{AtlasSnapshot}
+use Rattle.shelf_records.specs.Snapshots as shelves
+use Rattle.shelf_records.specs.StandsFor as shelf_rules
+use Rattle.run_commands.specs.declared.commands.AtlasCommand.{AtlasCommand}
+use Rattle.run_commands.specs.declared.commands.BucketedCommand.{BucketedCommand}
+use Rattle.run_commands.specs.declared.commands.Reply.{Reply}
+use Rattle.run_commands.specs.declared.commands.Reply.TheVariants.{NoMemory}
+use Rattle.run_answers.specs.AtlasRuns.{shelf_atlas}
+use Rattle.run_answers.specs.BucketedRuns.{bucketed_atlas}
+use Rattle.run_answers.specs.Runs.{Kind, Runs}
+
+-- memory was there for the command that has this reply
+abbrev pub HasMemory : Reply → Type 0
+HasMemory reply = reply ≢ NoMemory
+
+-- the commands may lead a new state of a frame to this one, where memory was there for each
+pub record LeadsTo {S C : Type 0} (kind : Kind S C) (frame : Frame) (commands : List C) (last : S) : Type 0 where
+  pub replies : List Reply
+  pub run : Runs kind 0 [] (kind.fresh frame) commands replies last
+  pub memory : All HasMemory replies
+
+-- a snapshot stands for a state to which the commands may lead a new atlas of a frame
+abbrev pub SavesAtlas : Frame → List AtlasCommand → AtlasSnapshot → Type 0
+SavesAtlas frame commands snapshot =
+    (last : AtlasState) × LeadsTo shelf_atlas frame commands last
+    × shelf_rules.StandsFor (shelves.snapshot_records snapshot) last
+
+-- the same of a bucketed atlas
+abbrev pub SavesBuckets : Frame → List BucketedCommand → BucketedSnapshot → Type 0
+SavesBuckets frame commands snapshot =
+    (last : BucketedState) × LeadsTo bucketed_atlas frame commands last
+    × bucket_rules.StandsFor (buckets.snapshot_records snapshot) last

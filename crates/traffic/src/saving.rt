@@ -1,0 +1,81 @@
+//! The snapshot of the atlas that a script leaves.
+//!
+//! Definition: `Saving`, over `Runs` and the rules of snapshots.
+
+ghost use Rattle.std.specs.Prelude.{◌≡◌, ◌↔◌, All, IfErr, IfOk, IsTrue, OnOk};
+ghost use Rattle.etagere_base.specs.Frames.{IsAccepted, atlas_frame, longest_side};
+ghost use Rattle.bucketed_model.specs.Frames.{bucketed_frame, longest_bucketed_side};
+ghost use Rattle.run_answers.specs.Runs.{RefusesRun};
+ghost use Rattle.traffic.specs.Saving.{HasMemory, SavesAtlas, SavesBuckets};
+
+use etagere::{
+    AllocatorOptions, AtlasAllocator, AtlasSnapshot, BucketedAtlasAllocator, BucketedSnapshot, Size,
+};
+use run_answers::running::{Room, answer_all};
+use run_commands::commands::{AtlasCommand, BucketedCommand, Reply};
+use run_commands::faults::RunFault;
+use std::alloc::Global;
+
+/// The snapshot of the atlas that the commands leave, run in order on a new one of this size in pixels.
+///
+/// `Options` has the first fault of the size and options, or `OptionsFault::Memory` where these have none and there was
+/// no memory for the atlas. `Memory` comes where there is none for the run, for one of its commands, or for the
+/// snapshot: what is saved is an atlas that answered every command.
+pub fn save_atlas(
+    alloc: Global,
+    size: Size,
+    options: &AllocatorOptions,
+    commands: &[AtlasCommand],
+) -> Result<AtlasSnapshot, RunFault>
+    ensures saved { IfOk result (SavesAtlas (atlas_frame size options.now) commands.now) }
+    ensures accepted { OnOk result (IsAccepted longest_side size options.now) }
+    ensures err { IfErr result (RefusesRun longest_side size options.now) }
+{
+    let Ok(room) = Room::with_capacity(alloc, commands.len()) else {
+        return Err(RunFault::Memory);
+    };
+    let mut atlas = AtlasAllocator::with_options(alloc, size, options).map_err(RunFault::Options)?;
+    let replies = answer_all(&mut atlas, room, commands);
+    if !had_memory(replies.as_slice()) {
+        return Err(RunFault::Memory);
+    }
+    atlas.snapshot().map_err(|_| RunFault::Memory)
+}
+
+/// The snapshot of the bucketed atlas that the commands leave. As `save_atlas`.
+pub fn save_buckets(
+    alloc: Global,
+    size: Size,
+    options: &AllocatorOptions,
+    commands: &[BucketedCommand],
+) -> Result<BucketedSnapshot, RunFault>
+    ensures saved { IfOk result (SavesBuckets (bucketed_frame size options.now) commands.now) }
+    ensures accepted { OnOk result (IsAccepted longest_bucketed_side size options.now) }
+    ensures err { IfErr result (RefusesRun longest_bucketed_side size options.now) }
+{
+    let Ok(room) = Room::with_capacity(alloc, commands.len()) else {
+        return Err(RunFault::Memory);
+    };
+    let mut atlas = BucketedAtlasAllocator::with_options(alloc, size, options).map_err(
+        RunFault::Options,
+    )?;
+    let replies = answer_all(&mut atlas, room, commands);
+    if !had_memory(replies.as_slice()) {
+        return Err(RunFault::Memory);
+    }
+    atlas.snapshot().map_err(|_| RunFault::Memory)
+}
+
+/// Whether memory was there for every command that has these replies.
+fn had_memory(replies: &[Reply]) -> bool
+    ensures { IsTrue result ↔ All HasMemory replies.now }
+{
+    replies.iter().all(|reply| has_memory(reply))
+}
+
+/// Whether memory was there for the command that has this reply.
+fn has_memory(reply: &Reply) -> bool
+    ensures { IsTrue result ↔ HasMemory reply.now }
+{
+    !matches!(reply, Reply::NoMemory)
+}
