@@ -1,1 +1,2 @@
+pub mod FirstEntries
 pub mod Going

@@ -1,23 +1,16 @@
 -- How a saved shelf atlas goes on.
-use Rattle.std.specs.Prelude.{◌≡◌, ℕ, ◌+◌, List, [], ◌∷◌, length, ⊤}
-use Rattle.etagere_base.specs.declared.faults.RestoreFault.{RestoreFault}
+use Rattle.std.specs.Prelude.{◌≡◌, List, length}
 use Rattle.etagere_base.specs.declared.ids.Allocation.{Allocation}
 use Rattle.shelf_model.specs.Listing.{listed}
 use Rattle.shelf_model.specs.State.{AtlasState}
 use Rattle.shelf_records.specs.declared.snapshots.AtlasSnapshot.{AtlasSnapshot}
-use Rattle.shelf_records.specs.Snapshots.{IsBroken, snapshot_records}
+use Rattle.shelf_records.specs.Snapshots.{snapshot_records}
 use Rattle.shelf_records.specs.StandsFor.{StandsFor}
 use Rattle.run_commands.specs.declared.commands.AtlasCommand.{AtlasCommand}
 use Rattle.run_commands.specs.declared.commands.Reply.{Reply}
 use Rattle.run_answers.specs.AtlasRuns.{shelf_atlas}
-use Rattle.run_answers.specs.Live.{Entry}
 use Rattle.run_answers.specs.Runs.{Runs}
-
--- allocations as entries, the first of them at this position
-abbrev pub entries_from : ℕ → List Allocation → List Entry
-entries_from position [] = []
-entries_from position (allocation ∷ allocations) =
-    record { position = position; allocation = allocation } ∷ entries_from (position + 1) allocations
+use Rattle.traffic.specs.Ledgers.{entries_from}
 
 -- A snapshot stands for an atlas in which this is live, by rising index; with that at the first positions, a run of the
 -- commands from this atlas gives these replies.
@@ -28,7 +21,3 @@ pub record Resumes (snapshot : AtlasSnapshot) (commands : List AtlasCommand) (li
   pub stands : StandsFor (snapshot_records snapshot) atlas
   pub live_is : live ≡ listed atlas
   pub run : Runs shelf_atlas (length live) (entries_from 0 live) atlas commands replies last
-
--- a fault is a rule that the snapshot breaks, or that memory ran out
-abbrev pub MayFail : AtlasSnapshot → RestoreFault → Type 0
-MayFail snapshot fault = IsBroken (snapshot_records snapshot) fault

@@ -3,17 +3,15 @@
 //! What is live in the atlas has the first positions, by rising index; the commands have those behind them.
 //! Definition: `Resuming`, over `Runs` and the rules of snapshots.
 
-ghost use Rattle.std.specs.Prelude.{◌≡◌, ◌≤◌, ◌+◌, [], IfErr, IfOk, length, vec_capacity, vec_len};
-ghost use Rattle.run_answers.specs.Private.Tables.{entries_of};
-ghost use Rattle.shelf_model.specs.Listing.{listed};
+ghost use Rattle.std.specs.Prelude.{IfErr, IfOk};
 ghost use Rattle.shelf_records.specs.Snapshots.{IsBroken, snapshot_records};
-ghost use Rattle.traffic.specs.Resuming.{MayFail, Resumes, entries_from};
+ghost use Rattle.traffic.specs.Resuming.{Resumes};
 
 use crate::going_on::go_on;
+use crate::ledgers::ledger_of;
 use etagere::{Allocation, AtlasAllocator, AtlasSnapshot, RestoreFault};
-use run_answers::ledger::Ledger;
 use run_commands::commands::{AtlasCommand, Reply};
-use std::alloc::{AllocError, Global};
+use std::alloc::Global;
 
 /// What a saved atlas had live, and its replies to more commands.
 #[derive(Drop)]
@@ -35,7 +33,7 @@ pub fn resume_atlas(
 ) -> Result<Resumed, RestoreFault>
     ensures resumed { IfOk result (λ resumed.
         Resumes snapshot commands.now resumed.live.items resumed.replies.items) }
-    ensures err { IfErr result (MayFail snapshot) }
+    ensures err { IfErr result (IsBroken (snapshot_records snapshot)) }
 {
     let mut atlas = AtlasAllocator::restore(alloc, snapshot)?;
     let Ok(live) = atlas.iter().collect(alloc) else {
@@ -45,21 +43,10 @@ pub fn resume_atlas(
         return Err(RestoreFault::Memory);
     };
     match go_on(alloc, &mut atlas, &mut ledger, commands) {
-        Ok(answers) => Ok(Resumed { live, replies: answers.replies }),
+        Ok(answers) => Ok(Resumed {
+            live,
+            replies: answers.replies,
+        }),
         Err(_) => Err(RestoreFault::Memory),
     }
-}
-
-/// A ledger in which these allocations have the first positions, with room for so many commands behind them.
-fn ledger_of(alloc: Global, live: &[Allocation], commands: usize) -> Result<Ledger, AllocError>
-    ensures entries { IfOk result (λ ledger. entries_of ledger ≡ entries_from 0 live.now) }
-    ensures length { IfOk result (λ ledger. vec_len ledger.slots ≡ length live.now) }
-    ensures room { IfOk result (λ ledger. length live.now + commands ≤ vec_capacity ledger.slots) }
-{
-    let count = live.len().checked_add(commands).ok_or(AllocError)?;
-    let mut ledger = Ledger::with_capacity(alloc, count)?;
-    for allocation in live {
-        ledger.add(Some(*allocation));
-    }
-    Ok(ledger)
 }
