@@ -3,7 +3,11 @@
 //! What is live in the atlas has the first positions, by rising index; the commands have those behind them.
 //! Definition: `Resuming`, over `Runs` and the rules of snapshots.
 
-ghost use Rattle.std.specs.Prelude.{IfErr, IfOk};
+ghost use Rattle.std.specs.Prelude.{◌≡◌, IfErr, IfOk};
+ghost use Rattle.shelf_model.specs.Atlas.{KeepsPromises};
+ghost use Rattle.shelf_model.specs.Callers.{AreTied};
+ghost use Rattle.shelf_model.specs.Listing.{listed};
+ghost use Rattle.shelf_model.specs.Places.{allocations};
 ghost use Rattle.shelf_records.specs.Snapshots.{IsBroken, snapshot_records};
 ghost use Rattle.traffic.specs.Resuming.{Resumes};
 
@@ -11,7 +15,7 @@ use crate::going_on::go_on;
 use crate::ledgers::ledger_of;
 use etagere::{Allocation, AtlasAllocator, AtlasSnapshot, RestoreFault};
 use run_commands::commands::{AtlasCommand, Reply};
-use std::alloc::Global;
+use std::alloc::{AllocError, Global};
 
 /// What a saved atlas had live, and its replies to more commands.
 #[derive(Drop)]
@@ -36,10 +40,10 @@ pub fn resume_atlas(
     ensures err { IfErr result (IsBroken (snapshot_records snapshot)) }
 {
     let mut atlas = AtlasAllocator::restore(alloc, snapshot)?;
-    let Ok(live) = atlas.iter().collect(alloc) else {
+    let Ok(live) = live_in(alloc, &atlas) else {
         return Err(RestoreFault::Memory);
     };
-    let Ok(mut ledger) = ledger_of(alloc, &live, commands.len()) else {
+    let Ok(mut ledger) = ledger_of(alloc, live.as_slice(), commands.len()) else {
         return Err(RestoreFault::Memory);
     };
     match go_on(alloc, &mut atlas, &mut ledger, commands) {
@@ -49,4 +53,17 @@ pub fn resume_atlas(
         }),
         Err(_) => Err(RestoreFault::Memory),
     }
+}
+
+/// Everything that is allocated in an atlas, by rising index.
+fn live_in(alloc: Global, atlas: &AtlasAllocator) -> Result<Vec<Allocation>, AllocError>
+    ensures listed { IfOk result (λ live. live.items ≡ listed atlas.now) }
+    ensures tied { IfOk result (λ live. AreTied live.items (allocations atlas.now)) }
+    ensures promises { KeepsPromises atlas.now }
+{
+    let mut live = Vec::new(alloc);
+    for allocation in atlas.iter() {
+        live.push(allocation)?;
+    }
+    Ok(live)
 }

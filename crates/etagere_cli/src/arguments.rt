@@ -1,0 +1,66 @@
+//! The arguments that the program knows, and what its help says of them.
+
+use clap::{Arg, ArgAction, Command};
+use std::alloc::{AllocError, Global};
+
+/// The whole program.
+pub fn program(alloc: Global) -> Result<Command<'static>, AllocError> {
+    Command::new(alloc, "etagere")
+        .about("Looks into traffic that was recorded as a script, or at a saved atlas")
+        .subcommand(explain(alloc)?)?
+        .subcommand(stats(alloc)?)?
+        .subcommand(save(alloc)?)?
+        .subcommand(resume(alloc)
+        ?)
+}
+
+fn explain(alloc: Global) -> Result<Command<'static>, AllocError> {
+    Command::new(alloc, "explain")
+        .about("Says why commands were refused, a line is bad, or a snapshot is broken")
+        .after_help("Example: ./etagere explain examples/refused.atlas")
+        .arg(input(alloc, "A script, or the JSON text of a snapshot; standard input if it isn't given"))
+}
+
+fn stats(alloc: Global) -> Result<Command<'static>, AllocError> {
+    Command::new(alloc, "stats")
+        .about("Counts what a script asks for, and says how full it leaves the atlas")
+        .after_help("Example: ./etagere stats --json examples/refused.atlas")
+        .arg(json(alloc))?
+        .arg(input(alloc, "A script, or the JSON text of a snapshot; standard input if it isn't given"))
+}
+
+fn save(alloc: Global) -> Result<Command<'static>, AllocError> {
+    Command::new(alloc, "save")
+        .about("Writes the snapshot of the atlas that a script leaves, as JSON")
+        .after_help("Example: ./etagere save examples/refused.atlas > saved.json")
+        .arg(input(alloc, "A script; standard input if it isn't given"))
+}
+
+fn resume(alloc: Global) -> Result<Command<'static>, AllocError> {
+    let live = Arg::new(alloc, "live")
+        .long("live")
+        .action(ArgAction::SetTrue)
+        .help("First lists what the snapshot has live, a line for each position");
+    let snapshot = Arg::new(alloc, "SNAPSHOT")
+        .required(true)
+        .action(ArgAction::Set)
+        .help("The JSON text of a snapshot of a shelf atlas");
+    Command::new(alloc, "resume")
+        .about("Goes on from a snapshot: runs commands, and writes their replies")
+        .after_help("What is live in the snapshot has the positions from 0 on, by rising index; the commands have \
+            those behind them.\n\nExample: ./etagere resume saved.json more.commands")
+        .arg(live)?
+        .arg(snapshot)?
+        .arg(input(alloc, "Commands, a line for each, without a header; standard input if it isn't given"))
+}
+
+fn json(alloc: Global) -> Arg<'static> {
+    Arg::new(alloc, "json")
+        .long("json")
+        .action(ArgAction::SetTrue)
+        .help("Writes JSON for programs in place of text for people")
+}
+
+fn input(alloc: Global, help: &'static str) -> Arg<'static> {
+    Arg::new(alloc, "FILE").action(ArgAction::Set).help(help)
+}

@@ -1,0 +1,100 @@
+//! What was expected on a line that isn't good.
+
+use crate::places::{header_line, line_at};
+use run_scripts::lines::split_word;
+use run_scripts::numbers::{number_of, position_of};
+use std::alloc::{AllocError, Global};
+
+/// What was expected on the first bad line of a script.
+pub fn expected_text(alloc: Global, script: &[u8], number: u64) -> Result<String, AllocError> {
+    let line = line_at(script, number);
+    let header = header_line(script);
+    let begins = header.len() == line.len() && is_header_bad(header);
+    let expected = if line.is_empty() || begins {
+        expected_header(line)
+    } else {
+        expected_command(line, header)
+    };
+    format!(in alloc; "line {number}: {expected}")
+}
+
+/// Whether the header itself isn't good, so that no command was read.
+fn is_header_bad(header: &[u8]) -> bool {
+    run_scripts::words::header_of(header).is_none()
+}
+
+fn expected_header(line: &[u8]) -> &'static str {
+    let Some((name, words)) = split_word(line) else {
+        return "a header is expected: atlas or bucketed, then W H AW AH N, then h or v";
+    };
+    if name != b"atlas".as_slice() && name != b"bucketed".as_slice() {
+        return "the first line is a header, which begins with atlas or bucketed";
+    }
+    if words_in(words) != 6 {
+        return "six words are expected behind the kind: W H AW AH N, then h or v, one space apart";
+    }
+    if !ends_with_direction(words) {
+        return "the last word of a header is h or v";
+    }
+    "W H AW AH N are whole numbers of 32 bits, in digits, also behind a -"
+}
+
+fn ends_with_direction(words: &[u8]) -> bool {
+    matches!(words, [.., b' ', b'h' | b'v'])
+}
+
+/// How many words a line has: one space parts them, and what it parts may be empty.
+fn words_in(line: &[u8]) -> usize {
+    line.iter()
+        .filter(|byte| **byte == b' ')
+        .count()
+        .saturating_add(1)
+}
+
+fn expected_command(line: &[u8], header: &[u8]) -> &'static str {
+    if matches!(line, [.., b'\r']) {
+        return "a line ends with a line feed alone, without a carriage return";
+    }
+    match line {
+        [b'a' | b'g', b' ', words @ ..] => expected_size(words),
+        [b'r', b' ', words @ ..] => expected_position(words),
+        [b'l', b' ', words @ ..] if is_of_shelves(header) => expected_position(words),
+        [b'l', ..] if !is_of_shelves(header) => "an atlas of buckets knows no l",
+        [b'a' | b'g'] => "a width and a height are expected behind a or g",
+        [b'r' | b'l'] => "the position of a command is expected behind r or l",
+        [b'c', ..] => "c, which clears, stands alone",
+        [b' ', ..] => "a line doesn't begin with a space",
+        _ if is_of_shelves(header) => "a W H, r K, l K, g W H or c is expected",
+        _ => "a W H, r K, g W H or c is expected",
+    }
+}
+
+fn is_of_shelves(header: &[u8]) -> bool {
+    matches!(header, [b'a', ..])
+}
+
+fn expected_size(words: &[u8]) -> &'static str {
+    let Some((width, height)) = split_word(words) else {
+        return "a width and a height are expected, one space apart";
+    };
+    if words_in(words) != 2 {
+        return "just a width and a height are expected, one space apart";
+    }
+    if number_of(width).is_none() {
+        return "the width is a whole number of 32 bits, in digits, also behind a -";
+    }
+    if number_of(height).is_none() {
+        return "the height is a whole number of 32 bits, in digits, also behind a -";
+    }
+    "a width and a height are expected"
+}
+
+fn expected_position(words: &[u8]) -> &'static str {
+    if words_in(words) != 1 {
+        return "just the position of a command is expected";
+    }
+    if position_of(words).is_none() {
+        return "the position is digits, for at most 4294967295";
+    }
+    "the position of a command is expected"
+}
