@@ -2,7 +2,7 @@
 use Rattle.std.proofs.Common.{◌≡◌, ℕ, ◌+◌, ◌<◌, ◌≤◌, Some, List, [], ◌∷◌, ◌++◌, length, get_or, take, refl, ap, sym, ◌∙◌, arith}
 use Rattle.std.proofs.lemmas.List.{length-take-le, take_more}
 use Rattle.etagere_base.specs.declared.ids.Allocation.{Allocation}
-use Rattle.run_answers.specs.Live.{Entry}
+use Rattle.run_answers.specs.Live.{Entry, live_allocations}
 use Rattle.run_answers.specs.Private.Given.{with_entry}
 use Rattle.traffic.specs.Ledgers.{entries_from}
 
@@ -30,3 +30,9 @@ entries-more allocations position allocation within is =
     take_more allocations position allocation within ∙ ap (λ (a : Allocation). front ++ a ∷ []) (sym is) in
     sym (ap (entries_from 0) more ∙ entries-append 0 front allocation
     ∙ ap (λ n. entries_from 0 front ++ record { position = n; allocation = allocation } ∷ []) here)
+
+-- the allocations of such entries are those that were there
+pub live-first : (position : ℕ) (allocations : List Allocation) → live_allocations (entries_from position allocations) ≡ allocations
+live-first position [] = refl
+live-first position (allocation ∷ allocations) =
+    ap (λ (l : List Allocation). allocation ∷ l) (live-first (position + 1) allocations)

@@ -1,2 +1,3 @@
 pub mod FirstEntries
 pub mod Going
+pub mod Starting

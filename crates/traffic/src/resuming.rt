@@ -61,9 +61,6 @@ fn live_in(alloc: Global, atlas: &AtlasAllocator) -> Result<Vec<Allocation>, All
     ensures tied { IfOk result (λ live. AreTied live.items (allocations atlas.now)) }
     ensures promises { KeepsPromises atlas.now }
 {
-    let mut live = Vec::new(alloc);
-    for allocation in atlas.iter() {
-        live.push(allocation)?;
-    }
+    let live: Vec<Allocation> = atlas.iter().collect(alloc)?;
     Ok(live)
 }

@@ -39,7 +39,10 @@ pub fn save_atlas(
     if !had_memory(replies.as_slice()) {
         return Err(RunFault::Memory);
     }
-    atlas.snapshot().map_err(|_| RunFault::Memory)
+    let Ok(snapshot) = atlas.snapshot() else {
+        return Err(RunFault::Memory);
+    };
+    Ok(snapshot)
 }
 
 /// The snapshot of the bucketed atlas that the commands leave. As `save_atlas`.
@@ -63,12 +66,16 @@ pub fn save_buckets(
     if !had_memory(replies.as_slice()) {
         return Err(RunFault::Memory);
     }
-    atlas.snapshot().map_err(|_| RunFault::Memory)
+    let Ok(snapshot) = atlas.snapshot() else {
+        return Err(RunFault::Memory);
+    };
+    Ok(snapshot)
 }
 
 /// Whether memory was there for every command that has these replies.
 fn had_memory(replies: &[Reply]) -> bool
-    ensures { IsTrue result ↔ All HasMemory replies.now }
+    ensures same { IsTrue result ↔ All HasMemory replies.now }
+    ensures all { IsTrue result → All HasMemory replies.now }
 {
     replies.iter().all(|reply| has_memory(reply))
 }
