@@ -10,15 +10,17 @@ pub fn program(alloc: Global) -> Result<Command<'static>, AllocError> {
         .subcommand(explain(alloc)?)?
         .subcommand(stats(alloc)?)?
         .subcommand(save(alloc)?)?
-        .subcommand(resume(alloc)
-        ?)
+        .subcommand(resume(alloc)?)
 }
 
 fn explain(alloc: Global) -> Result<Command<'static>, AllocError> {
     Command::new(alloc, "explain")
         .about("Says why commands were refused, a line is bad, or a snapshot is broken")
         .after_help("Example: ./etagere explain examples/refused.atlas")
-        .arg(input(alloc, "A script, or the JSON text of a snapshot; standard input if it isn't given"))
+        .arg(input(
+            alloc,
+            "A script, or the JSON text of a snapshot; standard input if it isn't given",
+        ))
 }
 
 fn stats(alloc: Global) -> Result<Command<'static>, AllocError> {
@@ -26,7 +28,10 @@ fn stats(alloc: Global) -> Result<Command<'static>, AllocError> {
         .about("Counts what a script asks for, and says how full it leaves the atlas")
         .after_help("Example: ./etagere stats --json examples/refused.atlas")
         .arg(json(alloc))?
-        .arg(input(alloc, "A script, or the JSON text of a snapshot; standard input if it isn't given"))
+        .arg(input(
+            alloc,
+            "A script, or the JSON text of a snapshot; standard input if it isn't given",
+        ))
 }
 
 fn save(alloc: Global) -> Result<Command<'static>, AllocError> {
@@ -47,11 +52,16 @@ fn resume(alloc: Global) -> Result<Command<'static>, AllocError> {
         .help("The JSON text of a snapshot of a shelf atlas");
     Command::new(alloc, "resume")
         .about("Goes on from a snapshot: runs commands, and writes their replies")
-        .after_help("What is live in the snapshot has the positions from 0 on, by rising index; the commands have \
-            those behind them.\n\nExample: ./etagere resume saved.json more.commands")
+        .after_help(
+            "What is live in the snapshot has the positions from 0 on, by rising index; the commands have \
+            those behind them.\n\nExample: ./etagere resume saved.json more.commands",
+        )
         .arg(live)?
         .arg(snapshot)?
-        .arg(input(alloc, "Commands, a line for each, without a header; standard input if it isn't given"))
+        .arg(input(
+            alloc,
+            "Commands, a line for each, without a header; standard input if it isn't given",
+        ))
 }
 
 fn json(alloc: Global) -> Arg<'static> {

@@ -14,9 +14,11 @@ pub fn rule_words(fault: RestoreFault, is_bucketed: bool) -> &'static str {
 
 fn shelf_rule(number: u32) -> &'static str {
     match number {
-        1 => "frame: sides, area, alignments and the shelf width are within their limits, and columns fit",
+        1 =>
+            "frame: sides, area, alignments and the shelf width are within their limits, and columns fit",
         2 => "counts: there are 1 to 65535 shelf records, and as many item records",
-        3 => "link: no link leads past the records, prev names the one before, items name their shelf",
+        3 =>
+            "link: no link leads past the records, prev names the one before, items name their shelf",
         4 => "shelves: they stand column after column, one behind the other, and fill each column",
         5 => "runs: the items of a shelf lie side by side, aligned, and fill it; is_empty is right",
         6 => "neighbours: no two free items or empty shelves touch",

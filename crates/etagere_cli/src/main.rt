@@ -23,9 +23,9 @@ mod stats_text;
 use crate::arguments::program;
 use crate::ending::{Answer, Failure, failed};
 use clap::ArgMatches;
+use std::env;
 use std::process::ExitCode;
 use std::rt::{Env, Files};
-use std::env;
 
 fn main(rt: HostRuntime) -> ExitCode {
     match run(&rt) {
@@ -61,6 +61,10 @@ fn answered(
         Some(("stats", given)) => stats::stats(rt, given),
         Some(("save", given)) => saving::save(rt, given),
         Some(("resume", given)) => resuming::resume(rt, given),
-        _ => Answer::said(rt.alloc(), 2, "usage: etagere COMMAND (etagere --help lists them)"),
+        _ => Answer::said(
+            rt.alloc(),
+            2,
+            "usage: etagere COMMAND (etagere --help lists them)",
+        ),
     }
 }

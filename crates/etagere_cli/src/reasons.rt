@@ -5,7 +5,11 @@ use std::alloc::{AllocError, Global};
 use traffic::going_on::{Reason, Refused};
 
 /// What is said of a refused command behind its line.
-pub fn refused_text(alloc: Global, refused: &Refused, is_vertical: bool) -> Result<String, AllocError> {
+pub fn refused_text(
+    alloc: Global,
+    refused: &Refused,
+    is_vertical: bool,
+) -> Result<String, AllocError> {
     let Size { width, height } = refused.asked;
     let largest = largest_text(alloc, refused.largest_free)?;
     match refused.reason {
@@ -72,10 +76,14 @@ fn bucket_words(
         }
         BucketedRefusal::NoRoom { widest } => no_room(alloc, widest, asked, is_vertical),
         BucketedRefusal::NoBuckets => {
-            format!(in alloc; "there is space for a shelf, but too few of the 4095 buckets are left")
+            format!(in alloc;
+                "there is space for a shelf, but too few of the 4095 buckets are left"
+            )
         }
         BucketedRefusal::ItemsUsedUp => {
-            format!(in alloc; "a bucket has room, but has given 4095 items, and gives more once it is empty")
+            format!(in alloc;
+                "a bucket has room, but has given 4095 items, and gives more once it is empty"
+            )
         }
     }
 }
@@ -92,7 +100,9 @@ fn no_room(
     }
     if is_vertical {
         let width = asked.width;
-        return format!(in alloc; "no shelf that is tall enough has it free; {width}x{widest} would fit");
+        return format!(in alloc;
+            "no shelf that is tall enough has it free; {width}x{widest} would fit"
+        );
     }
     let height = asked.height;
     format!(in alloc; "no shelf that is tall enough has it free; {widest}x{height} would fit")

@@ -48,8 +48,16 @@ fn push_fullness(text: &mut String, fullness: &Fullness) -> Result<(), AllocErro
     push_count(text, "free_pixels", natural(fullness.free))?;
     push_count(text, "items", u128::from(fullness.items))?;
     push_count(text, parts, u128::from(fullness.idle_parts))?;
-    push_count(text, "largest_free_width", natural(fullness.largest_free.width))?;
-    push_count(text, "largest_free_height", natural(fullness.largest_free.height))?;
+    push_count(
+        text,
+        "largest_free_width",
+        natural(fullness.largest_free.width),
+    )?;
+    push_count(
+        text,
+        "largest_free_height",
+        natural(fullness.largest_free.height),
+    )?;
     push_count(text, "shelves", u128::from(fullness.shelves))?;
     push_count(text, "empty_shelves", u128::from(fullness.idle_shelves))
 }

@@ -21,13 +21,25 @@ pub fn plain_text(alloc: Global, report: &Report) -> Result<String, AllocError> 
 
 fn push_asked(text: &mut String, asked: &Asked) -> Result<(), AllocError> {
     let tally = &asked.tally;
-    writeln!(text, "allocations   {}, of which {} were refused", tally.allocations, tally.refused)?;
+    writeln!(
+        text,
+        "allocations   {}, of which {} were refused",
+        tally.allocations, tally.refused
+    )?;
     writeln!(text, "returns       {}", tally.returns)?;
     writeln!(text, "looks         {}", tally.looks)?;
-    writeln!(text, "growths       {}, of which {} were refused", tally.growths, tally.growths_refused)?;
+    writeln!(
+        text,
+        "growths       {}, of which {} were refused",
+        tally.growths, tally.growths_refused
+    )?;
     writeln!(text, "clears        {}", tally.clears)?;
     writeln!(text, "not live      {} returns and looks", tally.not_live)?;
-    writeln!(text, "live          {} at the end, {} at most", tally.live.now, tally.live.most)
+    writeln!(
+        text,
+        "live          {} at the end, {} at most",
+        tally.live.now, tally.live.most
+    )
 }
 
 /// How many thousandths of a whole a part is.
@@ -48,7 +60,10 @@ fn push_fill(text: &mut String, fullness: &Fullness) -> Result<(), AllocError> {
     let area = allocated + natural(fullness.free);
     let fill = thousandths(allocated, area);
     let (whole, tenths) = (fill / 10, fill % 10);
-    writeln!(text, "fill          {whole}.{tenths} %, {allocated} of {area} pixels")
+    writeln!(
+        text,
+        "fill          {whole}.{tenths} %, {allocated} of {area} pixels"
+    )
 }
 
 fn push_rounding(text: &mut String, fullness: &Fullness, asked: &Asked) -> Result<(), AllocError> {
@@ -56,12 +71,19 @@ fn push_rounding(text: &mut String, fullness: &Fullness, asked: &Asked) -> Resul
     let wasted = allocated.saturating_sub(asked.space);
     let share = thousandths(wasted, allocated);
     let (whole, tenths) = (share / 10, share % 10);
-    writeln!(text, "not asked for {whole}.{tenths} % of that, {wasted} pixels")
+    writeln!(
+        text,
+        "not asked for {whole}.{tenths} % of that, {wasted} pixels"
+    )
 }
 
 fn push_shelves(text: &mut String, report: &Report) -> Result<(), AllocError> {
     let fullness = &report.fullness;
-    writeln!(text, "shelves       {}, of which {} are empty", fullness.shelves, fullness.idle_shelves)?;
+    writeln!(
+        text,
+        "shelves       {}, of which {} are empty",
+        fullness.shelves, fullness.idle_shelves
+    )?;
     for same in report.heights.as_slice() {
         writeln!(text, "  {} tall: {}", same.height, same.shelves)?;
     }

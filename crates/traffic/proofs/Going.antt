@@ -1,6 +1,6 @@
 -- A run that goes through states goes on by one command.
-use Rattle.std.proofs.Common.{◌≡◌, ℕ, zero, suc, ◌+◌, ◌<◌, ◌≤◌, Option, None, Some, List, [], ◌∷◌, ◌++◌, length, get_or, take, refl, ap, sym, ◌∙◌, subst, arith}
-use Rattle.std.proofs.lemmas.List.{length-append, length-take-le, take_all, take_more}
+use Rattle.std.proofs.Common.{◌≡◌, ℕ, suc, ◌+◌, ◌<◌, Option, None, Some, List, [], ◌∷◌, ◌++◌, length, get_or, take, refl, ap, sym, ◌∙◌, subst, arith}
+use Rattle.std.proofs.lemmas.List.{length-append, length-take-le, take_more}
 use Rattle.run_commands.specs.declared.commands.Reply.{Reply}
 use Rattle.run_answers.specs.Live.{Effect, Entry, live_after, live_from}
 use Rattle.run_answers.specs.Runs.{Kind, Runs, effects}

@@ -2,11 +2,11 @@
 use Rattle.std.proofs.Common.{◌≡◌, ℕ, Option, List, [], subst, sym}
 use Rattle.etagere_base.specs.declared.frames.Frame.{Frame}
 use Rattle.run_commands.specs.declared.commands.Reply.{Reply}
-use Rattle.run_answers.specs.Live.{Effect, Entry, live_from}
+use Rattle.run_answers.specs.Live.{Entry, live_from}
 use Rattle.run_answers.specs.Runs.{Kind, Runs, effects, live_in}
 use Rattle.traffic.specs.declared.going_on.Finding.{Finding}
 use Rattle.traffic.specs.declared.going_on.Refused.{Refused}
-use Rattle.traffic.specs.GoingOn.{GoesOn, last_of}
+use Rattle.traffic.specs.GoingOn.{GoesOn}
 use Rattle.traffic.proofs.Going.{through-runs}
 
 module _ {S C : Type 0} (kind : Kind S C) (told : S → C → Reply → Option Refused) where

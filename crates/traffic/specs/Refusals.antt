@@ -1,5 +1,5 @@
 -- What is told of a command that was refused, and of a script's run.
-use Rattle.std.specs.Prelude.{◌≡◌, ℕ, Option, None, Some, option_map, List, []}
+use Rattle.std.specs.Prelude.{Option, None, Some, option_map, List, []}
 use Rattle.etagere_base.specs.declared.frames.Frame.{Frame}
 use Rattle.bucketed_model.specs.Refusal as bucket_refusals
 use Rattle.bucketed_model.specs.State.{BucketedState}
@@ -15,7 +15,6 @@ use Rattle.run_commands.specs.declared.commands.Reply.{Reply}
 use Rattle.run_commands.specs.declared.commands.Reply.TheVariants as replies
 use Rattle.run_answers.specs.Runs.{Kind}
 use Rattle.traffic.specs.declared.going_on.Finding.{Finding}
-use Rattle.traffic.specs.declared.going_on.Reason.{Reason}
 use Rattle.traffic.specs.declared.going_on.Reason.TheVariants.{OfShelves, OfBuckets, OfGrowth}
 use Rattle.traffic.specs.declared.going_on.Refused.{Refused}
 use Rattle.traffic.specs.GoingOn.{GoesOn}

@@ -1,5 +1,5 @@
 -- What is saved of an atlas that a script leaves.
-use Rattle.std.specs.Prelude.{◌≡◌, ◌≢◌, ℕ, All, List, []}
+use Rattle.std.specs.Prelude.{◌≢◌, All, List, []}
 use Rattle.etagere_base.specs.declared.frames.Frame.{Frame}
 use Rattle.bucketed_model.specs.State.{BucketedState}
 use Rattle.bucketed_records.specs.declared.snapshots.BucketedSnapshot.{BucketedSnapshot}

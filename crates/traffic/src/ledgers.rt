@@ -12,11 +12,7 @@ use std::alloc::{AllocError, Global};
 
 /// A ledger in which these allocations have the first positions, with room for so many commands behind them. Takes
 /// memory for a slot for each of both.
-pub fn ledger_of(
-    alloc: Global,
-    live: &[Allocation],
-    commands: usize,
-) -> Result<Ledger, AllocError>
+pub fn ledger_of(alloc: Global, live: &[Allocation], commands: usize) -> Result<Ledger, AllocError>
     ensures entries { IfOk result (λ ledger. entries_of ledger ≡ entries_from 0 live.now) }
     ensures slots { IfOk result (λ ledger. vec_len ledger.slots ≡ length live.now) }
     ensures room { IfOk result (λ ledger.

@@ -1,4 +1,4 @@
-use Rattle.std.proofs.Common.{◌≡◌, ℕ, ◌+◌, ◌<◌, ◌++◌, [], ◌∷◌, length, arith, rules, subst}
+use Rattle.std.proofs.Common.{◌≡◌, ℕ, ◌<◌, ◌++◌, [], ◌∷◌, length, arith, rules, subst}
 use Rattle.std.specs.Prelude.{vec_len}
 use Rattle.run_answers.specs.Private.Tables.{entries_of}
 use Rattle.run_answers.specs.Private.Tied.{IsAnswerOf}

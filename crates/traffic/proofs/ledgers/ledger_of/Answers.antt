@@ -1,5 +1,4 @@
-use Rattle.std.proofs.Common.{◌≡◌, ℕ, ◌<◌, Some, List, length, arith, ap, sym, ◌∙◌}
-use Rattle.std.specs.Prelude.{vec_len}
+use Rattle.std.proofs.Common.{◌<◌, Some, List, length, arith, ap, ◌∙◌}
 use Rattle.run_answers.specs.Live.{Entry}
 use Rattle.run_answers.specs.Private.Given.{with_entry}
 use Rattle.run_answers.specs.Private.Tables.{entries_of}
