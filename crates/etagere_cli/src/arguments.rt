@@ -16,7 +16,7 @@ pub fn program(alloc: Global) -> Result<Command<'static>, AllocError> {
 fn explain(alloc: Global) -> Result<Command<'static>, AllocError> {
     Command::new(alloc, "explain")
         .about("Says why commands were refused, a line is bad, or a snapshot is broken")
-        .after_help("Example: ./etagere explain examples/refused.atlas")
+        .after_help("Example: ./etagere explain examples/readme.atlas")
         .arg(input(
             alloc,
             "A script, or the JSON text of a snapshot; standard input if it isn't given",
@@ -26,7 +26,7 @@ fn explain(alloc: Global) -> Result<Command<'static>, AllocError> {
 fn stats(alloc: Global) -> Result<Command<'static>, AllocError> {
     Command::new(alloc, "stats")
         .about("Counts what a script asks for, and says how full it leaves the atlas")
-        .after_help("Example: ./etagere stats --json examples/refused.atlas")
+        .after_help("Example: ./etagere stats --json examples/readme.atlas")
         .arg(json(alloc))?
         .arg(input(
             alloc,
@@ -37,7 +37,7 @@ fn stats(alloc: Global) -> Result<Command<'static>, AllocError> {
 fn save(alloc: Global) -> Result<Command<'static>, AllocError> {
     Command::new(alloc, "save")
         .about("Writes the snapshot of the atlas that a script leaves, as JSON")
-        .after_help("Example: ./etagere save examples/refused.atlas > saved.json")
+        .after_help("Example: ./etagere save examples/readme.atlas > saved.json")
         .arg(input(alloc, "A script; standard input if it isn't given"))
 }
 
