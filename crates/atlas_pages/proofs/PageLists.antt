@@ -1,0 +1,51 @@
+-- Lists of pages: what is written at a number, and what holds of each.
+use Rattle.std.proofs.Common.{◌≡◌, ℕ, zero, suc, ◌<◌, ◌≤◌, Option, None, Some, List, [], ◌∷◌, ◌++◌, length, refl, ap, sym, ◌∙◌, arith}
+use Rattle.std.specs.Prelude.{slice_get, slice_set, map, option_and_then}
+use Rattle.std.specs.List.{AllByRecursion}
+use Rattle.shelf_model.specs.State.{AtlasState}
+use Rattle.atlas_pages.specs.Places.{at_page}
+
+-- what is there, written back, changes nothing
+pub slice_set-same : {X : Type 0} (xs : List X) (n : ℕ) (x : X) → slice_get xs n ≡ Some x → slice_set xs n x ≡ xs
+slice_set-same [] n x at = absurd (cc)
+slice_set-same (y ∷ ys) zero x at = let same : x ≡ y = cc in ap (λ z. z ∷ ys) same
+slice_set-same (y ∷ ys) (suc n) x at = ap (λ zs. y ∷ zs) (slice_set-same ys n x at)
+
+-- the last element, written over
+pub slice_set-last : {X : Type 0} (xs : List X) (x y : X) (n : ℕ) → n ≡ length xs → slice_set (xs ++ x ∷ []) n y ≡ xs ++ y ∷ []
+slice_set-last {X} xs x y n is = rw is (at_end xs)
+  where
+    at_end : (zs : List X) → slice_set (zs ++ x ∷ []) (length zs) y ≡ zs ++ y ∷ []
+    at_end [] = refl
+    at_end (z ∷ zs) = ap (λ l. z ∷ l) (at_end zs)
+
+-- a fact of each stays with a fact of what is written
+pub Each-set : {X : Type 0} (P : X → Type 0) (xs : List X) (n : ℕ) (x : X) → AllByRecursion P xs → P x → AllByRecursion P (slice_set xs n x)
+Each-set P [] n x each here = tt
+Each-set P (y ∷ ys) zero x each here = (here, each.1)
+Each-set P (y ∷ ys) (suc n) x each here = (each.0, Each-set P ys n x each.1 here)
+
+-- the page of a number changed is written there
+pub at_page-set : (change : AtlasState → AtlasState) (pages : List AtlasState) (n : ℕ) (page : AtlasState) → slice_get pages n ≡ Some page
+    → at_page n change pages ≡ slice_set pages n (change page)
+at_page-set change [] n page at = absurd (cc)
+at_page-set change (p ∷ pages) zero page at = let same : p ≡ page = cc in ap (λ z. change z ∷ pages) same
+at_page-set change (p ∷ pages) (suc n) page at = ap (λ l. p ∷ l) (at_page-set change pages n page at)
+
+-- a fact of each page is kept where the change keeps it
+pub Each-at_page : (P : AtlasState → Type 0) (change : AtlasState → AtlasState) (pages : List AtlasState) (n : ℕ)
+    → ((page : AtlasState) → P page → P (change page)) → AllByRecursion P pages → AllByRecursion P (at_page n change pages)
+Each-at_page P change [] n keeps each = tt
+Each-at_page P change (page ∷ pages) zero keeps each = (keeps page each.0, each.1)
+Each-at_page P change (page ∷ pages) (suc n) keeps each = (each.0, Each-at_page P change pages n keeps each.1)
+
+pub length-at_page : (change : AtlasState → AtlasState) (pages : List AtlasState) (n : ℕ) → length (at_page n change pages) ≡ length pages
+length-at_page change [] n = refl
+length-at_page change (page ∷ pages) zero = refl
+length-at_page change (page ∷ pages) (suc n) = ap suc (length-at_page change pages n)
+
+-- a fact of each element after a change of each
+pub Each-map : {X Y : Type 0} (P : X → Type 0) (Q : Y → Type 0) (f : X → Y) (xs : List X) → ((x : X) → P x → Q (f x))
+    → AllByRecursion P xs → AllByRecursion Q (map f xs)
+Each-map P Q f [] keeps each = tt
+Each-map P Q f (x ∷ xs) keeps each = (keeps x each.0, Each-map P Q f xs keeps each.1)

@@ -1,0 +1,6 @@
+pub mod Choosing
+pub mod Faults
+pub mod Pages
+pub mod Places
+pub mod Private
+pub mod Promises

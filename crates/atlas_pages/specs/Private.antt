@@ -1,0 +1,2 @@
+-- What
+pub mod Taking

@@ -1,0 +1,26 @@
+-- What an allocation on the open pages does to them.
+use Rattle.std.specs.Prelude.{◌≡◌, ℕ, Some, None, Option, List, option_map, map, take}
+use Rattle.etagere_base.specs.Least.{Found, first_least}
+use Rattle.etagere_base.specs.declared.geometry.Size.{Size}
+use Rattle.shelf_model.specs.Atlas.{KeepsPromises, NeedsSplit}
+use Rattle.shelf_model.specs.State.{AtlasState}
+use Rattle.atlas_pages.specs.declared.options.PageChoice.{PageChoice}
+use Rattle.atlas_pages.specs.declared.places.PagePlace.{PagePlace}
+use Rattle.atlas_pages.specs.Choosing.{chosen_of}
+use Rattle.atlas_pages.specs.Places.{AllocatesOn}
+use Rattle.std.specs.Prelude.{slice_get}
+
+-- a size gets a place on the page that is chosen among open ones
+pub record TakesPlace (choice : PageChoice) (old : List AtlasState) (size : Size) (place : PagePlace)
+    (new : List AtlasState) : Type 0 where
+  pub chosen : chosen_of choice size old ≡ Some place.page
+  pub allocates : AllocatesOn old size place new
+  pub promises : KeepsPromises allocates.after
+
+-- the page that is chosen among open ones has to be split for a size
+pub record NeedsSplitAmong (choice : PageChoice) (pages : List AtlasState) (size : Size) : Type 0 where
+  pub number : ℕ
+  pub page : AtlasState
+  pub chosen : chosen_of choice size pages ≡ Some number
+  pub is_open : slice_get pages number ≡ Some page
+  pub split : NeedsSplit page size

@@ -1,0 +1,15 @@
+//! Several atlases of one size and options: a size gets a place on a page that has one, and a page is opened where none
+//! has.
+//!
+//! `pages` has the public calls, `open_pages` what they do to the atlases of the open pages, `choosing` the search for
+//! the fullest page, `options` how pages are made and chosen, `places` what a size gets, `faults` why there are no such
+//! pages.
+#![tactic(auto)]
+
+mod faults;
+mod options;
+mod places;
+
+pub use faults::{FewerPages, PagesFault};
+pub use options::{PageChoice, PageOptions};
+pub use places::PagePlace;
