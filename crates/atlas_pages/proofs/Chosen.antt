@@ -1,14 +1,14 @@
 -- The page that is chosen: the first of least rank, by a loop over the pages; where there is none, each page refuses.
-use Rattle.std.proofs.Common.{◌≡◌, ℕ, zero, suc, ◌+◌, ◌<◌, ◌≤◌, Bool, true, false, cond, Option, None, Some, List, [], ◌∷◌, ◌++◌, length, map, refl, ap, sym, ◌∙◌, subst, arith, get_or, take}
-use Rattle.std.specs.Prelude.{is_some, option_map, slice_get, slice_set, nat_lt}
+use Rattle.std.proofs.Common.{◌≡◌, ℕ, zero, suc, Bool, true, cond, Option, None, Some, List, [], ◌∷◌, ◌++◌, length, map, refl, ap, ◌∙◌, arith, take}
+use Rattle.std.specs.Prelude.{is_some, option_map, slice_get}
 use Rattle.std.proofs.lemmas.Bool.Decides.{nat_tests}
 use Rattle.std.specs.List.{AllByRecursion}
-use Rattle.etagere_base.specs.Least.{Found, better, first_least, one_later, first_or}
+use Rattle.etagere_base.specs.Least.{Found, first_least, one_later, first_or}
 use Rattle.etagere_base.specs.declared.geometry.Size.{Size}
 use Rattle.shelf_model.specs.Choice.{IsRefused, Placement, placement_of}
 use Rattle.shelf_model.specs.State.{AtlasState}
 use Rattle.atlas_pages.specs.declared.options.PageChoice.{PageChoice}
-use Rattle.atlas_pages.specs.declared.options.PageChoice.TheVariants.{FirstFit, FullestFirst}
+use Rattle.atlas_pages.specs.declared.options.PageChoice.TheVariants.{FirstFit}
 use Rattle.atlas_pages.specs.Choosing.{chosen_of, has_place, page_rank, rank_by}
 
 -- a page that refuses a size has no rank

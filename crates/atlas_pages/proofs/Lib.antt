@@ -1,3 +1,9 @@
+pub mod Accepted
 pub mod Chosen
+pub mod Keeping
 pub mod PageLists
+pub mod Fullest
+pub mod PageSpaces
+pub mod Ready
+pub mod Used
 pub mod WorkedRows

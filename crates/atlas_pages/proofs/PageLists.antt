@@ -1,6 +1,7 @@
 -- Lists of pages: what is written at a number, and what holds of each.
-use Rattle.std.proofs.Common.{◌≡◌, ℕ, zero, suc, ◌<◌, ◌≤◌, Option, None, Some, List, [], ◌∷◌, ◌++◌, length, refl, ap, sym, ◌∙◌, arith}
-use Rattle.std.specs.Prelude.{slice_get, slice_set, map, option_and_then}
+use Rattle.std.proofs.Common.{◌≡◌, ℕ, zero, suc, ◌+◌, add-one, drop, drop-cons, get_or, subst, take, Result, Ok, Err, OnErr, OnOk, ◌<◌, ◌≤◌, Some, List, [], ◌∷◌, ◌++◌, length, refl, ap, sym, ◌∙◌, arith}
+use Rattle.std.specs.Prelude.{slice_get, slice_set, map}
+use Rattle.std.proofs.lemmas.List.{drop-set-lt, map-append, take_all, take_more, take_more_set}
 use Rattle.std.specs.List.{AllByRecursion}
 use Rattle.shelf_model.specs.State.{AtlasState}
 use Rattle.atlas_pages.specs.Places.{at_page}
@@ -49,3 +50,47 @@ pub Each-map : {X Y : Type 0} (P : X → Type 0) (Q : Y → Type 0) (f : X → Y
     → AllByRecursion P xs → AllByRecursion Q (map f xs)
 Each-map P Q f [] keeps each = tt
 Each-map P Q f (x ∷ xs) keeps each = (keeps x each.0, Each-map P Q f xs keeps each.1)
+
+-- a fact of the first elements, and of one more
+pub Each-more : {X : Type 0} (P : X → Type 0) (xs : List X) (n : ℕ) (x : X) → slice_get xs n ≡ Some x → AllByRecursion P (take n xs) → P x
+    → AllByRecursion P (take (n + 1) xs)
+Each-more {X} P xs n x at each here = rw (add-one n) (more xs n at each)
+  where
+    more : (ys : List X) (m : ℕ) → slice_get ys m ≡ Some x → AllByRecursion P (take m ys) → AllByRecursion P (take (suc m) ys)
+    more [] m at each = absurd (cc)
+    more (y ∷ ys) zero at each = let same : x ≡ y = cc in (subst P same here, tt)
+    more (y ∷ ys) (suc m) at each = (each.0, more ys m at each.1)
+
+-- of all elements, after the last one
+pub Each-all_taken : {X : Type 0} (P : X → Type 0) (xs : List X) (n : ℕ) → length xs ≤ n → AllByRecursion P (take n xs) → AllByRecursion P xs
+Each-all_taken P xs n all each = subst (AllByRecursion P) (take_all n xs all) each
+
+-- a fact of what an answer says
+pub OnOk-then : {A B P Q : Type 0} (r : Result A B) → OnOk r P → (P → Q) → OnOk r Q
+OnOk-then (Ok a) holds then = then holds
+OnOk-then (Err b) holds then = tt
+
+-- the first elements are mapped and the others stay: one more is mapped
+pub mapped-more : {X : Type 0} (f : X → X) (xs olds : List X) (n : ℕ) (x y : X) → length xs ≡ length olds → n < length olds → x ≡ get_or xs n x
+    → take n xs ≡ map f (take n olds) → drop n xs ≡ drop n olds → y ≡ f x
+    → (take (n + 1) (slice_set xs n y) ≡ map f (take (n + 1) olds)) × (drop (n + 1) (slice_set xs n y) ≡ drop (n + 1) olds)
+mapped-more f xs olds n x y long within at front back is =
+    let in_xs : n < length xs = omega (arith, long) in
+    let rest : get_or olds n x ∷ drop (suc n) olds ≡ get_or xs n x ∷ drop (suc n) xs =
+    sym (drop-cons olds n x within) ∙ sym back ∙ drop-cons xs n x in_xs in
+    let first : get_or olds n x ≡ x = ap (λ l. get_or l 0 x) rest ∙ sym at in (
+      take_more_set xs n y in_xs ∙ ap (λ l. l ++ y ∷ []) front
+          ∙ sym (ap (map f) (take_more olds n x within) ∙ map-append f (take n olds) (get_or olds n x ∷ [])
+          ∙ ap (λ z. map f (take n olds) ++ z ∷ []) (ap f first ∙ sym is)),
+      rw (add-one n) (drop-set-lt (suc n) xs n y (omega arith) ∙ ap (drop 1) (sym rest)),
+    )
+
+-- all are
+pub mapped-all : {X : Type 0} (f : X → X) (xs olds : List X) (n : ℕ) → length xs ≡ length olds → length olds ≤ n
+    → take n xs ≡ map f (take n olds) → xs ≡ map f olds
+mapped-all f xs olds n long all front =
+    sym (take_all n xs (omega (arith, long))) ∙ front ∙ ap (map f) (take_all n olds all)
+
+pub OnErr-of : {A B P : Type 0} (r : Result A B) → P → OnErr r P
+OnErr-of (Ok a) holds = tt
+OnErr-of (Err b) holds = holds

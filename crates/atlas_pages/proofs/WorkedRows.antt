@@ -1,14 +1,13 @@
 -- The definitions alone, with no program, give the pages and rectangles of worked examples.
-use Rattle.std.specs.Prelude.{◌≡◌, ℕ, ◌+◌, ◌-◌, pos, false, Option, None, Some, refl, length}
+use Rattle.std.specs.Prelude.{◌≡◌, ℕ, ◌+◌, ◌-◌, false, None, Some, refl, length}
 use Rattle.std.specs.Option.{option_map_or}
-use Rattle.shelf_model.specs.Returning.{returned}
 use Rattle.shelf_model.proofs.WorkedRows.{allocated, options, rectangle, size}
 use Rattle.etagere_base.specs.declared.geometry.Size.{Size}
 use Rattle.atlas_pages.specs.declared.faults.PagesFault.TheVariants.{NoPages}
 use Rattle.atlas_pages.specs.declared.options.PageChoice.{PageChoice}
 use Rattle.atlas_pages.specs.declared.options.PageChoice.TheVariants.{FirstFit, FullestFirst}
 use Rattle.atlas_pages.specs.declared.options.PageOptions.{PageOptions}
-use Rattle.atlas_pages.specs.Choosing.{chosen_page, may_open, page_for, ready_for}
+use Rattle.atlas_pages.specs.Choosing.{page_for, ready_for}
 use Rattle.atlas_pages.specs.Pages.{PagesState, no_pages, pages_fault}
 use Rattle.atlas_pages.specs.Places.{at_page, allocated_space_of, cleared, free_space_of, rectangle_on, returned_on, shrunk, with_most}
 use Rattle.shelf_model.specs.State.{AtlasState}

@@ -1,5 +1,5 @@
 -- Which page gets a size: of the pages that have a place for it the first, or the fullest.
-use Rattle.std.specs.Prelude.{◌≡◌, ℕ, ◌+◌, ◌-◌, ◌*◌, ◌<◌, ◌≤◌, Bool, ◌&&◌, false, true, is_some, nat_lt, Option, None, Some, option_map, List, [], ◌∷◌, ◌++◌, length, map, slice_get, if◌then◌else◌}
+use Rattle.std.specs.Prelude.{◌≡◌, ℕ, ◌-◌, ◌*◌, Bool, ◌&&◌, false, is_some, nat_lt, Option, None, Some, option_map, List, [], ◌∷◌, ◌++◌, length, map, if◌then◌else◌}
 use Rattle.std.specs.List.{AllByRecursion}
 use Rattle.etagere_base.specs.Least.{first_least}
 use Rattle.etagere_base.specs.declared.geometry.Size.{Size}

@@ -1,2 +1,4 @@
--- What
+-- What contracts of private functions and the invariants of private fields cite; no public clause does.
+pub mod Fullest
+pub mod Kept
 pub mod Taking

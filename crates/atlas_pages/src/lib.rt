@@ -6,10 +6,14 @@
 //! pages.
 #![tactic(auto)]
 
+mod choosing;
 mod faults;
+mod open_pages;
 mod options;
+mod pages;
 mod places;
 
 pub use faults::{FewerPages, PagesFault};
 pub use options::{PageChoice, PageOptions};
+pub use pages::AtlasPages;
 pub use places::PagePlace;

@@ -2,7 +2,7 @@
 //!
 //! Definitions: `Pages` for what is made of them, `Choosing` for the choice.
 
-ghost use Rattle.std.specs.Prelude.{◌≡◌};
+ghost use Rattle.std.specs.Prelude.{◌≡◌, ◌<◌, ◌^◌, IfNone};
 ghost use Rattle.atlas_pages.specs.Pages as pages;
 
 use crate::faults::PagesFault;
@@ -32,7 +32,8 @@ pub struct PageOptions {
 
 /// The first fault of options of pages.
 pub(crate) fn pages_fault(options: &PageOptions) -> Option<PagesFault>
-    ensures { result ≡ pages.pages_fault options.now }
+    ensures value { result ≡ pages.pages_fault options.now }
+    ensures short { IfNone result (options.now.most_pages < 2 ^ 32) }
 {
     if let Some(fault) = options_fault(LONGEST_SIDE, options.size, &options.atlas) {
         return Some(PagesFault::Options(fault));

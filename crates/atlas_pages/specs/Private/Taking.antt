@@ -1,6 +1,5 @@
 -- What an allocation on the open pages does to them.
-use Rattle.std.specs.Prelude.{◌≡◌, ℕ, Some, None, Option, List, option_map, map, take}
-use Rattle.etagere_base.specs.Least.{Found, first_least}
+use Rattle.std.specs.Prelude.{◌≡◌, ℕ, Some, List}
 use Rattle.etagere_base.specs.declared.geometry.Size.{Size}
 use Rattle.shelf_model.specs.Atlas.{KeepsPromises, NeedsSplit}
 use Rattle.shelf_model.specs.State.{AtlasState}

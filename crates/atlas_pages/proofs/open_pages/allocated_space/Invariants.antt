@@ -1,0 +1,8 @@
+use Rattle.std.proofs.Common.{◌≡◌, ◌*◌, ◌^◌, ◌≤◌, take}
+use Rattle.etagere_base.specs.Lists.{total}
+use Rattle.shelf_model.specs.Space as space
+use Rattle.atlas_pages.proofs.open_pages.allocated_space.Given as goal
+
+abbrev pub invariant-loop-page : goal.invariant-loop-page
+invariant-loop-page l =
+    (l.space ≡ total space.allocated_space (take l.page-index l.pages)) × (l.space ≤ l.page-index * 2 ^ 31)

@@ -1,0 +1,224 @@
+//! The public calls of pages.
+//!
+//! Definitions: `Pages` for what the clauses see, `Choosing` and `Places` for what becomes of it, `Promises` for what
+//! pages keep. The clauses stay as they are: callers prove by them.
+
+ghost use Rattle.std.specs.Prelude.{◌≡◌, ◌↔◌, ◌+◌, ◌<◌, [], false, true, Err, None, Some, IfOk, IfErr, IfSome, IfNone, OnOk, OnErr, IsErr, IsTrue, IsOkAnd, MatchOption, length, slice_get};
+ghost use Rattle.std.specs.List.{AllByRecursion};
+ghost use Rattle.std.specs.Option.{option_copied};
+ghost use Rattle.shelf_model.specs.Places.{allocations};
+ghost use Rattle.shelf_model.specs.State.{AtlasState};
+ghost use Rattle.atlas_pages.specs.Choosing as choosing;
+ghost use Rattle.atlas_pages.specs.Choosing.{IsRefusedByAll};
+ghost use Rattle.atlas_pages.specs.Pages as model;
+ghost use Rattle.atlas_pages.specs.Pages.{ArePageOptions, no_pages};
+ghost use Rattle.atlas_pages.specs.Places as places;
+ghost use Rattle.atlas_pages.specs.Places.{NeedsMemory, Places, is_allocated_on, returned_on, shrunk, with_most};
+ghost use Rattle.atlas_pages.specs.Promises.{KeepsPagesPromises};
+
+use crate::choosing::allocate_open;
+use crate::faults::{FewerPages, PagesFault};
+use crate::open_pages::{self, clear_each, drop_empty_end, open_with, return_on};
+use crate::options::{PageOptions, pages_fault};
+use crate::places::PagePlace;
+use etagere::{AllocId, AtlasAllocator, Rectangle, Size, UnknownId};
+use etagere_base::atlas_frame;
+use shelf_store::choosing::fits_when_empty;
+use std::alloc::{AllocError, Global};
+use std::marker::Model;
+
+/// Several atlases of one size and options, the pages: a size gets a place on one that has room, and where none has, a
+/// page is opened, up to the most that there may be.
+///
+/// ```text
+/// let mut pages = AtlasPages::new(alloc, &options)?;
+/// let place = pages.allocate(size2(9, 14))?;        // Some: page 0, and a rectangle with an id
+/// ```
+#[derive(Drop)]
+pub struct AtlasPages {
+    options: PageOptions,
+    pages: Vec<AtlasAllocator>,
+    alloc: Global,
+}
+
+impl Model for AtlasPages {
+    ghost use Rattle.atlas_pages.specs.Pages.{PagesState};
+
+    ghost Value = { PagesState };
+
+    ghost use Rattle.atlas_pages.specs.Private.Kept.{IsKept, state_in};
+
+    ghost view = { state_in };
+
+    ghost invariant = { IsKept };
+}
+
+impl AtlasPages {
+    /// Pages of these options, of which none is open yet.
+    ///
+    /// Returns the first fault of the options. Takes no memory, and constant time.
+    pub fn new(alloc: Global, options: &PageOptions) -> Result<AtlasPages, PagesFault>
+        ensures ok { IfOk result (λ pages. pages ≡ no_pages options.now) }
+        ensures accepted { OnOk result (ArePageOptions options.now) }
+        ensures fault { MatchOption (model.pages_fault options.now)
+            (OnErr result (⊥))
+            (λ fault. result ≡ Err fault) }
+        ensures promises { IfOk result KeepsPagesPromises }
+    {
+        if let Some(fault) = pages_fault(options) {
+            return Err(fault);
+        }
+        Ok(AtlasPages {
+            options: *options,
+            pages: Vec::new(alloc),
+            alloc,
+        })
+    }
+
+    /// Gives a rectangle that is at least as large as the size in pixels, and its page; none where no page has room and
+    /// none may be opened, or an empty one has no room either.
+    ///
+    /// Of the pages that have a place the options choose one. Where none has, a page is opened behind the others.
+    /// `Err` comes only where the size has a place, but the page has to be opened or split for it, and there was no
+    /// memory. After an `Err` or none nothing has changed. Takes the memory of an allocation, and for a page that is
+    /// opened that of an atlas and of its entry.
+    ///
+    /// By first fit the pages are asked in turn up to the first that has a place. By fullest first each is asked that is
+    /// fuller than the best so far, and goes through its shelves for that.
+    pub fn allocate(&mut self, size: Size) -> Result<Option<PagePlace>, AllocError>
+        ensures placed { IfOk result
+            (λ answer. IfSome answer (λ place. Places self.old size place self.new)) }
+        ensures refused { IfOk result (λ answer. IfNone answer (IsRefusedByAll self.old size)) }
+        ensures none { IfOk result (λ answer. IfNone answer (self.new ≡ self.old)) }
+        ensures err { OnErr result (self.new ≡ self.old) }
+        ensures memory { OnErr result (NeedsMemory self.old size) }
+        ensures promises { KeepsPagesPromises self.new }
+    {
+        if let Some(place) = allocate_open(self.options.choice, &mut self.pages, size)? {
+            return Ok(Some(place));
+        }
+        if !self.may_open(size) {
+            return Ok(None);
+        }
+        let place = open_with(self.alloc, &self.options, &mut self.pages, size)?;
+        Ok(Some(place))
+    }
+
+    /// Whether a page may be opened for a size.
+    fn may_open(&self, size: Size) -> bool
+        ensures { result ≡ choosing.may_open self.now size }
+    {
+        let frame = atlas_frame(self.options.size, &self.options.atlas);
+        self.page_count() < self.options.most_pages && fits_when_empty(&frame, size)
+    }
+
+    /// Takes back the rectangle that is allocated on a page under an id. The page stays open.
+    ///
+    /// `Err` comes exactly where the page isn't open, or nothing is allocated there under the id; then nothing changes.
+    /// Takes no memory. Costs what `AtlasAllocator::deallocate` does.
+    pub fn deallocate(&mut self, page: u32, id: AllocId) -> Result<(), UnknownId>
+        ensures ok { OnOk result (self.new ≡ returned_on self.old page id) }
+        ensures unknown { IsErr result ↔ (is_allocated_on self.old page id ≡ false) }
+        ensures err { OnErr result (self.new ≡ self.old) }
+        ensures promises { KeepsPagesPromises self.new }
+    {
+        return_on(&mut self.pages, page, id)
+    }
+
+    /// The rectangle that is allocated on a page under an id, as it was given; none exactly where the page isn't open or
+    /// nothing is.
+    ///
+    /// Takes no memory, and constant time.
+    pub fn get(&self, page: u32, id: AllocId) -> Option<Rectangle>
+        ensures { result ≡ places.rectangle_on self.now page id }
+    {
+        open_pages::rectangle_on(&self.pages, page, id)
+    }
+
+    /// An open page, for its space, its picture and what is allocated there; none exactly where it isn't open. Takes
+    /// constant time.
+    pub fn page(&self, page: u32) -> Option<&AtlasAllocator>
+        ensures { option_copied result ≡ slice_get self.now.pages page }
+    {
+        self.pages.get(page as usize)
+    }
+
+    /// How many pages are open. Takes constant time.
+    pub fn page_count(&self) -> u32
+        ensures count { result ≡ length self.now.pages }
+        ensures promises { KeepsPagesPromises self.now }
+    {
+        self.pages.len() as u32
+    }
+
+    /// How pages are made, how many there may be, and which of them gets a size. Takes constant time.
+    pub fn options(&self) -> PageOptions
+        ensures { result ≡ self.now.options }
+    {
+        self.options
+    }
+
+    /// Whether nothing is allocated on any page. Goes through the pages.
+    pub fn is_empty(&self) -> bool
+        ensures { IsTrue result
+            ↔ AllByRecursion (λ (page : AtlasState). allocations page ≡ []) self.now.pages }
+    {
+        open_pages::are_empty(&self.pages)
+    }
+
+    /// Takes everything back at once: each open page is as new, and stays open.
+    ///
+    /// Takes no memory. Goes through the columns of each page.
+    pub fn clear(&mut self)
+        ensures cleared { self.new ≡ places.cleared self.old }
+        ensures promises { KeepsPagesPromises self.new }
+    {
+        clear_each(&mut self.pages);
+    }
+
+    /// Sets how many pages there may be to this number, which is at least what it was. No page is opened.
+    ///
+    /// `Err` comes exactly where there may be more already; then nothing changes. Takes no memory, and constant time.
+    pub fn grow(&mut self, most_pages: u32) -> Result<(), FewerPages>
+        ensures ok { OnOk result (self.new ≡ with_most self.old most_pages) }
+        ensures fewer { IsErr result ↔ (most_pages < self.old.options.most_pages) }
+        ensures err { OnErr result (self.new ≡ self.old) }
+        ensures promises { KeepsPagesPromises self.new }
+    {
+        if most_pages < self.options.most_pages {
+            return Err(FewerPages);
+        }
+        self.options.most_pages = most_pages;
+        Ok(())
+    }
+
+    /// Closes the empty pages at the end, up to the last on which something is allocated, and gives back their memory.
+    /// Pages between others stay open, so numbers stay what they are.
+    ///
+    /// Answers how many were closed. Takes no memory. Goes through the pages.
+    pub fn shrink(&mut self) -> u32
+        ensures shrunk { self.new ≡ shrunk self.old }
+        ensures count { result + length self.new.pages ≡ length self.old.pages }
+        ensures promises { KeepsPagesPromises self.new }
+    {
+        let before = self.page_count();
+        drop_empty_end(&mut self.pages);
+        before - self.page_count()
+    }
+
+    /// The areas of everything that is allocated, added up, in square pixels. Goes through the pages.
+    pub fn allocated_space(&self) -> u64
+        ensures space { result ≡ places.allocated_space_of self.now }
+        ensures promises { KeepsPagesPromises self.now }
+    {
+        open_pages::allocated_space(&self.pages)
+    }
+
+    /// The areas of the open pages less what is allocated, added up, in square pixels. Goes through the pages.
+    pub fn free_space(&self) -> u64
+        ensures space { result ≡ places.free_space_of self.now }
+        ensures promises { KeepsPagesPromises self.now }
+    {
+        open_pages::free_space(&self.pages)
+    }
+}

@@ -1,0 +1,40 @@
+//! What a test judges, as calls that promise nothing, so that a test is proved safe in little time.
+
+use atlas_pages::{AtlasPages, PagePlace};
+use etagere::size2;
+use std::fmt::Debug;
+use std::process::Abort;
+use std::test::Fail;
+use test_support::corners::corners;
+
+pub fn equal<T: PartialEq + Debug>(rt: &impl Abort, found: &T, wanted: &T) {
+    assert_eq!(rt; found, wanted);
+}
+
+/// A size has a place on this page, with these corners.
+pub fn is_on(
+    rt: &impl Abort,
+    pages: &mut AtlasPages,
+    (width, height): (i32, i32),
+    page: u32,
+    wanted: [i32; 4],
+) -> Result<PagePlace, Fail> {
+    let place = pages.allocate(size2(width, height))?.ok_or("no place")?;
+    assert_eq!(rt; place.page, page, "at {width} {height}");
+    assert_eq!(rt;
+        corners(place.allocation.rectangle),
+        wanted,
+        "at {width} {height}"
+    );
+    Ok(place)
+}
+
+pub fn is_refused(
+    rt: &impl Abort,
+    pages: &mut AtlasPages,
+    (width, height): (i32, i32),
+) -> Result<(), Fail> {
+    let answer = pages.allocate(size2(width, height))?;
+    assert!(rt; answer.is_none(), "at {width} {height}");
+    Ok(())
+}
