@@ -3,7 +3,9 @@ use Rattle.std.proofs.Common.{◌≡◌, ℕ, ◌^◌, ◌<◌, ◌≤◌, Some,
 use Rattle.std.proofs.lemmas.List.{length-append, length-map, length-set}
 use Rattle.std.specs.List.{AllByRecursion}
 use Rattle.std.specs.Prelude.{IfSome, slice_get}
+use Rattle.etagere_base.specs.declared.frames.Frame.{Frame}
 use Rattle.etagere_base.specs.declared.geometry.Size.{Size}
+use Rattle.etagere_base.specs.Rectangles.{IsLarge}
 use Rattle.etagere_base.specs.Frames.{longest_side, options_fault}
 use Rattle.etagere_base.proofs.EachLemmas.{Each-append, Each-get, Each-weaken}
 use Rattle.etagere_base.proofs.ReplacedLists.{slice_get-append}
@@ -14,9 +16,10 @@ use Rattle.shelf_model.specs.State.{AtlasState}
 use Rattle.shelf_model.proofs.Callers.{promises-cleared, promises-returned}
 use Rattle.atlas_pages.specs.declared.options.PageOptions.{PageOptions}
 use Rattle.atlas_pages.specs.declared.places.PagePlace.{PagePlace}
-use Rattle.atlas_pages.specs.Pages.{ArePageOptions, PagesState, empty_page, no_pages}
+use Rattle.atlas_pages.specs.Pages.{ArePageOptions, PagesState, empty_page, no_pages, page_frame}
 use Rattle.atlas_pages.specs.Places.{AllocatesOn, at_page, cleared, returned_on, shrunk, with_most}
 use Rattle.atlas_pages.specs.Promises.{IsPage, KeepsPagesPromises}
+use Rattle.atlas_pages.specs.Private.Taking.{TakesPlace}
 use Rattle.atlas_pages.proofs.Accepted.{or_no_pages-more}
 use Rattle.atlas_pages.proofs.PageLists.{Each-at_page, Each-map, Each-set, length-at_page, slice_set-last}
 use Rattle.atlas_pages.proofs.Used.{Each-used_pages, length-used_pages}
@@ -131,3 +134,10 @@ pub keeps-answered : {A B : Type 0} (answer : Result A B) (state : PagesState) (
     → KeepsPagesPromises (record { options = state.options; pages = pages })
 keeps-answered (Ok a) state page id pages keeps ok err = rw ok (keeps-returned state page id keeps)
 keeps-answered (Err b) state page id pages keeps ok err = rw err keeps
+
+-- what was given is large enough for a page
+pub large-taken : (state : PagesState) (size : Size) (place : PagePlace) (pages : List AtlasState) → KeepsPagesPromises state
+    → TakesPlace state.options.choice state.pages size place pages → IsLarge (page_frame state.options) size place.allocation.rectangle
+large-taken state size place pages keeps takes =
+    let page = Each-get (IsPage state.options) state.pages place.page takes.allocates.before takes.allocates.is_open keeps.pages in
+    subst (λ (frame : Frame). IsLarge frame size place.allocation.rectangle) page.frame takes.large

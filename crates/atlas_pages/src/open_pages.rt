@@ -5,6 +5,7 @@
 ghost use Rattle.std.specs.Prelude.{◌≡◌, ◌↔◌, ◌+◌, ◌<◌, ◌≤◌, ◌*◌, ◌^◌, ◌++◌, [], ◌∷◌, true, false, None, Some, IfOk, IfErr, IfSome, IfNone, OnOk, OnErr, IsErr, IsTrue, is_some, length, map, option_and_then, slice_get, take};
 ghost use Rattle.std.specs.List.{AllByRecursion};
 ghost use Rattle.etagere_base.specs.Lists.{total};
+ghost use Rattle.etagere_base.specs.Rectangles.{IsLarge};
 ghost use Rattle.shelf_model.specs.Atlas.{KeepsPromises};
 ghost use Rattle.shelf_model.specs.Fresh.{fresh};
 ghost use Rattle.shelf_model.specs.Places.{allocations, rectangle_of};
@@ -13,7 +14,7 @@ ghost use Rattle.shelf_model.specs.Space as space;
 ghost use Rattle.shelf_model.specs.State.{AtlasState};
 ghost use Rattle.atlas_pages.specs.Choosing as choosing;
 ghost use Rattle.atlas_pages.specs.Choosing.{chosen_of, has_place};
-ghost use Rattle.atlas_pages.specs.Pages.{ArePageOptions, empty_page};
+ghost use Rattle.atlas_pages.specs.Pages.{ArePageOptions, empty_page, page_frame};
 ghost use Rattle.atlas_pages.specs.Places.{AllocatesOn, at_page, used_pages};
 ghost use Rattle.atlas_pages.specs.Private.Taking.{NeedsSplitAmong, TakesPlace};
 
@@ -58,6 +59,8 @@ pub(crate) fn open_with(
     ensures page { IfOk result (λ place. place.page ≡ length pages.old.items) }
     ensures placed { IfOk result (λ place.
         AllocatesOn (pages.old.items ++ empty_page options.now ∷ []) size place pages.new.items) }
+    ensures large { IfOk result
+        (λ place. IsLarge (page_frame options.now) size place.allocation.rectangle) }
     ensures kept { IfOk result (λ place. IfSome (slice_get pages.new.items place.page) KeepsPromises) }
     ensures err { OnErr result (pages.new.items ≡ pages.old.items) }
 {

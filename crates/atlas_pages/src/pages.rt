@@ -6,12 +6,13 @@
 ghost use Rattle.std.specs.Prelude.{◌≡◌, ◌↔◌, ◌+◌, ◌<◌, [], false, true, Err, None, Some, IfOk, IfErr, IfSome, IfNone, OnOk, OnErr, IsErr, IsTrue, IsOkAnd, MatchOption, length, slice_get};
 ghost use Rattle.std.specs.List.{AllByRecursion};
 ghost use Rattle.std.specs.Option.{option_copied};
+ghost use Rattle.etagere_base.specs.Rectangles.{IsLarge};
 ghost use Rattle.shelf_model.specs.Places.{allocations};
 ghost use Rattle.shelf_model.specs.State.{AtlasState};
 ghost use Rattle.atlas_pages.specs.Choosing as choosing;
 ghost use Rattle.atlas_pages.specs.Choosing.{IsRefusedByAll};
 ghost use Rattle.atlas_pages.specs.Pages as model;
-ghost use Rattle.atlas_pages.specs.Pages.{ArePageOptions, no_pages};
+ghost use Rattle.atlas_pages.specs.Pages.{ArePageOptions, no_pages, page_frame};
 ghost use Rattle.atlas_pages.specs.Places as places;
 ghost use Rattle.atlas_pages.specs.Places.{NeedsMemory, Places, is_allocated_on, returned_on, shrunk, with_most};
 ghost use Rattle.atlas_pages.specs.Promises.{KeepsPagesPromises};
@@ -88,6 +89,8 @@ impl AtlasPages {
     pub fn allocate(&mut self, size: Size) -> Result<Option<PagePlace>, AllocError>
         ensures placed { IfOk result
             (λ answer. IfSome answer (λ place. Places self.old size place self.new)) }
+        ensures large { IfOk result (λ answer. IfSome answer
+            (λ place. IsLarge (page_frame self.old.options) size place.allocation.rectangle)) }
         ensures refused { IfOk result (λ answer. IfNone answer (IsRefusedByAll self.old size)) }
         ensures none { IfOk result (λ answer. IfNone answer (self.new ≡ self.old)) }
         ensures err { OnErr result (self.new ≡ self.old) }

@@ -1,6 +1,7 @@
 -- What an allocation on the open pages does to them.
 use Rattle.std.specs.Prelude.{◌≡◌, ℕ, Some, List}
 use Rattle.etagere_base.specs.declared.geometry.Size.{Size}
+use Rattle.etagere_base.specs.Rectangles.{IsLarge}
 use Rattle.shelf_model.specs.Atlas.{KeepsPromises, NeedsSplit}
 use Rattle.shelf_model.specs.State.{AtlasState}
 use Rattle.atlas_pages.specs.declared.options.PageChoice.{PageChoice}
@@ -15,6 +16,7 @@ pub record TakesPlace (choice : PageChoice) (old : List AtlasState) (size : Size
   pub chosen : chosen_of choice size old ≡ Some place.page
   pub allocates : AllocatesOn old size place new
   pub promises : KeepsPromises allocates.after
+  pub large : IsLarge allocates.before.frame size place.allocation.rectangle
 
 -- the page that is chosen among open ones has to be split for a size
 pub record NeedsSplitAmong (choice : PageChoice) (pages : List AtlasState) (size : Size) : Type 0 where

@@ -55,4 +55,5 @@ returns-clause-placed c =
         others = refl;
       };
       promises = c.allocate.ensures.promises;
+      large = rw c.in-Some-2.is at c.in_ok-allocation.ensures.large;
     }

@@ -48,6 +48,7 @@ returns-in-Some-clause-placed c =
         others = ap (λ (l : List AtlasState). slice_set l c.loop-number.number c.allocate.new.self) c.loop-number.invariant.0;
       };
       promises = c.allocate.ensures.promises;
+      large = rw c.in-Some.is at c.in_ok-allocation.ensures.large;
     }
 
 pub returns-clause-none : goal.returns-clause-none

@@ -1,5 +1,6 @@
 use Rattle.std.proofs.Common.{rules, ◌≡◌, [], length, subst, sym, ◌∙◌}
 use Rattle.etagere_base.proofs.ReplacedLists.{slice_get-append}
+use Rattle.etagere_base.specs.Rectangles.{IsLarge}
 use Rattle.shelf_model.specs.Atlas.{Allocates}
 use Rattle.shelf_model.specs.State.{AtlasState}
 use Rattle.atlas_pages.specs.Pages.{empty_page}
@@ -25,3 +26,8 @@ returns-clause-kept c =
     let items = c.args.pages.now.items in
     let long : length items ≡ c.len-page.result = search rules in
     rw (c.in_ok-push.ensures.items, slice_get-append items c.allocate.new.self [] c.len-page.result long) c.allocate.ensures.promises
+
+pub returns-clause-large : goal.returns-clause-large
+returns-clause-large c =
+    subst (λ (s : AtlasState). IsLarge s.frame c.args.size c.in-Some.allocation.rectangle) c.in-Ok.ensures.ok
+    (rw c.in-Some.is at c.in_ok-allocation.ensures.large)

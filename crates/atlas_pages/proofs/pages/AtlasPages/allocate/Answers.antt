@@ -1,11 +1,12 @@
 use Rattle.std.proofs.Common.{◌≡◌, ◌∙◌, None, List, true, false, ap, subst, sym}
+use Rattle.etagere_base.specs.Rectangles.{IsLarge}
 use Rattle.shelf_model.specs.State.{AtlasState}
 use Rattle.atlas_pages.specs.Choosing.{IsRefusedByAll, chosen_of, chosen_page, may_open}
-use Rattle.atlas_pages.specs.Pages.{PagesState}
+use Rattle.atlas_pages.specs.Pages.{PagesState, page_frame}
 use Rattle.atlas_pages.specs.Places.{Places}
 use Rattle.atlas_pages.specs.Promises.{KeepsPagesPromises}
 use Rattle.atlas_pages.specs.Private.Kept.{state_in}
-use Rattle.atlas_pages.proofs.Keeping.{each-keeps, keeps-allocated, keeps-opened_with}
+use Rattle.atlas_pages.proofs.Keeping.{each-keeps, large-taken, keeps-allocated, keeps-opened_with}
 use Rattle.atlas_pages.proofs.Ready.{opens-few, places-opened, refused_by_all}
 use Rattle.atlas_pages.proofs.pages.AtlasPages.allocate.Goals as goal
 
@@ -53,3 +54,14 @@ returns-clause-placed c =
     ap (λ (l : List AtlasState). record { options = c.self.inside.options; pages = l }) stay ∙ c.self.view_is in
     subst (λ (s : PagesState). Places s c.args.size c.in_ok-place-2.place (record { options = c.self.inside.options; pages = c.open_with.new.pages.items })) same
     (places-opened state c.args.size c.in_ok-place-2.place c.open_with.new.pages.items none opens c.in_ok-place-2.ensures.page c.in_ok-place-2.ensures.placed)
+
+pub returns-in-Some-clause-large : goal.returns-in-Some-clause-large
+returns-in-Some-clause-large c =
+    subst (λ (s : PagesState). IsLarge (page_frame s.options) c.args.size c.in-Some.place.allocation.rectangle) c.self.view_is
+    (large-taken (state_in c.self.inside) c.args.size c.in-Some.place c.allocate_open.new.pages.items c.self.invariant
+    (rw c.in-Some.is at c.in_ok-place.ensures.placed))
+
+pub returns-clause-large : goal.returns-clause-large
+returns-clause-large c =
+    subst (λ (s : PagesState). IsLarge (page_frame s.options) c.args.size c.in_ok-place-2.place.allocation.rectangle) c.self.view_is
+    c.in_ok-place-2.ensures.large
