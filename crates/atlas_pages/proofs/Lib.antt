@@ -1,4 +1,5 @@
 pub mod Accepted
+pub mod ByRule
 pub mod Chosen
 pub mod Keeping
 pub mod PageLists

@@ -1,5 +1,6 @@
 pub mod Choosing
 pub mod Faults
+pub mod Laws
 pub mod Pages
 pub mod Places
 pub mod Private

@@ -3,11 +3,12 @@
 //!
 //! `pages` has the public calls, `open_pages` what they do to the atlases of the open pages, `choosing` the search for
 //! the fullest page, `options` how pages are made and chosen, `places` what a size gets, `faults` why there are no such
-//! pages.
+//! pages. `laws` states the rules of the choice.
 #![tactic(auto)]
 
 mod choosing;
 mod faults;
+pub mod laws;
 mod open_pages;
 mod options;
 mod pages;
