@@ -1,7 +1,7 @@
 //! What a test judges, as calls that promise nothing, so that a test is proved safe in little time.
 
 use atlas_pages::{AtlasPages, PagePlace};
-use etagere::size2;
+use etagere::{Allocation, Rectangle, size2};
 use std::fmt::Debug;
 use std::process::Abort;
 use std::test::Fail;
@@ -37,4 +37,19 @@ pub fn is_refused(
     let answer = pages.allocate(size2(width, height))?;
     assert!(rt; answer.is_none(), "at {width} {height}");
     Ok(())
+}
+
+/// Gives a place back.
+pub fn give_back(pages: &mut AtlasPages, place: &PagePlace) -> Result<(), Fail> {
+    let PagePlace { page, allocation } = *place;
+    let Allocation { id, rectangle: _ } = allocation;
+    pages.deallocate(page, id)?;
+    Ok(())
+}
+
+/// What is at a place now.
+pub fn found(pages: &AtlasPages, place: &PagePlace) -> Option<Rectangle> {
+    let PagePlace { page, allocation } = *place;
+    let Allocation { id, rectangle: _ } = allocation;
+    pages.get(page, id)
 }

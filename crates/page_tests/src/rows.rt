@@ -1,10 +1,11 @@
 //! Rows that were worked out by hand from the rules: a shelf's height is rounded up by steps of 8, 16, 32 or 64.
 
-use crate::assertions::{equal, is_on, is_refused};
+use crate::assertions::{equal, found, give_back, is_on, is_refused};
 use atlas_pages::{AtlasPages, FewerPages, PageChoice, PageOptions, PagesFault};
 use etagere::{AllocId, DEFAULT_OPTIONS, OptionsFault, UnknownId, size2};
 use std::alloc::Global;
 use std::test::Fail;
+use test_support::corners::corners;
 
 fn page_options((width, height): (i32, i32), most_pages: u32, choice: PageChoice) -> PageOptions {
     PageOptions {
@@ -33,12 +34,8 @@ fn a_page_is_opened_where_no_open_one_has_a_place(rt: HostRuntime) -> Result<(),
     equal(&rt, &pages.allocated_space(), &(4096 + 4096 + 720));
     equal(&rt, &pages.free_space(), &(4096 - 720));
 
-    equal(
-        &rt,
-        &pages.deallocate(first.page, first.allocation.id),
-        &Ok(()),
-    );
-    equal(&rt, &pages.get(first.page, first.allocation.id), &None);
+    give_back(&mut pages, &first)?;
+    equal(&rt, &found(&pages, &first), &None);
     is_on(&rt, &mut pages, (60, 60), 0, [0, 0, 64, 64])?;
     Ok(())
 }
@@ -52,7 +49,7 @@ fn a_size_goes_to_the_first_or_to_the_fullest(rt: HostRuntime) -> Result<(), Fai
         let mut pages = pages_of(rt.alloc(), 2, choice)?;
         let first = is_on(&rt, &mut pages, (60, 60), 0, [0, 0, 64, 64])?;
         is_on(&rt, &mut pages, (30, 20), 1, [0, 0, 30, 24])?;
-        pages.deallocate(first.page, first.allocation.id)?;
+        give_back(&mut pages, &first)?;
         is_on(&rt, &mut pages, (10, 10), page, wanted)?;
     }
     Ok(())
@@ -73,16 +70,16 @@ fn empty_pages_at_the_end_go(rt: HostRuntime) -> Result<(), Fail> {
     let first = is_on(&rt, &mut pages, (60, 60), 0, [0, 0, 64, 64])?;
     let second = is_on(&rt, &mut pages, (60, 60), 1, [0, 0, 64, 64])?;
     let third = is_on(&rt, &mut pages, (60, 60), 2, [0, 0, 64, 64])?;
-    pages.deallocate(0, first.allocation.id)?;
-    pages.deallocate(2, third.allocation.id)?;
+    give_back(&mut pages, &first)?;
+    give_back(&mut pages, &third)?;
     equal(&rt, &pages.shrink(), &1);
     equal(&rt, &pages.page_count(), &2);
     equal(
         &rt,
-        &pages.get(1, second.allocation.id),
-        &Some(second.allocation.rectangle),
+        &found(&pages, &second).map(corners),
+        &Some([0, 0, 64, 64]),
     );
-    equal(&rt, &pages.get(2, third.allocation.id), &None);
+    equal(&rt, &found(&pages, &third), &None);
     pages.clear();
     equal(&rt, &pages.is_empty(), &true);
     equal(&rt, &pages.page_count(), &2);
