@@ -5,7 +5,12 @@ use etagere::{Allocation, Rectangle, size2};
 use std::fmt::Debug;
 use std::process::Abort;
 use std::test::Fail;
-use test_support::corners::corners;
+
+/// The first corner of a rectangle, and the one past its last.
+pub fn corners(rectangle: Rectangle) -> [i32; 4] {
+    let Rectangle { min, max } = rectangle;
+    [min.x, min.y, max.x, max.y]
+}
 
 pub fn equal<T: PartialEq + Debug>(rt: &impl Abort, found: &T, wanted: &T) {
     assert_eq!(rt; found, wanted);

@@ -1,11 +1,10 @@
 //! Rows that were worked out by hand from the rules: a shelf's height is rounded up by steps of 8, 16, 32 or 64.
 
-use crate::assertions::{equal, found, give_back, is_on, is_refused};
+use crate::assertions::{corners, equal, found, give_back, is_on, is_refused};
 use atlas_pages::{AtlasPages, FewerPages, PageChoice, PageOptions, PagesFault};
 use etagere::{AllocId, DEFAULT_OPTIONS, OptionsFault, UnknownId, size2};
 use std::alloc::Global;
 use std::test::Fail;
-use test_support::corners::corners;
 
 fn page_options((width, height): (i32, i32), most_pages: u32, choice: PageChoice) -> PageOptions {
     PageOptions {
