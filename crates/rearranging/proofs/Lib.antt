@@ -1,0 +1,5 @@
+mod Asking
+mod Done
+mod Laws
+mod SameFrames
+mod Sorting

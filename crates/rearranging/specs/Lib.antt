@@ -1,0 +1,4 @@
+pub mod Arranging
+pub mod Options
+pub mod Order
+pub mod Private
