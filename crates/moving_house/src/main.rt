@@ -1,0 +1,134 @@
+//! Moving house by worked rows: an atlas with gaps is rearranged, and what moved, what found no place and what there is
+//! room for now is printed.
+#![tactic(auto)]
+
+use anyhow::{Context, Result};
+use etagere::{
+    AllocId, Allocation, AllocatorOptions, AtlasAllocator, DEFAULT_OPTIONS, Rectangle, Size, size2,
+};
+use rearranging::{Move, Rearranged, rearranged};
+
+fn main(rt: HostRuntime) -> Result<()> {
+    show_gaps(&rt)?;
+    show_tallest_first(&rt, false)?;
+    show_tallest_first(&rt, true)?;
+    show_faults(&rt)?;
+    show_many(&rt)
+}
+
+/// Each shelf keeps one of two items of 40x16, so there is no room for 60x16 until they move.
+fn show_gaps(rt: &(impl Print + AllocGlobal)) -> Result<()> {
+    let mut atlas = AtlasAllocator::new(rt.alloc(), size2(100, 48))?;
+    let mut firsts: [Option<AllocId>; 3] = [None; 3];
+    for first in &mut firsts {
+        *first = Some(placed(&mut atlas, size2(40, 16))?);
+        placed(&mut atlas, size2(40, 16))?;
+    }
+    for first in firsts {
+        atlas.deallocate(first.context("no id")?)?;
+    }
+    let is_refused = atlas.allocate(size2(60, 16))?.is_none();
+    println!(rt; "gaps: refused before {is_refused}")?;
+    let mut done = rearranged(rt.alloc(), &atlas, atlas.size())?;
+    show(rt, "gaps", &done)?;
+    let found = done.atlas.allocate(size2(60, 16))?.context("no room")?;
+    show_rectangle(rt, "gaps: found", found.rectangle)
+}
+
+/// Three items move into an atlas that is too small for them, the last of which stays without a place. With vertical
+/// shelves all sides are swapped.
+fn show_tallest_first(rt: &(impl Print + AllocGlobal), vertical: bool) -> Result<()> {
+    let options = AllocatorOptions {
+        vertical_shelves: vertical,
+        ..DEFAULT_OPTIONS
+    };
+    let mut atlas = AtlasAllocator::with_options(rt.alloc(), turned(100, 64, vertical), &options)?;
+    for (width, height) in [(30, 10), (30, 30), (30, 10)] {
+        placed(&mut atlas, turned(width, height, vertical))?;
+    }
+    let done = rearranged(rt.alloc(), &atlas, turned(60, 32, vertical))?;
+    show(rt, if vertical { "vertical" } else { "horizontal" }, &done)
+}
+
+/// Sizes that make no atlas, with the options of one of two columns.
+fn show_faults(rt: &(impl Print + AllocGlobal)) -> Result<()> {
+    let options = AllocatorOptions {
+        num_columns: 2,
+        ..DEFAULT_OPTIONS
+    };
+    let atlas = AtlasAllocator::with_options(rt.alloc(), size2(64, 64), &options)?;
+    for size in [
+        size2(0, 64),
+        size2(65535, 65535),
+        size2(1, 64),
+        size2(2, 64),
+    ] {
+        match rearranged(rt.alloc(), &atlas, size) {
+            Ok(done) => println!(rt; "faults: none, {} moves", done.moves.len())?,
+            Err(fault) => println!(rt; "faults: {fault}")?,
+        }
+    }
+    Ok(())
+}
+
+/// Every second one of 2000 items of 20x16 stays. These fill half of the height, and where that is less by one shelf, 50
+/// of them find no place.
+fn show_many(rt: &(impl Print + AllocGlobal)) -> Result<()> {
+    let mut atlas = AtlasAllocator::new(rt.alloc(), size2(1000, 640))?;
+    let mut gone = Vec::new(rt.alloc());
+    for _ in 0..1000 {
+        gone.push(placed(&mut atlas, size2(20, 16))?)?;
+        placed(&mut atlas, size2(20, 16))?;
+    }
+    for id in gone {
+        atlas.deallocate(id)?;
+    }
+    for height in [320, 304] {
+        let done = rearranged(rt.alloc(), &atlas, size2(1000, height))?;
+        let (moved, left) = (done.moves.len(), done.unplaced.len());
+        println!(rt;
+            "many: moved {moved}, left {left}, free {}",
+            done.atlas.free_space()
+        )?;
+        let last = done.moves.last().context("no move")?;
+        show_rectangle(rt, "many: last", last.before.rectangle)?;
+        show_rectangle(rt, "  moved to", last.after.rectangle)?;
+        if let Some(first) = done.unplaced.first() {
+            show_rectangle(rt, "many: first left", first.rectangle)?;
+        }
+    }
+    Ok(())
+}
+
+fn turned(width: i32, height: i32, vertical: bool) -> Size {
+    if vertical {
+        size2(height, width)
+    } else {
+        size2(width, height)
+    }
+}
+
+/// The id of what a size gets that has a place.
+fn placed(atlas: &mut AtlasAllocator, size: Size) -> Result<AllocId> {
+    Ok(atlas.allocate(size)?.context("no room")?.id)
+}
+
+/// Prints each move and what found no place.
+fn show(rt: &impl Print, what: &str, done: &Rearranged) -> Result<()> {
+    for Move { before, after } in &done.moves {
+        show_rectangle(rt, what, before.rectangle)?;
+        show_rectangle(rt, "  moved to", after.rectangle)?;
+    }
+    for Allocation { rectangle, .. } in &done.unplaced {
+        show_rectangle(rt, what, *rectangle)?;
+        println!(rt; "  found no place")?;
+    }
+    Ok(())
+}
+
+/// Prints a rectangle as its two corners.
+fn show_rectangle(rt: &impl Print, what: &str, rectangle: Rectangle) -> Result<()> {
+    let Rectangle { min, max } = rectangle;
+    println!(rt; "{what}: ({},{})-({},{})", min.x, min.y, max.x, max.y)?;
+    Ok(())
+}
