@@ -26,7 +26,7 @@ QUIET = [f"quiet {kind}" for kind in KINDS]
 ONCE = "split atlas"
 CHECKS = [f"check {kind}" for kind in KINDS]
 # Trials that answer one call.
-CALLS = ["walk links"]
+CALLS = ["walk links", "rearranged atlas"]
 GLYPHS = "place glyphs"
 
 

@@ -11,6 +11,7 @@ mod copies;
 mod glyphs;
 mod growing;
 mod lines;
+mod moving;
 mod quiet;
 mod runs;
 mod splits;
@@ -90,6 +91,7 @@ fn shelf_trial(rt: &(impl Print + AllocGlobal), call: &str) -> Result<bool, Repl
         "grow" => growing::grow_shelves(rt)?,
         "quiet" => quiet::quiet_shelves(rt)?,
         "split" => splits::split_items(rt)?,
+        "rearranged" => moving::rearrange_items(rt)?,
         _ => return Ok(false),
     }
     Ok(true)
