@@ -2,11 +2,12 @@
 //! `no memory` the one that was there.
 
 use crate::lines::{corners, say};
-use crate::tried::{Tried, Used};
+use crate::tried::Used;
 use etagere::{AtlasAllocator, OptionsFault};
 use etagere_run::ReplayFault;
 use rearranging::{Rearranged, rearranged};
 use std::io;
+use test_support::atlases::Atlas;
 
 pub fn rearrange_items(rt: &(impl Print + AllocGlobal)) -> Result<(), ReplayFault> {
     let (atlas, _) = AtlasAllocator::used(rt.alloc())?;
