@@ -100,7 +100,7 @@ impl PlainCache {
         if self.entries.len() == self.capacity {
             return Ok(None);
         }
-        self.atlas.ask(size)
+        Ok(self.atlas.ask(size)?)
     }
 }
 
