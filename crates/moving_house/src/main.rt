@@ -4,9 +4,12 @@
 
 use anyhow::{Context, Result};
 use etagere::{
-    AllocId, Allocation, AllocatorOptions, AtlasAllocator, DEFAULT_OPTIONS, Rectangle, Size, size2,
+    AllocId, Allocation, AllocatorOptions, AtlasAllocator, DEFAULT_OPTIONS, OptionsFault,
+    Rectangle, Size, size2,
 };
-use rearranging::{Move, Rearranged, rearranged};
+use rearranging::{Move, Rearranged};
+use std::alloc::Global;
+use test_support::atlases::Atlas;
 
 fn main(rt: HostRuntime) -> Result<()> {
     show_gaps(&rt)?;
@@ -18,20 +21,20 @@ fn main(rt: HostRuntime) -> Result<()> {
 
 /// Each shelf keeps one of two items of 40x16, so there is no room for 60x16 until they move.
 fn show_gaps(rt: &(impl Print + AllocGlobal)) -> Result<()> {
-    let mut atlas = AtlasAllocator::new(rt.alloc(), size2(100, 48))?;
+    let mut atlas = AtlasAllocator::made(rt.alloc(), size2(100, 48))?;
     let mut firsts: [Option<AllocId>; 3] = [None; 3];
     for first in &mut firsts {
         *first = Some(placed(&mut atlas, size2(40, 16))?);
         placed(&mut atlas, size2(40, 16))?;
     }
     for first in firsts {
-        atlas.deallocate(first.context("no id")?)?;
+        atlas.give_back(first.context("no id")?)?;
     }
-    let is_refused = atlas.allocate(size2(60, 16))?.is_none();
+    let is_refused = atlas.ask(size2(60, 16))?.is_none();
     println!(rt; "gaps: refused before {is_refused}")?;
-    let mut done = rearranged(rt.alloc(), &atlas, atlas.size())?;
+    let mut done = moved(rt.alloc(), &atlas, size2(100, 48))?;
     show(rt, "gaps", &done)?;
-    let found = done.atlas.allocate(size2(60, 16))?.context("no room")?;
+    let found = done.atlas.ask(size2(60, 16))?.context("no room")?;
     show_rectangle(rt, "gaps: found", found.rectangle)
 }
 
@@ -42,11 +45,11 @@ fn show_tallest_first(rt: &(impl Print + AllocGlobal), vertical: bool) -> Result
         vertical_shelves: vertical,
         ..DEFAULT_OPTIONS
     };
-    let mut atlas = AtlasAllocator::with_options(rt.alloc(), turned(100, 64, vertical), &options)?;
+    let mut atlas = AtlasAllocator::made_with(rt.alloc(), turned(100, 64, vertical), &options)?;
     for (width, height) in [(30, 10), (30, 30), (30, 10)] {
         placed(&mut atlas, turned(width, height, vertical))?;
     }
-    let done = rearranged(rt.alloc(), &atlas, turned(60, 32, vertical))?;
+    let done = moved(rt.alloc(), &atlas, turned(60, 32, vertical))?;
     show(rt, if vertical { "vertical" } else { "horizontal" }, &done)
 }
 
@@ -56,14 +59,14 @@ fn show_faults(rt: &(impl Print + AllocGlobal)) -> Result<()> {
         num_columns: 2,
         ..DEFAULT_OPTIONS
     };
-    let atlas = AtlasAllocator::with_options(rt.alloc(), size2(64, 64), &options)?;
+    let atlas = AtlasAllocator::made_with(rt.alloc(), size2(64, 64), &options)?;
     for size in [
         size2(0, 64),
         size2(65535, 65535),
         size2(1, 64),
         size2(2, 64),
     ] {
-        match rearranged(rt.alloc(), &atlas, size) {
+        match moved(rt.alloc(), &atlas, size) {
             Ok(done) => println!(rt; "faults: none, {} moves", done.moves.len())?,
             Err(fault) => println!(rt; "faults: {fault}")?,
         }
@@ -74,21 +77,21 @@ fn show_faults(rt: &(impl Print + AllocGlobal)) -> Result<()> {
 /// Every second one of 2000 items of 20x16 stays. These fill half of the height, and where that is less by one shelf, 50
 /// of them find no place.
 fn show_many(rt: &(impl Print + AllocGlobal)) -> Result<()> {
-    let mut atlas = AtlasAllocator::new(rt.alloc(), size2(1000, 640))?;
+    let mut atlas = AtlasAllocator::made(rt.alloc(), size2(1000, 640))?;
     let mut gone = Vec::new(rt.alloc());
     for _ in 0..1000 {
         gone.push(placed(&mut atlas, size2(20, 16))?)?;
         placed(&mut atlas, size2(20, 16))?;
     }
     for id in gone {
-        atlas.deallocate(id)?;
+        atlas.give_back(id)?;
     }
     for height in [320, 304] {
-        let done = rearranged(rt.alloc(), &atlas, size2(1000, height))?;
+        let done = moved(rt.alloc(), &atlas, size2(1000, height))?;
         let (moved, left) = (done.moves.len(), done.unplaced.len());
         println!(rt;
             "many: moved {moved}, left {left}, free {}",
-            done.atlas.free_space()
+            done.atlas.counts().3
         )?;
         let last = done.moves.last().context("no move")?;
         show_rectangle(rt, "many: last", last.before.rectangle)?;
@@ -98,6 +101,11 @@ fn show_many(rt: &(impl Print + AllocGlobal)) -> Result<()> {
         }
     }
     Ok(())
+}
+
+/// The call itself, which promises nothing here, so that the program is proved safe in little time.
+fn moved(alloc: Global, atlas: &AtlasAllocator, size: Size) -> Result<Rearranged, OptionsFault> {
+    rearranging::rearranged(alloc, atlas, size)
 }
 
 fn turned(width: i32, height: i32, vertical: bool) -> Size {
@@ -110,7 +118,7 @@ fn turned(width: i32, height: i32, vertical: bool) -> Size {
 
 /// The id of what a size gets that has a place.
 fn placed(atlas: &mut AtlasAllocator, size: Size) -> Result<AllocId> {
-    Ok(atlas.allocate(size)?.context("no room")?.id)
+    Ok(atlas.ask(size)?.context("no room")?.id)
 }
 
 /// Prints each move and what found no place.
