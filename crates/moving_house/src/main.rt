@@ -21,21 +21,42 @@ fn main(rt: HostRuntime) -> Result<()> {
 
 /// Each shelf keeps one of two items of 40x16, so there is no room for 60x16 until they move.
 fn show_gaps(rt: &(impl Print + AllocGlobal)) -> Result<()> {
-    let mut atlas = AtlasAllocator::made(rt.alloc(), size2(100, 48))?;
-    let mut firsts: [Option<AllocId>; 3] = [None; 3];
-    for first in &mut firsts {
-        *first = Some(placed(&mut atlas, size2(40, 16))?);
-        placed(&mut atlas, size2(40, 16))?;
-    }
-    for first in firsts {
-        atlas.give_back(first.context("no id")?)?;
-    }
+    let mut atlas = with_gaps(rt.alloc())?;
     let is_refused = atlas.ask(size2(60, 16))?.is_none();
     println!(rt; "gaps: refused before {is_refused}")?;
     let mut done = moved(rt.alloc(), &atlas, size2(100, 48))?;
     show(rt, "gaps", &done)?;
     let found = done.atlas.ask(size2(60, 16))?.context("no room")?;
     show_rectangle(rt, "gaps: found", found.rectangle)
+}
+
+fn with_gaps(alloc: Global) -> Result<AtlasAllocator> {
+    let mut atlas = AtlasAllocator::made(alloc, size2(100, 48))?;
+    let firsts = every_second(&mut atlas, alloc, 3, size2(40, 16))?;
+    give_all_back(&mut atlas, &firsts)?;
+    Ok(atlas)
+}
+
+/// Places twice so many items of a size, and gives the ids of the first, the third and so on.
+fn every_second(
+    atlas: &mut AtlasAllocator,
+    alloc: Global,
+    count: usize,
+    size: Size,
+) -> Result<Vec<AllocId>> {
+    let mut firsts = Vec::new(alloc);
+    for _ in 0..count {
+        firsts.push(placed(atlas, size)?)?;
+        placed(atlas, size)?;
+    }
+    Ok(firsts)
+}
+
+fn give_all_back(atlas: &mut AtlasAllocator, ids: &[AllocId]) -> Result<()> {
+    for id in ids {
+        atlas.give_back(*id)?;
+    }
+    Ok(())
 }
 
 /// Three items move into an atlas that is too small for them, the last of which stays without a place. With vertical
@@ -66,10 +87,15 @@ fn show_faults(rt: &(impl Print + AllocGlobal)) -> Result<()> {
         size2(1, 64),
         size2(2, 64),
     ] {
-        match moved(rt.alloc(), &atlas, size) {
-            Ok(done) => println!(rt; "faults: none, {} moves", done.moves.len())?,
-            Err(fault) => println!(rt; "faults: {fault}")?,
-        }
+        show_fault(rt, &atlas, size)?;
+    }
+    Ok(())
+}
+
+fn show_fault(rt: &(impl Print + AllocGlobal), atlas: &AtlasAllocator, size: Size) -> Result<()> {
+    match moved(rt.alloc(), atlas, size) {
+        Ok(done) => println!(rt; "faults: none, {} moves", done.moves.len())?,
+        Err(fault) => println!(rt; "faults: {fault}")?,
     }
     Ok(())
 }
@@ -78,29 +104,28 @@ fn show_faults(rt: &(impl Print + AllocGlobal)) -> Result<()> {
 /// of them find no place.
 fn show_many(rt: &(impl Print + AllocGlobal)) -> Result<()> {
     let mut atlas = AtlasAllocator::made(rt.alloc(), size2(1000, 640))?;
-    let mut gone = Vec::new(rt.alloc());
-    for _ in 0..1000 {
-        gone.push(placed(&mut atlas, size2(20, 16))?)?;
-        placed(&mut atlas, size2(20, 16))?;
-    }
-    for id in gone {
-        atlas.give_back(id)?;
-    }
+    let gone = every_second(&mut atlas, rt.alloc(), 1000, size2(20, 16))?;
+    give_all_back(&mut atlas, &gone)?;
     for height in [320, 304] {
-        let done = moved(rt.alloc(), &atlas, size2(1000, height))?;
-        let (moved, left) = (done.moves.len(), done.unplaced.len());
-        println!(rt;
-            "many: moved {moved}, left {left}, free {}",
-            done.atlas.counts().3
-        )?;
-        let last = done.moves.last().context("no move")?;
-        show_rectangle(rt, "many: last", last.before.rectangle)?;
-        show_rectangle(rt, "  moved to", last.after.rectangle)?;
-        if let Some(first) = done.unplaced.first() {
-            show_rectangle(rt, "many: first left", first.rectangle)?;
-        }
+        show_ends(rt, &moved(rt.alloc(), &atlas, size2(1000, height))?)?;
     }
     Ok(())
+}
+
+/// Prints the counts of a move, its last rectangle, and the first that was left out.
+fn show_ends(rt: &impl Print, done: &Rearranged) -> Result<()> {
+    let (count, left) = (done.moves.len(), done.unplaced.len());
+    println!(rt;
+        "many: moved {count}, left {left}, free {}",
+        done.atlas.counts().3
+    )?;
+    let last = done.moves.last().context("no move")?;
+    show_rectangle(rt, "many: last", last.before.rectangle)?;
+    show_rectangle(rt, "  moved to", last.after.rectangle)?;
+    match done.unplaced.first() {
+        Some(first) => show_rectangle(rt, "many: first left", first.rectangle),
+        None => Ok(()),
+    }
 }
 
 /// The call itself, which promises nothing here, so that the program is proved safe in little time.
