@@ -57,7 +57,7 @@ pub fn natural(number: i32) -> u128 {
 
 fn push_fill(text: &mut String, fullness: &Fullness) -> Result<(), AllocError> {
     let allocated = natural(fullness.allocated);
-    let area = allocated + natural(fullness.free);
+    let area = allocated.saturating_add(natural(fullness.free));
     let fill = thousandths(allocated, area);
     let (whole, tenths) = (fill / 10, fill % 10);
     writeln!(

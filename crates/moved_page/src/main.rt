@@ -7,10 +7,10 @@ use rearranging::rearranged;
 use std::io::{self, Write};
 use std::process::ExitCode;
 
-/// A page has these sides in pixels, and so much is left between the two.
+/// A page has these sides in pixels, and the second one begins so far to the right.
 const SIDES: (i32, i32) = (160, 128);
 
-const GAP: i32 = 16;
+const SECOND: u16 = 176;
 
 /// So many pictures come before the page is drawn, and each stays until so many have come after it.
 const COUNT: usize = 400;
@@ -39,7 +39,7 @@ fn draw_both(rt: &(impl Print + AllocGlobal)) -> Result<(), &'static str> {
         b"<svg xmlns=\"http://www.w3.org/2000/svg\" viewBox=\"0 0 336 128\">\n",
     )?;
     draw_page(&mut output, &atlas, 0)?;
-    draw_page(&mut output, &done.atlas, width + GAP)?;
+    draw_page(&mut output, &done.atlas, SECOND)?;
     write_text(&mut output, b"</svg>\n")
 }
 
@@ -53,7 +53,7 @@ fn use_for_long(rt: &impl AllocGlobal, atlas: &mut AtlasAllocator) -> Result<(),
             atlas.deallocate(*old).map_err(|_| "unknown id")?;
         }
         let placed = atlas
-            .allocate(picture_size(number))
+            .allocate(picture_size(number as u16))
             .map_err(|_| "no memory")?;
         let id = placed.map(|allocation| allocation.id);
         kept.push(id).map_err(|_| "no memory")?;
@@ -62,19 +62,21 @@ fn use_for_long(rt: &impl AllocGlobal, atlas: &mut AtlasAllocator) -> Result<(),
 }
 
 /// How large the picture of a number is, in pixels.
-fn picture_size(number: usize) -> Size {
+fn picture_size(number: u16) -> Size {
+    let number = i32::from(number);
     let wide = (number * 7 + number / 5) % 19;
     let tall = (number * 11 + number / 3) % 23;
-    size2(6 + wide as i32, 6 + tall as i32)
+    size2(6 + wide, 6 + tall)
 }
 
 /// Draws a page so far to the right.
 fn draw_page<W: Write>(
     output: &mut W,
     atlas: &AtlasAllocator,
-    left: i32,
+    left: u16,
 ) -> Result<(), &'static str> {
     let (width, height) = SIDES;
+    let left = i32::from(left);
     let area = Rectangle {
         min: point2(left, 0),
         max: point2(left + width, height),
