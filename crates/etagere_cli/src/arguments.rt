@@ -4,7 +4,7 @@ use clap::{Arg, ArgAction, Command};
 use std::alloc::{AllocError, Global};
 
 /// The whole program.
-pub fn program(alloc: Global) -> Result<Command<'static>, AllocError> {
+pub fn program<'a>(alloc: Global) -> Result<Command<'a>, AllocError> {
     Command::new(alloc, "etagere")
         .about("Looks into traffic that was recorded as a script, or at a saved atlas")
         .subcommand(explain(alloc)?)?
@@ -13,7 +13,7 @@ pub fn program(alloc: Global) -> Result<Command<'static>, AllocError> {
         .subcommand(resume(alloc)?)
 }
 
-fn explain(alloc: Global) -> Result<Command<'static>, AllocError> {
+fn explain<'a>(alloc: Global) -> Result<Command<'a>, AllocError> {
     Command::new(alloc, "explain")
         .about("Says why commands were refused, a line is bad, or a snapshot is broken")
         .after_help("Example: ./etagere explain examples/readme.atlas")
@@ -23,7 +23,7 @@ fn explain(alloc: Global) -> Result<Command<'static>, AllocError> {
         ))
 }
 
-fn stats(alloc: Global) -> Result<Command<'static>, AllocError> {
+fn stats<'a>(alloc: Global) -> Result<Command<'a>, AllocError> {
     Command::new(alloc, "stats")
         .about("Counts what a script asks for, and says how full it leaves the atlas")
         .after_help("Example: ./etagere stats --json examples/readme.atlas")
@@ -34,14 +34,14 @@ fn stats(alloc: Global) -> Result<Command<'static>, AllocError> {
         ))
 }
 
-fn save(alloc: Global) -> Result<Command<'static>, AllocError> {
+fn save<'a>(alloc: Global) -> Result<Command<'a>, AllocError> {
     Command::new(alloc, "save")
         .about("Writes the snapshot of the atlas that a script leaves, as JSON")
         .after_help("Example: ./etagere save examples/readme.atlas > saved.json")
         .arg(input(alloc, "A script; standard input if it isn't given"))
 }
 
-fn resume(alloc: Global) -> Result<Command<'static>, AllocError> {
+fn resume<'a>(alloc: Global) -> Result<Command<'a>, AllocError> {
     let live = Arg::new(alloc, "live")
         .long("live")
         .action(ArgAction::SetTrue)
@@ -64,13 +64,13 @@ fn resume(alloc: Global) -> Result<Command<'static>, AllocError> {
         ))
 }
 
-fn json(alloc: Global) -> Arg<'static> {
+fn json<'a>(alloc: Global) -> Arg<'a> {
     Arg::new(alloc, "json")
         .long("json")
         .action(ArgAction::SetTrue)
         .help("Writes JSON for programs in place of text for people")
 }
 
-fn input(alloc: Global, help: &'static str) -> Arg<'static> {
+fn input<'a>(alloc: Global, help: &'a str) -> Arg<'a> {
     Arg::new(alloc, "FILE").action(ArgAction::Set).help(help)
 }
