@@ -5,8 +5,9 @@ use std::num::NonZeroUsize;
 use std::panic::{catch_unwind, AssertUnwindSafe};
 
 use etagere::{
-    point2, size2, AllocId, AllocatorOptions, AtlasAllocator, AtlasGrowFault, BucketedAtlasAllocator, GlyphCache,
-    GlyphFault, GrowFault, JsonFault, OptionsFault, Rectangle, RestoreFault, Size, UnknownId, DEFAULT_OPTIONS,
+    point2, size2, AllocId, AllocatorOptions, AtlasAllocator, AtlasGrowFault, BucketedAtlasAllocator, BucketedRefusal,
+    GlyphCache, GlyphFault, GrowFault, JsonFault, OptionsFault, Rectangle, Refusal, RestoreFault, Size, UnknownId,
+    DEFAULT_OPTIONS,
 };
 
 /// A size and options for each fault of the options but that for memory, in their order.
@@ -81,6 +82,70 @@ fn room() {
     assert!(atlas.allocate(size2(64, 64)).is_some() && buckets.allocate(size2(64, 64)).is_some());
     assert_eq!((atlas.allocate(size2(1, 1)), buckets.allocate(size2(1, 1))), (None, None));
     assert_eq!((atlas.free_space(), buckets.free_space()), (0, 0));
+}
+
+#[test]
+fn refusals() {
+    let mut atlas = AtlasAllocator::new(size2(64, 64));
+    let mut buckets = BucketedAtlasAllocator::new(size2(64, 64));
+    let item = size2(40, 64);
+    assert!(atlas.allocate(item).is_some() && buckets.allocate(item).is_some());
+    let reasons = [
+        (size2(0, 1), Refusal::NotPositive, BucketedRefusal::NotPositive),
+        (size2(1, 65536), Refusal::TooLong, BucketedRefusal::TooLong),
+        (size2(65, 1), Refusal::WiderThanColumn, BucketedRefusal::WiderThanColumn),
+        (size2(1, 65), Refusal::TallerThanAtlas, BucketedRefusal::TallerThanAtlas),
+        (size2(25, 64), Refusal::NoRoom { widest: 24 }, BucketedRefusal::NoRoom { widest: 24 }),
+    ];
+    for (number, (size, of_shelves, of_buckets)) in (1..).zip(reasons) {
+        assert_eq!((atlas.refusal(size), buckets.refusal(size)), (Some(of_shelves), Some(of_buckets)));
+        assert_eq!((of_shelves.number(), of_buckets.number()), (number, number));
+    }
+    assert_eq!((atlas.refusal(size2(24, 64)), buckets.refusal(size2(24, 64))), (None, None));
+    assert_eq!((atlas.largest_free(), buckets.largest_free()), (size2(24, 64), size2(24, 64)));
+    let (usage, of_buckets) = (atlas.usage(), buckets.usage());
+    assert_eq!((usage.shelves, usage.empty_shelves), (1, 0));
+    assert_eq!((usage.items, usage.free_items, usage.unused_records), (1, 1, 65533));
+    assert_eq!((of_buckets.shelves, of_buckets.idle_shelves), (1, 0));
+    assert_eq!((of_buckets.buckets, of_buckets.idle_buckets, of_buckets.unused_buckets), (1, 0, 4094));
+    assert_eq!((of_buckets.items, of_buckets.largest_free), (1, usage.largest_free));
+}
+
+/// 65535 columns have as many items, so a size that fits is refused where its shelf is to be split.
+#[test]
+fn refusal_without_records() {
+    let many = AllocatorOptions { num_columns: 65535, ..DEFAULT_OPTIONS };
+    let mut atlas = AtlasAllocator::with_options(size2(65535, 32), &many);
+    assert_eq!(atlas.usage().unused_records, 0);
+    assert_eq!(atlas.refusal(size2(1, 8)), Some(Refusal::NoRecords));
+    assert_eq!((Refusal::NoRecords.number(), atlas.allocate(size2(1, 8))), (6, None));
+    assert_eq!(atlas.refusal(size2(1, 32)), None);
+}
+
+/// Shelves of 8 x 8 pixels have one bucket each, and there are 4095 buckets.
+#[test]
+fn refusal_without_buckets() {
+    let mut atlas = BucketedAtlasAllocator::new(size2(8, 8 * 4096));
+    for shelf in 0..4095 {
+        let item = atlas.allocate(size2(8, 8)).expect("a bucket");
+        assert_eq!(item.rectangle.min, point2(0, 8 * shelf));
+    }
+    assert_eq!(atlas.usage().unused_buckets, 0);
+    assert_eq!(atlas.refusal(size2(8, 8)), Some(BucketedRefusal::NoBuckets));
+    assert_eq!((BucketedRefusal::NoBuckets.number(), atlas.allocate(size2(8, 8))), (6, None));
+}
+
+/// A shelf of 4096 x 1024 pixels has one bucket, which gives 4095 items; then a pixel of its width is left.
+#[test]
+fn refusal_without_items() {
+    let mut atlas = BucketedAtlasAllocator::new(size2(4096, 1024));
+    for place in 0..4095 {
+        let item = atlas.allocate(size2(1, 1024)).expect("width");
+        assert_eq!(item.rectangle.min, point2(place, 0));
+    }
+    assert_eq!(atlas.refusal(size2(1, 1024)), Some(BucketedRefusal::ItemsUsedUp));
+    assert_eq!((BucketedRefusal::ItemsUsedUp.number(), atlas.allocate(size2(1, 1024))), (7, None));
+    assert_eq!(atlas.refusal(size2(2, 1024)), Some(BucketedRefusal::NoRoom { widest: 0 }));
 }
 
 #[test]

@@ -113,12 +113,82 @@ static void refusals_of_buckets(void) {
     CHECK(refusal.reason == ETAGERE_BUCKETED_REFUSAL_NO_ROOM && refusal.widest == 12);
     CHECK(etagere_bucketed_refusal(&atlas, size2(1, -1), &refusal) == ETAGERE_OK);
     CHECK(refusal.reason == ETAGERE_BUCKETED_REFUSAL_NOT_POSITIVE && refusal.widest == 0);
+    CHECK(etagere_bucketed_refusal(&atlas, size2(65536, 1), &refusal) == ETAGERE_OK);
+    CHECK(refusal.reason == ETAGERE_BUCKETED_REFUSAL_TOO_LONG);
+    CHECK(etagere_bucketed_refusal(&atlas, size2(33, 1), &refusal) == ETAGERE_OK);
+    CHECK(refusal.reason == ETAGERE_BUCKETED_REFUSAL_WIDER_THAN_COLUMN);
     CHECK(etagere_bucketed_refusal(&atlas, size2(1, 17), &refusal) == ETAGERE_OK);
     CHECK(refusal.reason == ETAGERE_BUCKETED_REFUSAL_TALLER_THAN_ATLAS);
     CHECK(etagere_bucketed_usage(&atlas, &usage) == ETAGERE_OK);
     CHECK(usage.shelves == 1 && usage.idle_shelves == 0 && usage.buckets == 1 && usage.idle_buckets == 0);
     CHECK(usage.items == 1 && usage.unused_buckets == 4094 && usage.largest_free.width == 12);
     CHECK(etagere_bucketed_largest_free(&atlas, &size) == ETAGERE_OK && size.width == 12 && size.height == 16);
+    CHECK(etagere_bucketed_delete(&atlas) == ETAGERE_OK);
+}
+
+/* 65535 columns have as many items, so a size that fits is refused where its shelf is to be split. */
+static void refusal_without_records(void) {
+    EtagereAtlas atlas = ETAGERE_NULL;
+    EtagereOptions options = ETAGERE_DEFAULT_OPTIONS;
+    EtagereAllocation none = nothing();
+    EtagereRefusal refusal;
+    EtagereUsage usage;
+
+    options.num_columns = 65535;
+    CHECK(etagere_atlas_new(&atlas, size2(65535, 32), &options) == ETAGERE_OK);
+    CHECK(etagere_atlas_usage(&atlas, &usage) == ETAGERE_OK);
+    CHECK(usage.shelves == 65535 && usage.free_items == 65535 && usage.unused_records == 0);
+    CHECK(etagere_atlas_refusal(&atlas, size2(1, 8), &refusal) == ETAGERE_OK);
+    CHECK(refusal.reason == ETAGERE_REFUSAL_NO_RECORDS && refusal.widest == 0);
+    CHECK(etagere_atlas_allocate(&atlas, size2(1, 8), &none) == ETAGERE_NO_ROOM && is_nothing(none));
+    CHECK(etagere_atlas_refusal(&atlas, size2(1, 32), &refusal) == ETAGERE_OK && refusal.reason == 0);
+    CHECK(etagere_atlas_delete(&atlas) == ETAGERE_OK);
+}
+
+/* Shelves of 8 x 8 pixels have one bucket each, and there are 4095 buckets. */
+static void refusal_without_buckets(void) {
+    EtagereBucketed atlas = ETAGERE_NULL;
+    EtagereOptions options = ETAGERE_DEFAULT_OPTIONS;
+    EtagereAllocation item, none = nothing();
+    EtagereRefusal refusal;
+    EtagereBucketedUsage usage;
+    int32_t shelf;
+
+    CHECK(etagere_bucketed_new(&atlas, size2(8, 8 * 4096), &options) == ETAGERE_OK);
+    for (shelf = 0; shelf < 4095; shelf += 1) {
+        CHECK(etagere_bucketed_allocate(&atlas, size2(8, 8), &item) == ETAGERE_OK);
+        CHECK(lies(item.rectangle, 0, 8 * shelf, 8, 8 * shelf + 8));
+    }
+    CHECK(etagere_bucketed_usage(&atlas, &usage) == ETAGERE_OK);
+    CHECK(usage.shelves == 4095 && usage.buckets == 4095 && usage.items == 4095 && usage.unused_buckets == 0);
+    CHECK(etagere_bucketed_refusal(&atlas, size2(8, 8), &refusal) == ETAGERE_OK);
+    CHECK(refusal.reason == ETAGERE_BUCKETED_REFUSAL_NO_BUCKETS && refusal.widest == 0);
+    CHECK(etagere_bucketed_allocate(&atlas, size2(8, 8), &none) == ETAGERE_NO_ROOM && is_nothing(none));
+    CHECK(etagere_bucketed_deallocate(&atlas, item.id) == ETAGERE_OK);
+    CHECK(etagere_bucketed_refusal(&atlas, size2(8, 8), &refusal) == ETAGERE_OK && refusal.reason == 0);
+    CHECK(etagere_bucketed_delete(&atlas) == ETAGERE_OK);
+}
+
+/* A shelf of 4096 x 1024 pixels has one bucket, which gives 4095 items; then a pixel of its width is left. */
+static void refusal_without_items(void) {
+    EtagereBucketed atlas = ETAGERE_NULL;
+    EtagereOptions options = ETAGERE_DEFAULT_OPTIONS;
+    EtagereAllocation item, none = nothing();
+    EtagereRefusal refusal;
+    EtagereBucketedUsage usage;
+    int32_t place;
+
+    CHECK(etagere_bucketed_new(&atlas, size2(4096, 1024), &options) == ETAGERE_OK);
+    for (place = 0; place < 4095; place += 1) {
+        CHECK(etagere_bucketed_allocate(&atlas, size2(1, 1024), &item) == ETAGERE_OK);
+        CHECK(lies(item.rectangle, place, 0, place + 1, 1024));
+    }
+    CHECK(etagere_bucketed_usage(&atlas, &usage) == ETAGERE_OK && usage.buckets == 1 && usage.items == 4095);
+    CHECK(etagere_bucketed_refusal(&atlas, size2(1, 1024), &refusal) == ETAGERE_OK);
+    CHECK(refusal.reason == ETAGERE_BUCKETED_REFUSAL_ITEMS_USED_UP && refusal.widest == 0);
+    CHECK(etagere_bucketed_allocate(&atlas, size2(1, 1024), &none) == ETAGERE_NO_ROOM && is_nothing(none));
+    CHECK(etagere_bucketed_refusal(&atlas, size2(2, 1024), &refusal) == ETAGERE_OK);
+    CHECK(refusal.reason == ETAGERE_BUCKETED_REFUSAL_NO_ROOM && refusal.widest == 0);
     CHECK(etagere_bucketed_delete(&atlas) == ETAGERE_OK);
 }
 
@@ -555,6 +625,9 @@ int main(void) {
     shelf_atlas();
     refusals_of_shelves();
     refusals_of_buckets();
+    refusal_without_records();
+    refusal_without_buckets();
+    refusal_without_items();
     atlas_that_cannot_be_made();
     growth_without_records();
     upright_shelves();
