@@ -43,6 +43,7 @@ mod geometry;
 mod number;
 mod outcome;
 mod picture;
+mod record;
 #[allow(unsafe_code)]
 mod sys;
 
@@ -60,6 +61,7 @@ pub use cache::{GlyphCache, Placed};
 pub use faults::{AllocError, AtlasGrowFault, GlyphFault, GrowFault, JsonFault, OptionsFault, RestoreFault, UnknownId};
 pub use fullness::{BucketedRefusal, BucketedUsage, Refusal, Usage};
 pub use geometry::{point2, size2};
+pub use record::{Recordable, Recorder};
 
 /// A place in pixels.
 pub type Point = euclid::Point2D<i32>;
