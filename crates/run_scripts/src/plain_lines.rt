@@ -1,5 +1,5 @@
 //! Lines as programs write them: a letter, one or two numbers without a sign, and a line feed, read in one pass. Every
-//! other line, and a wrong one too, is left to `lines` and `words`.
+//! other line, a wrong one too, and those at the very end of a script are left to `lines` and `words`.
 //!
 //! Definition: `PlainLines`, over `Lines`, `Numbers` and `Words`.
 
@@ -9,7 +9,8 @@ ghost use Rattle.run_scripts.specs.Private.PlainLines.{BeginsWithCommand, Begins
 use crate::words::Spelled;
 use etagere::Size;
 
-/// How many bytes a number and what ends it have at most.
+/// How many bytes a number and what ends it have at most. So many have to be there, which leaves one test for the end
+/// of the bytes in place of one at each digit.
 const SHORT: usize = 9;
 
 /// The command of the first line, where that is plain, and the bytes after it. Always inlined: it is called for each
@@ -40,15 +41,18 @@ pub fn plain_command<C: Spelled>(bytes: &[u8]) -> Option<(C, &[u8])>
     }
 }
 
-/// The value of the digits that stand first, where they are fewer than nine, and the bytes after them. Always inlined,
-/// as `plain_command` is.
+/// The value of the digits that stand first, where they are fewer than nine of nine bytes or more, and the bytes after
+/// them. Always inlined, as `plain_command` is.
 #[inline(always)]
 fn leading_number(bytes: &[u8]) -> Option<(u32, &[u8])>
     ensures number { IfSome result (λ parts. BeginsWithNumber bytes.now parts.0 parts.1.now) }
     ensures small { IfSome result (λ parts. parts.0 < 100000000) }
 {
+    if bytes.len() < SHORT {
+        return None;
+    }
     let mut value = 0u32;
-    for index in 0..bytes.len().min(SHORT) {
+    for index in 0..SHORT {
         let byte = bytes[index];
         if !byte.is_ascii_digit() {
             return if index == 0 {

@@ -63,7 +63,8 @@ impl Line {
         self.text.push(word);
     }
 
-    /// Adds the decimal digits of a number.
+    /// Adds the decimal digits of a number. Always inlined, as `push_place` is.
+    #[inline(always)]
     fn push_number(&mut self, number: u32)
         requires { length self.old + 10 ≤ LINE_CAPACITY }
         ensures text { self.new ≡ self.old ++ decimal number }
@@ -115,7 +116,9 @@ impl Line {
     }
 }
 
-/// The line of a reply. It is made in `line`, where it isn't always the same.
+/// The line of a reply. It is made in `line`, where it isn't always the same. Always inlined, so that a reply is read
+/// where it was made.
+#[inline(always)]
 pub fn line_of<'a>(reply: &Reply, line: &'a mut Line) -> &'a str
     ensures text { result.now ≡ spec.line_of reply.now }
     ensures short { TellsPlaces reply.now → length result.now ≤ longest_line }
@@ -142,6 +145,8 @@ pub fn line_of<'a>(reply: &Reply, line: &'a mut Line) -> &'a str
     }
 }
 
+/// Writes the line of a size that was placed. Always inlined: most lines are of that kind.
+#[inline(always)]
 fn write_placed(line: &mut Line, allocation: &Allocation)
     ensures text { line.new ≡ spec.line_of (Reply.Placed allocation.now) }
     ensures short { HasPlaces allocation.now.rectangle → length line.new ≤ longest_line }
