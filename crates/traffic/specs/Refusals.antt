@@ -1,5 +1,5 @@
 -- What is told of a command that was refused, and of a script's run.
-use Rattle.std.specs.Prelude.{Option, None, Some, option_map, List, []}
+use Rattle.std.specs.Prelude.{All, Option, None, Some, option_map, List, []}
 use Rattle.etagere_base.specs.declared.frames.Frame.{Frame}
 use Rattle.bucketed_model.specs.Refusal as bucket_refusals
 use Rattle.bucketed_model.specs.State.{BucketedState}
@@ -17,7 +17,7 @@ use Rattle.run_answers.specs.Runs.{Kind}
 use Rattle.traffic.specs.declared.going_on.Finding.{Finding}
 use Rattle.traffic.specs.declared.going_on.Reason.TheVariants.{OfShelves, OfBuckets, OfGrowth}
 use Rattle.traffic.specs.declared.going_on.Refused.{Refused}
-use Rattle.traffic.specs.GoingOn.{GoesOn}
+use Rattle.traffic.specs.GoingOn.{GoesOn, HasMemory}
 
 -- why a shelf atlas refused a command: a size by the first reason that holds, a growth by the number of its fault
 abbrev pub atlas_told : AtlasState → AtlasCommand → Reply → Option Refused
@@ -39,8 +39,10 @@ bucketed_told state (buckets.Grow size) (replies.GrowRefused number) =
     Some (record { asked = size; reason = OfGrowth number; largest_free = bucket_usages.largest_free state })
 bucketed_told state command reply = None
 
--- a new atlas of a frame may run the commands so that just this is told of them
-abbrev pub IsExplainedBy : {S C : Type 0} → Kind S C → (S → C → Reply → Option Refused) → Frame → List C → List Finding
-    → Type 0
-IsExplainedBy {S} kind told frame commands findings =
-    (replies : List Reply) × (last : S) × GoesOn kind told 0 [] (kind.fresh frame) commands replies findings last
+-- a new atlas of a frame may run the commands so that just this is told of them, where memory was there for each
+pub record IsExplainedBy {S C : Type 0} (kind : Kind S C) (told : S → C → Reply → Option Refused) (frame : Frame)
+    (commands : List C) (findings : List Finding) : Type 0 where
+  pub replies : List Reply
+  pub last : S
+  pub run : GoesOn kind told 0 [] (kind.fresh frame) commands replies findings last
+  pub memory : All HasMemory replies

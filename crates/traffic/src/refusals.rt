@@ -10,7 +10,7 @@ ghost use Rattle.run_answers.specs.BucketedRuns.{bucketed_atlas};
 ghost use Rattle.run_answers.specs.Runs.{RefusesRun};
 ghost use Rattle.traffic.specs.Refusals.{IsExplainedBy, atlas_told, bucketed_told};
 
-use crate::going_on::{Explaining, Finding, Reason, Refused, go_on};
+use crate::going_on::{Explaining, Finding, Reason, Refused, go_on, had_memory};
 use etagere::{AllocatorOptions, AtlasAllocator, BucketedAtlasAllocator, Size};
 use run_answers::ledger::Ledger;
 use run_commands::commands::{AtlasCommand, BucketedCommand, Reply};
@@ -62,8 +62,9 @@ impl Explaining for BucketedAtlasAllocator {
 /// What is told of the commands that a new atlas of this size in pixels refuses, in order.
 ///
 /// `Options` has the first fault of the size and options, or `OptionsFault::Memory` where these have none and there was
-/// no memory for the atlas. `Memory` comes where there is none for the ledger, the replies or the findings. Takes
-/// memory for a slot in the ledger and a reply for each command, beside what the atlas takes, and for the findings.
+/// no memory for the atlas. `Memory` comes where there is none for the ledger, the replies, the findings, or for one of
+/// the commands: what is told is of an atlas that answered every command. Takes memory for a slot in the ledger and a
+/// reply for each command, beside what the atlas takes, and for the findings.
 pub fn explain_atlas(
     alloc: Global,
     size: Size,
@@ -82,6 +83,9 @@ pub fn explain_atlas(
     let Ok(answers) = go_on(alloc, &mut atlas, &mut ledger, commands) else {
         return Err(RunFault::Memory);
     };
+    if !had_memory(answers.replies.as_slice()) {
+        return Err(RunFault::Memory);
+    }
     Ok(answers.findings)
 }
 
@@ -106,5 +110,8 @@ pub fn explain_buckets(
     let Ok(answers) = go_on(alloc, &mut atlas, &mut ledger, commands) else {
         return Err(RunFault::Memory);
     };
+    if !had_memory(answers.replies.as_slice()) {
+        return Err(RunFault::Memory);
+    }
     Ok(answers.findings)
 }

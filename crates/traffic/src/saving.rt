@@ -2,17 +2,18 @@
 //!
 //! Definition: `Saving`, over `Runs` and the rules of snapshots.
 
-ghost use Rattle.std.specs.Prelude.{◌≡◌, ◌↔◌, All, IfErr, IfOk, IsTrue, OnOk};
+ghost use Rattle.std.specs.Prelude.{IfErr, IfOk, OnOk};
 ghost use Rattle.etagere_base.specs.Frames.{IsAccepted, atlas_frame, longest_side};
 ghost use Rattle.bucketed_model.specs.Frames.{bucketed_frame, longest_bucketed_side};
 ghost use Rattle.run_answers.specs.Runs.{RefusesRun};
-ghost use Rattle.traffic.specs.Saving.{HasMemory, SavesAtlas, SavesBuckets};
+ghost use Rattle.traffic.specs.Saving.{SavesAtlas, SavesBuckets};
 
+use crate::going_on::had_memory;
 use etagere::{
     AllocatorOptions, AtlasAllocator, AtlasSnapshot, BucketedAtlasAllocator, BucketedSnapshot, Size,
 };
 use run_answers::running::{Room, answer_all};
-use run_commands::commands::{AtlasCommand, BucketedCommand, Reply};
+use run_commands::commands::{AtlasCommand, BucketedCommand};
 use run_commands::faults::RunFault;
 use std::alloc::Global;
 
@@ -70,19 +71,4 @@ pub fn save_buckets(
         return Err(RunFault::Memory);
     };
     Ok(snapshot)
-}
-
-/// Whether memory was there for every command that has these replies.
-fn had_memory(replies: &[Reply]) -> bool
-    ensures same { IsTrue result ↔ All HasMemory replies.now }
-    ensures all { IsTrue result → All HasMemory replies.now }
-{
-    replies.iter().all(|reply| has_memory(reply))
-}
-
-/// Whether memory was there for the command that has this reply.
-fn has_memory(reply: &Reply) -> bool
-    ensures { IsTrue result ↔ HasMemory reply.now }
-{
-    !matches!(reply, Reply::NoMemory)
 }

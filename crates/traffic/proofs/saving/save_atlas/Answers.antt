@@ -7,7 +7,8 @@ use Rattle.shelf_model.specs.State.{AtlasState}
 use Rattle.run_commands.specs.declared.commands.Reply.{Reply}
 use Rattle.run_answers.specs.AtlasRuns.{shelf_atlas}
 use Rattle.run_answers.proofs.AtlasAnswered.{atlas-suits}
-use Rattle.traffic.specs.Saving.{HasMemory, LeadsTo}
+use Rattle.traffic.specs.GoingOn.{HasMemory}
+use Rattle.traffic.specs.Saving.{LeadsTo}
 use Rattle.traffic.proofs.saving.save_atlas.Goals as goal
 
 pub answer_all-replies-requires-clause-suits : goal.answer_all-replies-requires-clause-suits

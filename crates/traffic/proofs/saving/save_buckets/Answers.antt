@@ -7,7 +7,8 @@ use Rattle.bucketed_model.specs.State.{BucketedState}
 use Rattle.run_commands.specs.declared.commands.Reply.{Reply}
 use Rattle.run_answers.specs.BucketedRuns.{bucketed_atlas}
 use Rattle.run_answers.proofs.BucketedAnswered.{bucketed-suits}
-use Rattle.traffic.specs.Saving.{HasMemory, LeadsTo}
+use Rattle.traffic.specs.GoingOn.{HasMemory}
+use Rattle.traffic.specs.Saving.{LeadsTo}
 use Rattle.traffic.proofs.saving.save_buckets.Goals as goal
 
 pub answer_all-replies-requires-clause-suits : goal.answer_all-replies-requires-clause-suits
