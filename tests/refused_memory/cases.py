@@ -28,6 +28,8 @@ CHECKS = [f"check {kind}" for kind in KINDS]
 # Trials that answer one call.
 CALLS = ["walk links", "rearranged atlas"]
 GLYPHS = "place glyphs"
+# A trial that asks again where a command was out of memory, and ends where it is still.
+PAGES = "run pages"
 
 
 def texts(*patterns):

@@ -12,6 +12,7 @@ mod glyphs;
 mod growing;
 mod lines;
 mod moving;
+mod pages;
 mod quiet;
 mod runs;
 mod splits;
@@ -56,6 +57,7 @@ fn named_trial(rt: &(impl Input + Print + AllocGlobal)) -> Result<bool, ReplayFa
         "bucketed" => Ok(bucket_trial(rt, call)? || trial::<BucketedAtlasAllocator, _>(rt, call)?),
         "links" => link_trial(rt, call),
         "glyphs" => glyph_trial(rt, call),
+        "pages" => page_trial(rt, call),
         _ => Ok(false),
     }
 }
@@ -66,6 +68,15 @@ fn glyph_trial(rt: &(impl Print + AllocGlobal), call: &str) -> Result<bool, Repl
         return Ok(false);
     }
     glyphs::place_glyphs(rt)?;
+    Ok(true)
+}
+
+/// Runs a trial of several pages, if there is one of this name.
+fn page_trial(rt: &(impl Print + AllocGlobal), call: &str) -> Result<bool, ReplayFault> {
+    if call != "run" {
+        return Ok(false);
+    }
+    pages::run_on_pages(rt)?;
     Ok(true)
 }
 

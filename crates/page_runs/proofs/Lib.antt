@@ -1,0 +1,2 @@
+mod RunsOn
+mod StepsTold

@@ -1,0 +1,13 @@
+//! Runs of commands on pages: one command, one call, one reply. `running` has the public call, `commands` what is asked
+//! and answered, `answering` the answer to one command, `faults` why nothing was run.
+#![tactic(auto)]
+
+mod answering;
+mod commands;
+mod faults;
+mod running;
+
+pub use answering::answer_on_pages;
+pub use commands::{PageCommand, PageReply};
+pub use faults::PageRunFault;
+pub use running::run_pages;
