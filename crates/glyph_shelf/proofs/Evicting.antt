@@ -1,5 +1,5 @@
 -- Evictions: what has gone after some of them, that there is room in the end, and what a placement made of them.
-use Rattle.std.proofs.Common.{◌≡◌, ℕ, zero, suc, ◌+◌, ◌-◌, ◌<◌, ◌≤◌, Bool, true, false, Option, Some, None, List, [], ◌∷◌, ◌++◌, append_assoc, length, take, reverse, refl, ap, sym, ◌∙◌, subst, arith}
+use Rattle.std.proofs.Common.{◌≡◌, ℕ, zero, suc, ◌-◌, ◌<◌, ◌≤◌, Bool, true, false, Option, Some, None, List, [], ◌∷◌, ◌++◌, append-nil, append_assoc, length, take, reverse, refl, ap, sym, ◌∙◌, subst, arith}
 use Rattle.std.specs.Map.{keys_of, lookup, values_of}
 use Rattle.std.specs.Option.{option_map_or}
 use Rattle.std.specs.Prelude.{is_some, nat_eq, nat_lt, option_map}
@@ -29,12 +29,16 @@ use Rattle.glyph_shelf.proofs.Keeping.{keeps-without_last}
 abbrev pub Fits : Frame → Size → Type 0
 Fits frame size = is_some (placement_of (fresh frame) size) ≡ true
 
--- these keys were evicted of a cache, and this is left: there was no room for the size before
-pub record HasEvicted (old : CacheState) (size : Size) (evicted : List ℕ) (left : CacheState) : Type 0 where
+-- these keys were dropped from a cache, the least recently used first, and this is left
+pub record HasDropped (old : CacheState) (dropped : List ℕ) (left : CacheState) : Type 0 where
   pub gone : List (ℕ × Allocation)
   pub parts : old.entries ≡ left.entries ++ gone
-  pub keys : evicted ≡ reverse (keys_of gone)
-  pub dropped : left ≡ after_dropping old (length evicted)
+  pub keys : dropped ≡ reverse (keys_of gone)
+  pub after : left ≡ after_dropping old (length dropped)
+
+-- these keys were evicted of a cache, and this is left: there was no room for the size before
+pub record HasEvicted (old : CacheState) (size : Size) (evicted : List ℕ) (left : CacheState) : Type 0 where
+  pub drops : HasDropped old evicted left
   pub none : (fewer : ℕ) → fewer < length evicted → has_room (after_dropping old fewer) size ≡ false
 
 -- places don't depend on the count of records
@@ -54,7 +58,7 @@ has_room-nothing state size promises nothing fits =
     rw (short, place) refl
 
 -- a cache without the entry that stands last
-without_last-some : (state : CacheState) (e : ℕ × Allocation) → last_entry state.entries ≡ Some e
+pub without_last-some : (state : CacheState) (e : ℕ × Allocation) → last_entry state.entries ≡ Some e
     → without_last state ≡ record { entries = take (length state.entries - 1) state.entries; capacity = state.capacity; atlas = returned state.atlas e.1.id }
 without_last-some state e last =
     ap (λ (o : Option (ℕ × Allocation)). option_map_or (λ entry. record { entries = take (length state.entries - 1) state.entries; capacity = state.capacity; atlas = returned state.atlas entry.1.id }) o state) last
@@ -66,9 +70,9 @@ parts-without_last state e last =
     last-split state.entries e last ∙ ap (λ (s : CacheState). s.entries ++ e ∷ []) (sym (without_last-some state e last))
 
 -- the keys that have gone stand first in the other order
-dropped-gone : (old : CacheState) (size : Size) (evicted : List ℕ) (left : CacheState) → HasEvicted old size evicted left
+pub dropped-gone : (old : CacheState) (evicted : List ℕ) (left : CacheState) → HasDropped old evicted left
     → evicted ≡ dropped_keys old (length evicted)
-dropped-gone old size evicted left has =
+dropped-gone old evicted left has =
     let order : reverse (keys_of old.entries) ≡ evicted ++ reverse (keys_of left.entries) =
     ap (λ l. reverse (keys_of l)) has.parts
     ∙ ap reverse (map-append (λ (e : ℕ × Allocation). e.0) left.entries has.gone)
@@ -83,20 +87,32 @@ below_next P n below here k lt = elim (nat_lt k n) as (λ b. nat_lt k n ≡ b �
   | false ↦ λ is. let same : n ≡ k = grind (arith, nat_tests) in subst P same here
 ] refl
 
+-- none has gone
+pub dropped-none : (old : CacheState) → HasDropped old [] old
+dropped-none old = record { gone = []; parts = sym (append-nil old.entries); keys = refl; after = refl }
+
 -- one more goes
+pub dropped-more : (old : CacheState) (keys : List ℕ) (left : CacheState) (e : ℕ × Allocation)
+    → HasDropped old keys left → last_entry left.entries ≡ Some e → HasDropped old (keys ++ e.0 ∷ []) (without_last left)
+dropped-more old keys left e has last =
+    let longer : length (keys ++ e.0 ∷ []) ≡ suc (length keys) = omega (arith, length-append keys (e.0 ∷ [])) in
+    record {
+      gone = e ∷ has.gone;
+      parts = has.parts ∙ ap (λ l. l ++ has.gone) (parts-without_last left e last)
+          ∙ append_assoc (without_last left).entries (e ∷ []) has.gone;
+      keys = ap (λ l. l ++ e.0 ∷ []) has.keys ∙ sym (reverse-append (e.0 ∷ []) (keys_of has.gone));
+      after = ap without_last has.after ∙ ap (after_dropping old) (sym longer);
+    }
+
 evicted-more : (old : CacheState) (size : Size) (evicted : List ℕ) (left : CacheState) (e : ℕ × Allocation)
     → HasEvicted old size evicted left → has_room left size ≡ false → last_entry left.entries ≡ Some e
     → HasEvicted old size (evicted ++ e.0 ∷ []) (without_last left)
 evicted-more old size evicted left e has full last =
     let longer : length (evicted ++ e.0 ∷ []) ≡ suc (length evicted) = omega (arith, length-append evicted (e.0 ∷ [])) in
     record {
-      gone = e ∷ has.gone;
-      parts = has.parts ∙ ap (λ l. l ++ has.gone) (parts-without_last left e last)
-          ∙ append_assoc (without_last left).entries (e ∷ []) has.gone;
-      keys = ap (λ l. l ++ e.0 ∷ []) has.keys ∙ sym (reverse-append (e.0 ∷ []) (keys_of has.gone));
-      dropped = ap without_last has.dropped ∙ ap (after_dropping old) (sym longer);
+      drops = dropped-more old evicted left e has.drops last;
       none = rw longer (below_next (λ n. has_room (after_dropping old n) size ≡ false) (length evicted) has.none
-          (ap (λ (s : CacheState). has_room s size) (sym has.dropped) ∙ full));
+          (ap (λ (s : CacheState). has_room s size) (sym has.drops.after) ∙ full));
     }
 
 -- where there is room, so many were the evictions
@@ -104,7 +120,7 @@ evictions-made : (old : CacheState) (size : Size) (evicted : List ℕ) (left : C
     → HasEvicted old size evicted left → has_room left size ≡ true → IsEvictionCount old size (length evicted)
 evictions-made old size evicted left has room =
     record {
-      room = ap (λ (s : CacheState). has_room s size) (sym has.dropped) ∙ room;
+      room = ap (λ (s : CacheState). has_room s size) (sym has.drops.after) ∙ room;
       least = has.none;
     }
 
@@ -115,8 +131,8 @@ pub evicted-places : (old : CacheState) (key : ℕ) (size : Size) (evicted : Lis
 evicted-places old key size evicted left rectangle new has room enters =
     record {
       least = evictions-made old size evicted left has room;
-      listed = dropped-gone old size evicted left has;
-      entered = subst (λ (s : CacheState). Enters s key size rectangle new) has.dropped enters;
+      listed = dropped-gone old evicted left has.drops;
+      entered = subst (λ (s : CacheState). Enters s key size rectangle new) has.drops.after enters;
     }
 
 -- where memory runs out then
@@ -127,8 +143,8 @@ evicted-ran_out old size evicted left new has room same =
       evictions = length evicted;
       least = evictions-made old size evicted left has room;
       few = omega arith;
-      listed = dropped-gone old size evicted left has;
-      rest = subst (λ (s : CacheState). SameLayout s new) has.dropped same;
+      listed = dropped-gone old evicted left has.drops;
+      rest = subst (λ (s : CacheState). SameLayout s new) has.drops.after same;
     }
 
 -- the least number that passes, of those up to one that does
@@ -148,7 +164,7 @@ least-passing test (suc n) passes = by_first (test 0) refl (least-passing (λ k.
     by_first false is later = (suc later.0, later.1, after_first is later.0 later.2)
 
 -- dropping keeps the promises
-keeps-after_dropping : (state : CacheState) (n : ℕ) → KeepsCachePromises state → KeepsCachePromises (after_dropping state n)
+pub keeps-after_dropping : (state : CacheState) (n : ℕ) → KeepsCachePromises state → KeepsCachePromises (after_dropping state n)
 keeps-after_dropping state zero promises = promises
 keeps-after_dropping state (suc n) promises = keeps-without_last (after_dropping state n) (keeps-after_dropping state n promises)
 
@@ -157,14 +173,20 @@ nothing_long : (es : List (ℕ × Allocation)) → length es ≡ 0 → es ≡ []
 nothing_long [] none = refl
 nothing_long (e ∷ es) none = absurd (omega arith)
 
+-- where all go, there is room for what fits
+pub all-make_room : (state : CacheState) (size : Size) → KeepsCachePromises state → Fits state.atlas.frame size
+    → has_room (after_dropping state (length state.entries)) size ≡ true
+all-make_room state size promises fits =
+    let all = after_dropping state (length state.entries) in
+    let nothing : all.entries ≡ [] = nothing_long all.entries (omega (arith, length-after_dropping state (length state.entries))) in
+    has_room-nothing all size (keeps-after_dropping state (length state.entries) promises) nothing
+    (ap (λ (frame : Frame). is_some (placement_of (fresh frame) size)) (frame-after_dropping state (length state.entries)) ∙ fits)
+
 -- what fits has its evictions
 evictions-exist : (state : CacheState) (size : Size) → KeepsCachePromises state → Fits state.atlas.frame size
     → (n : ℕ) × IsEvictionCount state size n
 evictions-exist state size promises fits =
-    let all = after_dropping state (length state.entries) in
-    let nothing : all.entries ≡ [] = nothing_long all.entries (omega (arith, length-after_dropping state (length state.entries))) in
-    let room = has_room-nothing all size (keeps-after_dropping state (length state.entries) promises) nothing
-    (ap (λ (frame : Frame). is_some (placement_of (fresh frame) size)) (frame-after_dropping state (length state.entries)) ∙ fits) in
+    let room = all-make_room state size promises fits in
     let found = least-passing (λ n. has_room (after_dropping state n) size) (length state.entries) room in
     (found.0, record { room = found.1; least = found.2 })
 
@@ -190,8 +212,8 @@ evicted-stopped old size evicted left promises fits has =
       evictions = found.0;
       least = found.1;
       few = not_fewer found.0 found.1.room;
-      listed = dropped-gone old size evicted left has;
-      rest = subst (λ (s : CacheState). SameLayout s left) has.dropped (record { entries = refl; capacity = refl; layout = refl });
+      listed = dropped-gone old evicted left has.drops;
+      rest = subst (λ (s : CacheState). SameLayout s left) has.drops.after (record { entries = refl; capacity = refl; layout = refl });
     }
   where
     not_fewer : (n : ℕ) → has_room (after_dropping old n) size ≡ true → length evicted ≤ n
@@ -221,7 +243,7 @@ unknown-without_last state key unknown = by_last (last_entry state.entries)
     by_last (Some e) = unknown-take (nat_eq key) (length state.entries - 1) state.entries unknown
 
 -- an entry stands last where its key does
-entry_of : (dropped : ℕ) (o : Option (ℕ × Allocation)) → Some dropped ≡ option_map (λ e. e.0) o
+pub entry_of : (dropped : ℕ) (o : Option (ℕ × Allocation)) → Some dropped ≡ option_map (λ e. e.0) o
     → (e : ℕ × Allocation) × (o ≡ Some e) × (e.0 ≡ dropped)
 entry_of dropped None h = absurd (cc)
 entry_of dropped (Some e) h = (e, refl, cc)

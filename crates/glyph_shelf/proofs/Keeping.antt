@@ -1,5 +1,5 @@
 -- Every cache keeps its promises: a new one does, and so does what becomes of one that does.
-use Rattle.std.proofs.Common.{◌≡◌, ℕ, ◌-◌, ◌<◌, ◌≤◌, true, false, Option, Some, None, List, ◌∷◌, length, take, refl, ap, sym, ◌∙◌, subst, arith}
+use Rattle.std.proofs.Common.{◌≡◌, ℕ, ◌-◌, ◌<◌, ◌≤◌, true, false, Option, Some, None, Result, Ok, Err, OnOk, OnErr, List, ◌∷◌, length, take, refl, ap, sym, ◌∙◌, subst, arith}
 use Rattle.std.specs.Map.{keys_of, lookup, remove_entry, values_of}
 use Rattle.std.specs.Option.{option_map_or}
 use Rattle.std.specs.Prelude.{nat_eq, option_map}
@@ -107,6 +107,27 @@ keeps-used state key promises = by_found (lookup (nat_eq key) state.entries) ref
         (subst (λ (kept : List Allocation). AreTied kept (allocations state.atlas)) (sym values)
         (tied-front (values_of others) (kept_allocations state) (allocations state.atlas) a
         (found-among (nat_eq key) state.entries a found) promises.tied))
+
+-- a cache in another atlas with the same in it
+keeps-atlas : (state : CacheState) (atlas : AtlasState) → KeepsCachePromises state → KeepsPromises atlas
+    → allocations atlas ≡ allocations state.atlas
+    → KeepsCachePromises (record { entries = state.entries; capacity = state.capacity; atlas = atlas })
+keeps-atlas state atlas promises kept same =
+    keeps (record { entries = state.entries; capacity = state.capacity; atlas = atlas }) kept promises.few promises.capacity
+    promises.keys (subst (AreTied (kept_allocations state)) (sym same) promises.tied)
+
+-- a cache whose atlas grew, or didn't
+pub keeps-grown : {A B : Type 0} (state : CacheState) (atlas : AtlasState) (grown : Result A B) → KeepsCachePromises state
+    → KeepsPromises atlas → OnOk grown (allocations atlas ≡ allocations state.atlas) → OnErr grown (atlas ≡ state.atlas)
+    → KeepsCachePromises (record { entries = state.entries; capacity = state.capacity; atlas = atlas })
+keeps-grown state atlas (Ok a) promises kept same unchanged = keeps-atlas state atlas promises kept same
+keeps-grown state atlas (Err b) promises kept same unchanged = keeps-atlas state atlas promises kept (ap allocations unchanged)
+
+-- a cache of another capacity, of which there are no more entries
+pub keeps-capacity : (state : CacheState) (capacity : ℕ) → KeepsCachePromises state → length state.entries ≤ capacity
+    → 1 ≤ capacity → KeepsCachePromises (record { entries = state.entries; capacity = capacity; atlas = state.atlas })
+keeps-capacity state capacity promises few some =
+    keeps (record { entries = state.entries; capacity = capacity; atlas = state.atlas }) promises.atlas few some promises.keys promises.tied
 
 -- what was allocated is tied to what a cache keeps, and one more
 entered-tied : (old : CacheState) (a : Allocation) (after : List Allocation) → KeepsCachePromises old

@@ -3,5 +3,6 @@ mod EntryLemmas
 mod Evicting
 mod Keeping
 mod KeyCounts
+mod Shrinking
 mod Tying
 mod WorkedRows

@@ -1,6 +1,6 @@
 -- The model of a cache, as callers see it: its entries in the order of use, and the atlas in which they lie; and what
 -- becomes of it when entries go.
-use Rattle.std.specs.Prelude.{ℕ, zero, suc, ◌-◌, Option, option_map, nat_eq, List, [], length, reverse, take}
+use Rattle.std.specs.Prelude.{ℕ, zero, suc, ◌-◌, Option, option_map, nat_eq, List, [], length, map, reverse, take}
 use Rattle.std.specs.Map.{keys_of, lookup, remove_entry, values_of}
 use Rattle.std.specs.Option.{option_map_or}
 use Rattle.lru.specs.LruCache.{last_entry, promoted}
@@ -27,6 +27,15 @@ abbrev pub rectangle_at : CacheState → ℕ → Option Rectangle
 rectangle_at state key =
     option_map (λ (allocation : Allocation). allocation.rectangle)
     (lookup (nat_eq key) state.entries)
+
+-- the keys of entries with their rectangles
+abbrev pub with_rectangles : List (ℕ × Allocation) → List (ℕ × Rectangle)
+with_rectangles entries =
+    map (λ (entry : ℕ × Allocation). (entry.0, entry.1.rectangle)) entries
+
+-- the keys of a cache with their rectangles, the most recently used first
+abbrev pub listed : CacheState → List (ℕ × Rectangle)
+listed state = with_rectangles state.entries
 
 -- what is allocated for the keys
 abbrev pub kept_allocations : CacheState → List Allocation

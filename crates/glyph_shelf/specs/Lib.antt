@@ -3,3 +3,4 @@ pub mod Faults
 pub mod Placing
 pub mod Private
 pub mod Promises
+pub mod Sizing

@@ -3,20 +3,24 @@
 //! Definitions: `Cache` for what the clauses see, `Placing` for what becomes of it, `Promises` for what every cache
 //! keeps. The clauses stay as they are: callers prove by them.
 
-ghost use Rattle.std.specs.Prelude.{◌≡◌, ◌↔◌, [], Err, Some, IfOk, IfErr, IfSome, IsOkAnd, IsErrOf, OnOk, IsTrue, length};
+ghost use Rattle.std.specs.Prelude.{◌≡◌, ◌↔◌, ◌≤◌, [], Err, None, Some, IfOk, IfErr, IfSome, IsOkAnd, IsErrOf, OnErr, OnOk, IsTrue, length};
 ghost use Rattle.std.specs.NonZero.{non_zero_usize_get};
 ghost use Rattle.etagere_base.specs.Frames as frames;
 ghost use Rattle.etagere_base.specs.Frames.{IsAccepted, longest_side, options_fault};
 ghost use Rattle.etagere_base.specs.declared.faults.OptionsFault.TheVariants as faults;
 ghost use Rattle.etagere_base.specs.Rectangles.{IsLarge};
-ghost use Rattle.glyph_shelf.specs.Cache.{empty_cache, rectangle_at, used, without_key};
+ghost use Rattle.shelf_model.specs.Growing.{grow_fault, records_needed};
+ghost use Rattle.shelf_model.specs.declared.faults.AtlasGrowFault.TheVariants as grow_faults;
+ghost use Rattle.glyph_shelf.specs.Cache.{empty_cache, listed, rectangle_at, used, without_key};
 ghost use Rattle.glyph_shelf.specs.Placing.{IsLeft, IsNew, IsTooLarge, Places};
 ghost use Rattle.glyph_shelf.specs.Promises.{KeepsCachePromises};
+ghost use Rattle.glyph_shelf.specs.Sizing.{cache_grown, surplus, surplus_keys, with_capacity};
 
 use crate::faults::GlyphFault;
 use crate::kept::Kept;
-use etagere::{AllocatorOptions, AtlasAllocator, OptionsFault, Rectangle, Size};
-use std::alloc::Global;
+use crate::listing::Iter;
+use etagere::{AllocatorOptions, AtlasAllocator, AtlasGrowFault, OptionsFault, Rectangle, Size};
+use std::alloc::{AllocError, Global};
 use std::marker::Model;
 use std::num::NonZeroUsize;
 
@@ -124,6 +128,27 @@ impl GlyphCache {
         self.kept.look(key)
     }
 
+    /// The rectangle of a key; none where the key isn't there. Nothing changes: what is only looked at so isn't used.
+    ///
+    /// Takes no memory, and constant time.
+    pub fn peek(&self, key: u64) -> Option<Rectangle>
+        ensures value { result ≡ rectangle_at self.now key }
+        ensures promises { KeepsCachePromises self.now }
+    {
+        self.kept.peek(key)
+    }
+
+    /// The keys with their rectangles, from the most to the least recently used, and then none for ever; from the back,
+    /// the least recently used first. Nothing changes.
+    ///
+    /// Takes no memory. A step takes constant time.
+    pub fn iter(&self) -> Iter<'_>
+        ensures listed { result ≡ listed self.now }
+        ensures promises { KeepsCachePromises self.now }
+    {
+        self.kept.iter()
+    }
+
     /// Removes a key, and returns the rectangle that it had; none where the key isn't there, and then nothing changes.
     ///
     /// Takes no memory. The atlas takes the rectangle back as by `AtlasAllocator::deallocate`, at the same cost.
@@ -133,6 +158,44 @@ impl GlyphCache {
         ensures promises { KeepsCachePromises self.new }
     {
         self.kept.remove(key)
+    }
+
+    /// Makes the atlas larger, to this size in pixels, as by `AtlasAllocator::grow`. Each key keeps its place, and the
+    /// order of use stays.
+    ///
+    /// Returns the first fault; `Memory` only where there is no other, the growth needs records and there was no
+    /// memory. Nothing changes after a fault. Takes memory and time as that call does.
+    pub fn grow(&mut self, size: Size) -> Result<(), AtlasGrowFault>
+        ensures ok { OnOk result (self.new ≡ cache_grown self.old size) }
+        ensures fault { IfSome (grow_fault self.old.atlas size) (λ fault. result ≡ Err fault) }
+        ensures memory { IfErr result
+            (λ fault. grow_fault self.old.atlas size ≡ None
+            → (fault ≡ grow_faults.Memory) × (1 ≤ records_needed self.old.atlas size)) }
+        ensures err { OnErr result (self.new ≡ self.old) }
+        ensures promises { KeepsCachePromises self.new }
+    {
+        self.kept.grow(size)
+    }
+
+    /// Sets how many keys there may be. Where more are there, the least recently used keys are evicted, no more than
+    /// needed; they are returned, the least recently used first. A capacity that is no less than `len()` evicts none.
+    ///
+    /// The error comes only where keys have to go and there was no memory; then nothing changes. Takes memory for the
+    /// list of the evicted keys, and a smaller table of the keys, if there is memory for one. An eviction costs a
+    /// `deallocate` of the atlas; the table is gone through once.
+    pub fn set_capacity(&mut self, capacity: NonZeroUsize) -> Result<Vec<u64>, AllocError>
+        ensures ok { OnOk result
+            (self.new ≡ with_capacity self.old (non_zero_usize_get capacity)) }
+        ensures evicted { IfOk result (λ evicted. evicted.items
+            ≡ surplus_keys self.old (non_zero_usize_get capacity)) }
+        ensures err { OnErr result (self.new ≡ self.old) }
+        ensures surplus { OnErr result (1 ≤ surplus self.old (non_zero_usize_get capacity)) }
+        ensures promises { KeepsCachePromises self.new }
+    {
+        let mut evicted = Vec::new(self.alloc);
+        self.kept.drop_surplus(capacity.get(), &mut evicted)?;
+        self.kept.set_capacity(capacity);
+        Ok(evicted)
     }
 
     /// Removes all keys: the cache is as new.
@@ -172,5 +235,17 @@ impl GlyphCache {
         ensures { result.now ≡ self.now.atlas }
     {
         self.kept.atlas()
+    }
+}
+
+impl<'a> IntoIterator for &'a GlyphCache {
+    type Item = (u64, Rectangle);
+
+    type IntoIter = Iter<'a>;
+
+    ghost into_iter_gives = { λ cache iter. iter ≡ listed cache.now };
+
+    fn into_iter(self) -> Iter<'a> {
+        self.iter()
     }
 }

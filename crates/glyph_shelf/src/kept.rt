@@ -2,22 +2,29 @@
 //!
 //! Definitions: `Cache`, `Placing` and `Promises` for what the clauses say, `Private.Kept` for what the fields keep.
 
-ghost use Rattle.std.specs.Prelude.{◌≡◌, ◌<◌, [], ◌∷◌, None, true, is_some, nat_eq, length, option_map, IfOk, IfErr, IfSome, IfNone, OnOk, OnErr};
+ghost use Rattle.std.specs.Prelude.{◌≡◌, ◌<◌, ◌≤◌, [], ◌∷◌, None, false, true, is_some, nat_eq, length, option_map, IfOk, IfErr, IfSome, IfNone, OnOk, OnErr};
+ghost use Rattle.std.specs.Bool.{MatchBool};
 ghost use Rattle.std.specs.Map.{lookup};
 ghost use Rattle.std.specs.NonZero.{non_zero_usize_get};
 ghost use Rattle.shelf_model.specs.Choice as choice;
 ghost use Rattle.shelf_model.specs.Fresh.{fresh};
+ghost use Rattle.shelf_model.specs.Growing.{grow_fault, records_needed};
+ghost use Rattle.shelf_model.specs.declared.faults.AtlasGrowFault.TheVariants as grow_faults;
 ghost use Rattle.etagere_base.specs.Frames as frames;
 ghost use Rattle.etagere_base.specs.Frames.{IsAccepted, longest_side, options_fault};
 ghost use Rattle.etagere_base.specs.declared.faults.OptionsFault.TheVariants as faults;
 ghost use Rattle.etagere_base.specs.Rectangles.{IsLarge};
 ghost use Rattle.lru.specs.LruCache as lru;
-ghost use Rattle.glyph_shelf.specs.Cache.{empty_cache, rectangle_at, used, without_key, without_last};
+ghost use Rattle.glyph_shelf.specs.Cache.{after_dropping, empty_cache, listed, rectangle_at, used, without_key, without_last};
 ghost use Rattle.glyph_shelf.specs.Placing.{Enters, Places, RanOut, SameLayout, has_room};
 ghost use Rattle.glyph_shelf.specs.Promises.{KeepsCachePromises};
+ghost use Rattle.glyph_shelf.specs.Sizing.{cache_grown, of_capacity, surplus, surplus_keys};
 
 use crate::giving_back::give_back;
-use etagere::{Allocation, AllocatorOptions, AtlasAllocator, OptionsFault, Rectangle, Size};
+use crate::listing::Iter;
+use etagere::{
+    Allocation, AllocatorOptions, AtlasAllocator, AtlasGrowFault, OptionsFault, Rectangle, Size,
+};
 use lru::LruCache;
 use std::alloc::{AllocError, Global};
 use std::marker::Model;
@@ -88,6 +95,23 @@ impl Kept {
         &self.atlas
     }
 
+    /// The rectangle of a key; none where it isn't there. The order of use stays.
+    pub fn peek(&self, key: u64) -> Option<Rectangle>
+        ensures value { result ≡ rectangle_at self.now key }
+        ensures promises { KeepsCachePromises self.now }
+    {
+        let allocation = self.entries.peek(&key)?;
+        Some(allocation.rectangle)
+    }
+
+    /// The keys with their rectangles, the most recently used first.
+    pub fn iter(&self) -> Iter<'_>
+        ensures listed { result ≡ listed self.now }
+        ensures promises { KeepsCachePromises self.now }
+    {
+        Iter::new(self.entries.iter())
+    }
+
     /// The rectangle of a key, which becomes the most recently used; none where it isn't there.
     pub fn look(&mut self, key: u64) -> Option<Rectangle>
         ensures value { result ≡ rectangle_at self.old key }
@@ -127,6 +151,49 @@ impl Kept {
     {
         self.entries.clear();
         self.atlas.clear();
+    }
+
+    /// Makes the atlas larger, to this size in pixels.
+    pub fn grow(&mut self, size: Size) -> Result<(), AtlasGrowFault>
+        ensures ok { OnOk result (self.new ≡ cache_grown self.old size) }
+        ensures fault { IfSome (grow_fault self.old.atlas size) (λ fault. result ≡ Err fault) }
+        ensures memory { IfErr result
+            (λ fault. grow_fault self.old.atlas size ≡ None
+            → (fault ≡ grow_faults.Memory) × (1 ≤ records_needed self.old.atlas size)) }
+        ensures err { OnErr result (self.new ≡ self.old) }
+        ensures promises { KeepsCachePromises self.new }
+    {
+        self.atlas.grow(size)
+    }
+
+    /// Drops entries, the least recently used first, until there are no more than so many, and lists their keys in that
+    /// order. There is room for all of them before the first goes.
+    pub fn drop_surplus(&mut self, most: usize, evicted: &mut Vec<u64>) -> Result<(), AllocError>
+        requires none { evicted.old.items ≡ [] }
+        ensures ok { OnOk result (self.new ≡ after_dropping self.old (surplus self.old most)) }
+        ensures keys { OnOk result (evicted.new.items ≡ surplus_keys self.old most) }
+        ensures err { OnErr result (self.new ≡ self.old) }
+        ensures surplus { OnErr result (1 ≤ surplus self.old most) }
+        ensures promises { KeepsCachePromises self.new }
+    {
+        let surplus = self.len().saturating_sub(most);
+        evicted.reserve(surplus)?;
+        for gone in 0..surplus {
+            let Some(key) = self.drop_last() else {
+                unreachable!()
+            };
+            evicted.push(key).unwrap();
+        }
+        Ok(())
+    }
+
+    /// Sets how many entries there may be.
+    pub fn set_capacity(&mut self, capacity: NonZeroUsize)
+        requires { length self.old.entries ≤ non_zero_usize_get capacity }
+        ensures set { self.new ≡ of_capacity self.old (non_zero_usize_get capacity) }
+        ensures promises { KeepsCachePromises self.new }
+    {
+        self.entries.resize(capacity);
     }
 
     /// Puts a new key in front, if there is room for one entry more and the atlas has room for the size.

@@ -2,13 +2,15 @@
 //! are evicted, no more than needed.
 //!
 //! `cache` has the public calls, `kept` the entries with their atlas, which change together, `giving_back` how an
-//! entry's rectangle goes back to the atlas.
+//! entry's rectangle goes back to the atlas, and `listing` the iterator.
 #![tactic(auto)]
 
 mod cache;
 mod faults;
 mod giving_back;
 mod kept;
+mod listing;
 
 pub use cache::{GlyphCache, Placed};
 pub use faults::GlyphFault;
+pub use listing::Iter;
