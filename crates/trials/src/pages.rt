@@ -37,26 +37,34 @@ pub fn run_on_pages(rt: &(impl Print + AllocGlobal)) -> Result<(), ReplayFault> 
     let mut pages = AtlasPages::new(rt.alloc(), &OPTIONS).map_err(|_| ReplayFault::Memory)?;
     let mut last = None;
     for (width, height) in STEPS {
-        let command = command_of(last, size2(width, height));
-        let mut reply = answered(rt, &mut pages, command)?;
-        if reply == PageReply::NoMemory {
-            reply = answered(rt, &mut pages, command)?;
-        }
-        match reply {
+        let command = command_of(&last, size2(width, height));
+        match answered_at_last(rt, &mut pages, &command)? {
             PageReply::NoMemory => return Ok(()),
             PageReply::Placed(place) => last = Some(place),
             _ => {}
         }
     }
-    answered(rt, &mut pages, PageCommand::Clear)?;
-    answered(rt, &mut pages, PageCommand::Shrink)?;
+    answered(rt, &mut pages, &PageCommand::Clear)?;
+    answered(rt, &mut pages, &PageCommand::Shrink)?;
     Ok(())
 }
 
-fn command_of(last: Option<PagePlace>, size: Size) -> PageCommand {
+fn command_of(last: &Option<PagePlace>, size: Size) -> PageCommand {
     match last {
         Some(place) if size.width == 0 => PageCommand::Deallocate(place.page, place.allocation.id),
         _ => PageCommand::Allocate(size),
+    }
+}
+
+/// Answers a command, and once more where it was out of memory.
+fn answered_at_last(
+    rt: &impl Print,
+    pages: &mut AtlasPages,
+    command: &PageCommand,
+) -> Result<PageReply, ReplayFault> {
+    match answered(rt, pages, command)? {
+        PageReply::NoMemory => answered(rt, pages, command),
+        reply => Ok(reply),
     }
 }
 
@@ -64,18 +72,22 @@ fn command_of(last: Option<PagePlace>, size: Size) -> PageCommand {
 fn answered(
     rt: &impl Print,
     pages: &mut AtlasPages,
-    command: PageCommand,
+    command: &PageCommand,
 ) -> Result<PageReply, ReplayFault> {
-    let reply = answer_on_pages(pages, command);
-    match reply {
-        PageReply::Placed(place) => say_place(rt, &place)?,
-        PageReply::NoMemory => say(rt, "no memory")?,
-        PageReply::Returned => say(rt, "returned")?,
-        PageReply::Closed(count) => println!(rt; "closed {count}").map_err(|_| ReplayFault::Write)?,
-        PageReply::Cleared => say(rt, "cleared")?,
-        _ => say(rt, "refused")?,
-    }
+    let reply = answer_on_pages(pages, *command);
+    say_page_reply(rt, &reply)?;
     Ok(reply)
+}
+
+fn say_page_reply(rt: &impl Print, reply: &PageReply) -> Result<(), ReplayFault> {
+    match reply {
+        PageReply::Placed(place) => say_place(rt, place),
+        PageReply::Closed(count) => println!(rt; "closed {count}").map_err(|_| ReplayFault::Write),
+        PageReply::NoMemory => say(rt, "no memory"),
+        PageReply::Returned => say(rt, "returned"),
+        PageReply::Cleared => say(rt, "cleared"),
+        _ => say(rt, "refused"),
+    }
 }
 
 fn say_place(rt: &impl Print, place: &PagePlace) -> Result<(), ReplayFault> {
