@@ -4,7 +4,7 @@
 //! fields keep. The clauses stay as they are: callers prove by them. Fields may change, with `state_in`
 //! and `IsConsistent`.
 
-ghost use Rattle.std.specs.Prelude.{◌≡◌, ◌↔◌, ◌*◌, ◌-◌, ◌+ℤ◌, [], Err, None, Some, false, ◌≤◌, pos, IfOk, IfErr, IfSome, IfNone, OnOk, OnErr, IsErr, IsTrue, is_some, length, map, option_map};
+ghost use Rattle.std.specs.Prelude.{◌≡◌, ◌↔◌, ◌*◌, ◌-◌, ◌+ℤ◌, [], Err, None, Some, true, false, ◌≤◌, pos, IfOk, IfErr, IfSome, IfNone, OnOk, OnErr, IsErr, IsTrue, is_some, length, map, option_map};
 ghost use Rattle.std.specs.Io.KnownBytes.{Appends};
 ghost use Rattle.etagere_base.specs.Frames as frames;
 ghost use Rattle.etagere_base.specs.Frames.{IsAccepted, longest_side, options_fault};
@@ -32,8 +32,10 @@ ghost use Rattle.shelf_records.specs.StandsFor.{StandsFor};
 ghost use Rattle.shelf_model.specs.State as state;
 ghost use Rattle.shelf_model.specs.Svg.{drawn_items, svg, svg_into};
 ghost use Rattle.shelf_model.specs.Usage as usages;
+ghost use Rattle.etagere.specs.Plain.{allocation_in, rectangle_in};
 
 use crate::listing::Iter;
+use crate::plain::PlainAllocation;
 use crate::restored::restore_atlas;
 use etagere_base::{
     AllocId, Allocation, AllocatorOptions, DEFAULT_OPTIONS, Frame, GatheredText, LONGEST_SIDE,
@@ -209,6 +211,7 @@ impl AtlasAllocator {
     /// does a size that needs no split. Finds the first shelf that is tall enough by binary search, and goes on by
     /// height; of each shelf that may have an item wide enough it searches the free list up to the first that is. Where
     /// a shelf is split, one end of the list by height moves to make room for the new one.
+    #[inline(always)]
     pub fn allocate(&mut self, size: Size) -> Result<Option<Allocation>, AllocError>
         ensures placed { IfOk result
             (λ answer. IfSome answer (λ allocation. Allocates self.old size allocation self.new)) }
@@ -231,6 +234,50 @@ impl AtlasAllocator {
             (λ allocation. IsLarge self.old.frame size allocation.rectangle)) }
         ensures promises { KeepsPromises self.new }
     {
+        let mut given = PlainAllocation::NOTHING;
+        if self.allocate_to(size, &mut given)? {
+            Ok(Some(given.allocation()))
+        } else {
+            Ok(None)
+        }
+    }
+
+    /// Allocates as `allocate` does, for callers that keep what is given in numbers alone: writes it to `allocation`, and
+    /// says whether there was room.
+    ///
+    /// After an `Err` or `false` nothing has changed, `allocation` included. Errors, memory and time are those of
+    /// `allocate`, and the answer isn't copied.
+    pub fn allocate_to(
+        &mut self,
+        size: Size,
+        allocation: &mut PlainAllocation,
+    ) -> Result<bool, AllocError>
+        ensures placed { IfOk result
+            (λ has_room. has_room ≡ true
+            → Allocates self.old size (allocation_in allocation.new) self.new) }
+        ensures refused { IfOk result (λ has_room. has_room ≡ false → IsRefused self.old size) }
+        ensures none { IfOk result (λ has_room. has_room ≡ false → self.new ≡ self.old) }
+        ensures unwritten { IfOk result
+            (λ has_room. has_room ≡ false → allocation.new ≡ allocation.old) }
+        ensures err { OnErr result (self.new ≡ self.old) }
+        ensures err_unwritten { OnErr result (allocation.new ≡ allocation.old) }
+        ensures split { OnErr result (NeedsSplit self.old size) }
+        ensures allocated { IfOk result
+            (λ has_room. has_room ≡ true
+            → Adds (allocations self.old) (allocation_in allocation.new) (allocations self.new)) }
+        ensures found { IfOk result
+            (λ has_room. has_room ≡ true
+            → places.rectangle_of self.new allocation.new.id
+            ≡ Some (rectangle_in allocation.new.rectangle)) }
+        ensures kept { KeepsRectangles self.old self.new }
+        ensures clear { IfOk result
+            (λ has_room. has_room ≡ true
+            → IsClear self.old (rectangle_in allocation.new.rectangle)) }
+        ensures large { IfOk result
+            (λ has_room. has_room ≡ true
+            → IsLarge self.old.frame size (rectangle_in allocation.new.rectangle)) }
+        ensures promises { KeepsPromises self.new }
+    {
         let found = placement_of(
             &self.frame,
             &self.records,
@@ -239,7 +286,7 @@ impl AtlasAllocator {
             size,
         );
         let Some(placement) = found else {
-            return Ok(None);
+            return Ok(false);
         };
         let rectangle = placement.rectangle(&self.frame);
         let column_width = self.frame.column_width as u16;
@@ -251,7 +298,8 @@ impl AtlasAllocator {
         )?;
         self.items_in_use += placement.splits();
         self.allocated_space += placement.area();
-        Ok(Some(Allocation { id, rectangle }))
+        *allocation = PlainAllocation::of(Allocation { id, rectangle });
+        Ok(true)
     }
 
     /// Whether the atlas, with its present size and columns, would have room for a size in pixels if it were empty.

@@ -1,14 +1,16 @@
 //! A texture atlas allocator: rectangles are placed on shelves and given back in any order.
 //!
-//! The calls are in `atlas`, the form of `restore` that counts its steps in `laws`, and the iterator in `listing`. The
-//! layers below are crates of their own, not meant for users: `shelf_model` has the model and its laws, `shelf_records`
-//! what records spell and are saved as, `shelf_heights` the shelves by height, `shelf_store` what calls do to records,
-//! and `shelf_restoring` how a snapshot is judged. The bucketed atlas of `etagere_bucketed` is re-exported.
+//! The calls are in `atlas`, the form of `restore` that counts its steps in `laws`, the iterator in `listing`, and what
+//! callers in C keep in `plain`. The layers below are crates of their own, not meant for users: `shelf_model` has the
+//! model and its laws, `shelf_records` what records spell and are saved as, `shelf_heights` the shelves by height,
+//! `shelf_store` what calls do to records, and `shelf_restoring` how a snapshot is judged. The bucketed atlas of
+//! `etagere_bucketed` is re-exported.
 #![tactic(auto)]
 
 mod atlas;
 pub mod laws;
 mod listing;
+mod plain;
 mod restored;
 
 pub use atlas::AtlasAllocator;
@@ -21,6 +23,7 @@ pub use etagere_bucketed::{
     BucketedUsage, GrowFault,
 };
 pub use listing::Iter;
+pub use plain::{PlainAllocation, PlainPoint, PlainRectangle};
 pub use shelf_model::faults::{AtlasGrowFault, Refusal};
 pub use shelf_model::usage::Usage;
 pub use shelf_records::snapshots::{AtlasSnapshot, ItemRecord, ShelfRecord};

@@ -1,5 +1,5 @@
 -- The statuses of faults of a restoring.
-use Rattle.std.proofs.Common.{◌≡◌, ◌<◌, ◌≤◌, ◌≢◌, ap, arith}
+use Rattle.std.proofs.Common.{◌<◌, ◌≤◌, ◌≢◌, ap, arith}
 use Rattle.etagere_base.specs.declared.faults.RestoreFault.{RestoreFault}
 use Rattle.etagere_base.specs.declared.faults.RestoreFault.TheVariants.{Frame, Counts, Link, Shelves, Runs, Neighbours, FreeList, Sharing, Unused, Space, Memory}
 use Rattle.etagere_c.specs.Statuses.{restore_memory, restore_refused}

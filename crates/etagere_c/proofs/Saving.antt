@@ -1,5 +1,5 @@
 -- Texts that save an atlas, from what was read, written and restored.
-use Rattle.std.proofs.Common.{◌≡◌, ◌<◌, ℕ, List, Option, Some, length, refl, subst, sym}
+use Rattle.std.proofs.Common.{◌≡◌, ◌<◌, ℕ, List, Option, Some, length, subst, sym}
 use Rattle.std.specs.Prelude.{IfNone, IfOk, IfSome, Result, Ok, Err}
 use Rattle.std.specs.Result.{result_ok}
 use Rattle.etagere_c.specs.Calls.{IsWritten}

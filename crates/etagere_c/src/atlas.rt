@@ -17,7 +17,8 @@ ghost use Rattle.shelf_model.specs.Places.{allocations, is_allocated};
 ghost use Rattle.shelf_model.specs.Returning.{returned};
 ghost use Rattle.shelf_model.specs.Space as spaces;
 ghost use Rattle.etagere_c.specs.Calls.{IsAmong, IsFlag, Leads};
-ghost use Rattle.etagere_c.specs.Crossing.{allocation_in, options_in, rectangle_in, size_in};
+ghost use Rattle.etagere.specs.Plain.{allocation_in, rectangle_in};
+ghost use Rattle.etagere_c.specs.Crossing.{options_in, size_in};
 ghost use Rattle.etagere_c.specs.Statuses as statuses;
 
 use crate::atlas_handle::EtagereAtlas;
@@ -109,12 +110,9 @@ pub(crate) fn allocate(
     ensures unwritten { result ≢ statuses.ok → allocation.new ≡ allocation.old }
     ensures promises { KeepsPromises atlas.new }
 {
-    match atlas.allocate(size.size()) {
-        Ok(Some(given)) => {
-            *allocation = EtagereAllocation::of(given);
-            OK
-        }
-        Ok(None) => NO_ROOM,
+    match atlas.allocate_to(size.size(), allocation) {
+        Ok(true) => OK,
+        Ok(false) => NO_ROOM,
         Err(_) => MEMORY,
     }
 }

@@ -12,7 +12,8 @@ ghost use Rattle.bucketed_model.specs.Placing.{IsBucketRefused};
 ghost use Rattle.bucketed_model.specs.Returning.{bucket_returned, is_known};
 ghost use Rattle.etagere_c.specs.Batches.{GivesOver, StepsOver};
 ghost use Rattle.etagere_c.specs.Calls.{IsAmong, Leads};
-ghost use Rattle.etagere_c.specs.Crossing.{allocation_in, size_in};
+ghost use Rattle.etagere.specs.Plain.{allocation_in};
+ghost use Rattle.etagere_c.specs.Crossing.{size_in};
 ghost use Rattle.etagere_c.specs.Statuses as statuses;
 
 use crate::atlas::allocate;

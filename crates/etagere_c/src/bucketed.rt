@@ -16,7 +16,8 @@ ghost use Rattle.bucketed_model.specs.Returning.{bucket_returned, is_known};
 ghost use Rattle.bucketed_model.specs.Space as spaces;
 ghost use Rattle.bucketed_model.specs.State.{fresh, is_idle};
 ghost use Rattle.etagere_c.specs.Calls.{IsAmong, IsFlag, Leads};
-ghost use Rattle.etagere_c.specs.Crossing.{allocation_in, options_in, size_in};
+ghost use Rattle.etagere.specs.Plain.{allocation_in};
+ghost use Rattle.etagere_c.specs.Crossing.{options_in, size_in};
 ghost use Rattle.etagere_c.specs.Statuses as statuses;
 
 use crate::bucketed_handle::EtagereBucketed;

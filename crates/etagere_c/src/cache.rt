@@ -13,7 +13,8 @@ ghost use Rattle.glyph_shelf.specs.Placing.{IsNew, IsTooLarge, Places, RanOut};
 ghost use Rattle.glyph_shelf.specs.Promises.{KeepsCachePromises};
 ghost use Rattle.etagere_c.specs.Calls.{IsAmong, IsFlag, IsWritten, Leads};
 ghost use Rattle.etagere_c.specs.Evicted.{HasRoomFor, IsGone};
-ghost use Rattle.etagere_c.specs.Crossing.{options_in, rectangle_in, size_in};
+ghost use Rattle.etagere.specs.Plain.{rectangle_in};
+ghost use Rattle.etagere_c.specs.Crossing.{options_in, size_in};
 ghost use Rattle.etagere_c.specs.Statuses as statuses;
 
 use crate::buffers::write_keys;

@@ -1,22 +1,18 @@
 //! What crosses to C by value: places, sizes, rectangles, allocations and options.
 //!
-//! Definitions: `Crossing`. The header has the same fields in the same order.
+//! Definitions: `Crossing`, and `Plain` of `etagere`. The header has the same fields in the same order.
 
 ghost use Rattle.std.specs.Prelude.{◌≡◌};
 ghost use Rattle.etagere_base.specs.Options.{default_options};
-ghost use Rattle.etagere_c.specs.Crossing.{allocation_in, options_in, rectangle_in, size_in};
+ghost use Rattle.etagere_c.specs.Crossing.{options_in, size_in};
 ghost use Rattle.etagere_c.specs.Statuses as statuses;
 
 use crate::statuses::OK;
-use etagere::{Allocation, AllocatorOptions, DEFAULT_OPTIONS, Point, Rectangle, Size};
-
-/// A place in pixels.
-#[repr(C)]
-#[derive(Clone, Copy)]
-pub struct EtagerePoint {
-    pub x: i32,
-    pub y: i32,
-}
+pub use etagere::{
+    PlainAllocation as EtagereAllocation, PlainPoint as EtagerePoint,
+    PlainRectangle as EtagereRectangle,
+};
+use etagere::{AllocatorOptions, DEFAULT_OPTIONS, Size};
 
 /// Two sides in pixels.
 #[repr(C)]
@@ -24,22 +20,6 @@ pub struct EtagerePoint {
 pub struct EtagereSize {
     pub width: i32,
     pub height: i32,
-}
-
-/// The pixels from `min` on, up to `max`, which is not part of it.
-#[repr(C)]
-#[derive(Clone, Copy)]
-pub struct EtagereRectangle {
-    pub min: EtagerePoint,
-    pub max: EtagerePoint,
-}
-
-/// A rectangle of an atlas, and the number of the id by which it is given back.
-#[repr(C)]
-#[derive(Clone, Copy)]
-pub struct EtagereAllocation {
-    pub id: u32,
-    pub rectangle: EtagereRectangle,
 }
 
 /// How an atlas is divided and what it rounds sizes to. Shelves stand upright where `vertical_shelves` isn't 0.
@@ -69,58 +49,6 @@ impl EtagereSize {
         EtagereSize {
             width: size.width,
             height: size.height,
-        }
-    }
-}
-
-impl EtagereRectangle {
-    /// The same rectangle, to go out.
-    pub(crate) fn of(rectangle: Rectangle) -> EtagereRectangle
-        ensures { rectangle_in result ≡ rectangle }
-    {
-        EtagereRectangle {
-            min: point_of(rectangle.min),
-            max: point_of(rectangle.max),
-        }
-    }
-
-    /// The same rectangle.
-    pub(crate) fn rectangle(self) -> Rectangle
-        ensures { result ≡ rectangle_in self }
-    {
-        Rectangle {
-            min: point_in(self.min),
-            max: point_in(self.max),
-        }
-    }
-}
-
-fn point_in(point: EtagerePoint) -> Point
-    ensures { result ≡ record { x = point.x; y = point.y } }
-{
-    Point {
-        x: point.x,
-        y: point.y,
-    }
-}
-
-fn point_of(point: Point) -> EtagerePoint
-    ensures { result ≡ record { x = point.x; y = point.y } }
-{
-    EtagerePoint {
-        x: point.x,
-        y: point.y,
-    }
-}
-
-impl EtagereAllocation {
-    /// The same allocation, to go out.
-    pub(crate) fn of(allocation: Allocation) -> EtagereAllocation
-        ensures { allocation_in result ≡ allocation }
-    {
-        EtagereAllocation {
-            id: allocation.id.serialize(),
-            rectangle: EtagereRectangle::of(allocation.rectangle),
         }
     }
 }

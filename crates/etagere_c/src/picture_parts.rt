@@ -6,7 +6,7 @@ ghost use Rattle.std.specs.Prelude.{◌≡◌, ◌≢◌, ◌↔◌, ◌<◌, []
 ghost use Rattle.shelf_model.specs.Svg.{svg_into};
 ghost use Rattle.bucketed_model.specs.Svg as buckets;
 ghost use Rattle.etagere_c.specs.Calls.{IsAmong, IsWritten};
-ghost use Rattle.etagere_c.specs.Crossing.{rectangle_in};
+ghost use Rattle.etagere.specs.Plain.{rectangle_in};
 ghost use Rattle.etagere_c.specs.Statuses as statuses;
 
 use crate::atlas_handle::EtagereAtlas;

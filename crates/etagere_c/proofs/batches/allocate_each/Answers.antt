@@ -3,7 +3,8 @@ use Rattle.std.specs.Prelude.{pos}
 use Rattle.std.proofs.Math.Seq.{take-suc}
 use Rattle.std.proofs.lemmas.List.{drop-set-lt}
 use Rattle.shelf_model.specs.Atlas.{Allocates}
-use Rattle.etagere_c.specs.Crossing.{allocation_in, size_in}
+use Rattle.etagere.specs.Plain.{allocation_in}
+use Rattle.etagere_c.specs.Crossing.{size_in}
 use Rattle.etagere_c.proofs.BatchSteps.{drop_on, gives_on}
 use Rattle.etagere_c.proofs.batches.allocate_each.Goals as goal
 

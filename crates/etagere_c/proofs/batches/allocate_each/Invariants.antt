@@ -1,7 +1,8 @@
 use Rattle.std.proofs.Common.{◌≡◌, length, take, drop}
 use Rattle.shelf_model.specs.Atlas.{Allocates}
 use Rattle.etagere_c.specs.Batches.{GivesOver}
-use Rattle.etagere_c.specs.Crossing.{allocation_in, size_in}
+use Rattle.etagere.specs.Plain.{allocation_in}
+use Rattle.etagere_c.specs.Crossing.{size_in}
 use Rattle.etagere_c.proofs.batches.allocate_each.Given as goal
 
 -- the sizes so far were given the allocations so far, and the rest of the buffer is as it was

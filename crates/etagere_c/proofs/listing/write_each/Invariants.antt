@@ -1,6 +1,6 @@
 use Rattle.std.proofs.Common.{◌≡◌, ◌+◌, ◌++◌, length, map, take, drop}
 use Rattle.shelf_model.specs.Listing.{listed}
-use Rattle.etagere_c.specs.Crossing.{allocation_in}
+use Rattle.etagere.specs.Plain.{allocation_in}
 use Rattle.etagere_c.proofs.listing.write_each.Given as goal
 
 -- what is written and what is left are all, and the rest of the buffer is as it was

@@ -9,7 +9,7 @@ use mir.Syntax.{named}
 use mir.Raw.{raw as bare}
 use mir.Val.{Val, vptr, vcons, vnil}
 use base.Logic.{ent, sep, id⊢}
-use base.Fml.{Fml, GName, ftrue, fsep, flft, fobs, fres}
+use base.Fml.{Fml, GName, ftrue, fsep, flft, fres}
 use types.Logic.{Logic, sem}
 use types.Kit.{‵, raw, ◌⊛◌, some, later, at_ret, ◌$◌, ◌∵◌, !, qed, move, keep, use0, use1, split, split3, join, group, pick, await, rewrite, fsplit, fsplit3, fjoin, fpack, suffices, frame, done}
 use types.Match.{live}
@@ -35,7 +35,7 @@ use Rattle.std.proofs.VecSteps.Shapes.{after}
 use Rattle.std.proofs.option.Made.{Some-of, none_of}
 use Rattle.std.proofs.raw_atomic.Walks.{proved}
 use Rattle.etagere_c.specs.Held.{held}
-use Rattle.etagere_c.proofs.HandleSteps.{Good, pointer_typed, word, handle_out, handle_in, either_held, boxed}
+use Rattle.etagere_c.proofs.HandleSteps.{pointer_typed, word, handle_out, handle_in, either_held, boxed}
 use Rattle.etagere_bucketed.specs.contracts.atlas.BucketedAtlasAllocator as Held
 use Rattle.etagere_c.specs.contracts.bucketed_handle.EtagereBucketed.{the_row as R}
 use Rattle.etagere_c.specs.contracts.bucketed_handle.EtagereBucketed.lend as f

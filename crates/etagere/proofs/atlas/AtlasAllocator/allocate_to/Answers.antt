@@ -1,11 +1,13 @@
-use Rattle.std.specs.Prelude.{OnErr, Result, Ok, Err}
+use Rattle.std.specs.Prelude.{◌≡◌, OnErr, Result, Ok, Err, Some}
 use Rattle.std.proofs.Common.{List, ap, sym, subst, arith, ◌∙◌}
 use Rattle.etagere_base.specs.Rectangles.{IsLarge}
+use Rattle.etagere_base.specs.declared.ids.Allocation.{Allocation}
 use Rattle.shelf_links.specs.RecordLists.{Records}
 use Rattle.shelf_model.specs.Atlas.{Adds, Allocates, KeepsPromises, NeedsSplit}
 use Rattle.shelf_model.specs.Choice.{Placement}
 use Rattle.shelf_model.specs.ById.{IsClear, KeepsRectangles}
-use Rattle.shelf_model.specs.Places.{allocations}
+use Rattle.shelf_model.specs.Places.{allocations, rectangle_of}
+use Rattle.etagere.specs.Plain.{allocation_in, rectangle_in}
 use Rattle.etagere.specs.Private.Consistent.{state_in}
 use Rattle.shelf_heights.specs.Private.ByHeight.{AreByHeight}
 use Rattle.shelf_records.specs.Private.Kept.{state_of}
@@ -18,7 +20,7 @@ use Rattle.shelf_store.proofs.ByHeight.TakenByHeight.{HoldsByHeight}
 use Rattle.shelf_model.proofs.Promises.{promises}
 use Rattle.shelf_store.proofs.Recorded.RecordedTaking.{AfterTaking, after-taking, found-as_placed, found-by_height}
 use Rattle.shelf_store.proofs.Spelled.TakenPremises.{can-take}
-use Rattle.etagere.proofs.atlas.AtlasAllocator.allocate.Goals as goal
+use Rattle.etagere.proofs.atlas.AtlasAllocator.allocate_to.Goals as goal
 
 on_err : {T E P : Type 0} (r : Result T E) → P → OnErr r P
 on_err (Ok x) p = tt
@@ -88,14 +90,14 @@ overflow_add-self-2 c =
     omega (arith, done.small, c.area.ensures, c.self.invariant.space)
 
 -- what is known at the end
-after : (c : goal.After-self-2-1) → AfterTaking c.self.inside.frame c.self.inside.records c.args.size c.in-Some.placement (record { id = c.in_ok-id.id; rectangle = c.rectangle-rectangle.result }) c.take_placement.new.records
+after : (c : goal.After-of) → AfterTaking c.self.inside.frame c.self.inside.records c.args.size c.in-Some.placement (record { id = c.in_ok-id.id; rectangle = c.rectangle-rectangle.result }) c.take_placement.new.records
 after c =
     let inside = c.self.inside in
     after-taking inside.frame inside.records c.take_placement.new.records c.args.size c.in-Some.placement c.in_ok-id.id c.rectangle-rectangle.result
     c.self.invariant.kept c.in-Some.ensures.some c.in_ok-id.ensures.ok c.in_ok-id.ensures.id c.rectangle-rectangle.ensures
 
 -- and of the shelves by height
-by_height-after : (c : goal.After-self-2-1) → AreByHeight c.self.inside.frame c.take_placement.new.records c.take_placement.new.by_height.items
+by_height-after : (c : goal.After-of) → AreByHeight c.self.inside.frame c.take_placement.new.records c.take_placement.new.by_height.items
 by_height-after c =
     let inside = c.self.inside in
     let by_height : List BoundedShelf = c.placement_of-found.new.by_height.items in
@@ -113,31 +115,43 @@ invariant_of-self-2 c = record {
   space = omega (arith, (after c).space, c.area.ensures, c.self.invariant.space);
 }
 
+-- what is given, for which stands what was written
+abbrev given : (c : goal.After-of) → Allocation
+given c = record { id = c.in_ok-id.id; rectangle = c.rectangle-rectangle.result }
+
+-- the state after
+abbrev state-after : (c : goal.After-of) → AtlasState
+state-after c = state_of c.self.inside.frame c.take_placement.new.records
+
 pub returns-clause-placed : goal.returns-clause-placed
-returns-clause-placed c =
-    subst (λ (state : AtlasState). Allocates state c.args.size (record { id = c.in_ok-id.id; rectangle = c.rectangle-rectangle.result }) (state_of c.self.inside.frame c.take_placement.new.records)) c.self.view_is (after c).allocated.allocates
+returns-clause-placed c = λ _.
+    subst (λ (state : AtlasState). Allocates state c.args.size (allocation_in c.of.result) (state-after c)) c.self.view_is
+    (subst (λ (allocation : Allocation). Allocates (state_in c.self.inside) c.args.size allocation (state-after c)) (sym c.of.ensures) (after c).allocated.allocates)
 
 pub returns-clause-allocated : goal.returns-clause-allocated
-returns-clause-allocated c =
-    subst (λ (state : AtlasState). Adds (allocations state) (record { id = c.in_ok-id.id; rectangle = c.rectangle-rectangle.result }) (allocations (state_of c.self.inside.frame c.take_placement.new.records))) c.self.view_is (after c).allocated.adds
+returns-clause-allocated c = λ _.
+    subst (λ (state : AtlasState). Adds (allocations state) (allocation_in c.of.result) (allocations (state-after c))) c.self.view_is
+    (subst (λ (allocation : Allocation). Adds (allocations (state_in c.self.inside)) allocation (allocations (state-after c))) (sym c.of.ensures) (after c).allocated.adds)
 
 pub returns-clause-found : goal.returns-clause-found
-returns-clause-found c = (after c).allocated.found
+returns-clause-found c = λ _.
+    subst (λ (allocation : Allocation). rectangle_of (state-after c) allocation.id ≡ Some allocation.rectangle) (sym c.of.ensures) (after c).allocated.found
 
 pub returns-clause-large : goal.returns-clause-large
-returns-clause-large c = subst (λ (state : AtlasState). IsLarge state.frame c.args.size c.rectangle-rectangle.result) c.self.view_is (after c).allocated.large
+returns-clause-large c = λ _.
+    subst (λ (state : AtlasState). IsLarge state.frame c.args.size (rectangle_in c.of.result.rectangle)) c.self.view_is
+    (subst (λ (allocation : Allocation). IsLarge c.self.inside.frame c.args.size allocation.rectangle) (sym c.of.ensures) (after c).allocated.large)
 
 pub returns-clause-promises : goal.returns-clause-promises
 returns-clause-promises c = (after c).allocated.promises_after
 
 pub returns-clause-kept : goal.returns-clause-kept
 returns-clause-kept c =
-    let new = state_of c.self.inside.frame c.take_placement.new.records in
-    subst (λ (state : AtlasState). KeepsRectangles state new) c.self.view_is
-    (keeps-rectangles (state_in c.self.inside) (record { id = c.in_ok-id.id; rectangle = c.rectangle-rectangle.result }) new (after c).allocated.adds (after c).allocated.allocates.fresh_id)
+    subst (λ (state : AtlasState). KeepsRectangles state (state-after c)) c.self.view_is
+    (keeps-rectangles (state_in c.self.inside) (given c) (state-after c) (after c).allocated.adds (after c).allocated.allocates.fresh_id)
 
 pub returns-clause-clear : goal.returns-clause-clear
-returns-clause-clear c =
-    let new = state_of c.self.inside.frame c.take_placement.new.records in
-    subst (λ (state : AtlasState). IsClear state c.rectangle-rectangle.result) c.self.view_is
-    (added-clear (state_in c.self.inside) (record { id = c.in_ok-id.id; rectangle = c.rectangle-rectangle.result }) new (after c).allocated.adds (after c).allocated.promises_after.apart)
+returns-clause-clear c = λ _.
+    subst (λ (state : AtlasState). IsClear state (rectangle_in c.of.result.rectangle)) c.self.view_is
+    (subst (λ (allocation : Allocation). IsClear (state_in c.self.inside) allocation.rectangle) (sym c.of.ensures)
+    (added-clear (state_in c.self.inside) (given c) (state-after c) (after c).allocated.adds (after c).allocated.promises_after.apart))
