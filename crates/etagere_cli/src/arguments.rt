@@ -10,13 +10,15 @@ pub fn program<'a>(alloc: Global) -> Result<Command<'a>, AllocError> {
         .subcommand(explain(alloc)?)?
         .subcommand(stats(alloc)?)?
         .subcommand(save(alloc)?)?
-        .subcommand(resume(alloc)?)
+        .subcommand(resume(alloc)?)?
+        .subcommand(watch(alloc)?)
 }
 
 fn explain<'a>(alloc: Global) -> Result<Command<'a>, AllocError> {
     Command::new(alloc, "explain")
         .about("Says why commands were refused, a line is bad, or a snapshot is broken")
         .after_help("Example: ./etagere explain examples/readme.atlas")
+        .arg(output(alloc))?
         .arg(input(
             alloc,
             "A script, or the JSON text of a snapshot; standard input if it isn't given",
@@ -24,10 +26,16 @@ fn explain<'a>(alloc: Global) -> Result<Command<'a>, AllocError> {
 }
 
 fn stats<'a>(alloc: Global) -> Result<Command<'a>, AllocError> {
+    let plot = Arg::new(alloc, "plot")
+        .long("plot")
+        .action(ArgAction::SetTrue)
+        .help("Draws fill, live and refusals over the commands of a script, as SVG");
     Command::new(alloc, "stats")
         .about("Counts what a script asks for, and says how full it leaves the atlas")
         .after_help("Example: ./etagere stats --json examples/readme.atlas")
         .arg(json(alloc))?
+        .arg(plot)?
+        .arg(output(alloc))?
         .arg(input(
             alloc,
             "A script, or the JSON text of a snapshot; standard input if it isn't given",
@@ -37,7 +45,8 @@ fn stats<'a>(alloc: Global) -> Result<Command<'a>, AllocError> {
 fn save<'a>(alloc: Global) -> Result<Command<'a>, AllocError> {
     Command::new(alloc, "save")
         .about("Writes the snapshot of the atlas that a script leaves, as JSON")
-        .after_help("Example: ./etagere save examples/readme.atlas > saved.json")
+        .after_help("Example: ./etagere save -o saved.json examples/readme.atlas")
+        .arg(output(alloc))?
         .arg(input(alloc, "A script; standard input if it isn't given"))
 }
 
@@ -57,11 +66,23 @@ fn resume<'a>(alloc: Global) -> Result<Command<'a>, AllocError> {
             those behind them.\n\nExample: ./etagere resume saved.json more.commands",
         )
         .arg(live)?
+        .arg(output(alloc))?
         .arg(snapshot)?
         .arg(input(
             alloc,
             "Commands, a line for each, without a header; standard input if it isn't given",
         ))
+}
+
+fn watch<'a>(alloc: Global) -> Result<Command<'a>, AllocError> {
+    Command::new(alloc, "watch")
+        .about("Writes a page for a browser, which shows the atlas after each command of a script")
+        .after_help(
+            "The page needs no network. The keys of the slider step, and #step=N behind its address opens a step.\n\n\
+            Example: ./etagere watch -o page.html examples/glyph_page.atlas",
+        )
+        .arg(output(alloc))?
+        .arg(input(alloc, "A script; standard input if it isn't given"))
 }
 
 fn json<'a>(alloc: Global) -> Arg<'a> {
@@ -73,4 +94,15 @@ fn json<'a>(alloc: Global) -> Arg<'a> {
 
 fn input<'a>(alloc: Global, help: &'a str) -> Arg<'a> {
     Arg::new(alloc, "FILE").action(ArgAction::Set).help(help)
+}
+
+fn output<'a>(alloc: Global) -> Arg<'a> {
+    Arg::new(alloc, "output")
+        .short('o')
+        .long("output")
+        .value_name("OUT")
+        .action(ArgAction::Set)
+        .help(
+            "Writes to this file, which has all of it or stays as it was; standard output if it isn't given",
+        )
 }

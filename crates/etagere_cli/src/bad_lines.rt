@@ -18,6 +18,16 @@ pub fn expected_text(alloc: Global, script: &[u8], number: u64) -> Result<String
     format!(in alloc; "line {number}: {expected}")
 }
 
+/// What was expected on the first bad line of commands for a shelf atlas, which have no header.
+pub fn expected_of_commands(
+    alloc: Global,
+    commands: &[u8],
+    number: u64,
+) -> Result<String, AllocError> {
+    let expected = expected_command(line_at(commands, number), b"atlas".as_slice());
+    format!(in alloc; "line {number}: {expected}")
+}
+
 /// Whether the header itself isn't good, so that no command was read.
 fn is_header_bad(header: &[u8]) -> bool {
     run_scripts::words::header_of(header).is_none()

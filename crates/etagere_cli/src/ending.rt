@@ -1,53 +1,64 @@
-//! How the program ends: with a text for standard output or one for standard error, and a status.
+//! How the program ends: with bytes for standard output or a file, or a line for standard error, and a status.
 
+use crate::output::write_named;
 use run_commands::faults::{ReplayFault, RunFault};
 use std::alloc::{AllocError, AllocFailed, Global};
-use std::io::{self, Write};
+use std::io;
 use std::process::ExitCode;
+use std::rt::Files;
 
 /// What is written, and the status behind it.
 #[derive(Drop)]
-pub struct Answer {
-    text: String,
-    is_error: bool,
-    status: u8,
+pub enum Answer {
+    /// What goes to standard output, or to the file that is named for it.
+    Made { bytes: Vec<u8>, status: u8 },
+    /// A line for standard error.
+    Said { line: String, status: u8 },
 }
 
 impl Answer {
-    /// A text for standard output, after which all is well.
+    /// A text, after which all is well.
     pub fn done(text: String) -> Answer {
         Answer::told(0, text)
     }
 
-    /// A text for standard output, with this status.
+    /// A text, with this status.
     pub fn told(status: u8, text: String) -> Answer {
-        Answer {
-            text,
-            is_error: false,
+        Answer::Made {
+            bytes: text.into_bytes(),
             status,
         }
+    }
+
+    /// Bytes, after which all is well.
+    pub fn made(bytes: Vec<u8>) -> Answer {
+        Answer::Made { bytes, status: 0 }
     }
 
     /// A line for standard error, with this status.
     pub fn said(alloc: Global, status: u8, line: &str) -> Result<Answer, Failure> {
-        Ok(Answer {
-            text: format!(in alloc; "{line}\n")?,
-            is_error: true,
+        Ok(Answer::Said {
+            line: format!(in alloc; "{line}\n")?,
             status,
         })
     }
 
-    /// Writes the text.
-    pub fn send(self, rt: &(impl Print + Eprint)) -> Result<ExitCode, Failure> {
-        if self.is_error {
-            let _ = rt.eprint(self.text.as_str());
-        } else {
-            let mut writer = io::writer(rt);
-            writer
-                .write_all(self.text.as_bytes())
-                .map_err(|_| Failure::Fault(ReplayFault::Write))?;
+    /// Writes what was made to standard output, or to the file at this path; or says the line.
+    pub fn send(
+        self,
+        rt: &(impl Files + Print + Eprint + AllocGlobal),
+        path: Option<&str>,
+    ) -> Result<ExitCode, Failure> {
+        match self {
+            Answer::Made { bytes, status } => {
+                write_named(rt, path, bytes.as_slice())?;
+                Ok(ExitCode::from(status))
+            }
+            Answer::Said { line, status } => {
+                let _ = rt.eprint(line.as_str());
+                Ok(ExitCode::from(status))
+            }
         }
-        Ok(ExitCode::from(self.status))
     }
 }
 

@@ -20,10 +20,10 @@ pub fn read_named(
 
 fn read_file(rt: &(impl Files + AllocGlobal), path: &str) -> Result<Vec<u8>, Failure> {
     let alloc = rt.alloc();
-    let Ok(mut file) = fs::open(rt, path) else {
-        return Err(Failure::File(format!(in alloc; "{path}: can't be opened")?));
-    };
-    Ok(read_all(alloc, &mut file)?)
+    match fs::open(rt, path) {
+        Ok(mut file) => Ok(read_all(alloc, &mut file)?),
+        Err(why) => Err(Failure::File(format!(in alloc; "{path}: can't be opened: {why}")?)),
+    }
 }
 
 /// The text of a snapshot, where the input is one: it begins with `{`, behind white space and a byte order mark.

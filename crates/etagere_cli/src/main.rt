@@ -9,16 +9,22 @@ mod bad_lines;
 mod broken_rules;
 mod ending;
 mod explaining;
+mod faults;
 mod heights;
 mod input;
+mod output;
 mod places;
+mod plot;
 mod reasons;
 mod report;
 mod resuming;
 mod saving;
+mod series;
 mod stats;
 mod stats_json;
 mod stats_text;
+mod watch_page;
+mod watching;
 
 use crate::arguments::program;
 use crate::ending::{Answer, Failure, failed};
@@ -47,24 +53,28 @@ fn run(
             return Ok(ExitCode::from(if error.use_stderr() { 2 } else { 0 }));
         }
     };
-    let answer = answered(rt, &matches)?;
-    answer.send(rt)
+    match matches.subcommand() {
+        Some((name, given)) => answered(rt, name, given)?.send(rt, given.get_str("output")),
+        None => Answer::said(
+            alloc,
+            2,
+            "usage: etagere COMMAND (etagere --help lists them)",
+        )?
+        .send(rt, None),
+    }
 }
 
 /// What the subcommand answers.
 fn answered(
     rt: &(impl Files + Input + AllocGlobal),
-    matches: &ArgMatches<'_>,
+    name: &str,
+    given: &ArgMatches<'_>,
 ) -> Result<Answer, Failure> {
-    match matches.subcommand() {
-        Some(("explain", given)) => explaining::explain(rt, given),
-        Some(("stats", given)) => stats::stats(rt, given),
-        Some(("save", given)) => saving::save(rt, given),
-        Some(("resume", given)) => resuming::resume(rt, given),
-        _ => Answer::said(
-            rt.alloc(),
-            2,
-            "usage: etagere COMMAND (etagere --help lists them)",
-        ),
+    match name {
+        "explain" => explaining::explain(rt, given),
+        "stats" => stats::stats(rt, given),
+        "save" => saving::save(rt, given),
+        "resume" => resuming::resume(rt, given),
+        _ => watching::watch(rt, given),
     }
 }

@@ -1,14 +1,15 @@
 //! `etagere resume`: goes on from a snapshot of a shelf atlas.
 
+use crate::bad_lines::expected_of_commands;
 use crate::ending::{Answer, Failure};
+use crate::faults::judged;
 use crate::input::{read_named, snapshot_text};
-use crate::saving::not_read;
 use clap::ArgMatches;
 use etagere::{Allocation, AtlasSnapshot, RestoreFault};
 use run_commands::commands::{AtlasCommand, Reply};
-use run_commands::faults::{Checked, ReplayFault};
+use run_commands::faults::{Checked, Outcome, ReplayFault};
 use run_scripts::reply_text::{Line, line_of};
-use run_scripts::script::commands_of;
+use run_scripts::script::{ScriptFault, commands_of};
 use saved_json::{ReadFault, Saved, read_saved};
 use std::alloc::{AllocError, Global};
 use std::fmt::Write;
@@ -46,18 +47,17 @@ fn resume_script(
 ) -> Result<Answer, Failure> {
     let commands: Vec<AtlasCommand> = match commands_of(alloc, 0, script) {
         Ok(commands) => commands,
-        Err(fault) => return not_read(alloc, fault),
+        Err(ScriptFault::BadLine(number)) => {
+            let line = expected_of_commands(alloc, script, number)?;
+            return Answer::said(alloc, Outcome::BadLine(number).status(), line.as_str());
+        }
+        Err(ScriptFault::Memory) => return Err(Failure::Fault(ReplayFault::Memory)),
     };
     match resume_atlas(alloc, snapshot, commands.as_slice()) {
         Ok(resumed) => Ok(Answer::done(resumed_text(alloc, &resumed, lists_live)?)),
         Err(RestoreFault::Memory) => Err(Failure::Fault(ReplayFault::Memory)),
         Err(fault) => judged(alloc, Checked::Broken(fault.number())),
     }
-}
-
-fn judged(alloc: Global, checked: Checked) -> Result<Answer, Failure> {
-    let line = format!(in alloc; "{checked}")?;
-    Answer::said(alloc, checked.status(), line.as_str())
 }
 
 fn resumed_text(alloc: Global, resumed: &Resumed, lists_live: bool) -> Result<String, AllocError> {

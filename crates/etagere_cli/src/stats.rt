@@ -1,11 +1,13 @@
 //! `etagere stats`: what a script asks for, and how full it leaves the atlas; or how full a saved one is.
 
 use crate::ending::{Answer, Failure};
+use crate::faults::{judged, not_read, not_run};
 use crate::input::{read_named, snapshot_text};
+use crate::plot::plot_text;
 use crate::report::{
     Report, bucket_heights, report_of_atlas, report_of_buckets, report_of_script, shelf_heights,
 };
-use crate::saving::{not_read, not_run};
+use crate::series::series_of;
 use crate::stats_json::json_text;
 use crate::stats_text::plain_text;
 use clap::ArgMatches;
@@ -24,8 +26,26 @@ pub fn stats(
     let is_json = given.get_flag("json");
     let input = read_named(rt, given, "FILE")?;
     match snapshot_text(input.as_slice()) {
+        Some(_) if given.get_flag("plot") => {
+            Answer::said(
+                alloc,
+                2,
+                "a script is expected: a snapshot has no commands to plot",
+            )
+        }
         Some(text) => of_snapshot(alloc, text, is_json),
+        None if given.get_flag("plot") => plot_of_script(alloc, input.as_slice()),
         None => of_script(alloc, input.as_slice(), is_json),
+    }
+}
+
+fn plot_of_script(alloc: Global, bytes: &[u8]) -> Result<Answer, Failure> {
+    match read_script(alloc, bytes) {
+        Ok(script) => match series_of(alloc, &script) {
+            Ok(moments) => Ok(Answer::done(plot_text(alloc, moments.as_slice())?)),
+            Err(fault) => not_run(alloc, fault),
+        },
+        Err(fault) => not_read(alloc, bytes, fault),
     }
 }
 
@@ -35,7 +55,7 @@ fn of_script(alloc: Global, bytes: &[u8], is_json: bool) -> Result<Answer, Failu
             Ok(report) => told(alloc, &report, is_json),
             Err(fault) => not_run(alloc, fault),
         },
-        Err(fault) => not_read(alloc, fault),
+        Err(fault) => not_read(alloc, bytes, fault),
     }
 }
 
@@ -80,10 +100,4 @@ fn broken(alloc: Global, fault: RestoreFault) -> Result<Answer, Failure> {
         RestoreFault::Memory => Err(Failure::Fault(ReplayFault::Memory)),
         fault => judged(alloc, Checked::Broken(fault.number())),
     }
-}
-
-/// What is said of a snapshot that isn't good.
-pub fn judged(alloc: Global, checked: Checked) -> Result<Answer, Failure> {
-    let line = format!(in alloc; "{checked}")?;
-    Answer::said(alloc, checked.status(), line.as_str())
 }

@@ -1,0 +1,43 @@
+//! `etagere watch`: a page that shows the atlas after each command of a script.
+//!
+//! A script that runs has letters, digits, `-`, spaces and line feeds alone, and so have its replies: nothing of them has
+//! to be escaped in the page.
+
+use crate::ending::{Answer, Failure};
+use crate::faults::{bad_line, bad_options};
+use crate::input::read_named;
+use crate::watch_page::{HEAD, MIDDLE, TAIL};
+use clap::ArgMatches;
+use etagere_run::replay;
+use run_commands::faults::{Outcome, ReplayFault};
+use std::alloc::{AllocError, Global};
+use std::rt::Files;
+
+pub fn watch(
+    rt: &(impl Files + Input + AllocGlobal),
+    given: &ArgMatches<'_>,
+) -> Result<Answer, Failure> {
+    let alloc = rt.alloc();
+    let script = read_named(rt, given, "FILE")?;
+    let mut replies: Vec<u8> = Vec::new(alloc);
+    // The slice can't fail to be read, and the replies only for want of memory.
+    let outcome = replay(alloc, &mut script.as_slice(), &mut replies).map_err(|_| Failure::Fault(
+        ReplayFault::Memory,
+    ))?;
+    match outcome {
+        Outcome::Done => Ok(Answer::made(page(alloc, script.as_slice(), replies.as_slice())?)),
+        Outcome::BadLine(number) => bad_line(alloc, script.as_slice(), number),
+        Outcome::Options(number) => bad_options(alloc, number),
+    }
+}
+
+/// The bytes of the whole page.
+fn page(alloc: Global, script: &[u8], replies: &[u8]) -> Result<Vec<u8>, AllocError> {
+    let mut bytes = Vec::new(alloc);
+    bytes.extend_from_slice(HEAD.as_bytes())?;
+    bytes.extend_from_slice(script)?;
+    bytes.extend_from_slice(MIDDLE.as_bytes())?;
+    bytes.extend_from_slice(replies)?;
+    bytes.extend_from_slice(TAIL.as_bytes())?;
+    Ok(bytes)
+}
