@@ -5,6 +5,7 @@
 mod apart;
 mod frames;
 mod pages;
+mod recording;
 mod saving;
 mod sheet;
 mod texture;
@@ -15,6 +16,7 @@ use etagere::{AtlasAllocator, DEFAULT_OPTIONS, Rectangle, size2};
 use frames::draw_frames;
 use glyph_shelf::GlyphCache;
 use pages::{PAGE, allocate_on_pages};
+use recording::Recorder;
 use saving::reopen;
 use sheet::place_sheet;
 use std::num::NonZeroUsize;
@@ -26,7 +28,8 @@ fn main(rt: HostRuntime) -> Result<()> {
     show_sheet(&rt)?;
     show_frames(&rt)?;
     show_pages(&rt)?;
-    show_saved(&rt)
+    show_saved(&rt)?;
+    show_recorded(&rt)
 }
 
 fn show_two(rt: &(impl Print + AllocGlobal)) -> Result<()> {
@@ -98,5 +101,19 @@ fn show_saved(rt: &(impl Print + AllocGlobal)) -> Result<()> {
 fn show(rt: &impl Print, what: &str, rectangle: Rectangle) -> Result<()> {
     let Rectangle { min, max } = rectangle;
     println!(rt; "{what}: ({},{})-({},{})", min.x, min.y, max.x, max.y)?;
+    Ok(())
+}
+
+/// The example of the README, with a second return, written down.
+fn show_recorded(rt: &(impl Print + AllocGlobal)) -> Result<()> {
+    let mut recorder = Recorder::new(rt.alloc(), size2(1000, 1000), &DEFAULT_OPTIONS)?;
+    let first = recorder.allocate(size2(100, 100))?.context("no room")?;
+    recorder.allocate(size2(900, 200))?.context("no room")?;
+    recorder.deallocate(first.id)?;
+    let unknown = recorder.deallocate(first.id).is_err();
+    recorder.allocate(size2(300, 200))?.context("no room")?;
+    println!(rt; "recorded: unknown {unknown}")?;
+    let script = recorder.finish().context("no memory")?;
+    print!(rt; "{script}")?;
     Ok(())
 }
