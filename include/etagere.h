@@ -183,6 +183,12 @@ typedef struct EtagereAllocation {
     EtagereRectangle rectangle;
 } EtagereAllocation;
 
+/* A key of a cache with its rectangle. */
+typedef struct EtagereEntry {
+    uint64_t key;
+    EtagereRectangle rectangle;
+} EtagereEntry;
+
 /* Why a size has no place. Both are 0 where it has one. */
 typedef struct EtagereRefusal {
     /* ETAGERE_REFUSAL_.., of a bucketed atlas ETAGERE_BUCKETED_REFUSAL_.. */
@@ -567,6 +573,31 @@ EtagereStatus etagere_cache_get(EtagereCache *cache, uint64_t key, EtagereRectan
  * Answers ETAGERE_OK; ETAGERE_NULL_HANDLE; ETAGERE_UNKNOWN_KEY. Takes no memory, and costs what
  * etagere_atlas_deallocate does. */
 EtagereStatus etagere_cache_remove(EtagereCache *cache, uint64_t key, EtagereRectangle *rectangle);
+
+/* Gives the rectangle of a key, without using it. The cache stays, with the order of use.
+ * Answers ETAGERE_OK; ETAGERE_NULL_HANDLE; ETAGERE_UNKNOWN_KEY. Takes no memory, and constant time on average. */
+EtagereStatus etagere_cache_peek(EtagereCache *cache, uint64_t key, EtagereRectangle *rectangle);
+
+/* Gives all keys with their rectangles, the most recently used first: writes them to the front of the buffer, and how
+ * many there are to *count. What is behind stays, and the cache does, with the order of use.
+ * Answers ETAGERE_OK; ETAGERE_NULL_HANDLE; ETAGERE_LENGTH where the buffer is shorter than there are keys: then *count
+ * is written too, and nothing else. Takes no memory, and goes through the keys. */
+EtagereStatus etagere_cache_entries(EtagereCache *cache, EtagereEntry *entries, size_t entries_length, size_t *count);
+
+/* Makes the atlas larger. Each key keeps its place, and the order of use stays.
+ * Answers ETAGERE_OK; ETAGERE_NULL_HANDLE; ETAGERE_GROW_.., the first fault, ETAGERE_GROW_MEMORY only where there is
+ * no other, the growth needs records and there was no memory. Costs what etagere_atlas_grow does. */
+EtagereStatus etagere_cache_grow(EtagereCache *cache, EtagereSize size);
+
+/* Sets how many keys there may be. Where more are there, those used least recently are evicted, no more than needed.
+ * Writes the evicted keys to the front of the buffer, the least recently used first, and how many to *count; what is
+ * behind stays.
+ * Answers ETAGERE_OK; ETAGERE_NULL_HANDLE; ETAGERE_LENGTH where the capacity is 0, or the buffer is shorter than
+ * etagere_cache_len says; ETAGERE_MEMORY, only where keys have to go. Takes memory for a list of these keys, and a
+ * smaller table of the keys where there is memory for one; goes through the keys, and takes each evicted rectangle
+ * back as etagere_atlas_deallocate does. */
+EtagereStatus etagere_cache_set_capacity(
+    EtagereCache *cache, size_t capacity, uint64_t *evicted, size_t evicted_length, size_t *count);
 
 /* Takes all keys out: the cache is as new.
  * Answers ETAGERE_OK; ETAGERE_NULL_HANDLE. Takes no memory, and goes through the keys and the columns. */

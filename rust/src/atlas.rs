@@ -6,9 +6,9 @@ use std::iter::FusedIterator;
 use std::marker::PhantomData;
 use std::vec;
 
-use crate::outcome::{known, or_panic, restore_refused, room, with_memory};
+use crate::outcome::{grown, known, or_panic, restore_refused, room, with_memory};
 use crate::picture;
-use crate::sys::{self, Status};
+use crate::sys;
 use crate::{
     AllocError, AllocId, Allocation, AllocatorOptions, AtlasGrowFault, JsonFault, OptionsFault, Rectangle, Refusal,
     Size, UnknownId, Usage, DEFAULT_OPTIONS,
@@ -198,11 +198,7 @@ impl AtlasAllocator {
     /// assert_eq!(atlas.size(), size2(128, 64));
     /// ```
     pub fn try_grow(&mut self, size: Size) -> Result<(), AtlasGrowFault> {
-        let refused = |status: Status| match AtlasGrowFault::of_number(status.fault()) {
-            Some(fault) => fault,
-            None => status.unexpected(),
-        };
-        self.handle.grow(size).map_err(refused)
+        grown(self.handle.grow(size))
     }
 
     /// An atlas in the same state, which gives the same ids and answers and shares nothing with this one.

@@ -5,9 +5,10 @@ use std::io::{self, Write};
 use std::mem;
 use std::num::NonZeroUsize;
 
+use crate::outcome::{grown, with_memory};
 use crate::picture;
 use crate::sys::{self, Status};
-use crate::{AllocatorOptions, GlyphFault, OptionsFault, Rectangle, Size};
+use crate::{AllocError, AllocatorOptions, AtlasGrowFault, GlyphFault, OptionsFault, Rectangle, Size};
 
 /// Rectangles of an atlas under keys, of which those used least recently are evicted where a new one needs room.
 ///
@@ -42,6 +43,16 @@ pub struct Placed {
     pub evicted: Vec<u64>,
 }
 
+/// A key with its rectangle.
+#[repr(C)]
+#[derive(Copy, Clone, Debug, PartialEq, Eq, Hash)]
+pub struct Entry {
+    /// The key.
+    pub key: u64,
+    /// The rectangle of the key.
+    pub rectangle: Rectangle,
+}
+
 impl GlyphCache {
     /// An empty cache of at most `capacity` keys, over an atlas of this size.
     ///
@@ -68,7 +79,7 @@ impl GlyphCache {
         if let Some(rectangle) = self.get(key) {
             return Ok(Placed { rectangle, evicted: Vec::new() });
         }
-        self.make_room_for_evicted()?;
+        self.make_room_for_evicted().map_err(|AllocError| GlyphFault::Memory(Vec::new()))?;
         let mut count = 0;
         let answer = self.handle.place(key, size, &mut self.evicted, &mut count);
         match answer {
@@ -90,9 +101,9 @@ impl GlyphCache {
     }
 
     /// Makes the buffer as long as there are keys.
-    fn make_room_for_evicted(&mut self) -> Result<(), GlyphFault> {
+    fn make_room_for_evicted(&mut self) -> Result<(), AllocError> {
         let missing = self.len().saturating_sub(self.evicted.len());
-        self.evicted.try_reserve(missing).map_err(|_| GlyphFault::Memory(Vec::new()))?;
+        self.evicted.try_reserve(missing).map_err(|_| AllocError)?;
         self.evicted.resize(self.evicted.len() + missing, 0);
         Ok(())
     }
@@ -100,6 +111,43 @@ impl GlyphCache {
     /// The rectangle of a key, which becomes the most recently used, or none.
     pub fn get(&mut self, key: u64) -> Option<Rectangle> {
         there(self.handle.get(key))
+    }
+
+    /// The rectangle of a key, or none; the order of use stays.
+    #[must_use]
+    pub fn peek(&self, key: u64) -> Option<Rectangle> {
+        there(self.handle.peek(key))
+    }
+
+    /// All keys with their rectangles, the most recently used first; the order of use stays.
+    ///
+    /// # Errors
+    ///
+    /// [`AllocError`], where there was no memory to list them.
+    pub fn entries(&self) -> Result<Vec<Entry>, AllocError> {
+        with_memory(self.handle.entries())
+    }
+
+    /// Makes the atlas larger. Each key keeps its place, and the order of use stays.
+    ///
+    /// # Errors
+    ///
+    /// The first [`AtlasGrowFault`] that applies: nothing has changed.
+    pub fn grow(&mut self, size: Size) -> Result<(), AtlasGrowFault> {
+        grown(self.handle.grow(size))
+    }
+
+    /// Sets how many keys there may be. Where more are there, those used least recently are evicted, no more than
+    /// needed; they are returned, the least recently used first.
+    ///
+    /// # Errors
+    ///
+    /// [`AllocError`], where there was no memory to list them: nothing has changed.
+    pub fn set_capacity(&mut self, capacity: NonZeroUsize) -> Result<Vec<u64>, AllocError> {
+        self.make_room_for_evicted()?;
+        let mut count = 0;
+        with_memory(self.handle.set_capacity(capacity.get(), &mut self.evicted, &mut count))?;
+        Ok(self.taken_evicted(count))
     }
 
     /// Takes a key out, and gives the rectangle that it had, or none.

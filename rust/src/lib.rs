@@ -57,7 +57,7 @@ pub mod euclid {
 pub use allocation::{AllocId, Allocation, AllocatorOptions, DEFAULT_OPTIONS};
 pub use atlas::{AtlasAllocator, Iter};
 pub use bucketed::BucketedAtlasAllocator;
-pub use cache::{GlyphCache, Placed};
+pub use cache::{Entry, GlyphCache, Placed};
 pub use faults::{AllocError, AtlasGrowFault, GlyphFault, GrowFault, JsonFault, OptionsFault, RestoreFault, UnknownId};
 pub use fullness::{BucketedRefusal, BucketedUsage, Refusal, Usage};
 pub use geometry::{point2, size2};

@@ -3,7 +3,7 @@
 use std::fmt::Display;
 
 use crate::sys::Status;
-use crate::{AllocError, Allocation, JsonFault, OptionsFault, RestoreFault, UnknownId};
+use crate::{AllocError, Allocation, AtlasGrowFault, JsonFault, OptionsFault, RestoreFault, UnknownId};
 
 impl OptionsFault {
     /// Why a handle wasn't filled.
@@ -32,6 +32,14 @@ pub fn with_memory<T>(answer: Result<T, Status>) -> Result<T, AllocError> {
         Err(Status::MEMORY) => Err(AllocError),
         Err(status) => status.unexpected(),
     }
+}
+
+/// What a growth of an atlas of shelves gave.
+pub fn grown(answer: Result<(), Status>) -> Result<(), AtlasGrowFault> {
+    answer.map_err(|status| match AtlasGrowFault::of_number(status.fault()) {
+        Some(fault) => fault,
+        None => status.unexpected(),
+    })
 }
 
 /// Why a text wasn't restored.

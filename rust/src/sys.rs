@@ -11,7 +11,7 @@ use std::marker::PhantomData;
 use std::ptr;
 use std::sync::{Mutex, MutexGuard, PoisonError};
 
-use crate::{AllocId, Allocation, AllocatorOptions, BucketedUsage, Rectangle, Size, Usage};
+use crate::{AllocId, Allocation, AllocatorOptions, BucketedUsage, Entry, Rectangle, Size, Usage};
 
 /// What a call answers.
 #[repr(transparent)]
@@ -346,6 +346,32 @@ impl Cache {
         Ok(rectangle)
     }
 
+    pub fn peek(&self, key: u64) -> Result<Rectangle, Status> {
+        let mut rectangle = Rectangle::default();
+        // SAFETY: the handle is held and alone; `rectangle` is a place.
+        unsafe { etagere_cache_peek(&mut *self.look(), key, &mut rectangle) }.check()?;
+        Ok(rectangle)
+    }
+
+    /// All keys with their rectangles, the most recently used first.
+    pub fn entries(&self) -> Result<Vec<Entry>, Status> {
+        let mut raw = self.look();
+        // SAFETY: the handle is held and alone; `listed` gives places.
+        listed(NO_ENTRY, |buffer, length, count| unsafe { etagere_cache_entries(&mut *raw, buffer, length, count) })
+    }
+
+    pub fn grow(&mut self, size: Size) -> Result<(), Status> {
+        // SAFETY: the handle is held and alone.
+        unsafe { etagere_cache_grow(self.change(), size) }.check()
+    }
+
+    /// Sets how many keys there may be. The buffer, as long as there are keys, begins with the evicted ones.
+    pub fn set_capacity(&mut self, capacity: usize, evicted: &mut [u64], count: &mut usize) -> Result<(), Status> {
+        let (buffer, length) = (evicted.as_mut_ptr(), evicted.len());
+        // SAFETY: the handle is held and alone; the slice with its length, and `count` are places.
+        unsafe { etagere_cache_set_capacity(self.change(), capacity, buffer, length, count) }.check()
+    }
+
     pub fn remove(&mut self, key: u64) -> Result<Rectangle, Status> {
         let mut rectangle = Rectangle::default();
         // SAFETY: the handle is held and alone; `rectangle` is a place.
@@ -378,6 +404,9 @@ impl<K: Kind> Drop for Handle<K> {
 /// What stands where an allocation will be written.
 const NOTHING: Allocation =
     Allocation { id: AllocId(0), rectangle: Rectangle::new(crate::point2(0, 0), crate::point2(0, 0)) };
+
+/// What stands where an entry will be written.
+const NO_ENTRY: Entry = Entry { key: 0, rectangle: NOTHING.rectangle };
 
 /// As many of one value.
 fn filled<T: Clone>(count: usize, value: T) -> Result<Vec<T>, Status> {
@@ -532,6 +561,16 @@ extern "C" {
     ) -> Status;
     fn etagere_cache_get(cache: *mut Raw, key: u64, rectangle: *mut Rectangle) -> Status;
     fn etagere_cache_remove(cache: *mut Raw, key: u64, rectangle: *mut Rectangle) -> Status;
+    fn etagere_cache_peek(cache: *mut Raw, key: u64, rectangle: *mut Rectangle) -> Status;
+    fn etagere_cache_entries(cache: *mut Raw, entries: *mut Entry, entries_length: usize, count: *mut usize) -> Status;
+    fn etagere_cache_grow(cache: *mut Raw, size: Size) -> Status;
+    fn etagere_cache_set_capacity(
+        cache: *mut Raw,
+        capacity: usize,
+        evicted: *mut u64,
+        evicted_length: usize,
+        count: *mut usize,
+    ) -> Status;
     fn etagere_cache_clear(cache: *mut Raw) -> Status;
     fn etagere_cache_len(cache: *mut Raw, len: *mut usize) -> Status;
     fn etagere_cache_is_empty(cache: *mut Raw, is_empty: *mut u32) -> Status;
@@ -655,7 +694,7 @@ mod tests {
     fn of_null_of_one_kind() -> Vec<Status> {
         let raw = &mut Raw::null();
         let (mut rectangle, mut number, mut length) = (Rectangle::default(), 0, 0);
-        let (mut allocation, mut key) = (NOTHING, 0);
+        let (mut allocation, mut key, mut entry) = (NOTHING, 0, NO_ENTRY);
         // SAFETY: the handle is null and alone; all else are places.
         unsafe {
             vec![
@@ -666,6 +705,10 @@ mod tests {
                 etagere_cache_place(raw, 1, SIZE, &mut rectangle, &mut key, 1, &mut length),
                 etagere_cache_get(raw, 1, &mut rectangle),
                 etagere_cache_remove(raw, 1, &mut rectangle),
+                etagere_cache_peek(raw, 1, &mut rectangle),
+                etagere_cache_entries(raw, &mut entry, 1, &mut length),
+                etagere_cache_grow(raw, SIZE),
+                etagere_cache_set_capacity(raw, 1, &mut key, 1, &mut length),
                 etagere_cache_len(raw, &mut length),
                 etagere_cache_capacity(raw, &mut length),
             ]
@@ -676,7 +719,7 @@ mod tests {
     fn a_null_handle_is_told() {
         let mut statuses = [of_null::<Shelves>(), of_null::<Buckets>(), of_null::<Keys>()].concat();
         statuses.extend([of_null_atlas::<Shelves>(), of_null_atlas::<Buckets>(), of_null_of_one_kind()].concat());
-        assert_eq!(statuses.len(), 55);
+        assert_eq!(statuses.len(), 59);
         assert!(statuses.iter().all(|&status| status == Status::NULL_HANDLE), "{statuses:?}");
     }
 
@@ -763,6 +806,8 @@ mod tests {
         assert!(atlas.allocate(SIZE).is_ok() && cache.place(1, SIZE, &mut [], &mut count).is_ok());
         assert_eq!(cache.place(2, SIZE, &mut [], &mut count), Err(Status::LENGTH));
         assert_eq!(Cache::with_capacity(SIZE, &DEFAULT_OPTIONS, 0).err(), Some(Status::LENGTH));
+        assert_eq!(cache.set_capacity(1, &mut [], &mut count), Err(Status::LENGTH));
+        assert_eq!(cache.set_capacity(0, &mut [0], &mut count), Err(Status::LENGTH));
         // SAFETY: the handle is held and alone; a list without a buffer is a place for nothing.
         let status = unsafe { etagere_atlas_allocations(&mut *atlas.look(), [].as_mut_ptr(), 0, &mut count) };
         assert_eq!((status, count), (Status::LENGTH, 1));

@@ -10,8 +10,8 @@ use std::num::NonZeroUsize;
 use std::ptr;
 
 use etagere::{
-    size2, AllocError, AtlasAllocator, AtlasGrowFault, BucketedAtlasAllocator, GlyphCache, GlyphFault, GrowFault,
-    JsonFault, OptionsFault, RestoreFault, DEFAULT_OPTIONS,
+    size2, AllocError, AllocatorOptions, AtlasAllocator, AtlasGrowFault, BucketedAtlasAllocator, GlyphCache,
+    GlyphFault, GrowFault, JsonFault, OptionsFault, RestoreFault, DEFAULT_OPTIONS,
 };
 
 extern "C" {
@@ -110,6 +110,15 @@ fn buckets() -> BucketedAtlasAllocator {
         atlas.allocate(size2(16, 16)).expect("room");
     }
     atlas
+}
+
+fn cache() -> GlyphCache {
+    let capacity = NonZeroUsize::new(16).expect("not 0");
+    let mut cache = GlyphCache::new(size2(64, 64), &DEFAULT_OPTIONS, capacity).expect("good options");
+    for key in 0..8 {
+        cache.place(key, size2(16, 16)).expect("room");
+    }
+    cache
 }
 
 #[test]
@@ -261,17 +270,9 @@ fn nothing_is_saved_or_restored() {
 
 #[test]
 fn keys_that_were_evicted_are_told() {
-    let make = || {
-        let capacity = NonZeroUsize::new(16).expect("not 0");
-        let mut cache = GlyphCache::new(size2(64, 64), &DEFAULT_OPTIONS, capacity).expect("good options");
-        for key in 0..8 {
-            cache.place(key, size2(16, 16)).expect("room");
-        }
-        cache
-    };
     for size in [size2(16, 16), size2(40, 40), size2(64, 64)] {
         refusing(
-            make,
+            cache,
             |cache| cache.place(9, size).map_err(Some),
             |cache, answer, refused| {
                 let gone = match answer {
@@ -284,4 +285,46 @@ fn keys_that_were_evicted_are_told() {
             },
         );
     }
+}
+
+#[test]
+fn keys_are_not_listed_or_evicted() {
+    let places = refusing(
+        cache,
+        |cache| cache.entries(),
+        |cache, answer, refused| {
+            assert_eq!(answer.err(), refused.then_some(AllocError));
+            assert_eq!(cache.len(), 8);
+        },
+    );
+    assert!(places > 0);
+    let places = refusing(
+        cache,
+        |cache| cache.set_capacity(NonZeroUsize::MIN),
+        |cache, answer, refused| match answer {
+            Ok(evicted) => {
+                assert!(evicted.iter().copied().eq(0..7));
+                assert_eq!((cache.len(), cache.capacity()), (1, 1));
+            }
+            Err(AllocError) => assert_eq!((refused, cache.len(), cache.capacity()), (true, 8, 16)),
+        },
+    );
+    assert!(places > 0);
+}
+
+#[test]
+fn a_cache_does_not_grow() {
+    let make = || {
+        let options = AllocatorOptions { num_columns: 4, ..DEFAULT_OPTIONS };
+        GlyphCache::new(size2(64, 64), &options, NonZeroUsize::MIN).expect("good options")
+    };
+    let places = refusing(
+        make,
+        |cache| cache.grow(size2(1024, 64)),
+        |cache, answer, refused| {
+            assert_eq!(answer.err(), refused.then_some(AtlasGrowFault::Memory));
+            assert_eq!(cache.size(), size2(if refused { 64 } else { 1024 }, 64));
+        },
+    );
+    assert!(places > 0);
 }

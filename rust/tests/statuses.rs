@@ -6,8 +6,8 @@ use std::panic::{catch_unwind, AssertUnwindSafe};
 
 use etagere::{
     point2, size2, AllocId, AllocatorOptions, AtlasAllocator, AtlasGrowFault, BucketedAtlasAllocator, BucketedRefusal,
-    GlyphCache, GlyphFault, GrowFault, JsonFault, OptionsFault, Rectangle, Refusal, RestoreFault, Size, UnknownId,
-    DEFAULT_OPTIONS,
+    Entry, GlyphCache, GlyphFault, GrowFault, JsonFault, OptionsFault, Rectangle, Refusal, RestoreFault, Size,
+    UnknownId, DEFAULT_OPTIONS,
 };
 
 /// A size and options for each fault of the options but that for memory, in their order.
@@ -197,6 +197,40 @@ fn keys() {
     assert_eq!(cache.remove(1), Some(placed.rectangle));
     cache.clear();
     assert!(cache.is_empty());
+}
+
+#[test]
+fn keys_without_use() {
+    let three = NonZeroUsize::new(3).expect("not 0");
+    let mut cache = GlyphCache::new(size2(32, 32), &DEFAULT_OPTIONS, three).expect("good options");
+    assert_eq!((cache.peek(1), cache.entries()), (None, Ok(vec![])));
+    let first = cache.place(1, size2(32, 8)).expect("room").rectangle;
+    let second = cache.place(2, size2(32, 8)).expect("room").rectangle;
+    assert_eq!((first, second), (Rectangle::from_size(size2(32, 8)), Rectangle::new(point2(0, 8), point2(32, 16))));
+    assert_eq!((cache.peek(1), cache.peek(3)), (Some(first), None));
+    let entries = [Entry { key: 2, rectangle: second }, Entry { key: 1, rectangle: first }];
+    assert_eq!(cache.entries().expect("memory"), entries);
+    assert_eq!(cache.set_capacity(NonZeroUsize::MIN), Ok(vec![1]));
+    assert_eq!((cache.capacity(), cache.entries()), (1, Ok(vec![entries[0]])));
+    assert_eq!(cache.set_capacity(three), Ok(vec![]));
+}
+
+#[test]
+fn growth_of_a_cache() {
+    let options = AllocatorOptions { num_columns: 65535, ..DEFAULT_OPTIONS };
+    let mut cache = GlyphCache::new(size2(65535, 100), &options, NonZeroUsize::MIN).expect("good options");
+    let placed = cache.place(1, size2(1, 92)).expect("room").rectangle;
+    assert_eq!(cache.grow(size2(0, 100)), Err(AtlasGrowFault::Size));
+    assert_eq!(cache.grow(size2(65535, 99)), Err(AtlasGrowFault::Smaller));
+    assert_eq!(cache.grow(size2(65535, 65535)), Err(AtlasGrowFault::Area));
+    assert_eq!(cache.grow(size2(65535, 200)), Err(AtlasGrowFault::Records));
+    assert_eq!(cache.size(), size2(65535, 100));
+
+    let mut cache = GlyphCache::new(size2(32, 32), &DEFAULT_OPTIONS, NonZeroUsize::MIN).expect("good options");
+    let whole = cache.place(1, size2(32, 32)).expect("room").rectangle;
+    assert_eq!(cache.grow(size2(64, 48)), Ok(()));
+    assert_eq!((cache.size(), cache.peek(1)), (size2(64, 48), Some(whole)));
+    assert_eq!(placed, Rectangle::from_size(size2(1, 100)));
 }
 
 #[test]

@@ -587,9 +587,67 @@ static void bucket_batches(void) {
     CHECK(etagere_bucketed_delete(&atlas) == ETAGERE_OK);
 }
 
+static void cache_looked_at(void) {
+    EtagereCache cache = ETAGERE_NULL;
+    EtagereOptions options = ETAGERE_DEFAULT_OPTIONS;
+    EtagereRectangle rectangle;
+    EtagereEntry entries[3];
+    uint64_t evicted[2] = { 9, 9 };
+    size_t count = 7;
+
+    memset(entries, 0x5a, sizeof entries);
+    CHECK(etagere_cache_new(&cache, size2(32, 32), &options, 3) == ETAGERE_OK);
+    CHECK(etagere_cache_place(&cache, 1, size2(32, 8), &rectangle, evicted, 2, &count) == ETAGERE_OK);
+    CHECK(etagere_cache_place(&cache, 2, size2(32, 8), &rectangle, evicted, 2, &count) == ETAGERE_OK);
+    CHECK(etagere_cache_peek(&cache, 1, &rectangle) == ETAGERE_OK && lies(rectangle, 0, 0, 32, 8));
+    CHECK(etagere_cache_peek(&cache, 7, &rectangle) == ETAGERE_UNKNOWN_KEY && lies(rectangle, 0, 0, 32, 8));
+    CHECK(etagere_cache_entries(&cache, entries, 1, &count) == ETAGERE_LENGTH && count == 2);
+    CHECK(entries[0].key == entries[2].key);
+    CHECK(etagere_cache_entries(&cache, entries, 3, &count) == ETAGERE_OK && count == 2);
+    CHECK(entries[0].key == 2 && lies(entries[0].rectangle, 0, 8, 32, 16));
+    CHECK(entries[1].key == 1 && lies(entries[1].rectangle, 0, 0, 32, 8));
+    CHECK(etagere_cache_set_capacity(&cache, 0, evicted, 2, &count) == ETAGERE_LENGTH);
+    CHECK(etagere_cache_set_capacity(&cache, 1, evicted, 1, &count) == ETAGERE_LENGTH && count == 2);
+    CHECK(etagere_cache_set_capacity(&cache, 1, evicted, 2, &count) == ETAGERE_OK && count == 1);
+    CHECK(evicted[0] == 1 && evicted[1] == 9);
+    CHECK(etagere_cache_entries(&cache, entries, 3, &count) == ETAGERE_OK && count == 1 && entries[0].key == 2);
+    CHECK(etagere_cache_delete(&cache) == ETAGERE_OK);
+}
+
+/* 65535 columns have as many items, so a growth that needs one more is refused. */
+static void cache_grown(void) {
+    EtagereCache cache = ETAGERE_NULL;
+    EtagereOptions options = ETAGERE_DEFAULT_OPTIONS;
+    EtagereRectangle rectangle;
+    EtagereSize size;
+    uint64_t evicted[1];
+    size_t count;
+
+    options.num_columns = 65535;
+    CHECK(etagere_cache_new(&cache, size2(65535, 100), &options, 1) == ETAGERE_OK);
+    CHECK(etagere_cache_place(&cache, 1, size2(1, 92), &rectangle, evicted, 1, &count) == ETAGERE_OK);
+    CHECK(lies(rectangle, 0, 0, 1, 100));
+    CHECK(etagere_cache_grow(&cache, size2(0, 100)) == ETAGERE_GROW_SIZE);
+    CHECK(etagere_cache_grow(&cache, size2(65535, 99)) == ETAGERE_GROW_SMALLER);
+    CHECK(etagere_cache_grow(&cache, size2(65535, 65535)) == ETAGERE_GROW_AREA);
+    CHECK(etagere_cache_grow(&cache, size2(65535, 200)) == ETAGERE_GROW_RECORDS);
+    CHECK(etagere_cache_size(&cache, &size) == ETAGERE_OK && size.width == 65535 && size.height == 100);
+    CHECK(etagere_cache_delete(&cache) == ETAGERE_OK);
+
+    options.num_columns = 1;
+    CHECK(etagere_cache_new(&cache, size2(32, 32), &options, 1) == ETAGERE_OK);
+    CHECK(etagere_cache_place(&cache, 1, size2(32, 32), &rectangle, evicted, 1, &count) == ETAGERE_OK);
+    CHECK(etagere_cache_grow(&cache, size2(64, 48)) == ETAGERE_OK);
+    CHECK(etagere_cache_peek(&cache, 1, &rectangle) == ETAGERE_OK && lies(rectangle, 0, 0, 32, 32));
+    CHECK(etagere_cache_size(&cache, &size) == ETAGERE_OK && size.width == 64 && size.height == 48);
+    CHECK(etagere_cache_delete(&cache) == ETAGERE_OK);
+}
+
 static void null_cache(void) {
     EtagereCache cache = ETAGERE_NULL;
     EtagereRectangle rectangle = nothing().rectangle;
+    EtagereEntry entries[1];
+    uint64_t evicted[1];
     EtagereSize size = size2(3, 3);
     uint32_t number = 3;
     int32_t space = 3;
@@ -597,6 +655,10 @@ static void null_cache(void) {
 
     CHECK(etagere_cache_get(&cache, 1, &rectangle) == ETAGERE_NULL_HANDLE);
     CHECK(etagere_cache_remove(&cache, 1, &rectangle) == ETAGERE_NULL_HANDLE);
+    CHECK(etagere_cache_peek(&cache, 1, &rectangle) == ETAGERE_NULL_HANDLE);
+    CHECK(etagere_cache_entries(&cache, entries, 1, &count) == ETAGERE_NULL_HANDLE && count == 7);
+    CHECK(etagere_cache_grow(&cache, size2(9, 9)) == ETAGERE_NULL_HANDLE);
+    CHECK(etagere_cache_set_capacity(&cache, 1, evicted, 1, &count) == ETAGERE_NULL_HANDLE && count == 7);
     CHECK(etagere_cache_clear(&cache) == ETAGERE_NULL_HANDLE);
     CHECK(etagere_cache_len(&cache, &count) == ETAGERE_NULL_HANDLE && count == 7);
     CHECK(etagere_cache_is_empty(&cache, &number) == ETAGERE_NULL_HANDLE && number == 3);
@@ -643,6 +705,8 @@ int main(void) {
     buckets_that_cannot_be_made();
     bucket_batches();
     glyph_cache();
+    cache_looked_at();
+    cache_grown();
     cache_picture_parts();
     null_cache();
     cache_that_cannot_be_made();

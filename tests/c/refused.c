@@ -264,13 +264,35 @@ static void fill_cache(EtagereCache *cache) {
     }
 }
 
+/* The new columns need more records than there are. */
+static void grow_cache(EtagereCache *cache) {
+    EtagereSize size = size2(0, 0);
+    EtagereStatus status = etagere_cache_grow(cache, size2(4096, 256));
+    failed |= etagere_cache_size(cache, &size) != ETAGERE_OK;
+    went("etagere_cache_grow", status, size.width == 128);
+}
+
+static void shrink_cache(EtagereCache *cache) {
+    static uint64_t evicted[MOST];
+    size_t before = 0, count = 7, after = 0;
+    EtagereStatus status;
+    failed |= etagere_cache_len(cache, &before) != ETAGERE_OK;
+    status = etagere_cache_set_capacity(cache, 1, evicted, MOST, &count);
+    failed |= etagere_cache_len(cache, &after) != ETAGERE_OK;
+    went("etagere_cache_set_capacity", status, count == 7 && after == before);
+}
+
 static void glyph_cache(void) {
     EtagereCache cache = ETAGERE_NULL;
     EtagereOptions options = ETAGERE_DEFAULT_OPTIONS;
-    EtagereStatus status = etagere_cache_new(&cache, size2(128, 256), &options, 40);
+    EtagereStatus status;
+    options.num_columns = 2;
+    status = etagere_cache_new(&cache, size2(128, 256), &options, 40);
     if (went("etagere_cache_new", status, cache.state == NULL)) {
         fill_cache(&cache);
         draw_cache(&cache);
+        grow_cache(&cache);
+        shrink_cache(&cache);
         etagere_cache_delete(&cache);
     }
 }

@@ -14,9 +14,13 @@ use Rattle.glyph_shelf.specs.declared.faults.GlyphFault.{GlyphFault}
 use Rattle.glyph_shelf.specs.declared.faults.GlyphFault.TheVariants.{TooLarge, Memory}
 use Rattle.etagere_c.specs.Evicted.{HasRoomFor}
 
+-- no more keys are dropped than there are
+pub few_dropped : (old : CacheState) (count : ℕ) → length (dropped_keys old count) ≤ length old.entries
+few_dropped old count =
+    omega (arith, length-take count (reverse (keys_of old.entries)), length-reverse (keys_of old.entries), length-keys_of old.entries)
+
 few : (old : CacheState) (evicted : List ℕ) → evicted ≡ dropped_keys old (length evicted) → length evicted ≤ length old.entries
-few old evicted listed =
-    omega (arith, ap length listed, length-take (length evicted) (reverse (keys_of old.entries)), length-reverse (keys_of old.entries), length-keys_of old.entries)
+few old evicted listed = omega (arith, ap length listed, few_dropped old (length evicted))
 
 module _ (old new : CacheState) (key : ℕ) (size : Size) (buffer : List ℕ) (room : length old.entries ≤ length buffer) where
   pub placed_fits : (result : Result Placed GlyphFault) (found : Option Allocation) → lookup (nat_eq key) old.entries ≡ found

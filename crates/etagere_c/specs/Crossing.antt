@@ -1,7 +1,10 @@
 -- What the plain structs of C stand for.
-use Rattle.std.specs.Prelude.{not, ◌==◌}
+use Rattle.std.specs.Prelude.{ℕ, not, ◌==◌}
 use Rattle.etagere_base.specs.declared.geometry.Size.{Size}
+use Rattle.etagere_base.specs.declared.geometry.Rectangle.{Rectangle}
 use Rattle.etagere_base.specs.declared.options.AllocatorOptions.{AllocatorOptions}
+use Rattle.etagere.specs.Plain.{rectangle_in}
+use Rattle.etagere_c.specs.declared.geometry.EtagereEntry.{EtagereEntry}
 use Rattle.etagere_c.specs.declared.geometry.EtagereOptions.{EtagereOptions}
 use Rattle.etagere_c.specs.declared.geometry.EtagereSize.{EtagereSize}
 
@@ -15,3 +18,7 @@ options_in options = record {
   vertical_shelves = not (options.vertical_shelves == 0);
   num_columns = options.num_columns;
 }
+
+-- a key with its rectangle
+abbrev pub entry_in : EtagereEntry → ℕ × Rectangle
+entry_in entry = (entry.key, rectangle_in entry.rectangle)

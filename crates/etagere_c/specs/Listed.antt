@@ -1,10 +1,7 @@
--- What is written of all that is allocated.
+-- What is written of a list, each of it as a plain struct of C.
 use Rattle.std.specs.Prelude.{◌≡◌, List, drop, length, map, take}
-use Rattle.etagere_base.specs.declared.ids.Allocation.{Allocation}
-use Rattle.etagere.specs.Plain.{allocation_in}
-use Rattle.etagere.specs.declared.plain.PlainAllocation.{PlainAllocation}
 
--- the front of a buffer is these allocations, in this order; what is behind stayed
-pub record AreWritten (listed : List Allocation) (old new : List PlainAllocation) : Type 0 where
-  pub front : map allocation_in (take (length listed) new) ≡ listed
+-- the front of a buffer stands for this list, in its order; what is behind stayed
+pub record AreWritten {X P : Type 0} (meaning : P → X) (listed : List X) (old new : List P) : Type 0 where
+  pub front : map meaning (take (length listed) new) ≡ listed
   pub behind : drop (length listed) new ≡ drop (length listed) old

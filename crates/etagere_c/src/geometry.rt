@@ -1,10 +1,10 @@
-//! What crosses to C by value: places, sizes, rectangles, allocations and options.
+//! What crosses to C by value: places, sizes, rectangles, allocations, entries of a cache, and options.
 //!
 //! Definitions: `Crossing`, and `Plain` of `etagere`. The header has the same fields in the same order.
 
 ghost use Rattle.std.specs.Prelude.{◌≡◌};
 ghost use Rattle.etagere_base.specs.Options.{default_options};
-ghost use Rattle.etagere_c.specs.Crossing.{options_in, size_in};
+ghost use Rattle.etagere_c.specs.Crossing.{entry_in, options_in, size_in};
 ghost use Rattle.etagere_c.specs.Statuses as statuses;
 
 use crate::statuses::OK;
@@ -12,7 +12,7 @@ pub use etagere::{
     PlainAllocation as EtagereAllocation, PlainPoint as EtagerePoint,
     PlainRectangle as EtagereRectangle,
 };
-use etagere::{AllocatorOptions, DEFAULT_OPTIONS, Size};
+use etagere::{AllocatorOptions, DEFAULT_OPTIONS, Rectangle, Size};
 
 /// Two sides in pixels.
 #[repr(C)]
@@ -29,6 +29,27 @@ pub struct EtagereOptions {
     pub alignment: EtagereSize,
     pub num_columns: i32,
     pub vertical_shelves: u32,
+}
+
+/// A key of a cache with its rectangle.
+#[repr(C)]
+#[derive(Clone, Copy)]
+pub struct EtagereEntry {
+    pub key: u64,
+    pub rectangle: EtagereRectangle,
+}
+
+impl EtagereEntry {
+    /// The same entry, to go out.
+    pub(crate) fn of(entry: (u64, Rectangle)) -> EtagereEntry
+        ensures { entry_in result ≡ entry }
+    {
+        let (key, rectangle) = entry;
+        EtagereEntry {
+            key,
+            rectangle: EtagereRectangle::of(rectangle),
+        }
+    }
 }
 
 impl EtagereSize {

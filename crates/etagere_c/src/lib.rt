@@ -13,6 +13,8 @@ mod bucketed_handle;
 mod buffers;
 mod cache;
 mod cache_handle;
+mod cache_keys;
+mod cache_sizing;
 mod fullness;
 mod geometry;
 mod listing;
@@ -48,13 +50,15 @@ pub use cache::{
     etagere_cache_size,
 };
 pub use cache_handle::EtagereCache;
+pub use cache_keys::{etagere_cache_entries, etagere_cache_peek};
+pub use cache_sizing::{etagere_cache_grow, etagere_cache_set_capacity};
 pub use fullness::{
     EtagereBucketedUsage, EtagereRefusal, EtagereUsage, etagere_atlas_largest_free,
     etagere_atlas_refusal, etagere_atlas_usage, etagere_bucketed_largest_free,
     etagere_bucketed_refusal, etagere_bucketed_usage,
 };
 pub use geometry::{
-    EtagereAllocation, EtagereOptions, EtagerePoint, EtagereRectangle, EtagereSize,
+    EtagereAllocation, EtagereEntry, EtagereOptions, EtagerePoint, EtagereRectangle, EtagereSize,
     etagere_default_options,
 };
 pub use listing::etagere_atlas_allocations;

@@ -4,6 +4,7 @@
 
 ghost use Rattle.std.specs.Prelude.{◌≡◌, ◌↔◌, ◌≢◌, ◌<◌, ◌≤◌, [], ◌∷◌, None, length, IfSome};
 ghost use Rattle.shelf_model.specs.Listing.{listed};
+ghost use Rattle.etagere.specs.Plain.{allocation_in};
 ghost use Rattle.etagere_c.specs.Calls.{IsAmong};
 ghost use Rattle.etagere_c.specs.Listed.{AreWritten};
 ghost use Rattle.etagere_c.specs.Statuses as statuses;
@@ -16,7 +17,7 @@ use etagere::AtlasAllocator;
 /// Writes all that is allocated to the front of a buffer that has room for it.
 fn write_each(atlas: &AtlasAllocator, allocations: &mut [EtagereAllocation])
     requires { length (listed atlas.now) ≤ length allocations.old }
-    ensures { AreWritten (listed atlas.now) allocations.old allocations.new }
+    ensures { AreWritten allocation_in (listed atlas.now) allocations.old allocations.new }
 {
     let mut written: usize = 0;
     for allocation in atlas {
@@ -34,7 +35,7 @@ fn write_all(
     ensures status { IsAmong (statuses.ok ∷ statuses.too_short ∷ []) result }
     ensures counted { count.new ≡ length (listed atlas.now) }
     ensures short { (result ≡ statuses.too_short) ↔ (length allocations.old < length (listed atlas.now)) }
-    ensures written { result ≡ statuses.ok → AreWritten (listed atlas.now) allocations.old allocations.new }
+    ensures written { result ≡ statuses.ok → AreWritten allocation_in (listed atlas.now) allocations.old allocations.new }
     ensures unwritten { result ≢ statuses.ok → allocations.new ≡ allocations.old }
 {
     *count = atlas.iter().count();
@@ -60,7 +61,7 @@ pub extern "C" fn etagere_atlas_allocations(
     ensures status { IsAmong (statuses.ok ∷ statuses.null_handle ∷ statuses.too_short ∷ []) result }
     ensures counted { IfSome atlas.old.state (λ held. count.new ≡ length (listed held)) }
     ensures short { IfSome atlas.old.state (λ held. (result ≡ statuses.too_short) ↔ (length allocations.old < length (listed held))) }
-    ensures written { result ≡ statuses.ok → IfSome atlas.old.state (λ held. AreWritten (listed held) allocations.old allocations.new) }
+    ensures written { result ≡ statuses.ok → IfSome atlas.old.state (λ held. AreWritten allocation_in (listed held) allocations.old allocations.new) }
     ensures unwritten { result ≢ statuses.ok → allocations.new ≡ allocations.old }
     ensures uncounted { result ≡ statuses.null_handle → count.new ≡ count.old }
     ensures stays { atlas.new.state ≡ atlas.old.state }
