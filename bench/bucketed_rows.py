@@ -1,5 +1,5 @@
 """Scripts on which a call of a bucketed atlas is to leave alone what it doesn't touch: shelves of thousands of buckets,
-and thousands of shelves.
+and thousands of shelves. Wanted are at most 1000 instructions a call, and no more than the Rust crate takes.
 """
 
 import random
@@ -32,6 +32,11 @@ def full_shelf(position):
     """A full shelf of 4095 buckets, of which the one at a place goes and comes."""
     filling = long_shelf() + ["a 15 1"] + ["a 16 1"] * (MOST - 1)
     return filling, goes_and_comes([position] * ROUNDS, len(filling) - 1, "a 16 1")
+
+
+def whole_shelf(_program):
+    """The only item of a shelf of 4095 buckets, which is added with it and dropped with it."""
+    return ["bucketed 65534 1 1 1 1 h"], comes_and_goes(0, "a 1 1")
 
 
 def full_shelves():
@@ -74,6 +79,7 @@ ROWS = {
     "the same, by two widths in turn": Row(two_widths, 26833, "filling"),
     "a full shelf of 4095 buckets: the second goes and comes": Row(lambda _: full_shelf(2), 169),
     "the same, the last": Row(lambda _: full_shelf(MOST), 26774),
+    "the same, added with its only item and dropped with it": Row(whole_shelf),
     "4095 full shelves: the first goes and comes": Row(first_goes, 158),
     "the same, any": Row(any_goes, 49080),
     "the same, a refused size": Row(refused, 311351),

@@ -1,6 +1,7 @@
 pub mod Drawn
 pub mod Emptying
 pub mod KnownBlocks
+pub mod KnownSpans
 pub mod PassedShelves
 pub mod Refused
 pub mod Searched

@@ -1,9 +1,9 @@
 -- Why sides have no place among records, and how full these are, is what the shelves that they spell say.
-use Rattle.std.proofs.Common.{◌≡◌, ℕ, zero, suc, ◌+◌, ◌-◌, ◌*◌, ◌<◌, ◌≤◌, Bool, true, false, cond, Option, None, Some, List, [], ◌∷◌, ◌++◌, length, map, refl, ap, arith, sym, ◌∙◌, ◌&&◌}
+use Rattle.std.proofs.Common.{◌≡◌, ℕ, zero, suc, ◌+◌, ◌-◌, ◌*◌, ◌≤◌, Bool, true, false, cond, Option, None, Some, List, [], ◌∷◌, ◌++◌, length, map, refl, ap, arith, sym, ◌∙◌, ◌&&◌}
 use Rattle.std.proofs.lemmas.Bool.Decides.{nat_tests}
 use Rattle.std.proofs.lemmas.List.Sums.{sum_by-cons}
 use Rattle.std.specs.List.{AllByRecursion, count_by, list_any}
-use Rattle.std.specs.Prelude.{◌||◌, ◌==◌, find, flat_map, is_some, max, nat_le, nat_lt, not, option_map}
+use Rattle.std.specs.Prelude.{◌||◌, ◌==◌, find, flat_map, is_some, max, nat_le, nat_lt, not}
 use Rattle.std.specs.Option.{option_map_or}
 use Rattle.etagere_base.proofs.FirstPlace.{is_some-map}
 use Rattle.etagere_base.specs.declared.frames.Frame.{Frame}
@@ -13,12 +13,12 @@ use Rattle.etagere_base.specs.Lists.{total}
 use Rattle.bucketed_model.specs.declared.refusals.BucketedRefusal.{BucketedRefusal}
 use Rattle.bucketed_model.specs.declared.refusals.BucketedRefusal.TheVariants.{NoRoom, NoBuckets, ItemsUsedUp}
 use Rattle.bucketed_model.specs.declared.usage.BucketedUsage.{BucketedUsage}
-use Rattle.bucketed_model.specs.Adding.{Remaining, left_to}
+use Rattle.bucketed_model.specs.Adding.{left_to}
 use Rattle.bucketed_model.specs.Placing.{bucket_place}
 use Rattle.bucketed_model.specs.Refusal.{greatest, has_space, has_width, is_wide, place_refusal, room, rooms_in, shelves_refusal, widest}
 use Rattle.bucketed_model.specs.State.{Bucket, BucketShelf, BucketedState, buckets_in_use, is_idle, is_idle_bucket, most_buckets}
 use Rattle.bucketed_model.specs.Usage.{height_with, idle_buckets, largest_sides, live_items, size_of, usage}
-use Rattle.bucketed_model.specs.Valid.{AreShelves, IsBucket, IsShelf, IsValid}
+use Rattle.bucketed_model.specs.Valid.{IsBucket, IsShelf, IsValid}
 use Rattle.bucketed_records.specs.declared.records.LinkedBucket.{LinkedBucket}
 use Rattle.bucketed_records.specs.declared.records.KeptShelf.{KeptShelf}
 use Rattle.bucketed_records.specs.Private.Store.{AreBucketsSpelled, AreShelvesSpelled, Spells, Stored, first_link, kept_shelf, kept_shelves, widest_room}
@@ -26,7 +26,6 @@ use Rattle.bucketed_records.specs.Private.Store as store
 use Rattle.bucketed_records.proofs.Spelling.KeptShelves.{length-kept, live-idle}
 use Rattle.bucketed_store.specs.declared.searching.Wanted.TheVariants.{Wide}
 use Rattle.bucketed_store.specs.Private.Refusals.{idle_from, idle_in, idle_one, kept_has_width, kept_height_with, kept_idle_count, kept_items, kept_largest, kept_refusal, kept_shelves_refusal, kept_tallest, kept_usage, kept_widest}
-use Rattle.bucketed_store.specs.Private.Searching.{Place, kept_place}
 use Rattle.bucketed_store.proofs.Spelling.FoundFirst.{first-found, number_of}
 use Rattle.bucketed_store.proofs.Spelling.PlacedRecords.{place-is, place_by}
 

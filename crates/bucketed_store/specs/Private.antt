@@ -5,4 +5,5 @@ pub mod Growths
 pub mod Refusals
 pub mod Returns
 pub mod Searching
+pub mod Spans
 pub mod StoreEdits

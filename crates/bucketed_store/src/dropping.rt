@@ -8,7 +8,9 @@ ghost use Rattle.bucketed_model.specs.Picking.{or_else};
 ghost use Rattle.bucketed_model.specs.State.{most_buckets};
 ghost use Rattle.bucketed_records.specs.BucketRecords.{next_of};
 ghost use Rattle.bucketed_store.specs.Private.Returns as spec;
+ghost use Rattle.bucketed_store.specs.Private.Spans.{AreSpans};
 
+use crate::spans::Spans;
 use bucketed_records::records::{KeptShelf, LinkedBucket};
 use etagere_links::Link;
 
@@ -63,11 +65,18 @@ fn link_to(buckets: &mut [LinkedBucket], number: usize, next: Link)
 }
 
 /// Puts the list of a bucket in front of the unused ones, and answers how many stand in it.
-fn put_row_aside(buckets: &mut [LinkedBucket], unused: &mut Link, first: Link) -> u32
-    requires { length buckets.old ≤ most_buckets }
+fn put_row_aside(
+    buckets: &mut [LinkedBucket],
+    spans: &mut Spans,
+    unused: &mut Link,
+    first: Link,
+) -> u32
+    requires few { length buckets.old ≤ most_buckets }
+    requires spans { AreSpans spans.old.each buckets.old }
     ensures buckets { buckets.new ≡ spec.row_aside first unused.old buckets.old }
     ensures unused { unused.new ≡ or_else first unused.old }
     ensures count { result ≡ spec.row_count buckets.old first }
+    ensures spans { AreSpans spans.new.each buckets.new }
     ensures small { result ≤ most_buckets + 1 }
 {
     let Some(number) = first.number() else {
@@ -75,6 +84,7 @@ fn put_row_aside(buckets: &mut [LinkedBucket], unused: &mut Link, first: Link) -
     };
     let end = row_end(buckets, number);
     link_to(buckets, end.last, *unused);
+    spans.forget(buckets, end.last);
     *unused = first;
     end.count
 }
@@ -83,14 +93,17 @@ fn put_row_aside(buckets: &mut [LinkedBucket], unused: &mut Link, first: Link) -
 pub(crate) fn drop_idle_end(
     shelves: &mut Vec<KeptShelf>,
     buckets: &mut [LinkedBucket],
+    spans: &mut Spans,
     unused: &mut Link,
 ) -> u32
     requires shelves { vec_len shelves.old ≤ most_buckets }
     requires buckets { length buckets.old ≤ most_buckets }
+    requires spans { AreSpans spans.old.each buckets.old }
     ensures dropped { spec.dropping_of shelves.new.items buckets.new unused.new result
         ≡ spec.end_dropped (vec_len shelves.old)
         (spec.dropping_of shelves.old.items buckets.old unused.old 0) }
     ensures capacity { vec_capacity shelves.new ≡ vec_capacity shelves.old }
+    ensures spans { AreSpans spans.new.each buckets.new }
 {
     let mut dropped = 0;
     for _shelf in 0..shelves.len() {
@@ -101,7 +114,7 @@ pub(crate) fn drop_idle_end(
         if last.live_items > 0 {
             break;
         }
-        dropped += put_row_aside(buckets, unused, first);
+        dropped += put_row_aside(buckets, spans, unused, first);
         shelves.pop();
     }
     dropped

@@ -9,8 +9,10 @@ ghost use Rattle.etagere_links.specs.Links.{no_link};
 ghost use Rattle.bucketed_model.specs.State.{most_buckets};
 ghost use Rattle.bucketed_store.specs.Private.Growths as spec;
 ghost use Rattle.bucketed_store.specs.Private.Returns.{width_of};
+ghost use Rattle.bucketed_store.specs.Private.Spans.{AreSpans};
 
 use crate::making::{NewBuckets, make_buckets};
+use crate::spans::Spans;
 use bucketed_records::records::{KeptShelf, LinkedBucket, LinkedBucketShelf};
 use etagere_links::Link;
 
@@ -82,6 +84,7 @@ fn first_of(shelves: &[KeptShelf], number: usize) -> Link
 fn widen_shelf(
     shelves: &mut [KeptShelf],
     buckets: &mut Vec<LinkedBucket>,
+    spans: &mut Spans,
     unused: &mut Link,
     number: usize,
     place: u32,
@@ -95,12 +98,14 @@ fn widen_shelf(
         ≤ vec_capacity buckets.old }
     requires few { vec_len buckets.old + count ≤ no_link }
     requires narrow { place + count * width_of shelves.old number < 2 ^ 16 }
+    requires spans { AreSpans spans.old.each buckets.old.items }
     ensures stored { spec.stored_of shelves.new buckets.new.items unused.new
         ≡ spec.shelf_widened number place count
         (spec.stored_of shelves.old buckets.old.items unused.old) }
     ensures length { length shelves.new ≡ length shelves.old }
     ensures used { vec_len buckets.new ≤ vec_len buckets.old + count }
     ensures capacity { vec_capacity buckets.old ≤ vec_capacity buckets.new }
+    ensures spans { AreSpans spans.new.each buckets.new.items }
 {
     let row = NewBuckets {
         shelf: number as u16,
@@ -108,7 +113,7 @@ fn widen_shelf(
         x: place as u16,
     };
     let old = first_of(shelves, number);
-    let first = make_buckets(buckets, unused, old, &row, count);
+    let first = make_buckets(buckets, spans, unused, old, &row, count);
     set_widened(shelves, number, count, first);
 }
 
@@ -116,6 +121,7 @@ fn widen_shelf(
 pub(crate) fn widen_shelves(
     shelves: &mut [KeptShelf],
     buckets: &mut Vec<LinkedBucket>,
+    spans: &mut Spans,
     unused: &mut Link,
     place: u32,
     added: u32,
@@ -129,15 +135,17 @@ pub(crate) fn widen_shelves(
     requires few { vec_len buckets.old + (left - spec.left_after added left shelves.old)
         ≤ no_link }
     requires narrow { place + added < 2 ^ 16 }
+    requires spans { AreSpans spans.old.each buckets.old.items }
     ensures stored { spec.stored_of shelves.new buckets.new.items unused.new
         ≡ spec.shelves_widened (length shelves.old) 0 place added left
         (spec.stored_of shelves.old buckets.old.items unused.old) }
     ensures capacity { vec_capacity buckets.old ≤ vec_capacity buckets.new }
+    ensures spans { AreSpans spans.new.each buckets.new.items }
 {
     let mut left = left;
     for number in 0..shelves.len() {
         let count = share(added, width_of(shelves, number), left);
         left -= count;
-        widen_shelf(shelves, buckets, unused, number, place, count);
+        widen_shelf(shelves, buckets, spans, unused, number, place, count);
     }
 }

@@ -4,8 +4,10 @@
 
 ghost use Rattle.std.specs.Prelude.{◌≡◌, ◌+◌, ◌*◌, ◌<◌, ◌≤◌, ◌^◌, OnOk, OnErr, length, vec_len, vec_capacity};
 ghost use Rattle.etagere_links.specs.Links.{no_link};
+ghost use Rattle.bucketed_store.specs.Private.Spans.{AreSpans};
 ghost use Rattle.bucketed_store.specs.Private.StoreEdits as spec;
 
+use crate::spans::Spans;
 use bucketed_records::records::LinkedBucket;
 use etagere_links::Link;
 use std::alloc::AllocError;
@@ -50,6 +52,7 @@ fn new_record(new: &NewBuckets, next: Link, generation: u8) -> LinkedBucket
 /// Makes a bucket in front of the first one of its shelf, and answers the link to it.
 fn make_bucket(
     buckets: &mut Vec<LinkedBucket>,
+    spans: &mut Spans,
     unused: &mut Link,
     first: Link,
     new: &NewBuckets,
@@ -59,6 +62,7 @@ fn make_bucket(
         (record { buckets = buckets.old.items; unused = unused.old; first = first })).buckets
         ≤ vec_capacity buckets.old }
     requires few { vec_len buckets.old < no_link }
+    requires spans { AreSpans spans.old.each buckets.old.items }
     ensures buckets { buckets.new.items
         ≡ (spec.made_one new.now
         (record { buckets = buckets.old.items; unused = unused.old; first = first })).buckets }
@@ -70,12 +74,14 @@ fn make_bucket(
         (record { buckets = buckets.old.items; unused = unused.old; first = first })).first }
     ensures length { vec_len buckets.new ≤ vec_len buckets.old + 1 }
     ensures capacity { vec_capacity buckets.old ≤ vec_capacity buckets.new }
+    ensures spans { AreSpans spans.new.each buckets.new.items }
 {
     if let Some(number) = unused.number() {
         if number < buckets.len() {
             let old = buckets[number];
             *unused = old.next;
             buckets[number] = new_record(new, first, old.generation.wrapping_add(1));
+            spans.forget(buckets, number);
             return Link::to(number);
         }
     }
@@ -87,6 +93,7 @@ fn make_bucket(
 /// Makes so many buckets from left to right, each in front of the one before, and answers the link to the last.
 pub(crate) fn make_buckets(
     buckets: &mut Vec<LinkedBucket>,
+    spans: &mut Spans,
     unused: &mut Link,
     first: Link,
     new: &NewBuckets,
@@ -98,6 +105,7 @@ pub(crate) fn make_buckets(
         ≤ vec_capacity buckets.old }
     requires few { vec_len buckets.old + count ≤ no_link }
     requires narrow { new.now.x + count * new.now.width < 2 ^ 16 }
+    requires spans { AreSpans spans.old.each buckets.old.items }
     ensures buckets { buckets.new.items
         ≡ (spec.made_many count new.now
         (record { buckets = buckets.old.items; unused = unused.old; first = first })).buckets }
@@ -109,11 +117,12 @@ pub(crate) fn make_buckets(
         (record { buckets = buckets.old.items; unused = unused.old; first = first })).first }
     ensures length { vec_len buckets.new ≤ vec_len buckets.old + count }
     ensures capacity { vec_capacity buckets.old ≤ vec_capacity buckets.new }
+    ensures spans { AreSpans spans.new.each buckets.new.items }
 {
     let mut first = first;
     let mut here = *new;
     for _made in 0..count {
-        first = make_bucket(buckets, unused, first, &here);
+        first = make_bucket(buckets, spans, unused, first, &here);
         here.x += here.width;
     }
     first

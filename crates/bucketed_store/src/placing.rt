@@ -7,11 +7,13 @@ ghost use Rattle.std.specs.Option.{option_map};
 ghost use Rattle.bucketed_model.specs.Frames.{IsBucketedFrame};
 ghost use Rattle.bucketed_store.specs.Private.Blocks.{AreKnown};
 ghost use Rattle.bucketed_store.specs.Private.Searching as spec;
+ghost use Rattle.bucketed_store.specs.Private.Spans.{AreSpans};
 ghost use Rattle.bucketed_store.specs.Private.StoreEdits as edits;
 
 use crate::blocks::Blocks;
 use crate::merging::{Group, mergeable_shelves};
 use crate::searching::{Found, pick};
+use crate::spans::Spans;
 use crate::store::Store;
 use bucketed_model::adding::{NewShelves, Remaining, can_add, new_shelves};
 use bucketed_records::records::{KeptShelf, LinkedBucket};
@@ -56,6 +58,7 @@ pub fn place_of(frame: &Frame, left: &Remaining, sides: &Sides, store: &Store) -
         &store.shelves,
         &store.buckets,
         &store.blocks,
+        &store.spans,
     )
 }
 
@@ -67,16 +70,18 @@ fn place_among(
     shelves: &[KeptShelf],
     buckets: &[LinkedBucket],
     blocks: &Blocks,
+    spans: &Spans,
 ) -> Option<Place>
     requires frame { IsBucketedFrame frame.now }
     requires across { (0 < sides.now.across) × (sides.now.across < 2 ^ 31) }
     requires column { left.now.column < 2 ^ 31 }
     requires known { AreKnown blocks.now.each shelves.now }
+    requires spans { AreSpans spans.now.each buckets.now }
     ensures { option_map spec.place_seen result
         ≡ spec.kept_place frame.now left.now sides.now shelves.now buckets.now }
 {
     let adds = can_add(frame, left, sides.across);
-    if let Some(found) = pick(adds, sides, shelves, buckets, blocks) {
+    if let Some(found) = pick(adds, sides, shelves, buckets, blocks, spans) {
         return Some(Place::InBucket(found));
     }
     if adds {

@@ -6,9 +6,11 @@ ghost use Rattle.std.specs.Prelude.{◌≡◌, ◌<◌, ◌^◌};
 ghost use Rattle.std.specs.List.{list_any};
 ghost use Rattle.bucketed_model.specs.Frames.{IsBucketedFrame};
 ghost use Rattle.bucketed_store.specs.Private.Refusals as spec;
+ghost use Rattle.bucketed_store.specs.Private.Spans.{AreSpans};
 
 use crate::placing::place_of;
 use crate::searching::{Wanted, first_wanted};
+use crate::spans::Spans;
 use crate::store::Store;
 use bucketed_model::adding::Remaining;
 use bucketed_model::refusals::{BucketedRefusal, has_space};
@@ -29,20 +31,27 @@ pub(crate) fn widest_among(shelves: &[KeptShelf], height: u32) -> u16
 }
 
 /// Whether a shelf is tall enough, and a bucket of it has the width left.
-fn has_width(sides: &Sides, kept: &KeptShelf, buckets: &[LinkedBucket]) -> bool
+fn has_width(sides: &Sides, kept: &KeptShelf, buckets: &[LinkedBucket], spans: &Spans) -> bool
+    requires { AreSpans spans.now.each buckets.now }
     ensures { result ≡ spec.kept_has_width sides.now buckets.now kept.now }
 {
     let wanted = Wanted::Wide(sides.along);
     sides.across <= u32::from(kept.shelf.height)
-        && first_wanted(wanted, buckets, kept.shelf.first_bucket).is_some()
+        && first_wanted(wanted, buckets, spans, kept.shelf.first_bucket).is_some()
 }
 
 /// Whether one of the shelves does so.
-fn any_has_width(sides: &Sides, shelves: &[KeptShelf], buckets: &[LinkedBucket]) -> bool
+fn any_has_width(
+    sides: &Sides,
+    shelves: &[KeptShelf],
+    buckets: &[LinkedBucket],
+    spans: &Spans,
+) -> bool
+    requires { AreSpans spans.now.each buckets.now }
     ensures { result ≡ list_any (spec.kept_has_width sides.now buckets.now) shelves.now }
 {
     for kept in shelves {
-        if has_width(sides, kept, buckets) {
+        if has_width(sides, kept, buckets, spans) {
             return true;
         }
     }
@@ -56,15 +65,17 @@ fn shelves_refusal(
     sides: &Sides,
     shelves: &[KeptShelf],
     buckets: &[LinkedBucket],
+    spans: &Spans,
 ) -> BucketedRefusal
-    requires { left.now.column < 2 ^ 31 }
+    requires column { left.now.column < 2 ^ 31 }
+    requires spans { AreSpans spans.now.each buckets.now }
     ensures { result
         ≡ spec.kept_shelves_refusal frame.now left.now sides.now shelves.now buckets.now }
 {
     if has_space(frame, left, sides.across) {
         return BucketedRefusal::NoBuckets;
     }
-    if any_has_width(sides, shelves, buckets) {
+    if any_has_width(sides, shelves, buckets, spans) {
         return BucketedRefusal::ItemsUsedUp;
     }
     BucketedRefusal::NoRoom {
@@ -89,5 +100,12 @@ pub fn place_refusal(
     if place_of(frame, left, sides, store).is_some() {
         return None;
     }
-    Some(shelves_refusal(frame, left, sides, &store.shelves, &store.buckets))
+    Some(shelves_refusal(
+        frame,
+        left,
+        sides,
+        &store.shelves,
+        &store.buckets,
+        &store.spans,
+    ))
 }

@@ -11,8 +11,10 @@ ghost use Rattle.bucketed_model.specs.Picking.{or_else};
 ghost use Rattle.bucketed_model.specs.State.{most_buckets};
 ghost use Rattle.bucketed_store.specs.Private.Blocks.{AreKnown};
 ghost use Rattle.bucketed_store.specs.Private.Searching as spec;
+ghost use Rattle.bucketed_store.specs.Private.Spans.{AreSpans};
 
 use crate::blocks::{Blocks, SHELVES_OF_BLOCK, block_of};
+use crate::spans::Spans;
 use bucketed_records::records::{
     KeptShelf, LinkedBucket, MOST_BUCKETS, MOST_GIVEN, record_room, wider,
 };
@@ -67,13 +69,34 @@ fn is_wanted(wanted: Wanted, bucket: &LinkedBucket) -> bool
     }
 }
 
+/// The room that a bucket needs to be wanted.
+fn needed_room(wanted: Wanted) -> u32
+    ensures { result ≡ spec.needed_room wanted }
+{
+    match wanted {
+        Wanted::Roomy(width) | Wanted::Exact(width) => width,
+        Wanted::Wide(_) => 0,
+    }
+}
+
 /// The number of the first bucket that is wanted, by the links from this one on.
-pub(crate) fn first_wanted(wanted: Wanted, buckets: &[LinkedBucket], first: Link) -> Option<usize>
+pub(crate) fn first_wanted(
+    wanted: Wanted,
+    buckets: &[LinkedBucket],
+    spans: &Spans,
+    first: Link,
+) -> Option<usize>
+    requires { AreSpans spans.now.each buckets.now }
     ensures number { result ≡ spec.first_from most_buckets wanted buckets.now first }
     ensures within { IfSome result (λ number. number < length buckets.now) }
 {
+    let needed = needed_room(wanted);
     let mut at = first;
+    let mut left = MOST_BUCKETS;
     for _step in 0..MOST_BUCKETS {
+        if left == 0 {
+            return None;
+        }
         let Some(number) = at.number() else {
             return None;
         };
@@ -84,20 +107,27 @@ pub(crate) fn first_wanted(wanted: Wanted, buckets: &[LinkedBucket], first: Link
         if is_wanted(wanted, bucket) {
             return Some(number);
         }
-        at = bucket.next;
+        let ahead = spans.ahead(buckets, number, needed, left);
+        at = ahead.at;
+        left -= ahead.steps;
     }
     None
 }
 
 /// The greatest width that a bucket can give to one item, by the links from this one on, where none can give more
 /// than this one.
-pub(crate) fn widest_room(buckets: &[LinkedBucket], first: Link, most: u16) -> u16
-    requires { spec.widest_from most_buckets buckets.now first ≤ most }
+pub(crate) fn widest_room(buckets: &[LinkedBucket], spans: &Spans, first: Link, most: u16) -> u16
+    requires spans { AreSpans spans.now.each buckets.now }
+    requires most { spec.widest_from most_buckets buckets.now first ≤ most }
     ensures { result ≡ spec.widest_from most_buckets buckets.now first }
 {
     let mut widest = 0;
     let mut at = first;
+    let mut left = MOST_BUCKETS;
     for _step in 0..MOST_BUCKETS {
+        if left == 0 {
+            break;
+        }
         let Some(number) = at.number() else {
             break;
         };
@@ -109,7 +139,9 @@ pub(crate) fn widest_room(buckets: &[LinkedBucket], first: Link, most: u16) -> u
         }
         let bucket = &buckets[number];
         widest = wider(widest, record_room(bucket));
-        at = bucket.next;
+        let ahead = spans.ahead(buckets, number, u32::from(widest) + 1, left);
+        at = ahead.at;
+        left -= ahead.steps;
     }
     widest
 }
@@ -227,17 +259,19 @@ fn exact_from(
     shelves: &[KeptShelf],
     buckets: &[LinkedBucket],
     blocks: &Blocks,
+    spans: &Spans,
     from: usize,
 ) -> Option<Found>
     requires from { from ≤ length shelves.now }
     requires known { AreKnown blocks.now.each shelves.now }
+    requires spans { AreSpans spans.now.each buckets.now }
     ensures { result ≡ spec.exact_from sides.now buckets.now from (drop from shelves.now) }
 {
     for block in block_of(from)..block_of(shelves.len()) + 1 {
         if blocks.may_give(block, sides.along) {
             let first = block * SHELVES_OF_BLOCK;
             let end = first + SHELVES_OF_BLOCK;
-            let found = exact_between(sides, shelves, buckets, from.max(first), end);
+            let found = exact_between(sides, shelves, buckets, spans, from.max(first), end);
             if found.is_some() {
                 return found;
             }
@@ -251,16 +285,18 @@ fn exact_between(
     sides: &Sides,
     shelves: &[KeptShelf],
     buckets: &[LinkedBucket],
+    spans: &Spans,
     from: usize,
     end: usize,
 ) -> Option<Found>
     requires from { from ≤ length shelves.now }
     requires end { from ≤ end }
+    requires spans { AreSpans spans.now.each buckets.now }
     ensures { or_else result (spec.exact_from sides.now buckets.now end (drop end shelves.now))
         ≡ spec.exact_from sides.now buckets.now from (drop from shelves.now) }
 {
     for number in from..shelves.len().min(end) {
-        let found = exact_in(sides, &shelves[number], buckets, number);
+        let found = exact_in(sides, &shelves[number], buckets, spans, number);
         if found.is_some() {
             return found;
         }
@@ -272,14 +308,21 @@ fn exact_in(
     sides: &Sides,
     kept: &KeptShelf,
     buckets: &[LinkedBucket],
+    spans: &Spans,
     number: usize,
 ) -> Option<Found>
+    requires { AreSpans spans.now.each buckets.now }
     ensures { result ≡ spec.exact_in sides.now buckets.now number kept.now }
 {
     if u32::from(kept.shelf.height) != sides.across || u32::from(kept.widest_room) < sides.along {
         return None;
     }
-    let bucket = first_wanted(Wanted::Exact(sides.along), buckets, kept.shelf.first_bucket)?;
+    let bucket = first_wanted(
+        Wanted::Exact(sides.along),
+        buckets,
+        spans,
+        kept.shelf.first_bucket,
+    )?;
     Some(Found {
         shelf: number,
         bucket,
@@ -293,10 +336,12 @@ fn exact_or_found(
     shelves: &[KeptShelf],
     buckets: &[LinkedBucket],
     blocks: &Blocks,
+    spans: &Spans,
     least: Least,
     bucket: usize,
 ) -> Found
     requires known { AreKnown blocks.now.each shelves.now }
+    requires spans { AreSpans spans.now.each buckets.now }
     requires shelf { least.number < length shelves.now }
     requires bucket { bucket < length buckets.now }
     ensures { result ≡ spec.exact_or_found sides.now shelves.now buckets.now least bucket }
@@ -308,7 +353,7 @@ fn exact_or_found(
     if least.rank != 0 || u32::from(buckets[bucket].free_space) == sides.along {
         return found;
     }
-    exact_from(sides, shelves, buckets, blocks, least.number + 1).unwrap_or(found)
+    exact_from(sides, shelves, buckets, blocks, spans, least.number + 1).unwrap_or(found)
 }
 
 /// The bucket that is picked for these sides.
@@ -318,13 +363,15 @@ pub(crate) fn pick(
     shelves: &[KeptShelf],
     buckets: &[LinkedBucket],
     blocks: &Blocks,
+    spans: &Spans,
 ) -> Option<Found>
-    requires { AreKnown blocks.now.each shelves.now }
+    requires known { AreKnown blocks.now.each shelves.now }
+    requires spans { AreSpans spans.now.each buckets.now }
     ensures { result ≡ spec.picked adds sides.now shelves.now buckets.now }
 {
     let least = least_waste(adds, sides, shelves, blocks)?;
     let wanted = Wanted::Roomy(sides.along);
     let first = shelves[least.number].shelf.first_bucket;
-    let bucket = first_wanted(wanted, buckets, first)?;
-    Some(exact_or_found(sides, shelves, buckets, blocks, least, bucket))
+    let bucket = first_wanted(wanted, buckets, spans, first)?;
+    Some(exact_or_found(sides, shelves, buckets, blocks, spans, least, bucket))
 }

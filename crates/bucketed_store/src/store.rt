@@ -2,20 +2,21 @@
 //!
 //! Definitions: `Store`, `StoreEdits`. `Store` also says when records spell a state.
 
-ghost use Rattle.std.specs.Prelude.{◌≡◌, ◌+◌, ◌-◌, ◌*◌, ◌<◌, ◌≤◌, ◌^◌, [], None, Some, IfOk, IsSome, OnOk, OnErr, length, slice_get, vec_len, vec_capacity, map};
+ghost use Rattle.std.specs.Prelude.{◌≡◌, ◌+◌, ◌-◌, ◌*◌, ◌<◌, ◌≤◌, ◌^◌, [], None, Some, IfOk, IsSome, IsTrue, OnOk, OnErr, length, slice_get, vec_len, vec_capacity, map};
 ghost use Rattle.etagere_links.specs.Edits.{changed_by};
 ghost use Rattle.etagere_links.specs.Links.{no_link};
 ghost use Rattle.bucketed_model.specs.Adding as adding;
 ghost use Rattle.bucketed_model.specs.Frames.{IsBucketedFrame, longest_bucketed_side};
 ghost use Rattle.bucketed_model.specs.State.{most_buckets};
 ghost use Rattle.bucketed_model.specs.Taking as taking;
-ghost use Rattle.bucketed_records.specs.StandsFor.{free_of, shelf_of};
+ghost use Rattle.bucketed_records.specs.StandsFor.{free_of, place_of, shelf_of};
 ghost use Rattle.bucketed_records.specs.Private.Store.{record_room, shelf_record};
 ghost use Rattle.bucketed_records.specs.Restoring as restoring;
 ghost use Rattle.bucketed_store.specs.Private.Blocks.{AreKnown};
 ghost use Rattle.bucketed_store.specs.Private.Growths as growths;
 ghost use Rattle.bucketed_store.specs.Private.Returns as returns;
 ghost use Rattle.bucketed_store.specs.Private.Searching as searching;
+ghost use Rattle.bucketed_store.specs.Private.Spans.{AreSpans};
 ghost use Rattle.bucketed_store.specs.Private.StoreEdits as spec;
 
 use crate::blocks::Blocks;
@@ -26,6 +27,7 @@ use crate::merging::{Group, merge};
 use crate::placing::Place;
 use crate::returning::{is_known, return_item, returned_area, shelf_number};
 use crate::searching::{Found, has_room, widest_room};
+use crate::spans::{RECORDS_OF_BLOCK, Spans};
 use bucketed_model::adding::{NewShelf, NewShelves, width_of_share};
 use bucketed_records::records::{
     KeptShelf, LinkedBucket, LinkedBucketShelf, MOST_BUCKETS, record_room,
@@ -50,10 +52,12 @@ pub struct Store {
     pub(crate) buckets: Vec<LinkedBucket>,
     pub(crate) unused: Link,
     pub(crate) blocks: Blocks,
+    pub(crate) spans: Spans,
 }
 
 impl Model for Store {
     ghost use Rattle.bucketed_store.specs.Private.Blocks.{AreKnown};
+    ghost use Rattle.bucketed_store.specs.Private.Spans.{AreSpans};
     ghost use Rattle.bucketed_records.specs.Private.Store.{Stored};
 
     ghost Value = { Stored };
@@ -64,7 +68,8 @@ impl Model for Store {
       unused = store.unused;
     } };
 
-    ghost invariant = { λ store. AreKnown store.blocks.each store.shelves.items };
+    ghost invariant = { λ store. AreKnown store.blocks.each store.shelves.items
+        × AreSpans store.spans.each store.buckets.items };
 }
 
 /// Where the next shelf in the column at a place begins across.
@@ -88,6 +93,7 @@ impl Store {
             buckets: Vec::new(alloc),
             unused: Link::none(),
             blocks: Blocks::new(),
+            spans: Spans::new(),
         }
     }
 
@@ -102,6 +108,7 @@ impl Store {
             buckets,
             unused,
             blocks,
+            spans: Spans::new(),
         }
     }
 
@@ -113,6 +120,7 @@ impl Store {
         self.buckets.clear();
         self.unused = Link::none();
         self.blocks = Blocks::new();
+        self.spans = Spans::new();
     }
 
     /// Makes the new shelves, with their buckets, where so many are in use. Takes memory for the records
@@ -137,6 +145,7 @@ impl Store {
                 frame,
                 &mut self.shelves,
                 &mut self.buckets,
+                &mut self.spans,
                 &mut self.unused,
                 &mut self.blocks,
                 filler,
@@ -146,6 +155,7 @@ impl Store {
             frame,
             &mut self.shelves,
             &mut self.buckets,
+            &mut self.spans,
             &mut self.unused,
             &mut self.blocks,
             &news.asked,
@@ -255,7 +265,9 @@ impl Store {
               buckets = changed_by (Some bucket) (spec.taken_record width) self.old.buckets;
             } }
     {
+        let before = room_of(&self.buckets, bucket);
         take_from(&mut self.buckets, bucket, width);
+        self.spans.track(&self.buckets, bucket, before);
     }
 
     /// Counts one more live item in the shelf of a bucket that was found and had this room before, and keeps
@@ -271,7 +283,8 @@ impl Store {
             } }
     {
         let before = self.shelves[found.shelf];
-        give_from(&mut self.shelves, &self.buckets, found, room);
+        learn_row(&self.shelves, &self.buckets, &mut self.spans, found, room);
+        give_from(&mut self.shelves, &self.buckets, &self.spans, found, room);
         self.blocks.follow(&self.shelves, found.shelf, &before);
     }
 
@@ -294,7 +307,9 @@ impl Store {
         let area = returned_area(&self.shelves, &self.buckets, number);
         let shelf = shelf_number(&self.buckets, number);
         let before = self.shelves[shelf];
+        let room = room_of(&self.buckets, number);
         return_item(&mut self.shelves, &mut self.buckets, number);
+        self.spans.track(&self.buckets, number, room);
         self.blocks.follow(&self.shelves, shelf, &before);
         area
     }
@@ -306,7 +321,12 @@ impl Store {
         ensures { returns.dropping_from self.new result
             ≡ returns.end_dropped (length self.old.shelves) (returns.dropping_from self.old 0) }
     {
-        drop_idle_end(&mut self.shelves, &mut self.buckets, &mut self.unused)
+        drop_idle_end(
+            &mut self.shelves,
+            &mut self.buckets,
+            &mut self.spans,
+            &mut self.unused,
+        )
     }
 
     /// Gives the shelves their buckets for a width that is added at a place, where so many are left, and
@@ -337,6 +357,7 @@ impl Store {
         widen_shelves(
             &mut self.shelves,
             &mut self.buckets,
+            &mut self.spans,
             &mut self.unused,
             place,
             added,
@@ -447,11 +468,13 @@ fn add_shelf(
     frame: &Frame,
     shelves: &mut Vec<KeptShelf>,
     buckets: &mut Vec<LinkedBucket>,
+    spans: &mut Spans,
     unused: &mut Link,
     blocks: &mut Blocks,
     new: &NewShelf,
 )
     requires known { AreKnown blocks.old.each shelves.old.items }
+    requires spans { AreSpans spans.old.each buckets.old.items }
     requires frame { IsBucketedFrame frame.now }
     requires new { spec.IsNewShelf frame.now new.now }
     requires short { spec.IsShort frame.now shelves.old.items }
@@ -492,6 +515,7 @@ fn add_shelf(
     ensures bucket_length { vec_len buckets.new ≤ vec_len buckets.old + new.now.count }
     ensures bucket_capacity { vec_capacity buckets.old ≤ vec_capacity buckets.new }
     ensures known { AreKnown blocks.new.each shelves.new.items }
+    ensures spans { AreSpans spans.new.each buckets.new.items }
 {
     let width = width_of_share(frame, new.count) as u16;
     let x = (new.column * frame.column_width) as u16;
@@ -501,7 +525,7 @@ fn add_shelf(
         width,
         x,
     };
-    let first_bucket = make_buckets(buckets, unused, Link::none(), &row, new.count);
+    let first_bucket = make_buckets(buckets, spans, unused, Link::none(), &row, new.count);
     let shelf = LinkedBucketShelf {
         x,
         y,
@@ -547,34 +571,122 @@ fn widest_of(shelves: &[KeptShelf], number: usize) -> u16
     shelves[number].widest_room
 }
 
+/// Where the bucket of a number begins along; 0 where there is none.
+fn place_at(buckets: &[LinkedBucket], number: usize) -> u32
+    ensures { result ≡ place_of buckets.now number }
+{
+    if number < buckets.len() {
+        u32::from(buckets[number].x)
+    } else {
+        0
+    }
+}
+
+/// Whether a search along the buckets of a shelf goes over more than a block of them, of which nothing is known: up to
+/// the one that was found, which had this room before it gave an item, or up to the end.
+fn goes_far(
+    shelves: &[KeptShelf],
+    buckets: &[LinkedBucket],
+    spans: &Spans,
+    found: &Found,
+    room: u16,
+) -> bool
+    requires shelf { found.now.shelf < length shelves.now }
+    requires widest { spec.IsWidestKept found.now.shelf found.now.bucket room shelves.now
+        buckets.now }
+{
+    let shelf = &shelves[found.shelf].shelf;
+    let Some(first) = shelf.first_bucket.number() else {
+        return false;
+    };
+    let begin = place_at(buckets, first);
+    is_far(u32::from(shelf.x), begin, shelf.bucket_width)
+        && spans.of(found.bucket).is_none()
+        && (is_far(place_at(buckets, found.bucket), begin, shelf.bucket_width)
+            || !keeps_widest(shelves, buckets, found, room))
+}
+
+/// Whether more than a block of buckets this wide lie between two places.
+fn is_far(from: u32, to: u32, width: u16) -> bool {
+    u32::from(width) < to.saturating_sub(from) / RECORDS_OF_BLOCK as u32
+}
+
+/// Learns spans of the buckets of a shelf, where a search along them goes far.
+fn learn_row(
+    shelves: &[KeptShelf],
+    buckets: &[LinkedBucket],
+    spans: &mut Spans,
+    found: &Found,
+    room: u16,
+)
+    requires shelf { found.now.shelf < length shelves.now }
+    requires widest { spec.IsWidestKept found.now.shelf found.now.bucket room shelves.now
+        buckets.now }
+    requires spans { AreSpans spans.old.each buckets.now }
+    ensures { AreSpans spans.new.each buckets.now }
+{
+    if goes_far(shelves, buckets, spans, found, room) {
+        spans.learn(buckets, first_bucket(shelves, found.shelf));
+    }
+}
+
+/// Whether a shelf still has a bucket as wide as its widest was, after the one that was found gave an item, and had this
+/// room before: it had less, or one of the next few has as much.
+fn keeps_widest(shelves: &[KeptShelf], buckets: &[LinkedBucket], found: &Found, room: u16) -> bool
+    requires shelf { found.now.shelf < length shelves.now }
+    requires widest { spec.IsWidestKept found.now.shelf found.now.bucket room shelves.now
+        buckets.now }
+    ensures { IsTrue result
+        → searching.widest_from most_buckets buckets.now
+        (spec.first_bucket_of shelves.now found.now.shelf)
+        ≡ spec.widest_of shelves.now found.now.shelf }
+{
+    let widest = widest_of(shelves, found.shelf);
+    room < widest || has_room(widest, buckets, next_of(buckets, found.bucket))
+}
+
 /// The greatest width that a bucket of a shelf can give, after the one that was found gave an item, and had this
 /// room before. Buckets from the first one on are looked at only where it was the widest, and none of the next
 /// ones has as much room, and then up to one that has.
-fn widest_after(shelves: &[KeptShelf], buckets: &[LinkedBucket], found: &Found, room: u16) -> u16
+fn widest_after(
+    shelves: &[KeptShelf],
+    buckets: &[LinkedBucket],
+    spans: &Spans,
+    found: &Found,
+    room: u16,
+) -> u16
     requires number { found.now.shelf < length shelves.now }
     requires widest { spec.IsWidestKept found.now.shelf found.now.bucket room shelves.now
         buckets.now }
+    requires spans { AreSpans spans.now.each buckets.now }
     ensures { result
         ≡ searching.widest_from most_buckets buckets.now
         (spec.first_bucket_of shelves.now found.now.shelf) }
 {
     let widest = widest_of(shelves, found.shelf);
-    if room < widest || has_room(widest, buckets, next_of(buckets, found.bucket)) {
+    if keeps_widest(shelves, buckets, found, room) {
         return widest;
     }
-    widest_room(buckets, first_bucket(shelves, found.shelf), widest)
+    widest_room(buckets, spans, first_bucket(shelves, found.shelf), widest)
 }
 
 /// Counts one more live item in the shelf of a bucket that was found and had this room before, and keeps what the
 /// buckets of the shelf can give now.
-fn give_from(shelves: &mut [KeptShelf], buckets: &[LinkedBucket], found: &Found, room: u16)
+fn give_from(
+    shelves: &mut [KeptShelf],
+    buckets: &[LinkedBucket],
+    spans: &Spans,
+    found: &Found,
+    room: u16,
+)
     requires number { found.now.shelf < length shelves.old }
     requires few { spec.live_items_of shelves.old found.now.shelf + 1 < 2 ^ 32 }
     requires widest { spec.IsWidestKept found.now.shelf found.now.bucket room shelves.old
         buckets.now }
+    requires spans { AreSpans spans.now.each buckets.now }
     ensures { shelves.new ≡ spec.shelves_given found.now.shelf shelves.old buckets.now }
 {
-    let widest = widest_after(shelves, buckets, found, room);
+    let widest = widest_after(shelves, buckets, spans, found, room);
     count_given(shelves, found.shelf, widest);
 }
 
@@ -598,6 +710,7 @@ impl Clone for Store {
             buckets: self.buckets.clone()?,
             unused: self.unused,
             blocks: self.blocks,
+            spans: self.spans,
         })
     }
 }

@@ -14,7 +14,7 @@ use Rattle.bucketed_model.specs.State.{most_buckets}
 use Rattle.bucketed_model.specs.Usage.{size_of}
 use Rattle.bucketed_records.specs.declared.records.LinkedBucket.{LinkedBucket}
 use Rattle.bucketed_records.specs.declared.records.KeptShelf.{KeptShelf}
-use Rattle.bucketed_records.specs.Private.Store.{Stored, is_kept_idle}
+use Rattle.bucketed_records.specs.Private.Store.{is_kept_idle}
 use Rattle.bucketed_store.specs.declared.searching.Wanted.TheVariants.{Wide}
 use Rattle.bucketed_store.specs.Private.Searching.{first_wanted, kept_place}
 

@@ -40,6 +40,12 @@ is_wanted (Exact width) bucket =
     && bucket.free_space == width
 is_wanted (Wide width) bucket = nat_le width bucket.free_space
 
+-- the room that a bucket needs to be wanted
+abbrev pub needed_room : Wanted → ℕ
+needed_room (Roomy width) = width
+needed_room (Exact width) = width
+needed_room (Wide width) = 0
+
 -- the number of the first record that is wanted, in so many steps from a link on
 abbrev pub first_from : ℕ → Wanted → List LinkedBucket → Option ℕ → Option ℕ
 first_from zero wanted buckets at = None

@@ -17,6 +17,7 @@ loop-shelf-preserved c =
       small = omega (arith, c.loop-shelf.invariant.small, c.put_row_aside-dropped.ensures.small);
       few = rw (c.put_row_aside-dropped.ensures.buckets, length-aside c.in-Some.last.now.shelf.first_bucket c.loop-shelf.unused c.loop-shelf.buckets) c.loop-shelf.invariant.few;
       capacity = c.pop.ensures.capacity ∙ c.loop-shelf.invariant.capacity;
+      spans = c.put_row_aside-dropped.ensures.spans;
     }
 
 pub returns-in_default-clause-dropped : goal.returns-in_default-clause-dropped

@@ -1,5 +1,6 @@
 use Rattle.std.proofs.Common.{◌≡◌, ◌*◌, ◌-◌, ◌≤◌, length, vec_len, vec_capacity}
 use Rattle.bucketed_store.specs.Private.Returns as spec
+use Rattle.bucketed_store.specs.Private.Spans.{AreSpans}
 use Rattle.bucketed_store.proofs.dropping.drop_idle_end.Given as goal
 
 -- what is dropped so far and from here on is all that is dropped
@@ -10,4 +11,5 @@ invariant-loop-shelf l = record {
   small : l.dropped ≤ l._shelf * 4096;
   few : length l.buckets ≤ 4095;
   capacity : vec_capacity l.shelves ≡ vec_capacity l.fn.shelves;
+  spans : AreSpans l.spans.each l.buckets;
 }

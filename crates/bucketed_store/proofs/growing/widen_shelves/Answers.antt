@@ -49,4 +49,5 @@ loop-number-preserved c =
       room = rw c.widen_shelf.ensures.stored (omega (arith, ap (λ (s : Stored). length s.buckets) step, c.loop-number.invariant.room, c.widen_shelf.ensures.capacity));
       few = rw (one, behind, count) (omega (arith, count, next, c.loop-number.invariant.few, c.widen_shelf.ensures.used));
       capacity = omega (arith, c.widen_shelf.ensures.capacity, c.loop-number.invariant.capacity);
+      spans = c.widen_shelf.ensures.spans;
     }

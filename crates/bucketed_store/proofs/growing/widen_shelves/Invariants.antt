@@ -1,6 +1,7 @@
 use Rattle.std.proofs.Common.{◌≡◌, ◌+◌, ◌-◌, ◌≤◌, drop, length, vec_len, vec_capacity}
 use Rattle.etagere_links.specs.Links.{no_link}
 use Rattle.bucketed_store.specs.Private.Growths as spec
+use Rattle.bucketed_store.specs.Private.Spans.{AreSpans}
 use Rattle.bucketed_store.proofs.growing.widen_shelves.Given as goal
 
 -- what the shelves so far and those from here on get is what all get; there is room for the rest
@@ -12,4 +13,5 @@ invariant-loop-number l = record {
   length : length l.shelves ≡ length l.fn.shelves;
   few : vec_len l.buckets + (l.left - spec.left_after l.added l.left (drop l.number l.shelves)) ≤ no_link;
   capacity : vec_capacity l.fn.buckets ≤ vec_capacity l.buckets;
+  spans : AreSpans l.spans.each l.buckets.items;
 }

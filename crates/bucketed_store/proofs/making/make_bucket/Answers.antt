@@ -1,11 +1,14 @@
-use Rattle.std.proofs.Common.{◌≡◌, ℕ, ◌+◌, ◌%◌, ◌≤◌, ◌++◌, [], ◌∷◌, Option, None, Some, List, length, ap, sym, ◌∙◌, arith}
+use Rattle.std.proofs.Common.{◌≡◌, ℕ, ◌+◌, ◌%◌, ◌≤◌, ◌++◌, [], ◌∷◌, Option, None, Some, List, length, ap, sym, subst, ◌∙◌, arith}
 use Rattle.std.proofs.lemmas.Option.{slice_get-get_or, slice_get_past}
 use Rattle.std.specs.Option.{option_map_or}
 use Rattle.std.specs.Prelude.{slice_get}
+use Rattle.etagere_links.specs.Edits.{changed_by}
 use Rattle.etagere_links.proofs.EditLemmas.{set-changed}
 use Rattle.bucketed_records.specs.declared.records.LinkedBucket.{LinkedBucket}
+use Rattle.bucketed_store.specs.Private.Spans.{AreOtherSpans, AreSpans}
 use Rattle.bucketed_store.specs.Private.StoreEdits.{Made, made_again, made_new, made_one, new_record}
 use Rattle.bucketed_store.specs.declared.making.NewBuckets.{NewBuckets}
+use Rattle.bucketed_store.proofs.KnownSpans.{spans-added, spans-changed}
 use Rattle.bucketed_store.proofs.making.make_bucket.Goals as goal
 use Rattle.bucketed_store.proofs.making.make_bucket.Goals.{in-Some+else-number-len, in_default}
 
@@ -73,3 +76,19 @@ returns-clause-unused c = ap (λ (m : Made). m.unused) (sym (fresh c))
 
 pub returns-clause-first : goal.returns-clause-first
 returns-clause-first c = c.to-2.ensures ∙ ap (λ (n : ℕ). Some n) (omega (arith, c.len-number.ensures)) ∙ ap (λ (m : Made). m.first) (sym (fresh c))
+
+pub forget-requires : goal.forget-requires
+forget-requires c =
+    let items = c.args.buckets.now.items in
+    let number = c.in-Some.number in
+    let r = c.new_record.result in
+    let written : c.deref.result.now ≡ changed_by (Some number) (λ (_ : LinkedBucket). r) items =
+    c.deref.ensures.value ∙ set-changed (λ (_ : LinkedBucket). r) items number r (omega (arith, c.if-number-len.true, c.len.ensures)) in
+    subst (AreOtherSpans number c.args.spans.now.each) (sym written) (spans-changed number (λ (_ : LinkedBucket). r) c.args.spans.now.each items c.requires.spans)
+
+pub returns-then-number-len-clause-spans : goal.returns-then-number-len-clause-spans
+returns-then-number-len-clause-spans c = subst (AreSpans c.forget.new.self.each) c.deref.ensures.value c.forget.ensures
+
+pub returns-clause-spans : goal.returns-clause-spans
+returns-clause-spans c =
+    subst (AreSpans c.args.spans.now.each) (sym (rw c.unwrap.ensures at c.push.ensures.items)) (spans-added c.args.spans.now.each c.args.buckets.now.items _ c.requires.spans)

@@ -38,4 +38,5 @@ loop-made-preserved c =
       narrow = omega (arith, c.loop-made.invariant.narrow, ap (λ (n : ℕ). n * c.loop-made.here.width) less, suc-mul (c.args.count - (c.loop-made._made + 1)) c.loop-made.here.width);
       length = omega (arith, c.loop-made.invariant.length, c.make_bucket-first.ensures.length);
       capacity = omega (arith, c.loop-made.invariant.capacity, c.make_bucket-first.ensures.capacity);
+      spans = c.make_bucket-first.ensures.spans;
     }

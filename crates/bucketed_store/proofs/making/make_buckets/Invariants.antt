@@ -1,5 +1,6 @@
 use Rattle.std.proofs.Common.{◌≡◌, ◌+◌, ◌*◌, ◌-◌, ◌<◌, ◌≤◌, length}
 use Rattle.std.specs.Prelude.{◌^◌, vec_len, vec_capacity}
+use Rattle.bucketed_store.specs.Private.Spans.{AreSpans}
 use Rattle.bucketed_store.specs.Private.StoreEdits.{made_many}
 use Rattle.bucketed_store.proofs.making.make_buckets.Given as goal
 
@@ -12,4 +13,5 @@ invariant-loop-made l = record {
   room : length (made_many (l.count - l._made) l.here (record { buckets = l.buckets.items; unused = l.unused; first = l.first })).buckets ≤ vec_capacity l.buckets;
   length : vec_len l.buckets ≤ vec_len l.fn.buckets + l._made;
   capacity : vec_capacity l.fn.buckets ≤ vec_capacity l.buckets;
+  spans : AreSpans l.spans.each l.buckets.items;
 }

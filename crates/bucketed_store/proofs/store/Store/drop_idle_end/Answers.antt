@@ -1,12 +1,22 @@
-use Rattle.std.proofs.Common.{ap, subst, sym, vec_len}
+use Rattle.std.proofs.Common.{◌≡◌, ap, arith, subst, sym, vec_len}
+use Rattle.std.proofs.lemmas.List.{with_items_is}
+use Rattle.std.specs.Vec.{with_items}
 use Rattle.bucketed_store.specs.Private.Blocks.{AreKnown}
 use Rattle.bucketed_store.specs.Private.Returns.{Dropping, dropping_of}
+use Rattle.bucketed_store.specs.Private.Spans.{AreSpans}
 use Rattle.bucketed_store.proofs.KnownBlocks.{known-some, some-dropped}
 use Rattle.bucketed_store.proofs.store.Store.drop_idle_end.Goals as goal
+
+pub drop_idle_end-requires-clause-spans : goal.drop_idle_end-requires-clause-spans
+drop_idle_end-requires-clause-spans c = subst (AreSpans c.self.inside.spans.each) (sym c.deref_mut.ensures.value) c.self.invariant.1
 
 pub invariant_of-self : goal.invariant_of-self
 invariant_of-self c =
     let inside = c.self.inside in
     let left = ap (λ (done : Dropping). done.stored.shelves) c.drop_idle_end.ensures.dropped in
-    subst (AreKnown inside.blocks.each) (sym left)
-    (known-some inside.blocks.each inside.shelves.items _ (some-dropped (vec_len inside.shelves) (dropping_of inside.shelves.items c.deref_mut.result.now inside.unused 0)) c.self.invariant)
+    let items : (with_items inside.buckets c.drop_idle_end.new.buckets).items ≡ c.drop_idle_end.new.buckets =
+    with_items_is inside.buckets c.drop_idle_end.new.buckets (omega (arith, c.drop_idle_end.auto.buckets, c.deref_mut.ensures.len)) in (
+      subst (AreKnown inside.blocks.each) (sym left)
+          (known-some inside.blocks.each inside.shelves.items _ (some-dropped (vec_len inside.shelves) (dropping_of inside.shelves.items c.deref_mut.result.now inside.unused 0)) c.self.invariant.0),
+      subst (AreSpans c.drop_idle_end.new.spans.each) (sym items) c.drop_idle_end.ensures.spans,
+    )

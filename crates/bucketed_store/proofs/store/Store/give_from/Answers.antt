@@ -7,9 +7,16 @@ use Rattle.bucketed_records.specs.declared.records.KeptShelf.{KeptShelf}
 use Rattle.bucketed_records.specs.Private.Store.{Stored}
 use Rattle.bucketed_store.specs.Private.Blocks.{AreKnown, AreOthersKnown}
 use Rattle.bucketed_store.specs.Private.Searching.{widest_from}
+use Rattle.bucketed_store.specs.Private.Spans.{AreSpans}
 use Rattle.bucketed_store.specs.Private.StoreEdits.{first_bucket_of, given_from, shelves_given}
 use Rattle.bucketed_store.proofs.KnownBlocks.{known-others}
 use Rattle.bucketed_store.proofs.store.Store.give_from.Goals as goal
+
+pub learn_row-requires-clause-spans : goal.learn_row-requires-clause-spans
+learn_row-requires-clause-spans c = subst (AreSpans c.self.inside.spans.each) (sym c.deref-2.ensures.value) c.self.invariant.1
+
+pub give_from-requires-clause-spans : goal.give_from-requires-clause-spans
+give_from-requires-clause-spans c = subst (AreSpans c.learn_row.new.spans.each) (c.deref-2.ensures.value ∙ sym c.deref-3.ensures.value) c.learn_row.ensures
 
 pub returns : goal.returns
 returns c =
@@ -19,8 +26,8 @@ returns c =
     let given : (with_items shelves c.give_from.new.shelves).items ≡ shelves_given c.args.found.now.shelf shelves.items c.self.inside.buckets.items =
     items
     ∙ c.give_from.ensures
-    ∙ ap (λ (xs : List KeptShelf). shelves_given c.args.found.now.shelf xs c.deref.result.now) c.deref_mut.ensures.value
-    ∙ ap (λ (bs : List LinkedBucket). shelves_given c.args.found.now.shelf shelves.items bs) c.deref.ensures.value in
+    ∙ ap (λ (xs : List KeptShelf). shelves_given c.args.found.now.shelf xs c.deref-3.result.now) c.deref_mut.ensures.value
+    ∙ ap (λ (bs : List LinkedBucket). shelves_given c.args.found.now.shelf shelves.items bs) c.deref-3.ensures.value in
     ap (λ (xs : List KeptShelf). let stored : Stored = record { shelves = xs; buckets = c.self.inside.buckets.items; unused = c.self.inside.unused } in stored) given
     ∙ ap (λ (stored : Stored). record stored { shelves = shelves_given c.args.found.now.shelf stored.shelves stored.buckets }) c.self.view_is
 
@@ -32,10 +39,11 @@ follow-requires-clause-others c =
     with_items_is inside.shelves c.give_from.new.shelves (omega (arith, c.give_from.auto.shelves, c.deref_mut.ensures.len)) in
     let given : c.give_from.new.shelves ≡ shelves_given shelf inside.shelves.items inside.buckets.items =
     c.give_from.ensures
-    ∙ ap (λ (xs : List KeptShelf). shelves_given shelf xs c.deref.result.now) c.deref_mut.ensures.value
-    ∙ ap (λ (bs : List LinkedBucket). shelves_given shelf inside.shelves.items bs) c.deref.ensures.value in
-    subst (AreOthersKnown shelf inside.blocks.each) (sym (c.deref-2.ensures.value ∙ items ∙ given))
-    (known-others shelf (given_from (widest_from most_buckets inside.buckets.items (first_bucket_of inside.shelves.items shelf))) inside.blocks.each inside.shelves.items c.self.invariant)
+    ∙ ap (λ (xs : List KeptShelf). shelves_given shelf xs c.deref-3.result.now) c.deref_mut.ensures.value
+    ∙ ap (λ (bs : List LinkedBucket). shelves_given shelf inside.shelves.items bs) c.deref-3.ensures.value in
+    subst (AreOthersKnown shelf inside.blocks.each) (sym (c.deref-4.ensures.value ∙ items ∙ given))
+    (known-others shelf (given_from (widest_from most_buckets inside.buckets.items (first_bucket_of inside.shelves.items shelf))) inside.blocks.each inside.shelves.items c.self.invariant.0)
 
 pub invariant_of-self : goal.invariant_of-self
-invariant_of-self c = subst (AreKnown c.follow.new.self.each) c.deref-2.ensures.value c.follow.ensures
+invariant_of-self c =
+    (subst (AreKnown c.follow.new.self.each) c.deref-4.ensures.value c.follow.ensures, subst (AreSpans c.learn_row.new.spans.each) c.deref-2.ensures.value c.learn_row.ensures)

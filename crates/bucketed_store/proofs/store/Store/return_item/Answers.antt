@@ -1,4 +1,4 @@
-use Rattle.std.proofs.Common.{◌≡◌, ℕ, List, Some, ap, subst, sym, ◌∙◌, arith}
+use Rattle.std.proofs.Common.{◌≡◌, ℕ, List, Bool, true, false, Some, ap, cond, refl, subst, sym, ◌∙◌, arith}
 use Rattle.std.proofs.lemmas.List.{with_items_is}
 use Rattle.std.specs.Prelude.{nat_le}
 use Rattle.std.specs.Vec.{with_items}
@@ -7,9 +7,31 @@ use Rattle.bucketed_records.specs.declared.records.LinkedBucket.{LinkedBucket}
 use Rattle.bucketed_records.specs.declared.records.KeptShelf.{KeptShelf}
 use Rattle.bucketed_records.specs.StandsFor.{live_of, shelf_of}
 use Rattle.bucketed_store.specs.Private.Blocks.{AreKnown, AreOthersKnown}
-use Rattle.bucketed_store.specs.Private.Returns.{returned_kept}
+use Rattle.bucketed_store.specs.Private.Returns.{emptied_record, lessened_record, returned_kept, returned_record, width_of}
+use Rattle.bucketed_store.specs.Private.Spans.{AreSpans, AreSpansBut}
 use Rattle.bucketed_store.proofs.KnownBlocks.{known-others}
+use Rattle.bucketed_store.proofs.KnownSpans.{spans-changed-room}
 use Rattle.bucketed_store.proofs.store.Store.return_item.Goals as goal
+
+-- a return keeps a record's link
+links-same : (width : ℕ) (b : LinkedBucket) → (returned_record width b).next ≡ b.next
+links-same width b = by_test (nat_le b.refcount 1)
+  where
+    by_test : (t : Bool) → (cond t (emptied_record width b) (lessened_record b)).next ≡ b.next
+    by_test true = refl
+    by_test false = refl
+
+pub track-requires-clause-others : goal.track-requires-clause-others
+track-requires-clause-others c =
+    let inside = c.self.inside in
+    let number = c.args.number in
+    let width = width_of c.deref_mut.result.now (shelf_of c.deref_mut-2.result.now number) in
+    let items : (with_items inside.buckets c.return_item.new.buckets).items ≡ c.return_item.new.buckets =
+    with_items_is inside.buckets c.return_item.new.buckets (omega (arith, c.return_item.auto.buckets, c.deref_mut-2.ensures.len)) in
+    let returned : c.return_item.new.buckets ≡ changed_by (Some number) (returned_record width) inside.buckets.items =
+    c.return_item.ensures.buckets ∙ ap (λ (bs : List LinkedBucket). changed_by (Some number) (returned_record width) bs) c.deref_mut-2.ensures.value in
+    subst (AreSpansBut number inside.spans.each) (sym (c.deref-5.ensures.value ∙ items ∙ returned))
+    (spans-changed-room number (returned_record width) inside.spans.each inside.buckets.items (links-same width) c.self.invariant.1)
 
 pub follow-requires-clause-others : goal.follow-requires-clause-others
 follow-requires-clause-others c =
@@ -25,8 +47,9 @@ follow-requires-clause-others c =
     ∙ ap (λ (bs : List LinkedBucket). changed_by (Some (shelf_of bs number)) (returned_kept (nat_le (live_of bs number) 1)) c.deref_mut.result.now) c.deref_mut-2.ensures.value
     ∙ ap (λ (xs : List KeptShelf). changed_by (Some (shelf_of inside.buckets.items number)) change xs) c.deref_mut.ensures.value
     ∙ ap (λ (n : ℕ). changed_by (Some n) change inside.shelves.items) (sym shelf) in
-    subst (AreOthersKnown c.shelf_number-shelf.result inside.blocks.each) (sym (c.deref-4.ensures.value ∙ items ∙ returned))
-    (known-others c.shelf_number-shelf.result change inside.blocks.each inside.shelves.items c.self.invariant)
+    subst (AreOthersKnown c.shelf_number-shelf.result inside.blocks.each) (sym (c.deref-6.ensures.value ∙ items ∙ returned))
+    (known-others c.shelf_number-shelf.result change inside.blocks.each inside.shelves.items c.self.invariant.0)
 
 pub invariant_of-self : goal.invariant_of-self
-invariant_of-self c = subst (AreKnown c.follow.new.self.each) c.deref-4.ensures.value c.follow.ensures
+invariant_of-self c =
+    (subst (AreKnown c.follow.new.self.each) c.deref-6.ensures.value c.follow.ensures, subst (AreSpans c.track.new.self.each) c.deref-5.ensures.value c.track.ensures)

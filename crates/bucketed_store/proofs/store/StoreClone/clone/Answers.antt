@@ -4,6 +4,7 @@ use Rattle.bucketed_records.specs.declared.records.LinkedBucket.{LinkedBucket}
 use Rattle.bucketed_records.specs.declared.records.KeptShelf.{KeptShelf}
 use Rattle.bucketed_records.specs.Private.Store.{Stored}
 use Rattle.bucketed_store.specs.Private.Blocks.{AreKnown}
+use Rattle.bucketed_store.specs.Private.Spans.{AreSpans}
 use Rattle.bucketed_store.proofs.store.StoreClone.clone.Goals as goal
 
 -- a list of copies is the list
@@ -14,8 +15,10 @@ copied (x ∷ xs) [] same = absurd same
 copied (x ∷ xs) (y ∷ ys) same = ap (λ z. z ∷ ys) same.0 ∙ ap (λ zs. x ∷ zs) (copied xs ys same.1)
 
 pub invariant_of-result : goal.invariant_of-result
-invariant_of-result c =
-    subst (AreKnown c.self.inside.blocks.each) (sym (copied c.self.inside.shelves.items c.in_ok-clone.field-0.items c.in_ok-clone.ensures.cases.0)) c.self.invariant
+invariant_of-result c = (
+  subst (AreKnown c.self.inside.blocks.each) (sym (copied c.self.inside.shelves.items c.in_ok-clone.field-0.items c.in_ok-clone.ensures.cases.0)) c.self.invariant.0,
+  subst (AreSpans c.self.inside.spans.each) (sym (copied c.self.inside.buckets.items c.in_ok-clone-2.field-0.items c.in_ok-clone-2.ensures.cases.0)) c.self.invariant.1,
+)
 
 pub returns : goal.returns
 returns c =

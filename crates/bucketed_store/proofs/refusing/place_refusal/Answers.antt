@@ -1,0 +1,6 @@
+use Rattle.std.proofs.Common.{subst, sym}
+use Rattle.bucketed_store.specs.Private.Spans.{AreSpans}
+use Rattle.bucketed_store.proofs.refusing.place_refusal.Goals as goal
+
+pub shelves_refusal-requires-clause-spans : goal.shelves_refusal-requires-clause-spans
+shelves_refusal-requires-clause-spans c = subst (AreSpans c.store.inside.spans.each) (sym c.deref-2.ensures.value) c.store.invariant.1

@@ -1,0 +1,24 @@
+use Rattle.std.proofs.Common.{◌≡◌, List, Some, ap, refl, subst, sym, ◌∙◌, arith}
+use Rattle.std.proofs.lemmas.List.{with_items_is}
+use Rattle.std.specs.Vec.{with_items}
+use Rattle.etagere_links.specs.Edits.{changed_by}
+use Rattle.bucketed_records.specs.declared.records.LinkedBucket.{LinkedBucket}
+use Rattle.bucketed_store.specs.Private.Spans.{AreSpans, AreSpansBut}
+use Rattle.bucketed_store.specs.Private.StoreEdits.{taken_record}
+use Rattle.bucketed_store.proofs.KnownSpans.{spans-changed-room}
+use Rattle.bucketed_store.proofs.store.Store.take_from.Goals as goal
+
+pub track-requires-clause-others : goal.track-requires-clause-others
+track-requires-clause-others c =
+    let inside = c.self.inside in
+    let bucket = c.args.bucket in
+    let change = taken_record c.args.width in
+    let items : (with_items inside.buckets c.take_from.new.buckets).items ≡ c.take_from.new.buckets =
+    with_items_is inside.buckets c.take_from.new.buckets (omega (arith, c.take_from.auto.buckets, c.deref_mut.ensures.len)) in
+    let taken : c.take_from.new.buckets ≡ changed_by (Some bucket) change inside.buckets.items =
+    c.take_from.ensures ∙ ap (λ (bs : List LinkedBucket). changed_by (Some bucket) change bs) c.deref_mut.ensures.value in
+    subst (AreSpansBut bucket inside.spans.each) (sym (c.deref-2.ensures.value ∙ items ∙ taken))
+    (spans-changed-room bucket change inside.spans.each inside.buckets.items (λ b. refl) c.self.invariant.1)
+
+pub invariant_of-self : goal.invariant_of-self
+invariant_of-self c = (c.self.invariant.0, subst (AreSpans c.track.new.self.each) c.deref-2.ensures.value c.track.ensures)
