@@ -243,6 +243,14 @@ first-at wanted buckets left fewer number at found names less here =
     ∙ ap (λ (n : ℕ). first_from n wanted buckets (Some number)) less
     ∙ ap (option_and_then (λ (bucket : LinkedBucket). cond (is_wanted wanted bucket) (Some number) (first_from fewer wanted buckets bucket.next))) here
 
+-- nothing is found where no bucket is named
+pub first-none : (wanted : Wanted) (buckets : List LinkedBucket) (left : ℕ) (at : Option ℕ) → at ≡ None → first_from left wanted buckets at ≡ None
+first-none wanted buckets left at names = ap (first_from left wanted buckets) names ∙ none left
+  where
+    none : (n : ℕ) → first_from n wanted buckets None ≡ None
+    none zero = refl
+    none (suc n) = refl
+
 -- a record with less room than it needs isn't wanted
 not-wanted : (wanted : Wanted) (b : LinkedBucket) → record_room b < needed_room wanted → is_wanted wanted b ≡ false
 not-wanted (Roomy width) b narrow = by_tests (nat_le width b.free_space) (nat_lt b.item_count 4095) refl refl

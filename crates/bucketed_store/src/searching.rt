@@ -90,6 +90,45 @@ pub(crate) fn first_wanted(
     ensures number { result ≡ spec.first_from most_buckets wanted buckets.now first }
     ensures within { IfSome result (λ number. number < length buckets.now) }
 {
+    if spans.knows(first) {
+        return first_by_spans(wanted, buckets, spans, first);
+    }
+    first_by_links(wanted, buckets, first)
+}
+
+/// The same, link by link.
+fn first_by_links(wanted: Wanted, buckets: &[LinkedBucket], first: Link) -> Option<usize>
+    ensures number { result ≡ spec.first_from most_buckets wanted buckets.now first }
+    ensures within { IfSome result (λ number. number < length buckets.now) }
+{
+    let mut at = first;
+    for _step in 0..MOST_BUCKETS {
+        let Some(number) = at.number() else {
+            return None;
+        };
+        if number >= buckets.len() {
+            return None;
+        }
+        let bucket = &buckets[number];
+        if is_wanted(wanted, bucket) {
+            return Some(number);
+        }
+        at = bucket.next;
+    }
+    None
+}
+
+/// The same, by spans where none of their buckets has the room.
+fn first_by_spans(
+    wanted: Wanted,
+    buckets: &[LinkedBucket],
+    spans: &Spans,
+    first: Link,
+) -> Option<usize>
+    requires { AreSpans spans.now.each buckets.now }
+    ensures number { result ≡ spec.first_from most_buckets wanted buckets.now first }
+    ensures within { IfSome result (λ number. number < length buckets.now) }
+{
     let needed = needed_room(wanted);
     let mut at = first;
     let mut left = MOST_BUCKETS;

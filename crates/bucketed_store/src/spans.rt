@@ -159,6 +159,14 @@ fn is_passed(span: &Span, number: usize, width: u32, left: u32) -> bool
     first == number && u32::from(span.widest_room) < width && u32::from(span.steps) <= left
 }
 
+/// Whether a span begins with the record of a number.
+fn begins_with(span: &Span, number: usize) -> bool {
+    match span.first.number() {
+        Some(first) => first == number,
+        None => false,
+    }
+}
+
 impl Spans {
     /// None is known.
     pub(crate) fn new() -> Spans
@@ -175,6 +183,14 @@ impl Spans {
     {
         let block = block_of(number);
         self.each[block]
+    }
+
+    /// Whether the block of the record that a link names has a span.
+    pub(crate) fn knows(&self, link: Link) -> bool {
+        match link.number() {
+            Some(number) => self.of(number).is_some(),
+            None => false,
+        }
     }
 
     /// Where a search for this width goes on behind the record of a number, which isn't what is sought: behind the
@@ -251,9 +267,25 @@ impl Spans {
             if number >= buckets.len() {
                 break;
             }
-            let span = span_from(buckets, number);
-            at = span.behind;
-            self.know(buckets, number, span);
+            at = self.learn_from(buckets, number);
         }
+    }
+
+    /// Knows the span that begins with the record of a number, if it isn't known yet, and answers the link behind it.
+    fn learn_from(&mut self, buckets: &[LinkedBucket], number: usize) -> Link
+        requires known { spec.AreSpans self.old.each buckets.now }
+        requires within { number < length buckets.now }
+        requires small { number < no_link }
+        ensures { spec.AreSpans self.new.each buckets.now }
+    {
+        if let Some(span) = self.of(number) {
+            if begins_with(&span, number) {
+                return span.behind;
+            }
+        }
+        let span = span_from(buckets, number);
+        let behind = span.behind;
+        self.know(buckets, number, span);
+        behind
     }
 }

@@ -601,7 +601,7 @@ fn goes_far(
     };
     let begin = place_at(buckets, first);
     is_far(u32::from(shelf.x), begin, shelf.bucket_width)
-        && spans.of(found.bucket).is_none()
+        && !(spans.knows(shelf.first_bucket) && spans.of(found.bucket).is_some())
         && (is_far(place_at(buckets, found.bucket), begin, shelf.bucket_width)
             || !keeps_widest(shelves, buckets, found, room))
 }

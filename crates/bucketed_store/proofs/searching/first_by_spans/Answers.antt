@@ -1,19 +1,11 @@
-use Rattle.std.proofs.Common.{◌≡◌, ℕ, zero, suc, ◌-◌, Bool, true, false, cond, Option, None, Some, List, length, refl, ap, sym, ◌∙◌, arith}
+use Rattle.std.proofs.Common.{◌≡◌, ℕ, ◌-◌, Bool, true, false, cond, Option, None, Some, List, length, refl, ap, sym, ◌∙◌, arith}
 use Rattle.std.proofs.lemmas.Option.{slice_get_past, slice_get_read}
 use Rattle.std.specs.Prelude.{slice_get}
 use Rattle.bucketed_records.specs.declared.records.LinkedBucket.{LinkedBucket}
 use Rattle.bucketed_store.specs.declared.searching.Wanted.{Wanted}
 use Rattle.bucketed_store.specs.Private.Searching.{first_from, is_wanted}
-use Rattle.bucketed_store.proofs.KnownSpans.{first-ahead, first-at}
-use Rattle.bucketed_store.proofs.searching.first_wanted.Goals as goal
-
--- nothing is found where no bucket is named
-first-none : (wanted : Wanted) (buckets : List LinkedBucket) (left : ℕ) (at : Option ℕ) → at ≡ None → first_from left wanted buckets at ≡ None
-first-none wanted buckets left at names = ap (first_from left wanted buckets) names ∙ none left
-  where
-    none : (n : ℕ) → first_from n wanted buckets None ≡ None
-    none zero = refl
-    none (suc n) = refl
+use Rattle.bucketed_store.proofs.KnownSpans.{first-ahead, first-at, first-none}
+use Rattle.bucketed_store.proofs.searching.first_by_spans.Goals as goal
 
 -- nothing is found in no step
 first-over : (wanted : Wanted) (buckets : List LinkedBucket) (left : ℕ) (at : Option ℕ) → left ≡ 0 → first_from left wanted buckets at ≡ None

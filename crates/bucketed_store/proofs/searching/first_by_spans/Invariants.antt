@@ -1,7 +1,7 @@
 use Rattle.std.proofs.Common.{◌≡◌, ◌+◌, ◌≤◌}
 use Rattle.bucketed_model.specs.State.{most_buckets}
 use Rattle.bucketed_store.specs.Private.Searching.{first_from}
-use Rattle.bucketed_store.proofs.searching.first_wanted.Given as goal
+use Rattle.bucketed_store.proofs.searching.first_by_spans.Given as goal
 
 -- what is sought from the first link on is what is sought from here on
 abbrev pub invariant-loop-step : goal.invariant-loop-step
