@@ -4,6 +4,7 @@ pub mod DigitsLack
 pub mod HeaderLine
 pub mod LastWord
 pub mod LineLengths
+pub mod LineSending
 pub mod Pieces
 pub mod PlainLines
 pub mod ScriptRows

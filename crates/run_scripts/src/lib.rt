@@ -9,4 +9,5 @@ pub mod plain_lines;
 pub mod reading;
 pub mod reply_text;
 pub mod script;
+pub mod sending;
 pub mod words;

@@ -42,3 +42,32 @@ pub fn blank_lines(bytes: &[u8]) -> usize
 {
     bytes.iter().take_while(|byte| **byte == b'\n').count()
 }
+
+/// How many bytes are looked through at once for line feeds, whose count then fits one byte.
+const STRETCH: usize = 255;
+
+/// How many line feeds there are.
+pub fn line_feeds(bytes: &[u8]) -> usize
+    ensures { result ≤ length bytes.now }
+{
+    let mut count = 0;
+    let mut rest = bytes;
+    while rest.len() > STRETCH {
+        let (stretch, after) = rest.split_at(STRETCH);
+        count += usize::from(line_feeds_in(stretch));
+        rest = after;
+    }
+    count + usize::from(line_feeds_in(rest))
+}
+
+/// How many line feeds there are in a few bytes.
+fn line_feeds_in(bytes: &[u8]) -> u8
+    requires { length bytes.now ≤ 255 }
+    ensures { result ≤ length bytes.now }
+{
+    let mut count = 0;
+    for index in 0..bytes.len() {
+        count += u8::from(bytes[index] == b'\n');
+    }
+    count
+}

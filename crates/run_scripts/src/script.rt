@@ -12,7 +12,7 @@ ghost use Rattle.run_scripts.specs.ScriptReading.{Gives, commands_in};
 ghost use Rattle.run_scripts.specs.Words as words;
 ghost use Rattle.run_scripts.specs.declared.script.ScriptFault.TheVariants.{Memory};
 
-use crate::lines::{blank_lines, first_line};
+use crate::lines::{blank_lines, first_line, line_feeds};
 use crate::plain_lines::plain_command;
 use crate::words::{AtlasKind, Spelled, command_of, header_of};
 use etagere::{AllocatorOptions, Size};
@@ -66,7 +66,7 @@ impl<T: Drop> From<AllocFailed<T>> for ScriptFault {
 }
 
 /// Reads a script: its first line with bytes is the header, each later one a command. Takes memory
-/// for the commands, and one pass over the bytes.
+/// for a command a line, at once, and two passes over the bytes.
 pub fn read_script(alloc: Global, bytes: &[u8]) -> Result<Script, ScriptFault>
     ensures { Gives (λ script. script) result (script_of bytes.now) }
 {
@@ -101,7 +101,9 @@ fn commands_to(
     })
 }
 
-/// The commands of the lines after line number `before`. Takes memory for them, and one pass over the bytes.
+/// The commands of the lines after line number `before`. Takes memory for a command a line, at once, and two passes over
+/// the bytes. Never inlined: it has the processor's registers to itself.
+#[inline(never)]
 pub fn commands_of<C: Spelled>(
     alloc: Global,
     before: u64,
@@ -112,7 +114,9 @@ pub fn commands_of<C: Spelled>(
         (spec.commands_of (words.command_of C.cleared C.meaning)
         (filled_from (before + 1) (lines_of bytes.now))) }
 {
-    let mut commands = Vec::new(alloc);
+    let Ok(mut commands) = Vec::with_capacity(alloc, line_feeds(bytes) + 1) else {
+        return Err(ScriptFault::Memory);
+    };
     let mut number = before;
     let mut rest = bytes;
     while !rest.is_empty() {
