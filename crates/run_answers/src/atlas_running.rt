@@ -12,8 +12,8 @@ ghost use Rattle.run_answers.specs.Private.Tables.{HasSlotsOf, entries_of};
 ghost use Rattle.run_answers.specs.Private.Tied.{IsAnswer, IsTied};
 
 use crate::ledger::Ledger;
-use crate::running::{Answering, Room, answer_all};
-use etagere::{AllocatorOptions, AtlasAllocator, AtlasGrowFault, Size};
+use crate::running::{Answering, Beginning, run};
+use etagere::{AllocatorOptions, AtlasAllocator, AtlasGrowFault, OptionsFault, Size};
 use etagere_base::INDEX_MODULUS;
 use run_commands::commands::{AtlasCommand, Reply};
 use run_commands::faults::RunFault;
@@ -40,11 +40,21 @@ pub fn run_atlas(
     ensures accepted { OnOk result (IsAccepted longest_side size options.now) }
     ensures err { IfErr result (RefusesRun longest_side size options.now) }
 {
-    let Ok(room) = Room::with_capacity(alloc, commands.len()) else {
-        return Err(RunFault::Memory);
-    };
-    let mut atlas = AtlasAllocator::with_options(alloc, size, options).map_err(RunFault::Options)?;
-    Ok(answer_all(&mut atlas, room, commands))
+    run::<AtlasAllocator>(alloc, size, options, commands)
+}
+
+impl Beginning for AtlasAllocator {
+    ghost longest = { longest_side };
+
+    ghost framed = { atlas_frame };
+
+    fn begin(
+        alloc: Global,
+        size: Size,
+        options: &AllocatorOptions,
+    ) -> Result<AtlasAllocator, OptionsFault> {
+        AtlasAllocator::with_options(alloc, size, options)
+    }
 }
 
 impl Answering for AtlasAllocator {

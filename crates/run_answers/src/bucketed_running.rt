@@ -13,8 +13,8 @@ ghost use Rattle.run_answers.specs.Private.Tables.{HasSlotsOf, entries_of};
 ghost use Rattle.run_answers.specs.Private.Tied.{IsBucketedAnswer, IsInBuckets};
 
 use crate::ledger::Ledger;
-use crate::running::{Answering, Room, answer_all};
-use etagere::{AllocatorOptions, Size};
+use crate::running::{Answering, Beginning, run};
+use etagere::{AllocatorOptions, OptionsFault, Size};
 use etagere_bucketed::{BucketedAtlasAllocator, GrowFault};
 use run_commands::commands::{BucketedCommand, Reply};
 use run_commands::faults::RunFault;
@@ -41,11 +41,21 @@ pub fn run_bucketed(
     ensures accepted { OnOk result (IsAccepted longest_bucketed_side size options.now) }
     ensures err { IfErr result (RefusesRun longest_bucketed_side size options.now) }
 {
-    let room = Room::with_capacity(alloc, commands.len()).map_err(|_| RunFault::Memory)?;
-    let mut atlas = BucketedAtlasAllocator::with_options(alloc, size, options).map_err(
-        RunFault::Options,
-    )?;
-    Ok(answer_all(&mut atlas, room, commands))
+    run::<BucketedAtlasAllocator>(alloc, size, options, commands)
+}
+
+impl Beginning for BucketedAtlasAllocator {
+    ghost longest = { longest_bucketed_side };
+
+    ghost framed = { bucketed_frame };
+
+    fn begin(
+        alloc: Global,
+        size: Size,
+        options: &AllocatorOptions,
+    ) -> Result<BucketedAtlasAllocator, OptionsFault> {
+        BucketedAtlasAllocator::with_options(alloc, size, options)
+    }
 }
 
 impl Answering for BucketedAtlasAllocator {

@@ -1,11 +1,15 @@
 //! Runs of whatever kind: one command, one call, one reply, and a ledger of what is live.
 //!
 //! Definitions: `Runs` and `Live`; `Tied` is what private functions keep between ledger and atlas. An atlas that is to
-//! have runs implements `Answering`, over a `Kind` of its own. Streams answer by `answer_next` too.
+//! have runs implements `Answering`, over a `Kind` of its own, and `Beginning`, which makes it. Streams answer by
+//! `answer_next` too.
 
-ghost use Rattle.std.specs.Prelude.{◌≡◌, ℕ, ◌<◌, ◌≤◌, ◌+◌, List, [], length, vec_capacity, vec_len, IfOk};
+ghost use Rattle.std.specs.Prelude.{◌≡◌, ℕ, ◌<◌, ◌≤◌, ◌+◌, List, [], length, vec_capacity, vec_len, IfErr, IfOk, OnOk};
+ghost use Rattle.etagere_base.specs.declared.frames.Frame.{Frame};
+ghost use Rattle.etagere_base.specs.Frames.{IsAccepted};
 ghost use Rattle.run_answers.specs.Live.{Entry};
-ghost use Rattle.run_answers.specs.Runs.{Kind, Runs, RunKeepsPromisesThroughout, RunsTo};
+ghost use Rattle.run_answers.specs.Runs.{Kind, RefusesRun, Runs, RunKeepsPromisesThroughout, RunsTo};
+ghost use Rattle.run_commands.specs.declared.faults.RunFault.TheVariants.{Options};
 ghost use Rattle.run_answers.specs.Private.Given as spec;
 ghost use Rattle.run_answers.specs.Private.Given.{with_given};
 ghost use Rattle.run_answers.specs.Private.Rooms.{IsEmptyRoom};
@@ -13,8 +17,9 @@ ghost use Rattle.run_answers.specs.Private.Tables.{HasSlotsOf, entries_of};
 ghost use Rattle.run_answers.specs.Private.Tied.{IsAnswerOf, IsNew, SuitsRuns};
 
 use crate::ledger::Ledger;
-use etagere::Allocation;
+use etagere::{Allocation, AllocatorOptions, OptionsFault, Size};
 use run_commands::commands::Reply;
+use run_commands::faults::RunFault;
 use std::alloc::{AllocError, Global};
 
 /// An atlas that answers the commands of its kind of run.
@@ -35,6 +40,26 @@ pub trait Answering {
         ensures slots { HasSlotsOf ledger.old ledger.new };
 }
 
+/// An atlas on which runs begin.
+pub trait Beginning: Answering + Drop {
+    ghost use Rattle.etagere_base.specs.declared.geometry.Size.{Size};
+    ghost use Rattle.etagere_base.specs.declared.options.AllocatorOptions.{AllocatorOptions};
+
+    ghost longest: { ℕ };
+
+    ghost framed: { Size → AllocatorOptions → Frame };
+
+    /// A new atlas of this size in pixels.
+    ///
+    /// Returns the first fault of the size and options, or `Memory` where these have none and there was no memory.
+    fn begin(alloc: Global, size: Size, options: &AllocatorOptions) -> Result<Self, OptionsFault>
+        ensures suits { SuitsRuns Self.kind Self.Tied }
+        ensures new { IfOk result (IsNew Self.kind Self.Tied) }
+        ensures frame { IfOk result (λ atlas. Self.kind.frame atlas ≡ framed size options.now) }
+        ensures accepted { OnOk result (IsAccepted longest size options.now) }
+        ensures err { IfErr result (λ fault. RefusesRun longest size options.now (Options fault)) };
+}
+
 /// Room for a run: for its replies, and for the ledger of what is live.
 #[derive(Drop)]
 pub struct Room {
@@ -51,6 +76,28 @@ impl Room {
         let ledger = Ledger::with_capacity(alloc, count)?;
         Ok(Room { replies, ledger })
     }
+}
+
+/// The replies of a new atlas to the commands, one after another. `run_atlas` says which faults come, and what memory is
+/// taken.
+pub fn run<A: Beginning>(
+    alloc: Global,
+    size: Size,
+    options: &AllocatorOptions,
+    commands: &[A::Command],
+) -> Result<Vec<Reply>, RunFault>
+    ensures run { IfOk result (λ replies.
+        RunsTo A.kind (A.framed size options.now) commands.now replies.items) }
+    ensures promises { IfOk result (λ replies.
+        RunKeepsPromisesThroughout A.kind (A.framed size options.now) commands.now replies.items) }
+    ensures accepted { OnOk result (IsAccepted A.longest size options.now) }
+    ensures err { IfErr result (RefusesRun A.longest size options.now) }
+{
+    let Ok(room) = Room::with_capacity(alloc, commands.len()) else {
+        return Err(RunFault::Memory);
+    };
+    let mut atlas = A::begin(alloc, size, options).map_err(RunFault::Options)?;
+    Ok(answer_all(&mut atlas, room, commands))
 }
 
 /// The replies of an atlas to the commands, one after another.
