@@ -192,6 +192,31 @@ ORIGINAL = {
 }
 """The instructions that the Rust crate takes for each command of a workload, library calls alone, counted once."""
 
+BEFORE_AND_WANTED = {
+    "glyph churn": (784, 600),
+    "sprites": (797, 600),
+    "sprites, vertical, aligned, 2 columns": (808, 600),
+    "tall shelves": (3611, 1200),
+    "fill and drain": (732, 550),
+    "fill only": (1008, 800),
+    "narrow gaps": (1045, 600),
+    "bucketed": (1574, 700),
+}
+"""The instructions that a command of the released program 0.1.0 takes, and how many are wanted at most."""
+
+LOOKS = 100_000
+"""How many commands a script has of which none takes memory of the atlas."""
+
+BYTES_BEFORE_AND_WANTED = (56, 32)
+"""The bytes that a command of it takes in the released program 0.1.0, and how many are wanted at most."""
+
+
+def looks():
+    """A header, and so many commands that find nothing."""
+    header = "atlas 64 64 1 1 1 h\n"
+    return header.encode(), (header + f"l {LOOKS}\n" * LOOKS).encode()
+
+
 LIVE = (1000, 4000, 16000, 64000)
 """How many items are live in the series that shows how costs grow."""
 

@@ -1,6 +1,6 @@
 -- The lines of a run's replies that go out one by one: at each moment they are those of the commands so far, and where
 -- the writer fails what went out is a beginning of those of a run of all commands.
-use Rattle.std.proofs.Common.{◌≡◌, ℕ, ◌+◌, ◌<◌, ◌≤◌, false, Option, Result, Ok, Err, List, [], ◌∷◌, ◌++◌, length, get_or, take, drop, refl, ap, sym, ◌∙◌, subst, append_assoc}
+use Rattle.std.proofs.Common.{◌≡◌, ℕ, ◌+◌, ◌<◌, ◌≤◌, false, Option, Result, Ok, Err, List, [], ◌∷◌, ◌++◌, length, get_or, take, drop, refl, ap, sym, ◌∙◌, arith, subst, append_assoc, length-append}
 use Rattle.std.specs.Prelude.{OnErr, is_ok}
 use Rattle.std.specs.Io.KnownBytes.{Appends}
 use Rattle.std.proofs.lemmas.List.{append-nil, take-append-drop}
@@ -9,7 +9,8 @@ use Rattle.etagere_base.specs.Sending.{AppendsBeginning, AppendsPart}
 use Rattle.etagere_base.proofs.GatheringLemmas.{appends-both, appends-nothing, begins-behind, begins-first}
 use Rattle.run_commands.specs.declared.commands.Reply.{Reply}
 use Rattle.run_answers.specs.Live.{Entry}
-use Rattle.run_scripts.specs.ReplyText.{line_of, replies_text}
+use Rattle.run_scripts.specs.Lines.{line_feed}
+use Rattle.run_scripts.specs.ReplyText.{line_of, replies_text, text_of}
 use Rattle.run_answers.specs.Runs.{Kind, RunKeepsPromisesThroughout}
 use Rattle.etagere_run.specs.Streaming.{IsTextOfRun, StopsAt, StreamsBeginning}
 use Rattle.run_answers.specs.Private.Tied.{IsAnswerOf, SameAlignments, SuitsRuns}
@@ -34,6 +35,10 @@ text-goes_on replies others reply =
     sym (append_assoc (replies_text replies) (line_of reply) (replies_text others))
     ∙ ap (λ (l : List ℕ). l ++ replies_text others) (text-more replies reply)
     ∙ sym (text-append (replies ++ reply ∷ []) others)
+
+-- a line has bytes
+pub line-some : (reply : Reply) → 0 < length (line_of reply)
+line-some reply = omega (arith, length-append (text_of reply) (line_feed ∷ []))
 
 -- what holds where there is an error holds where a result isn't well
 pub on_err-failed : {T E P : Type 0} (result : Result T E) → is_ok result ≡ false → OnErr result P → P

@@ -5,10 +5,7 @@
 
 ghost use Rattle.std.specs.Prelude.{◌≡◌, ◌↔◌, ℕ, All, List, Ok, Err, IfErr, IfOk, IsTrue, OnErr, OnOk};
 ghost use Rattle.std.specs.Io.KnownBytes.{IsAtEnd};
-ghost use Rattle.etagere_base.specs.Frames.{IsAccepted, atlas_frame, longest_side};
-ghost use Rattle.bucketed_model.specs.Frames.{bucketed_frame, longest_bucketed_side};
-ghost use Rattle.run_answers.specs.AtlasRuns.{shelf_atlas};
-ghost use Rattle.run_answers.specs.BucketedRuns.{bucketed_atlas};
+ghost use Rattle.etagere_base.specs.Frames.{IsAccepted};
 ghost use Rattle.etagere_run.specs.Drawing.{Draws, HasMemory, LeadsTo, is_snapshot};
 ghost use Rattle.etagere_run.specs.Private.Drawn.{DrawsEnd, DrawsInput, DrawsSaved, DrawsScript, DrawsSnapshot};
 ghost use Rattle.run_answers.specs.Runs.{RefusesRun};
@@ -17,8 +14,8 @@ ghost use Rattle.run_scripts.specs.Script.{script_of};
 use crate::saved::refusal;
 use etagere::{AllocatorOptions, AtlasAllocator, OptionsFault, Size};
 use etagere_bucketed::BucketedAtlasAllocator;
-use run_answers::running::{Room, answer_all};
-use run_commands::commands::{AtlasCommand, BucketedCommand, Reply};
+use run_answers::running::{Beginning, Room, answer_all};
+use run_commands::commands::Reply;
 use run_commands::faults::{Checked, Drawing, Outcome, ReplayFault, RunFault};
 use run_scripts::reading::read_all;
 use run_scripts::script::{Commands, Script, ScriptFault, read_script};
@@ -172,52 +169,37 @@ fn draw_end<W: Write>(alloc: Global, script: &Script, writer: &mut W) -> Result<
     let (size, options) = (script.size, &script.options);
     match &script.commands {
         Commands::OfShelves(commands) => {
-            let atlas = atlas_after(alloc, size, options, commands.as_slice())?;
+            let atlas = atlas_after::<AtlasAllocator>(alloc, size, options, commands.as_slice())?;
             Ok(atlas.dump_svg(writer)?)
         }
         Commands::OfBuckets(commands) => {
-            let atlas = buckets_after(alloc, size, options, commands.as_slice())?;
+            let atlas = atlas_after::<BucketedAtlasAllocator>(
+                alloc,
+                size,
+                options,
+                commands.as_slice(),
+            )?;
             Ok(atlas.dump_svg(writer)?)
         }
     }
 }
 
 /// A new atlas after the commands.
-fn atlas_after(
+fn atlas_after<A: Beginning>(
     alloc: Global,
     size: Size,
     options: &AllocatorOptions,
-    commands: &[AtlasCommand],
-) -> Result<AtlasAllocator, RunFault>
+    commands: &[A::Command],
+) -> Result<A, RunFault>
     ensures led { IfOk result (λ atlas.
-        LeadsTo shelf_atlas (atlas_frame size options.now) commands.now atlas) }
-    ensures accepted { OnOk result (IsAccepted longest_side size options.now) }
-    ensures err { IfErr result (RefusesRun longest_side size options.now) }
+        LeadsTo A.kind (A.framed size options.now) commands.now atlas) }
+    ensures accepted { OnOk result (IsAccepted A.longest size options.now) }
+    ensures err { IfErr result (RefusesRun A.longest size options.now) }
 {
     let Ok(room) = Room::with_capacity(alloc, commands.len()) else {
         return Err(RunFault::Memory);
     };
-    let mut atlas = AtlasAllocator::with_options(alloc, size, options).map_err(RunFault::Options)?;
-    let replies = answer_all(&mut atlas, room, commands);
-    with_all_answered(atlas, replies.as_slice())
-}
-
-/// A new bucketed atlas after the commands.
-fn buckets_after(
-    alloc: Global,
-    size: Size,
-    options: &AllocatorOptions,
-    commands: &[BucketedCommand],
-) -> Result<BucketedAtlasAllocator, RunFault>
-    ensures led { IfOk result (λ atlas.
-        LeadsTo bucketed_atlas (bucketed_frame size options.now) commands.now atlas) }
-    ensures accepted { OnOk result (IsAccepted longest_bucketed_side size options.now) }
-    ensures err { IfErr result (RefusesRun longest_bucketed_side size options.now) }
-{
-    let room = Room::with_capacity(alloc, commands.len()).map_err(|_| RunFault::Memory)?;
-    let mut atlas = BucketedAtlasAllocator::with_options(alloc, size, options).map_err(
-        RunFault::Options,
-    )?;
+    let mut atlas = A::begin(alloc, size, options).map_err(RunFault::Options)?;
     let replies = answer_all(&mut atlas, room, commands);
     with_all_answered(atlas, replies.as_slice())
 }

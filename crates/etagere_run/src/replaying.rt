@@ -26,7 +26,8 @@ use std::io::{Read, Write};
 /// Where a line isn't good, `line N: bad` is written and nothing runs, and where the options have a
 /// fault, `options N`. After `Read` and `Memory` nothing was written, after `Write` a beginning of
 /// the text. The reader is at its end unless it failed or memory ran out. Takes memory for the
-/// script, its commands, and what `stream_atlas` or `stream_bucketed` takes.
+/// script and its commands, and once the script is given back what `stream_atlas` or `stream_bucketed`
+/// takes.
 pub fn replay<R: Read, W: Write>(
     alloc: Global,
     reader: &mut R,
@@ -38,14 +39,16 @@ pub fn replay<R: Read, W: Write>(
     ensures end_at_write { result ≡ Err ReplayFault.Write → IsAtEnd (R.remaining reader.new) }
 {
     let input = read_all(alloc, reader)?;
-    answer(alloc, input.as_slice(), writer)
+    answer(alloc, input, writer)
 }
 
-/// Judges a script, and writes what answers it.
-fn answer<W: Write>(alloc: Global, bytes: &[u8], writer: &mut W) -> Result<Outcome, ReplayFault>
-    ensures { Replays (Some bytes.now) (W.contents writer.old) (W.contents writer.new) result }
+/// Judges a script, and writes what answers it. The text is given back before a command runs.
+fn answer<W: Write>(alloc: Global, input: Vec<u8>, writer: &mut W) -> Result<Outcome, ReplayFault>
+    ensures { Replays (Some input.items) (W.contents writer.old) (W.contents writer.new) result }
 {
-    match read_script(alloc, bytes) {
+    let read = read_script(alloc, input.as_slice());
+    drop(input);
+    match read {
         Ok(script) => run_script(alloc, &script, writer),
         Err(ScriptFault::BadLine(number)) => bad_line(alloc, number, writer),
         Err(ScriptFault::Memory) => Err(ReplayFault::Memory),

@@ -17,13 +17,13 @@ ghost use Rattle.run_answers.specs.Private.Rooms.{IsEmptyLedger};
 ghost use Rattle.run_answers.specs.Private.Tied.{IsNew, SuitsRuns};
 
 use etagere::{AllocatorOptions, AtlasAllocator, Size};
-use etagere_base::send;
 use etagere_bucketed::BucketedAtlasAllocator;
 use run_answers::ledger::Ledger;
-use run_answers::running::{Answering, answer_next};
+use run_answers::running::{Answering, Beginning, answer_next};
 use run_commands::commands::{AtlasCommand, BucketedCommand};
 use run_commands::faults::StreamFault;
 use run_scripts::reply_text::{Line, line_of};
+use run_scripts::sending::send_line;
 use std::alloc::Global;
 use std::io::{self, Write};
 
@@ -50,11 +50,7 @@ pub fn stream_atlas<W: Write>(
     ensures accepted { OnOk result (IsAccepted longest_side size options.now) }
     ensures err { IfErr result (RefusesStream longest_side size options.now) }
 {
-    let ledger = Ledger::with_capacity(alloc, commands.len()).map_err(|_| StreamFault::Memory)?;
-    let mut atlas = AtlasAllocator::with_options(alloc, size, options).map_err(
-        StreamFault::Options,
-    )?;
-    stream_all(&mut atlas, ledger, commands, writer).map_err(|_| StreamFault::Write)
+    stream_on_new::<AtlasAllocator, W>(alloc, size, options, commands, writer)
 }
 
 /// Runs the commands in order on a new bucketed atlas of this size in pixels, and writes a line for each reply.
@@ -74,11 +70,28 @@ pub fn stream_bucketed<W: Write>(
     ensures accepted { OnOk result (IsAccepted longest_bucketed_side size options.now) }
     ensures err { IfErr result (RefusesStream longest_bucketed_side size options.now) }
 {
+    stream_on_new::<BucketedAtlasAllocator, W>(alloc, size, options, commands, writer)
+}
+
+/// Writes the lines of the replies of a new atlas to the commands. `stream_atlas` says which faults come, what was
+/// written then, and what memory is taken.
+fn stream_on_new<A: Beginning, W: Write>(
+    alloc: Global,
+    size: Size,
+    options: &AllocatorOptions,
+    commands: &[A::Command],
+    writer: &mut W,
+) -> Result<(), StreamFault>
+    ensures written { Streams A.kind (A.framed size options.now) commands.now
+        (W.contents writer.old) (W.contents writer.new) result }
+    ensures stopped { result ≡ Err StreamFault.Write → Stops A.kind (A.framed size options.now)
+        commands.now (W.contents writer.old) (W.contents writer.new) }
+    ensures accepted { OnOk result (IsAccepted A.longest size options.now) }
+    ensures err { IfErr result (RefusesStream A.longest size options.now) }
+{
     let ledger = Ledger::with_capacity(alloc, commands.len()).map_err(|_| StreamFault::Memory)?;
-    let mut buckets = BucketedAtlasAllocator::with_options(alloc, size, options).map_err(
-        StreamFault::Options,
-    )?;
-    stream_all(&mut buckets, ledger, commands, writer).map_err(|_| StreamFault::Write)
+    let mut atlas = A::begin(alloc, size, options).map_err(StreamFault::Options)?;
+    stream_all(&mut atlas, ledger, commands, writer).map_err(|_| StreamFault::Write)
 }
 
 /// Writes the lines of the replies of an atlas to the commands, one after another. Where the writer fails, the atlas is
@@ -104,7 +117,7 @@ pub fn stream_all<A: Answering, W: Write>(
     let mut line = Line::new();
     for position in 0..commands.len() {
         let reply = answer_next(atlas, &mut ledger, commands[position]);
-        send(line_of(&reply, &mut line).as_bytes(), writer)?;
+        send_line(line_of(&reply, &mut line).as_bytes(), writer)?;
     }
     Ok(())
 }
