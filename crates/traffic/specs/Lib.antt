@@ -1,3 +1,4 @@
+pub mod Continuing
 pub mod GoingOn
 pub mod Ledgers
 pub mod Refusals

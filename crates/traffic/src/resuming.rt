@@ -9,7 +9,7 @@ ghost use Rattle.shelf_model.specs.Callers.{AreTied};
 ghost use Rattle.shelf_model.specs.Listing.{listed};
 ghost use Rattle.shelf_model.specs.Places.{allocations};
 ghost use Rattle.shelf_records.specs.Snapshots.{IsBroken, snapshot_records};
-ghost use Rattle.traffic.specs.Resuming.{Resumes};
+ghost use Rattle.traffic.specs.Resuming.{IsRestOfRun, Resumes};
 
 use crate::going_on::go_on;
 use crate::ledgers::ledger_of;
@@ -28,6 +28,9 @@ pub struct Resumed {
 
 /// Restores a snapshot, and runs the commands on the atlas for which it stands.
 ///
+/// The replies are those that one run gives: of the commands that led to the snapshot, whichever these were, and then
+/// of these, each with its positions counted there.
+///
 /// The fault is a rule that the snapshot breaks, or `RestoreFault::Memory` where there was no memory. Takes memory for
 /// what `restore` takes, the list of what is live, the ledger and the replies.
 pub fn resume_atlas(
@@ -37,6 +40,8 @@ pub fn resume_atlas(
 ) -> Result<Resumed, RestoreFault>
     ensures resumed { IfOk result (λ resumed.
         Resumes snapshot commands.now resumed.live.items resumed.replies.items) }
+    ensures rest { IfOk result (λ resumed.
+        IsRestOfRun snapshot commands.now resumed.live.items resumed.replies.items) }
     ensures err { IfErr result (IsBroken (snapshot_records snapshot)) }
 {
     let mut atlas = AtlasAllocator::restore(alloc, snapshot)?;
