@@ -1,13 +1,15 @@
 //! Runs of commands on pages: one command, one call, one reply. `running` has the public call, `commands` what is asked
-//! and answered, `answering` the answer to one command, `faults` why nothing was run.
+//! and answered, `answering` the answer to one command, `packing` a list of sizes at once, `faults` why nothing was run.
 #![tactic(auto)]
 
 mod answering;
 mod commands;
 mod faults;
+mod packing;
 mod running;
 
 pub use answering::answer_on_pages;
 pub use commands::{PageCommand, PageReply};
 pub use faults::PageRunFault;
+pub use packing::pack;
 pub use running::run_pages;
