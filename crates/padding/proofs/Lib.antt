@@ -1,0 +1,3 @@
+pub mod Accepted
+pub mod Refused
+pub mod Trimmed
