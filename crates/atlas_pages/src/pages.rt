@@ -11,6 +11,7 @@ ghost use Rattle.shelf_model.specs.Places.{allocations};
 ghost use Rattle.shelf_model.specs.State.{AtlasState};
 ghost use Rattle.atlas_pages.specs.Choosing as choosing;
 ghost use Rattle.atlas_pages.specs.Choosing.{IsRefusedByAll};
+ghost use Rattle.atlas_pages.specs.Listing.{listed_places};
 ghost use Rattle.atlas_pages.specs.Pages as model;
 ghost use Rattle.atlas_pages.specs.Pages.{ArePageOptions, no_pages, page_frame};
 ghost use Rattle.atlas_pages.specs.Places as places;
@@ -19,6 +20,7 @@ ghost use Rattle.atlas_pages.specs.Promises.{KeepsPagesPromises};
 
 use crate::choosing::allocate_open;
 use crate::faults::{FewerPages, PagesFault};
+use crate::listing::Iter;
 use crate::open_pages::{self, clear_each, drop_empty_end, open_with, return_on};
 use crate::options::{PageOptions, pages_fault};
 use crate::places::PagePlace;
@@ -146,6 +148,16 @@ impl AtlasPages {
         self.pages.get(page as usize)
     }
 
+    /// Everything that is allocated, each once: page after page, on each by rising index, and then none for ever.
+    ///
+    /// Takes no memory. All steps together take time linear in the numbers of pages and of their records.
+    pub fn iter(&self) -> Iter<'_>
+        ensures listed { result ≡ listed_places self.now }
+        ensures promises { KeepsPagesPromises self.now }
+    {
+        Iter::new(&self.pages)
+    }
+
     /// How many pages are open. Takes constant time.
     pub fn page_count(&self) -> u32
         ensures count { result ≡ length self.now.pages }
@@ -223,5 +235,17 @@ impl AtlasPages {
         ensures promises { KeepsPagesPromises self.now }
     {
         open_pages::free_space(&self.pages)
+    }
+}
+
+impl<'a> IntoIterator for &'a AtlasPages {
+    type Item = PagePlace;
+
+    type IntoIter = Iter<'a>;
+
+    ghost into_iter_gives = { λ pages iter. iter ≡ listed_places pages.now };
+
+    fn into_iter(self) -> Iter<'a> {
+        self.iter()
     }
 }
