@@ -2,9 +2,12 @@ pub mod Accepted
 pub mod ByRule
 pub mod Chosen
 pub mod Keeping
+pub mod KeptBefore
+pub mod PaddedLemmas
 pub mod PageLists
 pub mod Fullest
 pub mod PageSpaces
 pub mod Ready
+pub mod SavedLemmas
 pub mod Used
 pub mod WorkedRows

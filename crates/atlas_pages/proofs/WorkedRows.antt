@@ -1,5 +1,5 @@
 -- The definitions alone, with no program, give the pages and rectangles of worked examples.
-use Rattle.std.specs.Prelude.{◌≡◌, ℕ, ◌+◌, ◌-◌, false, None, Some, refl, length}
+use Rattle.std.specs.Prelude.{◌≡◌, ℕ, ◌+◌, ◌-◌, false, None, Some, [], ◌∷◌, refl, length}
 use Rattle.std.specs.Option.{option_map_or}
 use Rattle.shelf_model.proofs.WorkedRows.{allocated, options, rectangle, size}
 use Rattle.etagere_base.specs.declared.geometry.Size.{Size}
@@ -7,7 +7,14 @@ use Rattle.atlas_pages.specs.declared.faults.PagesFault.TheVariants.{NoPages}
 use Rattle.atlas_pages.specs.declared.options.PageChoice.{PageChoice}
 use Rattle.atlas_pages.specs.declared.options.PageChoice.TheVariants.{FirstFit, FullestFirst}
 use Rattle.atlas_pages.specs.declared.options.PageOptions.{PageOptions}
+use Rattle.etagere_base.specs.declared.geometry.Rectangle.{Rectangle}
+use Rattle.padding.specs.declared.sides.Padding.{Padding}
+use Rattle.padding.specs.Padding.{padded, padding_refusal}
+use Rattle.shelf_model.specs.declared.faults.Refusal.TheVariants.{NotPositive, TooLong}
+use Rattle.atlas_pages.specs.declared.places.PagePlace.{PagePlace}
 use Rattle.atlas_pages.specs.Choosing.{page_for, ready_for}
+use Rattle.atlas_pages.specs.Listing.{listed_places}
+use Rattle.atlas_pages.specs.Padded.{trimmed_on}
 use Rattle.atlas_pages.specs.Pages.{PagesState, no_pages, pages_fault}
 use Rattle.atlas_pages.specs.Places.{at_page, allocated_space_of, cleared, free_space_of, rectangle_on, returned_on, shrunk, with_most}
 use Rattle.shelf_model.specs.State.{AtlasState}
@@ -94,3 +101,36 @@ shrunk-all = refl
 -- there has to be a page
 no_page : pages_fault (page_options FirstFit 0) ≡ Some NoPages
 no_page = refl
+
+-- what is listed: page after page, without what was given back
+abbrev place_on : ℕ → ℕ → Rectangle → PagePlace
+place_on page id rectangle = record { page = page; allocation = record { id = id; rectangle = rectangle } }
+
+abbrev two_listed : PagesState
+two_listed = placed (placed (no_pages (page_options FirstFit 2)) (size 60 60) 0) (size 30 20) 0
+
+listed-both : listed_places two_listed ≡ place_on 0 0 (rectangle 0 0 64 64) ∷ place_on 1 0 (rectangle 0 0 30 24) ∷ []
+listed-both = refl
+
+listed-second : listed_places (returned_on two_listed 0 0) ≡ place_on 1 0 (rectangle 0 0 30 24) ∷ []
+listed-second = refl
+
+-- padding is asked for, and not given back
+abbrev two_around : Padding
+two_around = record { left = 2; top = 2; right = 2; bottom = 2 }
+
+padded-asked : padded two_around (size 26 20) ≡ size 30 24
+padded-asked = refl
+
+padded-given : trimmed_on (record { padding = two_around; pages = placed (no_pages (page_options FirstFit 2)) (size 30 24) 0 }) 0 0
+    ≡ Some (rectangle 2 2 28 22)
+padded-given = refl
+
+padded-longest : padding_refusal two_around (size 65531 1) ≡ None
+padded-longest = refl
+
+padded-too_long : padding_refusal two_around (size 65532 1) ≡ Some TooLong
+padded-too_long = refl
+
+padded-empty : padding_refusal two_around (size 0 1) ≡ Some NotPositive
+padded-empty = refl

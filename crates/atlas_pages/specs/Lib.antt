@@ -2,7 +2,9 @@ pub mod Choosing
 pub mod Faults
 pub mod Laws
 pub mod Listing
+pub mod Padded
 pub mod Pages
 pub mod Places
 pub mod Private
 pub mod Promises
+pub mod Saved

@@ -1,9 +1,10 @@
 //! Several atlases of one size and options: a size gets a place on a page that has one, and a page is opened where none
 //! has.
 //!
-//! `pages` has the public calls, `open_pages` what they do to the atlases of the open pages, `choosing` the search for
-//! the fullest page, `listing` the iterator, `options` how pages are made and chosen, `places` what a size gets, `faults` why there are no such
-//! pages. `laws` states the rules of the choice.
+//! `pages` has the public calls, `padded` those of pages with a padding, `open_pages` what calls do to the atlases of
+//! the open pages, `choosing` the search for the fullest page, `listing` the iterator, `saving` what pages are saved as,
+//! `options` how pages are made and chosen, `places` what a size gets, `faults` why there are no such pages. `laws`
+//! states the rules of the choice and of snapshots.
 #![tactic(auto)]
 
 mod choosing;
@@ -12,11 +13,15 @@ pub mod laws;
 mod listing;
 mod open_pages;
 mod options;
+mod padded;
 mod pages;
 mod places;
+mod saving;
 
-pub use faults::{FewerPages, PagesFault};
+pub use faults::{FewerPages, PagesFault, PagesRestoreFault};
 pub use listing::Iter;
 pub use options::{PageChoice, PageOptions};
+pub use padded::PaddedPages;
 pub use pages::AtlasPages;
 pub use places::PagePlace;
+pub use saving::PagesSnapshot;

@@ -17,13 +17,15 @@ ghost use Rattle.atlas_pages.specs.Pages.{ArePageOptions, no_pages, page_frame};
 ghost use Rattle.atlas_pages.specs.Places as places;
 ghost use Rattle.atlas_pages.specs.Places.{NeedsMemory, Places, is_allocated_on, returned_on, shrunk, with_most};
 ghost use Rattle.atlas_pages.specs.Promises.{KeepsPagesPromises};
+ghost use Rattle.atlas_pages.specs.Saved.{ArePagesBroken, PagesStandFor};
 
 use crate::choosing::allocate_open;
-use crate::faults::{FewerPages, PagesFault};
+use crate::faults::{FewerPages, PagesFault, PagesRestoreFault};
 use crate::listing::Iter;
 use crate::open_pages::{self, clear_each, drop_empty_end, open_with, return_on};
 use crate::options::{PageOptions, pages_fault};
 use crate::places::PagePlace;
+use crate::saving::{PagesSnapshot, restored_pages, saved_pages};
 use etagere::{AllocId, AtlasAllocator, Rectangle, Size, UnknownId};
 use etagere_base::atlas_frame;
 use shelf_store::choosing::fits_when_empty;
@@ -138,6 +140,48 @@ impl AtlasPages {
         ensures { result ≡ places.rectangle_on self.now page id }
     {
         open_pages::rectangle_on(&self.pages, page, id)
+    }
+
+    /// The pages as they are saved: their options, and a snapshot of each.
+    ///
+    /// The error comes only where there was no memory. Takes memory for a list of the pages and for all their records,
+    /// and goes through them.
+    pub fn snapshot(&self) -> Result<PagesSnapshot, AllocError>
+        ensures { IfOk result (λ snapshot. PagesStandFor snapshot self.now) }
+    {
+        let pages = saved_pages(self.alloc, &self.pages)?;
+        Ok(PagesSnapshot {
+            options: self.options,
+            pages,
+        })
+    }
+
+    /// Makes pages from a snapshot, whoever wrote it. Where the snapshot keeps every rule, the pages are in the state for
+    /// which it stands.
+    ///
+    /// Returns a rule that the snapshot breaks; `Memory` only where there was no memory. The snapshot is consumed either
+    /// way. Takes memory for a list of the pages, and for each what `AtlasAllocator::restore` does.
+    pub fn restore(alloc: Global, snapshot: PagesSnapshot) -> Result<AtlasPages, PagesRestoreFault>
+        ensures ok { IfOk result (λ pages. PagesStandFor snapshot pages) }
+        ensures fault { IfErr result (ArePagesBroken snapshot) }
+        ensures promises { IfOk result KeepsPagesPromises }
+    {
+        let PagesSnapshot {
+            options,
+            pages: saved,
+        } = snapshot;
+        if let Some(fault) = pages_fault(&options) {
+            return Err(PagesRestoreFault::Options(fault));
+        }
+        if saved.len() > options.most_pages as usize {
+            return Err(PagesRestoreFault::TooManyPages);
+        }
+        let pages = restored_pages(alloc, &options, saved)?;
+        Ok(AtlasPages {
+            options,
+            pages,
+            alloc,
+        })
     }
 
     /// An open page, for its space, its picture and what is allocated there; none exactly where it isn't open. Takes

@@ -1,8 +1,11 @@
 -- Padding: pixels that stay free around a rectangle. What is asked for has them, and what is given back has not.
-use Rattle.std.specs.Prelude.{ℕ, ◌+◌, ◌^◌, ◌==◌, ℤ, pos, ◌+ℤ◌, ◌-ℤ◌, ◌≤ℤ◌, Option, None, Some, if◌then◌else◌}
+use Rattle.std.specs.Prelude.{ℕ, ◌+◌, ◌^◌, ◌==◌, ℤ, pos, ◌+ℤ◌, ◌-ℤ◌, ◌≤ℤ◌, Option, None, Some, List, map, if◌then◌else◌}
+use Rattle.std.specs.List.{AllByRecursion}
+use Rattle.etagere_base.specs.declared.frames.Frame.{Frame}
 use Rattle.etagere_base.specs.declared.geometry.Rectangle.{Rectangle}
 use Rattle.etagere_base.specs.declared.geometry.Size.{Size}
 use Rattle.etagere_base.specs.declared.ids.Allocation.{Allocation}
+use Rattle.etagere_base.specs.Rectangles.{AreApart, IsInside}
 use Rattle.etagere_base.specs.Sides.{side}
 use Rattle.shelf_model.specs.declared.faults.Refusal.{Refusal}
 use Rattle.shelf_model.specs.declared.faults.Refusal.TheVariants.{NotPositive, TooLong}
@@ -60,6 +63,17 @@ with_padding padding rectangle =
 abbrev pub trimmed_allocation : sides.Padding → Allocation → Allocation
 trimmed_allocation padding allocation =
     record { id = allocation.id; rectangle = trimmed padding allocation.rectangle }
+
+-- an allocation of which the rectangle has its padding
+abbrev pub padded_allocation : sides.Padding → Allocation → Allocation
+padded_allocation padding allocation =
+    record { id = allocation.id; rectangle = with_padding padding allocation.rectangle }
+
+-- with their padding, what was given back trimmed lies inside and apart
+pub record ArePadded (padding : sides.Padding) (frame : Frame) (given : List Allocation) : Type 0 where
+  pub inside : AllByRecursion (λ (allocation : Allocation). IsInside frame (with_padding padding allocation.rectangle))
+      given
+  pub apart : AreApart (map (padded_allocation padding) given)
 
 -- a rectangle is at least as wide and as tall as a size
 pub record HasSize (size : Size) (rectangle : Rectangle) : Type 0 where

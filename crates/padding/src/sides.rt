@@ -2,7 +2,7 @@
 //!
 //! Definitions: `Padding`. The clauses stay as they are: callers prove by them.
 
-ghost use Rattle.std.specs.Prelude.{◌≡◌, ◌+ℤ◌, ◌-ℤ◌, ◌≤ℤ◌, pos, Ok, Err, MatchOption};
+ghost use Rattle.std.specs.Prelude.{◌≡◌, ◌+ℤ◌, ◌-ℤ◌, ◌≤ℤ◌, pos, None, Some, IfErr, IfOk, OnOk};
 ghost use Rattle.padding.specs.Padding as spec;
 ghost use Rattle.padding.specs.Padding.{IsNear, IsNearPlace};
 ghost use Rattle.padding.specs.Private.Sides as private;
@@ -57,9 +57,9 @@ impl Padding {
     /// The error is that of a size that no atlas has a place for: `NotPositive` where a side is below 1, `TooLong` where
     /// a side with its padding is above 65535.
     pub fn padded(self, size: Size) -> Result<Size, Refusal>
-        ensures { MatchOption (spec.padding_refusal self size)
-            (result ≡ Ok (spec.padded self size))
-            (λ refusal. result ≡ Err refusal) }
+        ensures ok { IfOk result (λ asked. asked ≡ spec.padded self size) }
+        ensures accepted { OnOk result (spec.padding_refusal self size ≡ None) }
+        ensures refused { IfErr result (λ refusal. spec.padding_refusal self size ≡ Some refusal) }
     {
         if size.is_empty() {
             return Err(Refusal::NotPositive);

@@ -1,5 +1,5 @@
 -- What the fields of an iterator over pages have still to come.
-use Rattle.std.specs.Prelude.{ℕ, ◌^◌, ◌<◌, ◌≤◌, Option, None, Some, List, [], ◌++◌, drop, length}
+use Rattle.std.specs.Prelude.{◌^◌, ◌<◌, ◌≤◌, Option, None, Some, List, [], ◌++◌, drop, length}
 use Rattle.atlas_pages.specs.declared.listing.Iter.TheInside.{Inside}
 use Rattle.atlas_pages.specs.declared.listing.OnPage.{OnPage}
 use Rattle.atlas_pages.specs.declared.places.PagePlace.{PagePlace}

@@ -1,0 +1,46 @@
+-- Pages on which each rectangle has padding: what is asked of them has it, and what is given back has not.
+use Rattle.std.specs.Prelude.{◌≡◌, ℕ, Option, map, option_map}
+use Rattle.std.specs.List.{AllByRecursion}
+use Rattle.etagere_base.specs.declared.geometry.Rectangle.{Rectangle}
+use Rattle.etagere_base.specs.declared.geometry.Size.{Size}
+use Rattle.padding.specs.declared.sides.Padding.{Padding}
+use Rattle.padding.specs.Padding.{ArePadded, padded, padded_allocation, trimmed, trimmed_allocation}
+use Rattle.shelf_model.specs.Places.{allocations}
+use Rattle.shelf_model.specs.State.{AtlasState}
+use Rattle.atlas_pages.specs.declared.places.PagePlace.{PagePlace}
+use Rattle.atlas_pages.specs.Pages.{PagesState}
+use Rattle.atlas_pages.specs.Places.{Places, rectangle_on}
+use Rattle.atlas_pages.specs.Promises.{KeepsPagesPromises}
+
+-- pages with a padding: the pages hold the rectangles with it
+pub record PaddedState : Type 0 where
+  pub padding : Padding
+  pub pages : PagesState
+
+-- the rectangle that is allocated on a page under an id, without its padding
+abbrev pub trimmed_on : PaddedState → ℕ → ℕ → Option Rectangle
+trimmed_on state page id = option_map (trimmed state.padding) (rectangle_on state.pages page id)
+
+-- a place of which the rectangle has its padding, or has not
+abbrev pub padded_place : Padding → PagePlace → PagePlace
+padded_place padding place =
+    record { page = place.page; allocation = padded_allocation padding place.allocation }
+
+abbrev pub trimmed_place : Padding → PagePlace → PagePlace
+trimmed_place padding place =
+    record { page = place.page; allocation = trimmed_allocation padding place.allocation }
+
+-- a size gets a place: with the padding, it is one that the pages give to the size with the padding
+pub record PlacesPadded (old : PaddedState) (size : Size) (place : PagePlace) (new : PaddedState) : Type 0 where
+  pub places : Places old.pages (padded old.padding size) (padded_place old.padding place) new.pages
+  pub padding : new.padding ≡ old.padding
+
+-- what is given back of a page, with its padding, lies inside the page and apart
+abbrev pub IsPaddedPage : Padding → AtlasState → Type 0
+IsPaddedPage padding page =
+    ArePadded padding page.frame (map (trimmed_allocation padding) (allocations page))
+
+-- that holds of each page, and the pages keep their promises
+pub record KeepsPadding (state : PaddedState) : Type 0 where
+  pub pages : KeepsPagesPromises state.pages
+  pub padded : AllByRecursion (IsPaddedPage state.padding) state.pages.pages
