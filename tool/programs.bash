@@ -120,17 +120,19 @@ END
     [[ $(< "$made.stamp") == "$sum$(sha256sum < "$made" | cut -d ' ' -f 1)" ]]
 }
 
-# Makes a copy of the toolchain $1 by links in the folder $2/kit, but for its clang: `rt try` keeps no program, so this
-# one copies the module that it is asked to compile with checks to $2/module.bc, and stops. All else it leaves to the
-# toolchain's own clang.
+# Makes a copy of the toolchain $1 by links in the folder $2/kit, but for two programs. `rt try` keeps no program, so in
+# the place of clang stands a script: asked to compile a module with checks, it copies that to $2/module.bc and stops,
+# and all else it leaves to the toolchain's own. In the place of the prover, which would look beside it for names that
+# a check refuses, and take as long again, stands one that does nothing.
 make_kit() {
     local kit=$1 room=$2 file
     mkdir -p -- "$room/kit/bin" "$room/kit/toolchain/bin"
     for file in "$kit"/* "$kit"/bin/* "$kit"/toolchain/* "$kit"/toolchain/bin/*; do
         [[ -e $room/kit/${file#"$kit/"} ]] || ln -s -- "$file" "$room/kit/${file#"$kit/"}"
     done
-    rm -- "$room/kit/bin/rt" "$room/kit/bin/rtlib.py" "$room/kit/toolchain/bin/clang"
+    rm -- "$room/kit/bin/rt" "$room/kit/bin/rtlib.py" "$room/kit/bin/rattle" "$room/kit/toolchain/bin/clang"
     cp -- "$kit/bin/rt" "$kit/bin/rtlib.py" "$room/kit/bin/"
+    ln -s -- "$(command -v false)" "$room/kit/bin/rattle"
     ln -s -- "$kit" "$room/whole"
     cat > "$room/kit/toolchain/bin/clang" << 'END'
 #!/usr/bin/env bash
