@@ -70,9 +70,18 @@ paired-set (n ∷ ns) (b ∷ bs) (suc index) one same within =
     ap (λ (l : List BoundedShelf). shelf_of n b ∷ l) (paired-set ns bs index one (omega (arith, same)) (omega (arith, within)))
 
 -- one put in at the end
-pub insert-end : (by_height : List BoundedShelf) (one : BoundedShelf) → insert by_height (length by_height) one ≡ by_height ++ one ∷ []
+pub insert-end : {X : Type 0} (list : List X) (one : X) → insert list (length list) one ≡ list ++ one ∷ []
 insert-end [] one = refl
-insert-end (other ∷ others) one = ap (λ (l : List BoundedShelf). other ∷ l) (insert-end others one)
+insert-end {X} (other ∷ others) one = ap (λ (l : List X). other ∷ l) (insert-end others one)
+
+-- one goes behind all
+pub paired-end : (numbers bounds : List ℕ) (one : BoundedShelf) → length numbers ≡ length bounds
+    → paired (numbers ++ one.shelf ∷ []) (bounds ++ one.widest ∷ []) ≡ paired numbers bounds ++ one ∷ []
+paired-end [] [] one same = refl
+paired-end [] (b ∷ bs) one same = absurd (omega (arith, same))
+paired-end (n ∷ ns) [] one same = absurd (omega (arith, same))
+paired-end (n ∷ ns) (b ∷ bs) one same =
+    ap (λ (l : List BoundedShelf). shelf_of n b ∷ l) (paired-end ns bs one (omega (arith, same)))
 
 -- what a list stands for has as many shelves as there are numbers
 pub count-of : (list : Inside) (by_height : ListByHeight) → IsCovered list → list_in list ≡ by_height → length by_height.items ≡ length list.numbers.items

@@ -1,5 +1,5 @@
-use Rattle.std.proofs.Common.{◌≡◌, ℕ, suc, ◌+◌, ◌-◌, ◌<◌, ◌≤◌, List, drop, length, ap, arith, subst, sym, take}
-use Rattle.std.specs.Prelude.{◌/◌, remove}
+use Rattle.std.proofs.Common.{◌≡◌, ℕ, suc, ◌+◌, ◌<◌, ◌≤◌, List, drop, length, ap, arith, subst, sym, take}
+use Rattle.std.specs.Prelude.{remove}
 use Rattle.std.specs.List.{AllByRecursion}
 use Rattle.shelf_heights.specs.Private.ByHeight.{order_of, bounded_at}
 use Rattle.shelf_heights.specs.declared.by_height.BoundedShelf.{BoundedShelf}
