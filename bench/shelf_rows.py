@@ -130,3 +130,29 @@ ROWS = {
     "8000 full shelves: the first goes and comes": Row(full_shelves(lambda _: 0), 181),
     "8000 full shelves: any goes and comes": Row(full_shelves(lambda chooser: chooser.randrange(8000)), 72703),
 }
+
+
+def cleared(columns):
+    def make(_program):
+        return [f"atlas {columns} 64 1 1 {columns} h"], ["c"] * 10
+
+    return make
+
+
+def grown_across(shelves, heights):
+    """Shelves of one item each, of so many heights, in an atlas that becomes taller again and again."""
+
+    def make(_program):
+        filling = [f"atlas 64 {32 * shelves} 1 1 1 h"]
+        filling += [f"a 64 {8 + 8 * (number % heights)}" for number in range(shelves)]
+        return filling, [f"g 64 {32 * shelves + 8 * more}" for more in range(1, 21)]
+
+    return make
+
+
+THROUGH_ALL = {
+    "60000 columns cleared, for each column": (Row(cleared(60000)), 60000, 50),
+    "2000 shelves of one height in an atlas that grows, for each shelf": (Row(grown_across(2000, 1)), 2000, 100),
+    "2000 shelves of 3 heights, the same": (Row(grown_across(2000, 3)), 2000, 100),
+}
+"""Calls that go through all columns or shelves, how many these are, and how many instructions are wanted for each."""
