@@ -5,18 +5,11 @@ from pathlib import Path
 HERE = Path(__file__).resolve().parent
 ROOT = HERE.parent.parent
 
-# Trials that answer as a replay of a script here does, and the script.
-RUNS = {
-    "run atlas": "run_atlas",
-    "run_merged bucketed": "run_merged",
-    "run_taller bucketed": "run_taller",
-    "run_wider bucketed": "run_wider",
-    "run_in_columns bucketed": "run_in_columns",
-    "stream atlas": "run_atlas",
-    "stream bucketed": "run_wider",
-    "grow atlas": "grow_atlas",
-    "grow bucketed": "grow_bucketed",
-}
+# Runs and streams of a script here, which answer as its replay does: the call, and the script.
+RUNS = [(call, script) for call in ("run", "stream") for script in ("run_atlas", "run_wider")]
+RUNS += [("run", script) for script in ("run_merged", "run_taller", "run_in_columns")]
+# Trials by direct calls that answer as a replay of a script here does, and the script.
+GROWTHS = {"grow atlas": "grow_atlas", "grow bucketed": "grow_bucketed"}
 KINDS = ("atlas", "bucketed")
 # Trials that make an atlas, and draw it.
 COPIES = [f"{call} {kind}" for call in ("new", "with_options", "clone", "snapshot", "restore") for kind in KINDS]
@@ -38,9 +31,14 @@ def texts(*patterns):
     return {str(path.relative_to(ROOT)): path.read_text() for path in paths}
 
 
-def script_of(run):
-    """The script that has the commands of a trial."""
-    return (HERE / f"{RUNS[run]}.atlas").read_text()
+def script(name):
+    return (HERE / f"{name}.atlas").read_text()
+
+
+def runs():
+    """The trials that answer as a replay does: what they are told, and the script of the replay, by their names."""
+    told = {f"{call} {name}": (f"{call} script\n{script(name)}", script(name)) for call, name in RUNS}
+    return told | {trial: (trial, script(name)) for trial, name in GROWTHS.items()}
 
 
 def scripts():

@@ -1,89 +1,121 @@
-//! A cache of glyphs, called by the words of rows.
+//! Calls of a cache of glyphs.
 
-use crate::reading::numbers;
-use crate::subject::Subject;
-use crate::words::{corners, done, rectangle_text, text, told};
-use anyhow::{Context, Result, bail};
-use etagere::{AllocatorOptions, DEFAULT_OPTIONS, size2};
-use glyph_shelf::{GlyphCache, Placed};
+use crate::lines::{numbers, say, say_fault, say_if, say_number, say_rectangle, size_of};
+use crate::places::{Called, NOT_MADE};
+use etagere::{AllocatorOptions, DEFAULT_OPTIONS, OptionsFault, Rectangle, Size, size2};
+use glyph_shelf::{GlyphCache, GlyphFault, Placed};
 use std::alloc::Global;
-use std::fmt::Write;
+use std::io;
 use std::num::NonZeroUsize;
 
-/// Where a key lies, and the keys that were evicted for it.
-fn placed(alloc: Global, placed: &Placed) -> Result<String> {
-    let rectangle = corners(alloc, placed.rectangle)?;
-    let mut answer = format!(in alloc; "placed {rectangle} evicts")?;
-    for key in &placed.evicted {
-        write!(answer, " {key}")?;
-    }
-    if placed.evicted.is_empty() {
-        answer.push_str(" none")?;
-    }
-    Ok(answer)
-}
-
-/// Places a key, whose number stands before its sides.
-fn place(cache: &mut GlyphCache, alloc: Global, words: &str) -> Result<String> {
-    let (key, sides) = words.split_once(' ').context("too few words")?;
-    let [width, height] = numbers::<2>(sides)?;
-    match cache.place(key.parse()?, size2(width, height)) {
-        Ok(answer) => placed(alloc, &answer),
-        Err(fault) => done(alloc, Some(fault.number()), "placed"),
-    }
-}
-
-/// What a cache tells of itself.
-fn count(cache: &GlyphCache, alloc: Global, call: &str) -> Result<String> {
-    match call {
-        "len" => Ok(format!(in alloc; "{}", cache.len())?),
-        "capacity" => Ok(format!(in alloc; "{}", cache.capacity().get())?),
-        "empty" => told(alloc, cache.is_empty(), "yes", "no"),
-        "allocated" => Ok(format!(in alloc; "{}", cache.atlas().allocated_space())?),
-        _ => bail!("no such call"),
-    }
-}
-
-impl Subject for GlyphCache {
-    /// The words are the sides of the atlas, how many columns it has, and the capacity of the cache.
-    fn made(alloc: Global, words: &str) -> Result<Result<GlyphCache, u32>> {
-        let (words, capacity) = words.rsplit_once(' ').context("too few words")?;
-        let [width, height, num_columns] = numbers::<3>(words)?;
+impl Called for GlyphCache {
+    /// The words are the capacity of the cache, the sides of its atlas, and how many columns that has.
+    fn made(alloc: Global, words: &str) -> Result<GlyphCache, u32> {
+        let (capacity, words) = words.split_once(' ').unwrap_or(("", words));
+        let capacity = NonZeroUsize::new(capacity.parse().unwrap_or(0)).ok_or(NOT_MADE)?;
+        let [width, height, num_columns, ..] = numbers(words);
         let options = AllocatorOptions {
             num_columns,
             ..DEFAULT_OPTIONS
         };
-        let capacity = NonZeroUsize::new(capacity.parse()?).context("no capacity")?;
-        let made = GlyphCache::new(alloc, size2(width, height), &options, capacity);
-        Ok(made.map_err(|fault| fault.number()))
+        new_cache(alloc, size2(width, height), &options, capacity).map_err(|fault| fault.number())
     }
 
-    fn copied(&self) -> Result<GlyphCache> {
-        bail!("caches have no clones")
+    fn copied(&self) -> Option<GlyphCache> {
+        None
     }
 
-    fn saved(&self, _alloc: Global) -> Result<String> {
-        bail!("caches aren't saved")
+    fn saved(&self, _alloc: Global) -> Option<String> {
+        None
     }
 
-    fn restored(_alloc: Global, _text: &str) -> Result<Result<GlyphCache, u32>> {
-        bail!("caches aren't saved")
+    fn restored(_alloc: Global, _text: &str) -> Result<GlyphCache, u32> {
+        Err(NOT_MADE)
     }
 
-    fn steps(_alloc: Global, _text: &str) -> Result<u64> {
-        bail!("caches aren't saved")
+    fn steps(_alloc: Global, _text: &str) -> u64 {
+        0
     }
 
-    fn answer(&mut self, alloc: Global, call: &str, words: &str) -> Result<String> {
+    fn answer(&mut self, rt: &impl Print, call: &str, words: &str) -> io::Result<()> {
         match call {
-            "place" => place(self, alloc, words),
-            "get" => rectangle_text(alloc, self.get(words.parse()?)),
-            "remove" => rectangle_text(alloc, self.remove(words.parse()?)),
-            "clear" => {
-                self.clear();
-                text(alloc, "cleared")
-            }
-            _ => count(self, alloc, call),
+            "place" => place(self, rt, words),
+            "get" => say_rectangle(rt, look(self, key_of(words))),
+            "remove" => say_rectangle(rt, remove(self, key_of(words))),
+            "clear" => clear(self, rt),
+            "len" => say_number(rt, len(self)),
+            "capacity" => say_number(rt, capacity(self)),
+            "empty" => say_if(rt, is_empty(self), "yes", "no"),
+            "allocated" => say_number(rt, allocated(self)),
+            _ => say(rt, "no such call"),
         }
     }
+}
+
+fn key_of(word: &str) -> u64 {
+    word.parse().unwrap_or(0)
+}
+
+/// Places a key, whose number stands before its sides.
+fn place(cache: &mut GlyphCache, rt: &impl Print, words: &str) -> io::Result<()> {
+    let (key, sides) = words.split_once(' ').unwrap_or((words, ""));
+    match placed(cache, key_of(key), size_of(sides)) {
+        Ok(answer) => say_placed(rt, &answer),
+        Err(fault) => say_fault(rt, fault.number()),
+    }
+}
+
+/// Writes where a key lies, and the keys that were evicted for it.
+fn say_placed(rt: &impl Print, placed: &Placed) -> io::Result<()> {
+    let Rectangle { min, max } = placed.rectangle;
+    print!(rt; "placed ({},{})-({},{}) evicts", min.x, min.y, max.x, max.y)?;
+    for key in &placed.evicted {
+        print!(rt; " {key}")?;
+    }
+    say(rt, "")
+}
+
+// What these calls promise ends in functions that promise nothing, so that it isn't gone through in what uses them.
+
+fn new_cache(
+    alloc: Global,
+    size: Size,
+    options: &AllocatorOptions,
+    capacity: NonZeroUsize,
+) -> Result<GlyphCache, OptionsFault> {
+    GlyphCache::new(alloc, size, options, capacity)
+}
+
+fn placed(cache: &mut GlyphCache, key: u64, size: Size) -> Result<Placed, GlyphFault> {
+    cache.place(key, size)
+}
+
+fn look(cache: &mut GlyphCache, key: u64) -> Option<Rectangle> {
+    cache.get(key)
+}
+
+fn remove(cache: &mut GlyphCache, key: u64) -> Option<Rectangle> {
+    cache.remove(key)
+}
+
+fn clear(cache: &mut GlyphCache, rt: &impl Print) -> io::Result<()> {
+    cache.clear();
+    say(rt, "cleared")
+}
+
+fn len(cache: &GlyphCache) -> u64 {
+    cache.len() as u64
+}
+
+fn capacity(cache: &GlyphCache) -> u64 {
+    cache.capacity().get() as u64
+}
+
+fn is_empty(cache: &GlyphCache) -> bool {
+    cache.is_empty()
+}
+
+/// What its atlas has allocated, which is never below 0.
+fn allocated(cache: &GlyphCache) -> u64 {
+    u64::try_from(cache.atlas().allocated_space()).unwrap_or(0)
 }

@@ -1,6 +1,6 @@
-//! Trials of calls that no script reaches. Standard input names one, as `clone atlas` or `run bucketed`: it is run, and
-//! writes a line for each answer, as a replay writes it, and pictures of the atlas between them. A trial whose
-//! preparations are refused memory writes nothing, and ends as a replay does.
+//! Trials of calls that no script reaches. The first line of standard input names one, as `clone atlas` or `run script`,
+//! behind which stands the script: it is run, and writes a line for each answer, as a replay writes it, and pictures of
+//! the atlas between them. A trial whose preparations are refused memory writes nothing, and ends as a replay does.
 //!
 //! `tests/refused_memory/run` refuses each growth of memory of each trial. A new call gets a trial here and its name
 //! there.
@@ -19,10 +19,11 @@ mod splits;
 mod tried;
 mod walks;
 
+use crate::runs::script_trial;
 use crate::tried::Used;
 use etagere::{AtlasAllocator, BucketedAtlasAllocator};
 use etagere_run::ReplayFault;
-use std::io::Read;
+use run_scripts::reading::read_all;
 use std::process::ExitCode;
 
 fn main(rt: HostRuntime) -> ExitCode {
@@ -41,17 +42,20 @@ fn main(rt: HostRuntime) -> ExitCode {
 
 /// Runs the trial that standard input names, if there is one.
 fn named_trial(rt: &(impl Input + Print + AllocGlobal)) -> Result<bool, ReplayFault> {
-    let mut buffer = [0; 64];
-    let count = rt
-        .reader()
-        .read(&mut buffer)
-        .map_err(|_| ReplayFault::Read)?;
-    let Ok(name) = str::from_utf8(&buffer[..count]) else {
+    let input = read_all(rt.alloc(), &mut rt.reader())?;
+    let Ok(text) = str::from_utf8(input.as_slice()) else {
         return Ok(false);
     };
-    let Some((call, kind)) = name.trim_end().split_once(' ') else {
-        return Ok(false);
-    };
+    let (name, script) = text.split_once('\n').unwrap_or((text, ""));
+    match name.split_once(' ') {
+        Some((call, "script")) => script_trial(rt, call, script.as_bytes()),
+        Some((call, kind)) => trial_of(rt, call, kind),
+        None => Ok(false),
+    }
+}
+
+/// Runs a trial of calls of this kind, if there is one of this name.
+fn trial_of(rt: &(impl Print + AllocGlobal), call: &str, kind: &str) -> Result<bool, ReplayFault> {
     match kind {
         "atlas" => Ok(shelf_trial(rt, call)? || trial::<AtlasAllocator, _>(rt, call)?),
         "bucketed" => Ok(bucket_trial(rt, call)? || trial::<BucketedAtlasAllocator, _>(rt, call)?),
@@ -96,8 +100,6 @@ fn trial<A: Used + Drop, R: Print + AllocGlobal>(rt: &R, call: &str) -> Result<b
 /// Runs a trial of a shelf atlas, if there is one of this name.
 fn shelf_trial(rt: &(impl Print + AllocGlobal), call: &str) -> Result<bool, ReplayFault> {
     match call {
-        "run" => runs::run_shelves(rt)?,
-        "stream" => runs::stream_shelves(rt)?,
         "check" => checks::check_shelves(rt)?,
         "grow" => growing::grow_shelves(rt)?,
         "quiet" => quiet::quiet_shelves(rt)?,
@@ -111,11 +113,6 @@ fn shelf_trial(rt: &(impl Print + AllocGlobal), call: &str) -> Result<bool, Repl
 /// Runs a trial of a bucketed atlas, if there is one of this name.
 fn bucket_trial(rt: &(impl Print + AllocGlobal), call: &str) -> Result<bool, ReplayFault> {
     match call {
-        "run_merged" => runs::run_merged(rt)?,
-        "run_taller" => runs::run_taller(rt)?,
-        "run_wider" => runs::run_wider(rt)?,
-        "run_in_columns" => runs::run_in_columns(rt)?,
-        "stream" => runs::stream_buckets(rt)?,
         "check" => checks::check_buckets(rt)?,
         "grow" => growing::grow_buckets(rt)?,
         "quiet" => quiet::quiet_buckets(rt)?,

@@ -1,0 +1,97 @@
+//! Calls of a bucketed atlas.
+
+use crate::atlases;
+use crate::lines::{say, say_size, size_of};
+use crate::places::Called;
+use etagere::{
+    BucketedAtlasAllocator, BucketedRefusal, BucketedSnapshot, BucketedUsage, Size, laws,
+};
+use std::alloc::Global;
+use std::io;
+use test_support::atlases::Atlas;
+
+impl Called for BucketedAtlasAllocator {
+    fn made(alloc: Global, words: &str) -> Result<BucketedAtlasAllocator, u32> {
+        atlases::made(alloc, words)
+    }
+
+    fn copied(&self) -> Option<BucketedAtlasAllocator> {
+        Atlas::copied(self).ok()
+    }
+
+    fn saved(&self, alloc: Global) -> Option<String> {
+        let saved = Atlas::saved(self).ok()?;
+        written(alloc, &saved)
+    }
+
+    fn restored(alloc: Global, text: &str) -> Result<BucketedAtlasAllocator, u32> {
+        atlases::restored(alloc, read(alloc, text))
+    }
+
+    fn steps(alloc: Global, text: &str) -> u64 {
+        match read(alloc, text) {
+            Some(saved) => steps_of(alloc, saved),
+            None => 0,
+        }
+    }
+
+    fn answer(&mut self, rt: &impl Print, call: &str, words: &str) -> io::Result<()> {
+        match call {
+            "refusal" => say_refusal(rt, refusal_of(self, size_of(words))),
+            "usage" => say_usage(rt, &usage_of(self)),
+            "largest" => say_size(rt, largest_of(self)),
+            _ => atlases::answer(self, rt, call, words),
+        }
+    }
+}
+
+// What these calls promise ends in functions that promise nothing, so that it isn't gone through in what uses them.
+
+fn written(alloc: Global, saved: &BucketedSnapshot) -> Option<String> {
+    serde_json::to_string(alloc, saved).ok()
+}
+
+fn read(alloc: Global, text: &str) -> Option<BucketedSnapshot> {
+    serde_json::from_str(alloc, text).ok()
+}
+
+fn steps_of(alloc: Global, saved: BucketedSnapshot) -> u64 {
+    let mut steps = 0;
+    let _ = laws::restore_bucketed(alloc, saved, &mut steps);
+    steps
+}
+
+fn refusal_of(atlas: &BucketedAtlasAllocator, size: Size) -> Option<BucketedRefusal> {
+    atlas.refusal(size)
+}
+
+fn usage_of(atlas: &BucketedAtlasAllocator) -> BucketedUsage {
+    atlas.usage()
+}
+
+fn largest_of(atlas: &BucketedAtlasAllocator) -> Size {
+    atlas.largest_free()
+}
+
+/// Writes why a size has no place, by its number.
+fn say_refusal(rt: &impl Print, refusal: Option<BucketedRefusal>) -> io::Result<()> {
+    let Some(refusal) = refusal else {
+        return say(rt, "none");
+    };
+    let number = refusal.number();
+    match refusal {
+        BucketedRefusal::NoRoom { widest } => println!(rt; "reason {number} widest {widest}"),
+        _ => println!(rt; "reason {number}"),
+    }
+}
+
+/// Writes each number of what an atlas tells of its shelves, buckets and items.
+fn say_usage(rt: &impl Print, usage: &BucketedUsage) -> io::Result<()> {
+    let (shelves, idle_shelves) = (usage.shelves, usage.idle_shelves);
+    let (buckets, idle_buckets) = (usage.buckets, usage.idle_buckets);
+    let (items, unused) = (usage.items, usage.unused_buckets);
+    let Size { width, height } = usage.largest_free;
+    println!(rt;
+        "shelves {shelves} {idle_shelves} buckets {buckets} {idle_buckets} items {items} unused {unused} largest {width} {height}"
+    )
+}

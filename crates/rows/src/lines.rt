@@ -1,0 +1,97 @@
+//! Words of lines as values, and answers as lines.
+
+use etagere::{AllocId, Allocation, AllocatorOptions, Rectangle, Size, size2};
+use std::alloc::AllocError;
+use std::io;
+
+/// The numbers of some words, and 0 for each that is none.
+pub fn numbers(words: &str) -> [i32; 6] {
+    let mut numbers = [0; 6];
+    for (number, word) in numbers.iter_mut().zip(words.split(' ')) {
+        *number = word.parse().unwrap_or(0);
+    }
+    numbers
+}
+
+pub fn size_of(words: &str) -> Size {
+    let [width, height, ..] = numbers(words);
+    size2(width, height)
+}
+
+pub fn id_of(word: &str) -> AllocId {
+    AllocId::deserialize(word.parse().unwrap_or(0))
+}
+
+/// The sides of an atlas, and its options where they are said: the alignments of x and y, how many columns, and whether
+/// shelves are vertical.
+pub fn asked(words: &str) -> (Size, Option<AllocatorOptions>) {
+    let [width, height, x, y, num_columns, vertical] = numbers(words);
+    let options = AllocatorOptions {
+        alignment: size2(x, y),
+        vertical_shelves: vertical == 1,
+        num_columns,
+    };
+    let is_plain = words.split(' ').count() == 2;
+    (size2(width, height), (!is_plain).then_some(options))
+}
+
+/// Writes a line of these words.
+pub fn say(rt: &impl Print, words: &str) -> io::Result<()> {
+    rt.println(words)
+}
+
+pub fn say_number(rt: &impl Print, number: u64) -> io::Result<()> {
+    rt.println(number)
+}
+
+pub fn say_fault(rt: &impl Print, number: u32) -> io::Result<()> {
+    println!(rt; "fault {number}")
+}
+
+pub fn say_if(rt: &impl Print, holds: bool, yes: &str, no: &str) -> io::Result<()> {
+    say(rt, if holds { yes } else { no })
+}
+
+/// Writes a text as a line.
+pub fn say_text(rt: &impl Print, text: &Option<String>) -> io::Result<()> {
+    match text {
+        Some(text) => say(rt, text.as_str()),
+        None => say(rt, "no memory"),
+    }
+}
+
+pub fn say_size(rt: &impl Print, size: Size) -> io::Result<()> {
+    println!(rt; "{} {}", size.width, size.height)
+}
+
+/// Writes the corner of a rectangle and the one past its last, if there is one.
+pub fn say_rectangle(rt: &impl Print, rectangle: Option<Rectangle>) -> io::Result<()> {
+    match rectangle {
+        Some(Rectangle { min, max }) => {
+            println!(rt; "({},{})-({},{})", min.x, min.y, max.x, max.y)
+        }
+        None => say(rt, "none"),
+    }
+}
+
+/// Writes what an allocation answers.
+pub fn say_placed(
+    rt: &impl Print,
+    answer: &Result<Option<Allocation>, AllocError>,
+) -> io::Result<()> {
+    match answer {
+        Ok(Some(given)) => say_given(rt, "placed", given),
+        Ok(None) => say(rt, "refused"),
+        Err(_) => say(rt, "no memory"),
+    }
+}
+
+/// Writes the corners and the id of an allocation.
+pub fn say_given(rt: &impl Print, word: &str, given: &Allocation) -> io::Result<()> {
+    let Rectangle { min, max } = given.rectangle;
+    let id = given.id.serialize();
+    println!(rt;
+        "{word} ({},{})-({},{}) id {id}",
+        min.x, min.y, max.x, max.y
+    )
+}

@@ -1,0 +1,117 @@
+//! The two places for what is called, and the calls that fill them.
+
+use crate::lines::{say, say_fault, say_number, say_text};
+use std::alloc::Global;
+use std::io;
+
+/// Something that is made, and then called. It promises nothing, so that what calls it is proved once and fast.
+pub trait Called: Sized {
+    /// What these words say, or the number of the fault for which it can't be made.
+    fn made(alloc: Global, words: &str) -> Result<Self, u32>;
+
+    /// A clone, if it can be had.
+    fn copied(&self) -> Option<Self>;
+
+    /// What it is saved as, as JSON text.
+    fn saved(&self, alloc: Global) -> Option<String>;
+
+    /// What such a text restores, or the number of the fault for which it is refused.
+    fn restored(alloc: Global, text: &str) -> Result<Self, u32>;
+
+    /// How many links are read until such a text is restored or refused.
+    fn steps(alloc: Global, text: &str) -> u64;
+
+    /// Makes a call with these words, and writes its answer.
+    fn answer(&mut self, rt: &impl Print, call: &str, words: &str) -> io::Result<()>;
+}
+
+/// The number of a fault where there is no memory, or where words can't be read.
+pub const NOT_MADE: u32 = 0;
+
+#[derive(Drop)]
+pub struct Places<C> {
+    first: Option<C>,
+    other: Option<C>,
+}
+
+impl<C: Called + Drop> Places<C> {
+    pub fn new() -> Places<C> {
+        Places {
+            first: None,
+            other: None,
+        }
+    }
+
+    fn at(&mut self, place: &str) -> &mut Option<C> {
+        if place == "0" {
+            &mut self.first
+        } else {
+            &mut self.other
+        }
+    }
+}
+
+/// Makes the call of a line, and writes its answer.
+pub fn answer<C: Called + Drop>(
+    rt: &(impl Print + AllocGlobal),
+    places: &mut Places<C>,
+    line: &str,
+) -> io::Result<()> {
+    let (place, call) = parted(line);
+    let (call, words) = parted(call);
+    match call {
+        "make" => fill(rt, places.at(place), C::made(rt.alloc(), words)),
+        "restore" => fill(rt, places.at(place), C::restored(rt.alloc(), words)),
+        "clone" => fill(rt, &mut places.other, copy_of(&places.first)),
+        "steps" => say_number(rt, C::steps(rt.alloc(), words)),
+        "save" => say_text(rt, &text_of(rt.alloc(), places.at(place))),
+        _ => answer_of(rt, places.at(place), call, words),
+    }
+}
+
+/// The first word, and what comes behind it.
+fn parted(line: &str) -> (&str, &str) {
+    line.split_once(' ').unwrap_or((line, ""))
+}
+
+/// Keeps what was made in its place. Where it can't be made, what was there stays.
+fn fill<C: Called + Drop>(
+    rt: &impl Print,
+    place: &mut Option<C>,
+    made: Result<C, u32>,
+) -> io::Result<()> {
+    match made {
+        Ok(made) => {
+            *place = Some(made);
+            say(rt, "made")
+        }
+        Err(fault) => say_fault(rt, fault),
+    }
+}
+
+fn copy_of<C: Called>(place: &Option<C>) -> Result<C, u32> {
+    match place {
+        Some(called) => called.copied().ok_or(NOT_MADE),
+        None => Err(NOT_MADE),
+    }
+}
+
+fn text_of<C: Called>(alloc: Global, place: &Option<C>) -> Option<String> {
+    match place {
+        Some(called) => called.saved(alloc),
+        None => None,
+    }
+}
+
+/// What a call answers of something that was made.
+fn answer_of<C: Called>(
+    rt: &impl Print,
+    place: &mut Option<C>,
+    call: &str,
+    words: &str,
+) -> io::Result<()> {
+    match place {
+        Some(called) => called.answer(rt, call, words),
+        None => say(rt, "nothing was made"),
+    }
+}

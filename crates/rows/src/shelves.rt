@@ -1,0 +1,117 @@
+//! Calls of a shelf atlas.
+
+use crate::atlases;
+use crate::lines::{id_of, say, say_given, say_number, say_rectangle, say_size, size_of};
+use crate::places::Called;
+use etagere::{AllocId, AtlasAllocator, AtlasSnapshot, Rectangle, Refusal, Size, Usage, laws};
+use std::alloc::Global;
+use std::io;
+use test_support::atlases::Atlas;
+
+impl Called for AtlasAllocator {
+    fn made(alloc: Global, words: &str) -> Result<AtlasAllocator, u32> {
+        atlases::made(alloc, words)
+    }
+
+    fn copied(&self) -> Option<AtlasAllocator> {
+        Atlas::copied(self).ok()
+    }
+
+    fn saved(&self, alloc: Global) -> Option<String> {
+        let saved = Atlas::saved(self).ok()?;
+        written(alloc, &saved)
+    }
+
+    fn restored(alloc: Global, text: &str) -> Result<AtlasAllocator, u32> {
+        atlases::restored(alloc, read(alloc, text))
+    }
+
+    fn steps(alloc: Global, text: &str) -> u64 {
+        match read(alloc, text) {
+            Some(saved) => steps_of(alloc, saved),
+            None => 0,
+        }
+    }
+
+    fn answer(&mut self, rt: &impl Print, call: &str, words: &str) -> io::Result<()> {
+        match call {
+            "get" => say_rectangle(rt, rectangle_of(self, id_of(words))),
+            "index" => say_index(rt, index_of(self, id_of(words))),
+            "iter" => list(rt, self),
+            "refusal" => say_refusal(rt, refusal_of(self, size_of(words))),
+            "usage" => say_usage(rt, &usage_of(self)),
+            "largest_free" => say_size(rt, largest_of(self)),
+            _ => atlases::answer(self, rt, call, words),
+        }
+    }
+}
+
+// What these calls promise ends in functions that promise nothing, so that it isn't gone through in what uses them.
+
+fn written(alloc: Global, saved: &AtlasSnapshot) -> Option<String> {
+    serde_json::to_string(alloc, saved).ok()
+}
+
+fn read(alloc: Global, text: &str) -> Option<AtlasSnapshot> {
+    serde_json::from_str(alloc, text).ok()
+}
+
+fn steps_of(alloc: Global, saved: AtlasSnapshot) -> u64 {
+    let mut steps = 0;
+    let _ = laws::restore_atlas(alloc, saved, &mut steps);
+    steps
+}
+
+fn rectangle_of(atlas: &AtlasAllocator, id: AllocId) -> Option<Rectangle> {
+    atlas.get(id)
+}
+
+fn index_of(atlas: &AtlasAllocator, id: AllocId) -> Option<u32> {
+    atlas.get_index(id)
+}
+
+fn refusal_of(atlas: &AtlasAllocator, size: Size) -> Option<Refusal> {
+    atlas.refusal(size)
+}
+
+fn usage_of(atlas: &AtlasAllocator) -> Usage {
+    atlas.usage()
+}
+
+fn largest_of(atlas: &AtlasAllocator) -> Size {
+    atlas.largest_free()
+}
+
+fn say_index(rt: &impl Print, index: Option<u32>) -> io::Result<()> {
+    match index {
+        Some(index) => say_number(rt, u64::from(index)),
+        None => say(rt, "none"),
+    }
+}
+
+/// Writes a line for each allocation, in the order in which they are given, and one that ends them.
+fn list(rt: &impl Print, atlas: &AtlasAllocator) -> io::Result<()> {
+    for allocation in atlas {
+        say_given(rt, "at", &allocation)?;
+    }
+    say(rt, "end")
+}
+
+/// Writes why a size has no place, by its number.
+fn say_refusal(rt: &impl Print, refusal: Option<Refusal>) -> io::Result<()> {
+    match refusal {
+        None => say(rt, "none"),
+        Some(Refusal::NoRoom { widest }) => println!(rt; "reason 5 widest {widest}"),
+        Some(reason) => println!(rt; "reason {}", reason.number()),
+    }
+}
+
+/// Writes how full an atlas is.
+fn say_usage(rt: &impl Print, usage: &Usage) -> io::Result<()> {
+    let (shelves, empty_shelves) = (usage.shelves, usage.empty_shelves);
+    let (items, free_items, unused) = (usage.items, usage.free_items, usage.unused_records);
+    let Size { width, height } = usage.largest_free;
+    println!(rt;
+        "shelves {shelves} empty {empty_shelves} items {items} free {free_items} unused {unused} largest {width} {height}"
+    )
+}

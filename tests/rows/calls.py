@@ -1,0 +1,152 @@
+"""The calls of a test, made one after the other by the program of crates/rows, each compared with its row."""
+
+import subprocess
+
+NOT_MADE = "fault 0"
+KINDS = ("atlas", "bucketed", "cache")
+# What the program writes in more than a line, up to one that ends it.
+LISTS = ("picture", "iter")
+
+
+class Otherwise(Exception):
+    """Which row is answered otherwise."""
+
+
+def asked(words):
+    """The words that make an atlas, with 0 for horizontal shelves and 1 for vertical ones."""
+    *numbers, last = words.split(" ")
+    return " ".join([*numbers, {"h": "0", "v": "1"}.get(last, last)])
+
+
+class Stage:
+    """What the rows of a test have made so far: the first one, and maybe another, which get the same calls."""
+
+    def __init__(self, program, kind):
+        self.kind, self.given, self.saved, self.has_other = kind, [], "", False
+        pipes = {"stdin": subprocess.PIPE, "stdout": subprocess.PIPE, "text": True, "bufsize": 1}
+        self.running = subprocess.Popen([program, kind], **pipes)
+
+    def close(self):
+        self.running.stdin.close()
+        if self.running.wait() or self.running.stdout.read():
+            raise Otherwise(f"status {self.running.returncode}")
+
+    def tell(self, place, call):
+        """What the program answers to a call of what is in a place."""
+        self.running.stdin.write(f"{place} {call}\n")
+        lines = [self.running.stdout.readline()]
+        while call.split(" ")[0] in LISTS and lines[-1] not in ("end\n", ""):
+            lines.append(self.running.stdout.readline())
+        if not lines[-1].endswith("\n"):
+            raise Otherwise("the program has ended")
+        return "".join(lines[:-1] or lines).removesuffix("\n")
+
+    def answer_of(self, place, call):
+        """What a call answers, as rows have it."""
+        word, is_cache = call.split(" ")[0], self.kind == "cache"
+        if not is_cache and word in ("size", "empty", "spaces"):
+            width, height, is_empty, allocated, free = self.tell(place, "counts").split(" ")
+            answers = {"size": f"{width} {height}", "spaces": f"{allocated} {free}"}
+            return answers.get(word, "yes" if is_empty == "true" else "no")
+        if not is_cache and word in ("iter", "len"):
+            lines = [line.removeprefix("at ") for line in self.tell(place, "iter").splitlines() if line != "end"]
+            return str(len(lines)) if word == "len" else " ".join(["all", *lines])
+        answer = self.tell(place, call)
+        return answer + " none" if answer.endswith(" evicts") else answer
+
+    def answer(self, call):
+        """What a call answers, in which a position may stand for an id."""
+        before, mark, positions = call.partition("#")
+        if not mark:
+            return self.answer_plain(call)
+        ends = [self.number_of(it) for it in positions.split("..")]
+        answers = [self.answer_plain(f"{before}{self.given[it]}") for it in range(ends[0], ends[-1] + 1)]
+        if len({*answers}) != 1:
+            raise Otherwise(f"{answers} for these positions")
+        return answers[0]
+
+    def number_of(self, position):
+        """The number, from 0, of a position among the ids that were given: counted from 1, or back from -1."""
+        number = int(position)
+        return number - 1 if number > 0 else len(self.given) + number
+
+    def answer_plain(self, call):
+        word, _, words = call.partition(" ")
+        if word in KINDS:
+            return self.begin(words)
+        if word in ("clone", "restore"):
+            answer = self.tell(1, f"restore {self.saved}" if word == "restore" else "clone")
+            self.has_other = answer == "made"
+            return answer
+        if word == "save":
+            self.saved = self.of_both("save")
+            return self.saved
+        if word == "change":
+            return self.change(words)
+        if word == "steps":
+            return self.tell(0, f"steps {self.saved}")
+        if word == "first":
+            return self.answer_of(0, words)
+        if word == "other":
+            return self.of_other(words)
+        answer = self.of_both(call)
+        self.given += [answer.rpartition(" id ")[2]] if word != "iter" and " id " in answer else []
+        return answer
+
+    def begin(self, words):
+        """Begins anew with what these words make."""
+        self.has_other, self.given = False, []
+        if self.kind == "cache":
+            *words, capacity = words.split(" ")
+            return self.tell(0, " ".join(["make", capacity, *words]))
+        return self.tell(0, f"make {asked(words)}")
+
+    def change(self, words):
+        """Changes a part of what was saved, which stands there once."""
+        old, _, new = words.partition(" to ")
+        if self.saved.count(old) != 1:
+            raise Otherwise(f"it stands there {self.saved.count(old)} times")
+        self.saved = self.saved.replace(old, new)
+        return "changed"
+
+    def of_other(self, call):
+        """What a call of the other one answers, or the words that make it."""
+        word, _, words = call.partition(" ")
+        if word not in KINDS:
+            return self.answer_of(1, call)
+        self.has_other = True
+        return self.tell(1, f"make {asked(words)}")
+
+    def of_both(self, call):
+        answers = [self.answer_of(place, call) for place in range(1 + self.has_other)]
+        if answers[0] != answers[-1]:
+            raise Otherwise(f"answered {answers[0]}, by the other {answers[-1]}")
+        return answers[0]
+
+
+def is_wanted(answer, wanted):
+    """Whether an answer is one of those that a row names, if it names any. One that ends in two dots says how it
+    begins."""
+    ones = [] if wanted is None else wanted.split(" or ")
+    is_one = lambda one: answer.startswith(one[:-2]) if one.endswith("..") else answer == one
+    return wanted is None or any(map(is_one, ones))
+
+
+def judge(program, test):
+    """Makes the calls of a test."""
+    stage = Stage(program, test.kind)
+    try:
+        for row, _ in test.turns():
+            answer = answered(stage, row)
+            if answer == NOT_MADE or not is_wanted(answer, row.wanted):
+                raise Otherwise(f"line {row.line}: answered {answer}")
+    finally:
+        stage.close()
+
+
+def answered(stage, row):
+    """What a row is answered, or what is otherwise, with its line."""
+    try:
+        return stage.answer(row.call)
+    except Otherwise as why:
+        raise Otherwise(f"line {row.line}: {why}") from why
