@@ -1,11 +1,16 @@
 """The calls of a test, made one after the other by the program of crates/rows, each compared with its row."""
 
+import re
 import subprocess
 
+# What is answered where something couldn't be called or made: a row has to name it, and can't name the first.
 NOT_MADE = "fault 0"
+NOT_DONE = {NOT_MADE, "no such call", "nothing was made", "no memory"}
 KINDS = ("atlas", "bucketed", "cache")
 # What the program writes in more than a line, up to one that ends it.
 LISTS = ("picture", "iter")
+# What takes a text; all other calls take numbers.
+OF_TEXTS = ("restore", "steps")
 
 
 class Otherwise(Exception):
@@ -33,9 +38,12 @@ class Stage:
 
     def tell(self, place, call):
         """What the program answers to a call of what is in a place."""
+        word, _, words = call.partition(" ")
+        if word not in OF_TEXTS and not re.fullmatch(r"(-?\d+( (?=.)|$))*", words):
+            raise Otherwise(f"no numbers: {words}")
         self.running.stdin.write(f"{place} {call}\n")
         lines = [self.running.stdout.readline()]
-        while call.split(" ")[0] in LISTS and lines[-1] not in ("end\n", ""):
+        while word in LISTS and lines[-1] not in ("end\n", ""):
             lines.append(self.running.stdout.readline())
         if not lines[-1].endswith("\n"):
             raise Otherwise("the program has ended")
@@ -138,7 +146,8 @@ def judge(program, test):
     try:
         for row, _ in test.turns():
             answer = answered(stage, row)
-            if answer == NOT_MADE or not is_wanted(answer, row.wanted):
+            is_done = answer not in ({NOT_MADE} if row.wanted else NOT_DONE)
+            if not is_done or not is_wanted(answer, row.wanted):
                 raise Otherwise(f"line {row.line}: answered {answer}")
     finally:
         stage.close()
