@@ -23,6 +23,7 @@ use Rattle.atlas_pages.specs.Choosing.{chosen_page, may_open, opened, ready_for}
 use Rattle.atlas_pages.specs.Pages.{PagesState, empty_page, page_frame}
 use Rattle.atlas_pages.specs.Places.{AllocatesOn, at_page, is_unused, rectangle_on, used_pages}
 use Rattle.atlas_pages.specs.Promises.{IsPage, KeepsPagesPromises}
+use Rattle.atlas_pages.proofs.KeptBefore.{get-set, kept-before, ready-or_opened}
 use Rattle.atlas_pages.proofs.PageLists.{at_page-set}
 use Rattle.page_runs.specs.declared.commands.PageCommand.{PageCommand}
 use Rattle.page_runs.specs.declared.commands.PageCommand.TheVariants.{Allocate, Deallocate, Clear, Grow, Shrink}
@@ -81,13 +82,7 @@ seen-returned page gone promises id = by_test (gone == id) refl
     by_test true same = subst (λ (n : ℕ). rectangle_of (returned page gone) n ≡ None) (eqb-true gone id same) takes.gone
     by_test false other = takes.others id (λ same. differ gone id other (sym same))
 
--- a page written among others is found under its number, and the others are under theirs
-get-set : (pages : List AtlasState) (n : ℕ) (before after : AtlasState) → slice_get pages n ≡ Some before
-    → slice_get (slice_set pages n after) n ≡ Some after
-get-set [] n before after at = absurd (cc)
-get-set (x ∷ pages) zero before after at = refl
-get-set (x ∷ pages) (suc n) before after at = get-set pages n before after at
-
+-- the pages beside one that is written stay under their numbers
 get-set_other : (pages : List AtlasState) (n m : ℕ) (after : AtlasState) → n ≢ m
     → slice_get (slice_set pages n after) m ≡ slice_get pages m
 get-set_other [] n m after other = refl
@@ -123,47 +118,6 @@ among-opened [] empty none zero id = none-allocated empty id none
 among-opened [] empty none (suc page) id = refl
 among-opened (x ∷ pages) empty none zero id = refl
 among-opened (x ∷ pages) empty none (suc page) id = among-opened pages empty none page id
-
--- a page among those with one more is one of them or that one
-get-opened : (pages : List AtlasState) (last : AtlasState) (n : ℕ) (page : AtlasState) → slice_get (pages ++ last ∷ []) n ≡ Some page
-    → slice_get pages n ≡ Some page ⊎ last ≡ page
-get-opened [] last zero page at = inr (cc)
-get-opened [] last (suc n) page at = absurd (cc)
-get-opened (x ∷ pages) last zero page at = inl at
-get-opened (x ∷ pages) last (suc n) page at = get-opened pages last n page at
-
--- pages that are ready for a size are those that were, or one is opened
-ready-or_opened : (state : PagesState) (size : Size) → ready_for state size ≡ state ⊎ ready_for state size ≡ opened state
-ready-or_opened state size = by_tests (is_some (chosen_page state size)) (may_open state size)
-  where
-    by_tests : (a b : Bool) → cond a state (cond b (opened state) state) ≡ state ⊎ cond a state (cond b (opened state) state) ≡ opened state
-    by_tests true b = inl refl
-    by_tests false true = inr refl
-    by_tests false false = inl refl
-
--- a page on which a size was allocated kept the promises before, where all pages do before and after
-kept-before : (old new : PagesState) (size : Size) (place : PagePlace) → KeepsPagesPromises old → KeepsPagesPromises new
-    → new.options ≡ old.options → (allocates : AllocatesOn (ready_for old size).pages size place new.pages)
-    → KeepsPromises allocates.before
-kept-before old new size place was is same allocates =
-    ⊎_elim (λ here. open_before (ap (λ (s : PagesState). slice_get s.pages place.page) (sym here) ∙ allocates.is_open))
-    (λ opens. ⊎_elim open_before new_before
-    (get-opened old.pages (empty_page old.options) place.page allocates.before
-    (ap (λ (s : PagesState). slice_get s.pages place.page) (sym opens) ∙ allocates.is_open)))
-    (ready-or_opened old size)
-  where
-    open_before : slice_get old.pages place.page ≡ Some allocates.before → KeepsPromises allocates.before
-    open_before at = (Each-get (IsPage old.options) old.pages place.page allocates.before at was.pages).promises
-
-    new_before : empty_page old.options ≡ allocates.before → KeepsPromises allocates.before
-    new_before empty =
-        let at : slice_get new.pages place.page ≡ Some allocates.after =
-        ap (λ (l : List AtlasState). slice_get l place.page) allocates.others
-        ∙ get-set (ready_for old size).pages place.page allocates.before allocates.after allocates.is_open in
-        let after = Each-get (IsPage new.options) new.pages place.page allocates.after at is.pages in
-        subst KeepsPromises
-        (ap (λ (o : PageOptions). fresh (page_frame o)) same ∙ empty)
-        (subst (λ (f : Frame). KeepsPromises (fresh f)) after.frame (promises-cleared allocates.after after.promises.valid))
 
 -- what pages have that are ready for a size is what they had
 among-ready : (state : PagesState) (size : Size) (page id : ℕ) → among (ready_for state size).pages page id ≡ among state.pages page id
