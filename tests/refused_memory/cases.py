@@ -57,6 +57,17 @@ def snapshots():
     return texts("tests/refused_memory/*.json")
 
 
+def lookings():
+    """The arguments of `./etagere`, and the standard input that goes with them."""
+    runs = {f"{command} -": (HERE / "run_atlas.atlas").read_text() for command in ("explain", "stats --json", "save", "watch")}
+    others = {
+        "explain": (HERE / "wider_buckets.atlas").read_text(),
+        f"resume --live {HERE / 'atlas.json'}": "a 12 8\nr 0\na 8 8\n",
+        "pack --json 64 64": "a,9,14\n64 64\n3,4\n",
+    }
+    return runs | others
+
+
 def short_lives(count):
     """A script of so many commands, of which each second one returns what the one before was given."""
     commands = [f"r {k - 1}" if k % 2 else f"a {9 + k % 7} 9" for k in range(count)]

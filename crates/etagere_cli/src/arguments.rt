@@ -11,6 +11,7 @@ pub fn program<'a>(alloc: Global) -> Result<Command<'a>, AllocError> {
         .subcommand(stats(alloc)?)?
         .subcommand(save(alloc)?)?
         .subcommand(resume(alloc)?)?
+        .subcommand(pack(alloc)?)?
         .subcommand(watch(alloc)?)
 }
 
@@ -74,6 +75,26 @@ fn resume<'a>(alloc: Global) -> Result<Command<'a>, AllocError> {
         ))
 }
 
+fn pack<'a>(alloc: Global) -> Result<Command<'a>, AllocError> {
+    let pages = Arg::new(alloc, "pages")
+        .long("pages")
+        .value_name("N")
+        .action(ArgAction::Set)
+        .help("Opens at most so many pages; else as many as it takes");
+    Command::new(alloc, "pack")
+        .about("Finds places for a list of sizes, on as many pages as it takes")
+        .after_help(
+            "A line of the list is W H, W,H or NAME,W,H; one of the answer is PAGE X Y W H NAME.\n\n\
+            Example: ./etagere pack 512 512 sprites.csv",
+        )
+        .arg(json(alloc))?
+        .arg(pages)?
+        .arg(output(alloc))?
+        .arg(side(alloc, "W", "The width of a page, in pixels"))?
+        .arg(side(alloc, "H", "The height of a page, in pixels"))?
+        .arg(input(alloc, "The list; standard input if it isn't given"))
+}
+
 fn watch<'a>(alloc: Global) -> Result<Command<'a>, AllocError> {
     Command::new(alloc, "watch")
         .about("Writes a page for a browser, which shows the atlas after each command of a script")
@@ -90,6 +111,13 @@ fn json<'a>(alloc: Global) -> Arg<'a> {
         .long("json")
         .action(ArgAction::SetTrue)
         .help("Writes JSON for programs in place of text for people")
+}
+
+fn side<'a>(alloc: Global, name: &'a str, help: &'a str) -> Arg<'a> {
+    Arg::new(alloc, name)
+        .required(true)
+        .action(ArgAction::Set)
+        .help(help)
 }
 
 fn input<'a>(alloc: Global, help: &'a str) -> Arg<'a> {

@@ -50,6 +50,7 @@ pub fn options_words(number: u32) -> &'static str {
         2 => "the area is too large",
         3 => "an alignment is below 1",
         4 => "the number of columns is below 1",
+        7 => "there may be no page",
         _ => "a column, rounded down to the alignment, would be 0 wide",
     }
 }

@@ -1,6 +1,6 @@
 //! How the program ends: with bytes for standard output or a file, or a line for standard error, and a status.
 
-use crate::output::write_named;
+use crate::output::{Target, write_to};
 use run_commands::faults::{ReplayFault, RunFault};
 use std::alloc::{AllocError, AllocFailed, Global};
 use std::io;
@@ -43,15 +43,15 @@ impl Answer {
         })
     }
 
-    /// Writes what was made to standard output, or to the file at this path; or says the line.
+    /// Writes what was made to where it goes; or says the line.
     pub fn send(
         self,
         rt: &(impl Files + Print + Eprint + AllocGlobal),
-        path: Option<&str>,
+        target: Target<'_>,
     ) -> Result<ExitCode, Failure> {
         match self {
             Answer::Made { bytes, status } => {
-                write_named(rt, path, bytes.as_slice())?;
+                write_to(rt, target, bytes.as_slice())?;
                 Ok(ExitCode::from(status))
             }
             Answer::Said { line, status } => {

@@ -1,11 +1,14 @@
 //! `etagere explain`: why commands were refused, a line is bad, or a snapshot is broken.
 
 use crate::bad_lines::expected_text;
+use crate::broken_buckets::breach_of_buckets;
+use crate::broken_records::{Breach, breach_of};
 use crate::broken_rules::{options_words, rule_words};
 use crate::ending::{Answer, Failure};
 use crate::input::{read_named, snapshot_text};
 use crate::places::{line_numbers, line_of_command};
 use crate::reasons::refused_text;
+use crate::record_walks::Record;
 use clap::ArgMatches;
 use etagere::{AtlasAllocator, BucketedAtlasAllocator, OptionsFault, RestoreFault};
 use run_commands::faults::{ReplayFault, RunFault};
@@ -88,7 +91,7 @@ fn findings_text(
 
 fn explain_snapshot(alloc: Global, text: &[u8]) -> Result<Answer, Failure> {
     match read_saved(alloc, text) {
-        Ok(saved) => explain_saved(alloc, saved),
+        Ok(saved) => explain_saved(alloc, text, saved),
         Err(ReadFault::Unreadable) => Ok(Answer::told(
             2,
             format!(in alloc; "unreadable: the JSON text of one snapshot is expected\n")?,
@@ -97,15 +100,15 @@ fn explain_snapshot(alloc: Global, text: &[u8]) -> Result<Answer, Failure> {
     }
 }
 
-fn explain_saved(alloc: Global, saved: Saved) -> Result<Answer, Failure> {
+fn explain_saved(alloc: Global, text: &[u8], saved: Saved) -> Result<Answer, Failure> {
     match saved {
         Saved::Atlas(snapshot) => match AtlasAllocator::restore(alloc, snapshot) {
             Ok(_) => sound(alloc),
-            Err(fault) => broken(alloc, fault, false),
+            Err(fault) => broken(alloc, text, fault, false),
         },
         Saved::Bucketed(snapshot) => match BucketedAtlasAllocator::restore(alloc, snapshot) {
             Ok(_) => sound(alloc),
-            Err(fault) => broken(alloc, fault, true),
+            Err(fault) => broken(alloc, text, fault, true),
         },
     }
 }
@@ -114,11 +117,42 @@ fn sound(alloc: Global) -> Result<Answer, Failure> {
     Ok(Answer::done(format!(in alloc; "the snapshot keeps all rules\n")?))
 }
 
-fn broken(alloc: Global, fault: RestoreFault, is_bucketed: bool) -> Result<Answer, Failure> {
+fn broken(
+    alloc: Global,
+    text: &[u8],
+    fault: RestoreFault,
+    is_bucketed: bool,
+) -> Result<Answer, Failure> {
     if matches!(fault, RestoreFault::Memory) {
         return Err(Failure::Fault(ReplayFault::Memory));
     }
     let number = fault.number();
     let words = rule_words(fault, is_bucketed);
-    Ok(Answer::told(1, format!(in alloc; "broken {number}: {words}\n")?))
+    let place = place_text(alloc, text, fault)?;
+    Ok(Answer::told(1, format!(in alloc; "broken {number}: {words}{place}\n")?))
+}
+
+/// At which record a snapshot breaks a rule, in words; no text where that can't be said. It is read again, since
+/// restoring consumed it.
+fn place_text(alloc: Global, text: &[u8], fault: RestoreFault) -> Result<String, Failure> {
+    let found = match read_saved(alloc, text) {
+        Ok(Saved::Atlas(snapshot)) => breach_of(alloc, &snapshot, fault)?,
+        Ok(Saved::Bucketed(snapshot)) => breach_of_buckets(alloc, &snapshot, fault)?,
+        Err(ReadFault::Memory) => return Err(Failure::Fault(ReplayFault::Memory)),
+        Err(ReadFault::Unreadable) => None,
+    };
+    match found {
+        Some(breach) => Ok(breach_text(alloc, breach)?),
+        None => Ok(String::new(alloc)),
+    }
+}
+
+fn breach_text(alloc: Global, breach: Breach) -> Result<String, AllocError> {
+    let what = breach.what;
+    match breach.record {
+        Record::Field(name) => format!(in alloc; "; at {name}: {what}"),
+        Record::Shelf(number) => format!(in alloc; "; at shelf {number}: {what}"),
+        Record::Item(number) => format!(in alloc; "; at item {number}: {what}"),
+        Record::Bucket(number) => format!(in alloc; "; at bucket {number}: {what}"),
+    }
 }

@@ -6,24 +6,37 @@ use std::fs::{self, File};
 use std::io::{self, Write};
 use std::rt::Files;
 
-/// Writes to the file at a path, or to standard output where there is none, or it is `-`.
-pub fn write_named(
+/// Where what was made goes: to the file at a path, by way of a new one beside it that has the number of this process in
+/// its name; to standard output where there is no path, or it is `-`.
+#[derive(Clone, Copy)]
+pub struct Target<'a> {
+    pub path: Option<&'a str>,
+    pub process: u32,
+}
+
+/// Writes everything to where it goes.
+pub fn write_to(
     rt: &(impl Files + Print + AllocGlobal),
-    path: Option<&str>,
+    target: Target<'_>,
     bytes: &[u8],
 ) -> Result<(), Failure> {
-    match path {
+    match target.path {
         None | Some("-") => {
             let written = io::writer(rt).write_all(bytes);
             written.map_err(|_| Failure::Fault(ReplayFault::Write))
         }
-        Some(path) => write_file(rt, path, bytes),
+        Some(path) => write_file(rt, path, target.process, bytes),
     }
 }
 
-fn write_file(rt: &(impl Files + AllocGlobal), path: &str, bytes: &[u8]) -> Result<(), Failure> {
+fn write_file(
+    rt: &(impl Files + AllocGlobal),
+    path: &str,
+    process: u32,
+    bytes: &[u8],
+) -> Result<(), Failure> {
     let alloc = rt.alloc();
-    let beside = format!(in alloc; "{path}.new")?;
+    let beside = format!(in alloc; "{path}.{process}.new")?;
     let written = if is_kept(rt, path) {
         fs::write(rt, path, bytes)
     } else {
@@ -45,8 +58,7 @@ fn is_kept(rt: &impl Files, path: &str) -> bool {
 
 /// Writes to a new file, and moves it to the path once it has everything; it is removed where that fails.
 fn replace(rt: &impl Files, path: &str, beside: &str, bytes: &[u8]) -> io::Result<()> {
-    let mut file = File::create_new(rt, beside)?;
-    let moved = match file.write_all(bytes) {
+    let moved = match write_new(rt, beside, bytes) {
         Ok(()) => fs::rename(rt, beside, path),
         Err(why) => Err(why),
     };
@@ -54,4 +66,17 @@ fn replace(rt: &impl Files, path: &str, beside: &str, bytes: &[u8]) -> io::Resul
         let _ = fs::remove_file(rt, beside);
     }
     moved
+}
+
+/// Writes to a file that wasn't there. One of its name can only be left from a process of the same number that was
+/// killed, and goes.
+fn write_new(rt: &impl Files, path: &str, bytes: &[u8]) -> io::Result<()> {
+    let made = match File::create_new(rt, path) {
+        Err(why) if why.kind() == io::ErrorKind::AlreadyExists => {
+            fs::remove_file(rt, path)?;
+            File::create_new(rt, path)
+        }
+        made => made,
+    };
+    made?.write_all(bytes)
 }

@@ -28,6 +28,27 @@ pub fn refused_text(
     }
 }
 
+/// What is said of a size that no page has a place for, behind its line: what an empty page says of it, if it has none
+/// either.
+pub fn unplaced_text(
+    alloc: Global,
+    reason: Option<Refusal>,
+    asked: Size,
+) -> Result<String, AllocError> {
+    let Size { width, height } = asked;
+    match reason {
+        Some(reason) => {
+            let why = shelf_words(alloc, reason, asked, false)?;
+            format!(in alloc; "{width}x{height} refused: {why}")
+        }
+        None => {
+            format!(in alloc;
+                "{width}x{height} refused: no page has room, and no more may be opened"
+            )
+        }
+    }
+}
+
 /// What the largest free item is, in words.
 fn largest_text(alloc: Global, largest: Size) -> Result<String, AllocError> {
     let Size { width, height } = largest;

@@ -1,0 +1,301 @@
+//! At which record the snapshot of a bucketed atlas breaks a rule, and how. As `broken_records`.
+
+ghost use Rattle.std.specs.Prelude.{◌≤◌};
+
+use crate::broken_records::{Breach, breach_at};
+use crate::record_walks::{End, Record};
+use etagere::{BucketedSnapshot, RestoreFault};
+use std::alloc::{AllocError, Global};
+
+/// What a walk along a list of buckets meets, what leads to the first, and how it ends.
+#[derive(Drop)]
+struct Buckets {
+    head: Record,
+    met: Vec<usize>,
+    end: End,
+}
+
+impl Buckets {
+    /// The record whose link the walk followed last.
+    fn last(&self) -> Record {
+        match self.met.last() {
+            Some(number) => Record::Bucket(*number),
+            None => self.head,
+        }
+    }
+}
+
+/// Walks from the bucket of this number to the end, to a link past the records, or to a record that it has met.
+fn walk(
+    alloc: Global,
+    snapshot: &BucketedSnapshot,
+    head: Record,
+    first: u16,
+) -> Result<Buckets, AllocError> {
+    let mut seen = vec![in alloc; false; 65535]?;
+    let mut met = Vec::new(alloc);
+    let mut link = first;
+    let mut end = End::AtNone;
+    for _ in 0..65536u32 {
+        let number = usize::from(link);
+        if link == 65535 {
+            break;
+        }
+        let (Some(bucket), Some(mark)) = (snapshot.buckets.get(number), seen.get_mut(number)) else {
+            end = End::PastTheRecords;
+            break;
+        };
+        if *mark {
+            end = End::AtMet(number);
+            break;
+        }
+        *mark = true;
+        met.push(number)?;
+        link = bucket.next;
+    }
+    Ok(Buckets { head, met, end })
+}
+
+/// The lists of the shelves, and of the unused buckets behind them.
+fn lists_of(alloc: Global, snapshot: &BucketedSnapshot) -> Result<Vec<Buckets>, AllocError> {
+    let mut lists = Vec::new(alloc);
+    for (number, shelf) in snapshot.shelves.iter().enumerate() {
+        lists.push(walk(alloc, snapshot, Record::Shelf(number), shelf.first_bucket)?)?;
+    }
+    let head = Record::Field("first_unallocated_bucket");
+    lists.push(walk(alloc, snapshot, head, snapshot.first_unallocated_bucket)?)?;
+    Ok(lists)
+}
+
+/// The first record, in the order of the lists, at which a snapshot breaks the rule of this fault.
+pub fn breach_of_buckets(
+    alloc: Global,
+    snapshot: &BucketedSnapshot,
+    fault: RestoreFault,
+) -> Result<Option<Breach>, AllocError> {
+    let lists = lists_of(alloc, snapshot)?;
+    match fault {
+        RestoreFault::Link => Ok(breach_of_links(snapshot, lists.as_slice())),
+        RestoreFault::Shelves => Ok(breach_of_shelves(snapshot)),
+        RestoreFault::Runs => Ok(breach_of_lists(snapshot, lists.as_slice())),
+        RestoreFault::Neighbours => Ok(breach_of_last(snapshot)),
+        RestoreFault::Sharing => breach_of_sharing(alloc, snapshot, lists.as_slice()),
+        RestoreFault::Unused => Ok(breach_of_unused(snapshot, lists.as_slice())),
+        _ => Ok(None),
+    }
+}
+
+fn breach_of_links(snapshot: &BucketedSnapshot, lists: &[Buckets]) -> Option<Breach> {
+    for list in lists {
+        if list.end == End::PastTheRecords {
+            return breach_at(list.last(), "its link leads past the records");
+        }
+        for number in &list.met {
+            let shelf = usize::from(snapshot.buckets.get(*number)?.shelf);
+            if matches!(list.head, Record::Shelf(_)) && list.head != Record::Shelf(shelf) {
+                return breach_at(
+                    Record::Bucket(*number),
+                    "it names another shelf than the one that has it",
+                );
+            }
+        }
+    }
+    None
+}
+
+/// How far the shelves of a column reach.
+#[derive(Clone, Copy)]
+struct Column {
+    number: u32,
+    height: u32,
+}
+
+fn breach_of_shelves(snapshot: &BucketedSnapshot) -> Option<Breach> {
+    let across = if snapshot.vertical_shelves {
+        snapshot.width.unsigned_abs()
+    } else {
+        snapshot.height.unsigned_abs()
+    };
+    let width = u32::from(snapshot.column_width).max(1);
+    let mut column = Column {
+        number: 0,
+        height: 0,
+    };
+    for (number, shelf) in snapshot.shelves.iter().enumerate() {
+        let here = Record::Shelf(number);
+        let place = u32::from(shelf.x) / width;
+        if u32::from(shelf.x) % width != 0 || place >= u32::from(snapshot.num_columns) {
+            return breach_at(here, "no column begins at its x");
+        }
+        if place != column.number {
+            if place != column.number.saturating_add(1) || shelf.height == 0 {
+                return breach_at(here, "it opens a column out of turn, or without height");
+            }
+            column.number = place;
+            column.height = 0;
+        }
+        if u32::from(shelf.y) != column.height {
+            return breach_at(here, "it doesn't begin where the one before it ends");
+        }
+        column.height = column.height.saturating_add(u32::from(shelf.height));
+        if column.height > across {
+            return breach_at(here, "it ends past its column");
+        }
+    }
+    breach_of_totals(snapshot, column, across)
+}
+
+/// What is wrong with what a snapshot says of its last column.
+fn breach_of_totals(snapshot: &BucketedSnapshot, column: Column, across: u32) -> Option<Breach> {
+    if u32::from(snapshot.current_column) != column.number {
+        return breach_at(
+            Record::Field("current_column"),
+            "it isn't the column of the last shelf",
+        );
+    }
+    if u32::from(snapshot.available_height) != across.saturating_sub(column.height) {
+        return breach_at(
+            Record::Field("available_height"),
+            "it isn't what the shelves of the last column leave",
+        );
+    }
+    None
+}
+
+fn breach_of_lists(snapshot: &BucketedSnapshot, lists: &[Buckets]) -> Option<Breach> {
+    for (number, list) in lists.iter().enumerate() {
+        if number == snapshot.shelves.len() {
+            return None;
+        }
+        let found = breach_of_width(snapshot, number)
+            .or(breach_of_places(snapshot, number, list))
+            .or(breach_of_counts(snapshot, number, list));
+        if found.is_some() {
+            return found;
+        }
+    }
+    None
+}
+
+/// The alignment along the shelves, at least 1.
+fn step_of(snapshot: &BucketedSnapshot) -> u32
+    ensures { 1 ≤ result }
+{
+    let alignment = if snapshot.vertical_shelves {
+        snapshot.alignment_height
+    } else {
+        snapshot.alignment_width
+    };
+    alignment.unsigned_abs().max(1)
+}
+
+fn breach_of_width(snapshot: &BucketedSnapshot, number: usize) -> Option<Breach> {
+    let width = u32::from(snapshot.shelves.get(number)?.bucket_width);
+    if width % step_of(snapshot) != 0 || (width == 0 && snapshot.num_columns == 1) {
+        return breach_at(
+            Record::Shelf(number),
+            "its bucket_width is 0, or not aligned",
+        );
+    }
+    None
+}
+
+/// A bucket that doesn't lie beside those that are searched before it, down to where the shelf begins.
+fn breach_of_places(snapshot: &BucketedSnapshot, number: usize, list: &Buckets) -> Option<Breach> {
+    let shelf = snapshot.shelves.get(number)?;
+    let mut end = u32::from(shelf.x).saturating_add(u32::from(snapshot.column_width));
+    let mut last = None;
+    for bucket in &list.met {
+        let place = u32::from(snapshot.buckets.get(*bucket)?.x);
+        if place.saturating_add(u32::from(shelf.bucket_width)) > end {
+            return breach_at(
+                Record::Bucket(*bucket),
+                "it ends past the column, or where another begins",
+            );
+        }
+        if place % step_of(snapshot) != 0 {
+            return breach_at(Record::Bucket(*bucket), "its x isn't aligned");
+        }
+        end = place;
+        last = Some(place);
+    }
+    if last != Some(u32::from(shelf.x)) {
+        return breach_at(list.last(), "no bucket begins where the shelf does");
+    }
+    None
+}
+
+fn breach_of_counts(snapshot: &BucketedSnapshot, number: usize, list: &Buckets) -> Option<Breach> {
+    let shelf = snapshot.shelves.get(number)?;
+    for bucket in &list.met {
+        let here = Record::Bucket(*bucket);
+        let record = snapshot.buckets.get(*bucket)?;
+        let Some(filled) = u32::from(shelf.bucket_width).checked_sub(u32::from(record.free_space))
+        else {
+            return breach_at(here, "it has more left than it is wide");
+        };
+        let given = u32::from(record.item_count);
+        if record.refcount > record.item_count || given > 4095 {
+            return breach_at(
+                here,
+                "more of it is live than it gave, or it gave more than 4095",
+            );
+        }
+        if record.refcount == 0 && (given != 0 || filled != 0) {
+            return breach_at(here, "nothing of it is live, but it counts what it gave");
+        }
+        if filled % step_of(snapshot) != 0 || given.saturating_mul(step_of(snapshot)) > filled {
+            return breach_at(
+                here,
+                "what it has used isn't aligned, or too little for what it gave",
+            );
+        }
+        if record.refcount != 0 && shelf.height == 0 {
+            return breach_at(here, "some of it is live, in a shelf without height");
+        }
+    }
+    None
+}
+
+fn breach_of_last(snapshot: &BucketedSnapshot) -> Option<Breach> {
+    let last = snapshot.shelves.len().checked_sub(1)?;
+    breach_at(
+        Record::Shelf(last),
+        "it is the last one, and nothing of it is live",
+    )
+}
+
+fn breach_of_sharing(
+    alloc: Global,
+    snapshot: &BucketedSnapshot,
+    lists: &[Buckets],
+) -> Result<Option<Breach>, AllocError> {
+    let mut stand = vec![in alloc; false; snapshot.buckets.len()]?;
+    for list in lists {
+        for number in &list.met {
+            if let Some(place) = stand.get_mut(*number) {
+                if *place {
+                    return Ok(breach_at(Record::Bucket(*number), "two lists have it"));
+                }
+                *place = true;
+            }
+        }
+        if list.end != End::AtNone {
+            return Ok(breach_at(list.last(), "the list doesn't end behind it"));
+        }
+    }
+    let lost = stand.iter().position(|stands| !*stands);
+    Ok(lost.and_then(|number| breach_at(Record::Bucket(number), "no list has it")))
+}
+
+fn breach_of_unused(snapshot: &BucketedSnapshot, lists: &[Buckets]) -> Option<Breach> {
+    for number in &lists.last()?.met {
+        if snapshot.buckets.get(*number)?.refcount != 0 {
+            return breach_at(
+                Record::Bucket(*number),
+                "it is unused, but something of it is live",
+            );
+        }
+    }
+    None
+}

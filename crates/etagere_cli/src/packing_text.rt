@@ -1,0 +1,99 @@
+//! What `etagere pack` writes: the place of each size, as text for people or JSON for programs.
+
+use crate::packing_lines::Wanted;
+use atlas_pages::PagePlace;
+use etagere::Size;
+use page_runs::PageReply;
+use std::alloc::{AllocError, Global};
+use std::fmt::Write;
+
+/// A line for each size: its page, its first corner, what was asked for, and its name if it has one.
+pub fn plain_text(
+    alloc: Global,
+    wanted: &[Wanted<'_>],
+    replies: &[PageReply],
+) -> Result<String, AllocError> {
+    let mut text = String::new(alloc);
+    for (one, reply) in wanted.iter().zip(replies) {
+        if let PageReply::Placed(place) = reply {
+            push_line(&mut text, one, place)?;
+        }
+    }
+    Ok(text)
+}
+
+fn push_line(text: &mut String, one: &Wanted<'_>, place: &PagePlace) -> Result<(), AllocError> {
+    let corner = place.allocation.rectangle.min;
+    let Size { width, height } = one.size;
+    write!(
+        text,
+        "{} {} {} {width} {height}",
+        place.page, corner.x, corner.y
+    )?;
+    if !one.name.is_empty() {
+        write!(text, " {}", one.name)?;
+    }
+    text.push_str("\n")
+}
+
+/// One object on one line: the size of a page, how many there are, and the places.
+pub fn json_text(
+    alloc: Global,
+    page: Size,
+    wanted: &[Wanted<'_>],
+    replies: &[PageReply],
+) -> Result<String, AllocError> {
+    let mut text = String::new(alloc);
+    let pages = count_pages(replies);
+    let Size { width, height } = page;
+    write!(
+        text,
+        "{{\"width\":{width},\"height\":{height},\"pages\":{pages},\"places\":["
+    )?;
+    for (index, (one, reply)) in wanted.iter().zip(replies).enumerate() {
+        if let PageReply::Placed(place) = reply {
+            text.push_str(if index == 0 { "{" } else { ",{" })?;
+            push_object(&mut text, one, place)?;
+        }
+    }
+    text.push_str("]}\n")?;
+    Ok(text)
+}
+
+fn count_pages(replies: &[PageReply]) -> u64 {
+    let mut pages = 0u64;
+    for reply in replies {
+        if let PageReply::Placed(place) = reply {
+            pages = pages.max(u64::from(place.page) + 1);
+        }
+    }
+    pages
+}
+
+fn push_object(text: &mut String, one: &Wanted<'_>, place: &PagePlace) -> Result<(), AllocError> {
+    let corner = place.allocation.rectangle.min;
+    let Size { width, height } = one.size;
+    if !one.name.is_empty() {
+        text.push_str("\"name\":\"")?;
+        push_escaped(text, one.name)?;
+        text.push_str("\",")?;
+    }
+    write!(
+        text,
+        "\"page\":{},\"x\":{},\"y\":{},\"width\":{width},\"height\":{height}}}",
+        place.page, corner.x, corner.y
+    )
+}
+
+/// The characters of a name within a string of JSON.
+fn push_escaped(text: &mut String, name: &str) -> Result<(), AllocError> {
+    for letter in name.chars() {
+        match letter {
+            '"' => text.push_str("\\\"")?,
+            '\\' => text.push_str("\\\\")?,
+            '\0'..='\x1f' => write!(text, "\\u{:04x}", letter as u32)?,
+            _ => text.push(letter)?,
+        }
+    }
+    Ok(())
+}
