@@ -1,0 +1,162 @@
+-- Lists of stamped entries: what a key finds in them, and what they are without their stamps.
+use Rattle.std.proofs.Common.{◌≡◌, ℕ, zero, suc, ◌-◌, ◌<◌, Bool, true, false, cond, Option, Some, None, List, [], ◌∷◌, length, take, refl, ap, sym, ◌∙◌, arith}
+use Rattle.std.proofs.lemmas.Bool.Decides.{nat_tests}
+use Rattle.std.proofs.lemmas.List.{take_all}
+use Rattle.std.specs.List.{slice_get}
+use Rattle.std.specs.Map.{lookup, lookup_entry, remove_entry}
+use Rattle.std.specs.Option.{option_map_or}
+use Rattle.std.specs.Prelude.{nat_eq, option_map}
+use Rattle.lru.specs.LruCache.{LruCache, last_entry, promoted, put_entries}
+use Rattle.etagere_base.specs.declared.ids.Allocation.{Allocation}
+use Rattle.used_keys.specs.declared.stamps.Entry.{Entry}
+use Rattle.used_keys.specs.Private.Stamps.{unstamped}
+
+-- an entry without its stamp
+abbrev pub bare : ℕ × Entry → ℕ × Allocation
+bare e = (e.0, e.1.allocation)
+
+module _ {X : Type 0} where
+  -- an entry that is found, and what it holds
+  entry_here : (b : Bool) (test : ℕ → Bool) (e : ℕ × X) (es : List (ℕ × X))
+      → lookup test es ≡ option_map_or (λ f. Some f.1) (lookup_entry test es) None
+      → cond b (Some e.1) (lookup test es) ≡ option_map_or (λ f. Some f.1) (cond b (Some e) (lookup_entry test es)) None
+  entry_here true test e es later = refl
+  entry_here false test e es later = later
+
+  pub lookup-entry : (test : ℕ → Bool) (es : List (ℕ × X))
+      → lookup test es ≡ option_map_or (λ f. Some f.1) (lookup_entry test es) None
+  lookup-entry test [] = refl
+  lookup-entry test (e ∷ es) = entry_here (test e.0) test e es (lookup-entry test es)
+
+  -- a key that isn't there takes nothing out
+  pub removed-unknown : (test : ℕ → Bool) (es : List (ℕ × X)) → lookup test es ≡ None → remove_entry test es ≡ es
+  removed-unknown test [] unknown = refl
+  removed-unknown test (e ∷ es) unknown = here (test e.0) unknown (removed-unknown test es)
+    where
+      here : (b : Bool) → cond b (Some e.1) (lookup test es) ≡ None → (lookup test es ≡ None → remove_entry test es ≡ es)
+          → cond b es (e ∷ remove_entry test es) ≡ e ∷ es
+      here true h later = absurd (cc)
+      here false h later = ap (λ l. e ∷ l) (later h)
+
+  -- a key that isn't there isn't in what stands first either
+  pub unknown-take : (test : ℕ → Bool) (n : ℕ) (es : List (ℕ × X)) → lookup test es ≡ None → lookup test (take n es) ≡ None
+  unknown-take test zero es unknown = refl
+  unknown-take test (suc n) [] unknown = refl
+  unknown-take test (suc n) (e ∷ es) unknown = here (test e.0) unknown (unknown-take test n es)
+    where
+      here : (b : Bool) → cond b (Some e.1) (lookup test es) ≡ None → (lookup test es ≡ None → lookup test (take n es) ≡ None)
+          → cond b (Some e.1) (lookup test (take n es)) ≡ None
+      here true h later = absurd (cc)
+      here false h later = later h
+
+  -- where nothing stands last, there is nothing
+  pub last-none : (es : List (ℕ × X)) → last_entry es ≡ None → es ≡ []
+  last-none [] none = refl
+  last-none (e ∷ es) none = absurd (some (length es) (e ∷ es) refl (rw (less es) at none))
+    where
+      less : (es : List (ℕ × X)) → suc (length es) - 1 ≡ length es
+      less es = omega arith
+
+      some : (n : ℕ) (fs : List (ℕ × X)) → length fs ≡ suc n → slice_get fs n ≡ None → ⊥
+      some n [] len none = cc
+      some zero (f ∷ fs) len none = cc
+      some (suc n) (f ∷ fs) len none = some n fs (omega arith) none
+
+  -- a key that isn't there moves nothing
+  pub promoted-unknown : (test : ℕ → Bool) (es : List (ℕ × X)) → lookup test es ≡ None → promoted test es ≡ es
+  promoted-unknown test es unknown = by_entry (lookup_entry test es) (sym (lookup-entry test es) ∙ unknown)
+    where
+      by_entry : (o : Option (ℕ × X)) → option_map_or (λ f. Some f.1) o None ≡ None
+          → option_map_or (λ e. e ∷ remove_entry test es) o es ≡ es
+      by_entry None h = refl
+      by_entry (Some e) h = absurd (cc)
+
+  -- a key that isn't there is put in front of entries that have room
+  pub put-first : (cache : LruCache ℕ X) (key : ℕ) (x : X) → lookup (nat_eq key) cache.entries ≡ None
+      → length cache.entries < cache.cap → put_entries nat_eq cache key x ≡ (key, x) ∷ cache.entries
+  put-first cache key x unknown room =
+      by_entry (lookup_entry (nat_eq key) cache.entries) (sym (lookup-entry (nat_eq key) cache.entries) ∙ unknown)
+    where
+      by_entry : (o : Option (ℕ × X)) → option_map_or (λ f. Some f.1) o None ≡ None
+          → option_map_or (λ e. (e.0, x) ∷ remove_entry (nat_eq key) cache.entries) o ((key, x) ∷ take (cache.cap - 1) cache.entries)
+          ≡ (key, x) ∷ cache.entries
+      by_entry None h = ap (λ l. (key, x) ∷ l) (take_all (cache.cap - 1) cache.entries (omega arith))
+      by_entry (Some e) h = absurd (cc)
+
+-- an entry that a key finds is of the key
+pub found-key : (key : ℕ) (es : List (ℕ × Entry)) (e : ℕ × Entry) → lookup_entry (nat_eq key) es ≡ Some e → e.0 ≡ key
+found-key key [] e found = absurd (cc)
+found-key key (f ∷ es) e found = here (nat_eq key f.0) refl found (found-key key es e)
+  where
+    here : (b : Bool) → nat_eq key f.0 ≡ b → cond b (Some f) (lookup_entry (nat_eq key) es) ≡ Some e
+        → (lookup_entry (nat_eq key) es ≡ Some e → e.0 ≡ key) → e.0 ≡ key
+    here true is h later =
+        let same : f ≡ e = cc in
+        let own : f.0 ≡ key = grind (arith, nat_tests) in
+        sym (ap (λ (x : ℕ × Entry). x.0) same) ∙ own
+    here false is h later = later h
+
+-- what a key finds without stamps
+pub lookup-bare : (test : ℕ → Bool) (es : List (ℕ × Entry))
+    → lookup test (unstamped es) ≡ option_map (λ (e : Entry). e.allocation) (lookup test es)
+lookup-bare test [] = refl
+lookup-bare test (e ∷ es) = here (test e.0) (lookup-bare test es)
+  where
+    here : (b : Bool) → lookup test (unstamped es) ≡ option_map (λ (e : Entry). e.allocation) (lookup test es)
+        → cond b (Some e.1.allocation) (lookup test (unstamped es)) ≡ option_map (λ (e : Entry). e.allocation) (cond b (Some e.1) (lookup test es))
+    here true later = refl
+    here false later = later
+
+-- a key that isn't there isn't there without stamps, and the other way round
+pub unknown-bare : (test : ℕ → Bool) (es : List (ℕ × Entry)) → lookup test (unstamped es) ≡ None → lookup test es ≡ None
+unknown-bare test es unknown = by_found (lookup test es) (sym (lookup-bare test es) ∙ unknown)
+  where
+    by_found : (o : Option Entry) → option_map (λ (e : Entry). e.allocation) o ≡ None → o ≡ None
+    by_found None h = refl
+    by_found (Some e) h = absurd (cc)
+
+entry-bare : (test : ℕ → Bool) (es : List (ℕ × Entry)) → lookup_entry test (unstamped es) ≡ option_map bare (lookup_entry test es)
+entry-bare test [] = refl
+entry-bare test (e ∷ es) = here (test e.0) (entry-bare test es)
+  where
+    here : (b : Bool) → lookup_entry test (unstamped es) ≡ option_map bare (lookup_entry test es)
+        → cond b (Some (bare e)) (lookup_entry test (unstamped es)) ≡ option_map bare (cond b (Some e) (lookup_entry test es))
+    here true later = refl
+    here false later = later
+
+-- an entry goes alike with and without stamps
+pub removed-bare : (test : ℕ → Bool) (es : List (ℕ × Entry)) → unstamped (remove_entry test es) ≡ remove_entry test (unstamped es)
+removed-bare test [] = refl
+removed-bare test (e ∷ es) = here (test e.0) (removed-bare test es)
+  where
+    here : (b : Bool) → unstamped (remove_entry test es) ≡ remove_entry test (unstamped es)
+        → unstamped (cond b es (e ∷ remove_entry test es)) ≡ cond b (unstamped es) (bare e ∷ remove_entry test (unstamped es))
+    here true later = refl
+    here false later = ap (λ l. bare e ∷ l) later
+
+-- and goes to the front alike
+pub promoted-bare : (test : ℕ → Bool) (es : List (ℕ × Entry)) (e : ℕ × Entry) → lookup_entry test es ≡ Some e
+    → promoted test (unstamped es) ≡ bare e ∷ unstamped (remove_entry test es)
+promoted-bare test es e found =
+    ap (λ (o : Option (ℕ × Allocation)). option_map_or (λ f. f ∷ remove_entry test (unstamped es)) o (unstamped es))
+    (entry-bare test es ∙ ap (option_map bare) found)
+    ∙ ap (λ l. bare e ∷ l) (sym (removed-bare test es))
+
+pub take-bare : (n : ℕ) (es : List (ℕ × Entry)) → unstamped (take n es) ≡ take n (unstamped es)
+take-bare zero es = refl
+take-bare (suc n) [] = refl
+take-bare (suc n) (e ∷ es) = ap (λ l. bare e ∷ l) (take-bare n es)
+
+get-bare : (n : ℕ) (es : List (ℕ × Entry)) → slice_get (unstamped es) n ≡ option_map bare (slice_get es n)
+get-bare n [] = refl
+get-bare zero (e ∷ es) = refl
+get-bare (suc n) (e ∷ es) = get-bare n es
+
+pub length-bare : (es : List (ℕ × Entry)) → length (unstamped es) ≡ length es
+length-bare [] = refl
+length-bare (e ∷ es) = ap suc (length-bare es)
+
+-- what stands last without stamps
+pub last-bare : (es : List (ℕ × Entry)) → last_entry (unstamped es) ≡ option_map bare (last_entry es)
+last-bare es =
+    ap (λ (n : ℕ). slice_get (unstamped es) (n - 1)) (length-bare es) ∙ get-bare (length es - 1) es

@@ -1,0 +1,5 @@
+mod EntryLemmas
+mod StampLemmas
+mod StateLemmas
+mod Turning
+mod Uses

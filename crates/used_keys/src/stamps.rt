@@ -1,0 +1,135 @@
+//! What becomes of stamped entries, in the order of use. Frames are numbered from 1; what is stamped with 0 was last used
+//! before there was one.
+//!
+//! Definition: `Private.Stamps`.
+
+ghost use Rattle.std.specs.Prelude.{◌≡◌, ◌≤◌, ◌-◌, ◌<◌, ◌∷◌, None, nat_eq, length, map, OnOk, OnErr};
+ghost use Rattle.std.specs.Map.{lookup};
+ghost use Rattle.lru.specs.LruCache as lru;
+ghost use Rattle.used_keys.specs.Keys.{rectangle_in};
+ghost use Rattle.used_keys.specs.Private.Stamps as spec;
+ghost use Rattle.used_keys.specs.Private.Stamps.{AreFalling, StandsFirst, restamped, turned, unstamped, with_stamp};
+
+use etagere_base::{Allocation, Rectangle};
+use lru::LruCache;
+use std::alloc::AllocError;
+
+/// What is kept of a key: what is allocated for it, and the number of the frame in which it was last used.
+#[derive(Clone, Copy)]
+pub struct Entry {
+    pub allocation: Allocation,
+    pub frame: u64,
+}
+
+/// Puts a new key in front of entries that have room for it.
+pub(crate) fn put_first(
+    entries: &mut LruCache<u64, Entry>,
+    key: u64,
+    entry: Entry,
+) -> Result<(), AllocError>
+    requires new { lookup (nat_eq key) entries.old.entries ≡ None }
+    requires room { length entries.old.entries < entries.old.cap }
+    ensures ok { OnOk result (entries.new
+        ≡ lru.lru_cache ((key, entry) ∷ entries.old.entries) entries.old.cap) }
+    ensures err { OnErr result (entries.new ≡ entries.old) }
+{
+    entries.put(key, entry)?;
+    Ok(())
+}
+
+/// The entry of a key, which goes to the front; none where it isn't there.
+pub(crate) fn found(entries: &mut LruCache<u64, Entry>, key: u64) -> Option<Entry>
+    ensures value { result ≡ lookup (nat_eq key) entries.old.entries }
+    ensures entries { entries.new ≡ lru.lru_cache (lru.promoted (nat_eq key) entries.old.entries) entries.old.cap }
+{
+    let entry = entries.get(&key)?;
+    Some(*entry)
+}
+
+/// Stamps the first entry, whose key this is.
+pub(crate) fn restamp(entries: &mut LruCache<u64, Entry>, key: u64, entry: Entry)
+    requires { StandsFirst key entries.old.entries }
+    ensures { entries.new ≡ lru.lru_cache (restamped key entry entries.old.entries) entries.old.cap }
+{
+    entries.put(key, entry).unwrap();
+}
+
+/// The rectangle of a key, which goes to the front and gets the stamp of a frame; none where it isn't there.
+pub(crate) fn use_in(entries: &mut LruCache<u64, Entry>, key: u64, frame: u64) -> Option<Rectangle>
+    ensures value { result ≡ rectangle_in (unstamped entries.old.entries) key }
+    ensures entries { entries.new
+        ≡ lru.lru_cache (spec.used_in frame key entries.old.entries) entries.old.cap }
+{
+    let Some(entry) = found(entries, key) else {
+        return None;
+    };
+    let rectangle = entry.allocation.rectangle;
+    if entry.frame == frame {
+        return Some(rectangle);
+    }
+    let allocation = entry.allocation;
+    restamp(entries, key, Entry { allocation, frame });
+    Some(rectangle)
+}
+
+/// Takes the stamps off all entries. Goes through them once.
+fn forget_frames(entries: &mut LruCache<u64, Entry>)
+    ensures { entries.new ≡ lru.lru_cache (map (with_stamp 0) entries.old.entries) entries.old.cap }
+{
+    for turn in 0..entries.len() {
+        turn_one(entries);
+    }
+}
+
+/// The first entry goes to the end, without its stamp.
+fn turn_one(entries: &mut LruCache<u64, Entry>)
+    requires { 1 ≤ length entries.old.entries }
+    ensures { entries.new ≡ lru.lru_cache (turned entries.old.entries) entries.old.cap }
+{
+    let Some((key, entry)) = entries.peek_mru() else {
+        unreachable!()
+    };
+    let key = *key;
+    let allocation = entry.allocation;
+    restamp(
+        entries,
+        key,
+        Entry {
+            allocation,
+            frame: 0,
+        },
+    );
+    entries.demote(&key);
+}
+
+/// The number of the next frame, in which no entry was used.
+pub(crate) fn next_frame(entries: &mut LruCache<u64, Entry>, frame: u64) -> u64
+    requires { AreFalling frame entries.old.entries }
+    ensures begun { 1 ≤ result }
+    ensures unused { AreFalling (result - 1) entries.new.entries }
+    ensures entries { unstamped entries.new.entries ≡ unstamped entries.old.entries }
+    ensures cap { entries.new.cap ≡ entries.old.cap }
+{
+    if frame < u64::MAX {
+        return frame + 1;
+    }
+    forget_frames(entries);
+    1
+}
+
+/// How many of the first entries have the stamp of a frame.
+pub(crate) fn stamped_first(entries: &LruCache<u64, Entry>, frame: u64) -> usize
+    ensures count { result ≡ spec.stamped_first frame entries.now.entries }
+    ensures few { result ≤ length entries.now.entries }
+{
+    let mut rest = entries.iter();
+    for count in 0..entries.len() {
+        let Some((_, entry)) = rest.next() else {
+            unreachable!()
+        };
+        if entry.frame != frame {
+            return count;
+        }
+    }
+    entries.len()
+}
