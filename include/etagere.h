@@ -122,7 +122,9 @@ enum {
     /* The key is new, and an empty atlas of the same size and options has no place for its size. */
     ETAGERE_CACHE_TOO_LARGE = 601,
     /* The key is new, and there was no memory. */
-    ETAGERE_CACHE_MEMORY = 602
+    ETAGERE_CACHE_MEMORY = 602,
+    /* The key is new, and there would be no place though all keys went that weren't used in this frame. */
+    ETAGERE_CACHE_FRAME_FULL = 603
 };
 
 /* Why a size has no place in an atlas of shelves: the first that holds is told, in this order. */
@@ -559,11 +561,19 @@ EtagereStatus etagere_cache_delete(EtagereCache *cache);
  * buffer, the least recently used first, and how many to *count; what is behind stays.
  * Answers ETAGERE_OK; ETAGERE_NULL_HANDLE; ETAGERE_LENGTH where the buffer is shorter than etagere_cache_len says,
  * with nothing written; ETAGERE_CACHE_TOO_LARGE exactly where the key is new and an empty atlas has no place for the
- * size, with nothing written; ETAGERE_CACHE_MEMORY, only for a new key: then the evicted keys and *count are written
- * too, these keys are gone, and the others stand. Asks the atlas once, and once more for each key that is evicted. */
+ * size, with nothing written; ETAGERE_CACHE_FRAME_FULL exactly where the key is new and evicting all keys that weren't
+ * used in this frame wouldn't make room, memory aside, with nothing written; ETAGERE_CACHE_MEMORY, only for a new key:
+ * then the evicted keys and *count are written too, these keys are gone, and the others stand. Asks the atlas once, and
+ * once more for each key that is evicted; where keys were used in this frame, it first tries that on a copy of the
+ * atlas. */
 EtagereStatus etagere_cache_place(
     EtagereCache *cache, uint64_t key, EtagereSize size, EtagereRectangle *rectangle, uint64_t *evicted, size_t
     evicted_length, size_t *count);
+
+/* Begins a frame: what is placed or looked up from now on isn't evicted until the next frame begins, or the cache is
+ * cleared.
+ * Answers ETAGERE_OK; ETAGERE_NULL_HANDLE. Takes no memory, and constant time. */
+EtagereStatus etagere_cache_begin_frame(EtagereCache *cache);
 
 /* Gives the rectangle of a key, which becomes the most recently used.
  * Answers ETAGERE_OK; ETAGERE_NULL_HANDLE; ETAGERE_UNKNOWN_KEY. Takes no memory, and constant time on average. */
@@ -599,7 +609,7 @@ EtagereStatus etagere_cache_grow(EtagereCache *cache, EtagereSize size);
 EtagereStatus etagere_cache_set_capacity(
     EtagereCache *cache, size_t capacity, uint64_t *evicted, size_t evicted_length, size_t *count);
 
-/* Takes all keys out: the cache is as new.
+/* Takes all keys out: the cache is as new, and no frame has begun.
  * Answers ETAGERE_OK; ETAGERE_NULL_HANDLE. Takes no memory, and goes through the keys and the columns. */
 EtagereStatus etagere_cache_clear(EtagereCache *cache);
 

@@ -74,7 +74,9 @@ impl GlyphCache {
     /// # Errors
     ///
     /// [`GlyphFault::TooLarge`], exactly where the key is new and an empty atlas has no place for the size: nothing has
-    /// changed. [`GlyphFault::Memory`], where there was no memory: the keys in it are gone, and the others stand.
+    /// changed. [`GlyphFault::FrameFull`], where evicting all keys that weren't used in this frame wouldn't make room:
+    /// nothing has changed. [`GlyphFault::Memory`], where there was no memory: the keys in it are gone, and the others
+    /// stand.
     pub fn place(&mut self, key: u64, size: Size) -> Result<Placed, GlyphFault> {
         if let Some(rectangle) = self.get(key) {
             return Ok(Placed { rectangle, evicted: Vec::new() });
@@ -86,6 +88,7 @@ impl GlyphCache {
             Ok(rectangle) => Ok(Placed { rectangle, evicted: self.taken_evicted(count) }),
             Err(Status::CACHE_TOO_LARGE) => Err(GlyphFault::TooLarge),
             Err(Status::CACHE_MEMORY) => Err(GlyphFault::Memory(self.taken_evicted(count))),
+            Err(Status::CACHE_FRAME_FULL) => Err(GlyphFault::FrameFull),
             Err(status) => status.unexpected(),
         }
     }
@@ -106,6 +109,12 @@ impl GlyphCache {
         self.evicted.try_reserve(missing).map_err(|_| AllocError)?;
         self.evicted.resize(self.evicted.len() + missing, 0);
         Ok(())
+    }
+
+    /// Begins a frame: what is placed or looked up from now on isn't evicted until the next frame begins, or all keys
+    /// are taken out by [`GlyphCache::clear`].
+    pub fn begin_frame(&mut self) {
+        self.handle.begin_frame();
     }
 
     /// The rectangle of a key, which becomes the most recently used, or none.
@@ -155,7 +164,7 @@ impl GlyphCache {
         there(self.handle.remove(key))
     }
 
-    /// Takes all keys out: the cache is as new.
+    /// Takes all keys out: the cache is as new, and no frame has begun.
     pub fn clear(&mut self) {
         self.handle.clear();
     }

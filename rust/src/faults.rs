@@ -181,6 +181,8 @@ pub enum GlyphFault {
     TooLarge,
     /// The key is new, and there was no memory. These keys were evicted before, the least recently used first.
     Memory(Vec<u64>),
+    /// The key is new, and there would be no place though all keys went that weren't used in this frame.
+    FrameFull,
 }
 
 impl GlyphFault {
@@ -190,6 +192,7 @@ impl GlyphFault {
         match self {
             Self::TooLarge => 1,
             Self::Memory(_) => 2,
+            Self::FrameFull => 3,
         }
     }
 }
@@ -199,6 +202,7 @@ impl fmt::Display for GlyphFault {
         f.write_str(match self {
             Self::TooLarge => "an empty atlas has no place for the size",
             Self::Memory(_) => "out of memory",
+            Self::FrameFull => "the keys used in this frame leave no place for the size",
         })
     }
 }

@@ -32,6 +32,7 @@ impl Status {
     pub const UNKNOWN_ID: Self = Self(501);
     pub const CACHE_TOO_LARGE: Self = Self(601);
     pub const CACHE_MEMORY: Self = Self(602);
+    pub const CACHE_FRAME_FULL: Self = Self(603);
 
     /// The number of a fault among those of its kind.
     pub const fn fault(self) -> u32 {
@@ -379,6 +380,11 @@ impl Cache {
         Ok(rectangle)
     }
 
+    pub fn begin_frame(&mut self) {
+        // SAFETY: the handle is held and alone.
+        unsafe { etagere_cache_begin_frame(self.change()) }.always();
+    }
+
     pub fn len(&self) -> usize {
         let mut len = 0;
         // SAFETY: the handle is held and alone; `len` is a place.
@@ -572,6 +578,7 @@ extern "C" {
         count: *mut usize,
     ) -> Status;
     fn etagere_cache_clear(cache: *mut Raw) -> Status;
+    fn etagere_cache_begin_frame(cache: *mut Raw) -> Status;
     fn etagere_cache_len(cache: *mut Raw, len: *mut usize) -> Status;
     fn etagere_cache_is_empty(cache: *mut Raw, is_empty: *mut u32) -> Status;
     fn etagere_cache_capacity(cache: *mut Raw, capacity: *mut usize) -> Status;

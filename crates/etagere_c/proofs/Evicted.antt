@@ -11,7 +11,7 @@ use Rattle.glyph_shelf.specs.Cache.{CacheState, dropped_keys, used}
 use Rattle.glyph_shelf.specs.Placing.{IsLeft, IsNew, Places}
 use Rattle.glyph_shelf.specs.declared.cache.Placed.{Placed}
 use Rattle.glyph_shelf.specs.declared.faults.GlyphFault.{GlyphFault}
-use Rattle.glyph_shelf.specs.declared.faults.GlyphFault.TheVariants.{TooLarge, Memory}
+use Rattle.glyph_shelf.specs.declared.faults.GlyphFault.TheVariants.{TooLarge, Memory, FrameFull}
 use Rattle.etagere_c.specs.Evicted.{HasRoomFor}
 
 -- no more keys are dropped than there are
@@ -32,3 +32,4 @@ module _ (old new : CacheState) (key : ℕ) (size : Size) (buffer : List ℕ) (r
   placed_fits (Ok placed) (Some allocation) is there placing left = (omega (arith, ap length there.0.1), tt)
   placed_fits (Err TooLarge) found is there placing left = (tt, omega arith)
   placed_fits (Err (Memory evicted)) found is there placing left = (tt, omega (arith, few old evicted.items left.listed, room))
+  placed_fits (Err FrameFull) found is there placing left = (tt, omega arith)

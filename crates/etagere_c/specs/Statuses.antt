@@ -66,3 +66,6 @@ too_large = 601
 
 abbrev pub cache_memory : ℕ
 cache_memory = 602
+
+abbrev pub frame_full : ℕ
+frame_full = 603

@@ -8,8 +8,8 @@ ghost use Rattle.etagere_base.specs.Frames as frames;
 ghost use Rattle.etagere_base.specs.Frames.{longest_side, options_fault};
 ghost use Rattle.etagere_base.specs.declared.faults.OptionsFault.TheVariants as faults;
 ghost use Rattle.shelf_model.specs.Space as spaces;
-ghost use Rattle.glyph_shelf.specs.Cache.{empty_cache, rectangle_at, used, without_key};
-ghost use Rattle.glyph_shelf.specs.Placing.{IsNew, IsTooLarge, Places, RanOut};
+ghost use Rattle.glyph_shelf.specs.Cache.{empty_cache, in_new_frame, rectangle_at, used, without_key};
+ghost use Rattle.glyph_shelf.specs.Placing.{IsFrameFull, IsNew, IsTooLarge, Places, RanOut};
 ghost use Rattle.glyph_shelf.specs.Promises.{KeepsCachePromises};
 ghost use Rattle.etagere_c.specs.Calls.{IsAmong, IsFlag, IsWritten, Leads};
 ghost use Rattle.etagere_c.specs.Evicted.{HasRoomFor, IsGone};
@@ -136,8 +136,11 @@ fn write_placed(
 ///
 /// Answers ETAGERE_OK; ETAGERE_NULL_HANDLE; ETAGERE_LENGTH where the buffer is shorter than etagere_cache_len says,
 /// with nothing written; ETAGERE_CACHE_TOO_LARGE exactly where the key is new and an empty atlas has no place for the
-/// size, with nothing written; ETAGERE_CACHE_MEMORY, only for a new key: then the evicted keys and *count are written
-/// too, these keys are gone, and the others stand. Asks the atlas once, and once more for each key that is evicted.
+/// size, with nothing written; ETAGERE_CACHE_FRAME_FULL exactly where the key is new and evicting all keys that weren't
+/// used in this frame wouldn't make room, memory aside, with nothing written; ETAGERE_CACHE_MEMORY, only for a new key:
+/// then the evicted keys and *count are written too, these keys are gone, and the others stand. Asks the atlas once, and
+/// once more for each key that is evicted; where keys were used in this frame, it first tries that on a copy of the
+/// atlas.
 #[unsafe(no_mangle)]
 pub extern "C" fn etagere_cache_place(
     cache: &mut EtagereCache,
@@ -149,7 +152,7 @@ pub extern "C" fn etagere_cache_place(
 ) -> u32
     ensures null { (result ≡ statuses.null_handle) ↔ (cache.old.state ≡ None) }
     ensures short { IfSome cache.old.state (λ held. (result ≡ statuses.too_short) ↔ (length evicted.old < length held.entries)) }
-    ensures status { IsAmong (statuses.ok ∷ statuses.null_handle ∷ statuses.too_short ∷ statuses.too_large ∷ statuses.cache_memory ∷ []) result }
+    ensures status { IsAmong (statuses.ok ∷ statuses.null_handle ∷ statuses.too_short ∷ statuses.too_large ∷ statuses.cache_memory ∷ statuses.frame_full ∷ []) result }
     ensures found { result ≡ statuses.ok → Leads cache.old.state cache.new.state (λ before after.
         IfSome (rectangle_at before key) (λ found. (rectangle_in rectangle.new ≡ found) × (count.new ≡ 0) × (after ≡ used before key))) }
     ensures placed { result ≡ statuses.ok → Leads cache.old.state cache.new.state (λ before after.
@@ -158,6 +161,7 @@ pub extern "C" fn etagere_cache_place(
     ensures large { IfSome cache.old.state (λ held. length held.entries ≤ length evicted.old → IsNew held key → IsTooLarge held (size_in size) → result ≡ statuses.too_large) }
     ensures memory { result ≡ statuses.cache_memory → Leads cache.old.state cache.new.state (λ before after.
         RanOut before (size_in size) (take count.new evicted.new) after) }
+    ensures frame_full { IfSome cache.old.state (λ held. result ≡ statuses.frame_full → IsNew held key × IsFrameFull held (size_in size)) }
     ensures stays { result ≢ statuses.ok → result ≢ statuses.cache_memory → cache.new.state ≡ cache.old.state }
     ensures unwritten { result ≢ statuses.ok → rectangle.new ≡ rectangle.old }
     ensures uncounted { result ≢ statuses.ok → result ≢ statuses.cache_memory → (evicted.new ≡ evicted.old) × (count.new ≡ count.old) }
@@ -172,6 +176,25 @@ pub extern "C" fn etagere_cache_place(
     }
     let placed = held.place(key, size.size());
     write_placed(placed, rectangle, evicted, count)
+}
+
+/// Begins a frame: what is placed or looked up from now on isn't evicted until the next frame begins, or the cache is
+/// cleared.
+///
+/// Answers ETAGERE_OK; ETAGERE_NULL_HANDLE. Takes no memory, and constant time.
+#[unsafe(no_mangle)]
+pub extern "C" fn etagere_cache_begin_frame(cache: &mut EtagereCache) -> u32
+    ensures null { (result ≡ statuses.null_handle) ↔ (cache.old.state ≡ None) }
+    ensures status { IsAmong (statuses.ok ∷ statuses.null_handle ∷ []) result }
+    ensures begun { Leads cache.old.state cache.new.state (λ before after. after ≡ in_new_frame before) }
+    ensures null_stays { IfNone cache.old.state (cache.new.state ≡ None) }
+    ensures promises { IfSome cache.new.state KeepsCachePromises }
+{
+    let Some(held) = cache.lend() else {
+        return NULL_HANDLE;
+    };
+    held.begin_frame();
+    OK
 }
 
 /// Gives the rectangle of a key, which becomes the most recently used.
@@ -235,7 +258,7 @@ pub extern "C" fn etagere_cache_remove(
     }
 }
 
-/// Takes all keys out: the cache is as new.
+/// Takes all keys out: the cache is as new, and no frame has begun.
 ///
 /// Answers ETAGERE_OK; ETAGERE_NULL_HANDLE. Takes no memory, and goes through the keys and the columns.
 #[unsafe(no_mangle)]

@@ -32,13 +32,22 @@ fn faults_have_numbers_and_names(rt: HostRuntime) -> Result<(), Fail> {
     let memory = GlyphFault::Memory(Vec::new(alloc));
     equal(
         &rt,
-        &(GlyphFault::TooLarge.number(), memory.number()),
-        &(1, 2),
+        &(
+            GlyphFault::TooLarge.number(),
+            memory.number(),
+            GlyphFault::FrameFull.number(),
+        ),
+        &(1, 2, 3),
     );
     equal(
         &rt,
-        &format!(in alloc; "{} {memory}", GlyphFault::TooLarge)?.as_str(),
-        &"TooLarge Memory",
+        &format!(in alloc;
+            "{} {memory} {}",
+            GlyphFault::TooLarge,
+            GlyphFault::FrameFull
+        )?
+        .as_str(),
+        &"TooLarge Memory FrameFull",
     );
     Ok(())
 }

@@ -3,7 +3,8 @@ use Rattle.std.proofs.Common.{◌≡◌, ℕ, ◌-◌, ◌≤◌, Option, Some, 
 use Rattle.std.proofs.lemmas.List.{length-map, length-reverse, length-take, take-append-drop}
 use Rattle.std.specs.Map.{keys_of, lookup, remove_entry}
 use Rattle.std.specs.Option.{option_map_or}
-use Rattle.std.specs.Prelude.{nat_eq}
+use Rattle.std.specs.Prelude.{nat_eq, option_map}
+use Rattle.used_keys.specs.Keys.{uses_without}
 use Rattle.shelf_model.specs.Atlas.{Allocates}
 use Rattle.shelf_model.specs.Returning.{returned}
 use Rattle.shelf_model.specs.State.{AtlasState}
@@ -18,7 +19,7 @@ use Rattle.glyph_shelf.proofs.Callers.{capacity-after_dropping, dropped-behind, 
 use Rattle.glyph_run.specs.declared.commands.GlyphCommand.{GlyphCommand}
 use Rattle.glyph_run.specs.declared.commands.GlyphCommand.TheVariants.{Place, Get, Remove, Clear}
 use Rattle.glyph_run.specs.declared.commands.GlyphReply.{GlyphReply}
-use Rattle.glyph_run.specs.declared.commands.GlyphReply.TheVariants.{Placed, TooLarge, NoMemory, At, Removed, NotThere, Cleared}
+use Rattle.glyph_run.specs.declared.commands.GlyphReply.TheVariants.{Placed, TooLarge, NoMemory, At, Removed, NotThere, Cleared, FrameFull}
 use Rattle.glyph_run.specs.Runs.{GlyphStep, PlacesNew, rectangles, told_after, without}
 use Rattle.glyph_run.proofs.EntriesTold.{entry-found, held_by, removed-held, removed-unknown, without-held, without-last}
 
@@ -46,7 +47,7 @@ told-taken_out : (state : CacheState) (key : ℕ) (rectangle : Rectangle) → re
 told-taken_out state key rectangle there =
     let found = entry-found rectangle_of key rectangle state.entries there in
     ap (λ (o : Option Allocation). rectangles (option_map_or
-    (λ (a : Allocation). record { entries = remove_entry (nat_eq key) state.entries; capacity = state.capacity; atlas = returned state.atlas a.id }) o state))
+    (λ (a : Allocation). record { entries = remove_entry (nat_eq key) state.entries; capacity = state.capacity; atlas = returned state.atlas a.id; used_in_frame = option_map (uses_without key state.entries) state.used_in_frame }) o state))
     found.known
     ∙ removed-held rectangle_of (nat_eq key) state.entries
 
@@ -107,7 +108,8 @@ told-step old (Place key size) (Placed placed) new promises (inl again) =
 told-step old (Place key size) (Placed placed) new promises (inr first) =
     told-placed old key size placed.rectangle placed.evicted.items new promises first
 told-step old (Place key size) TooLarge new promises (is_new, large, same) = ap rectangles same
-told-step old (Place key size) (NoMemory evicted) new promises (fits, ran_out) =
+told-step old (Place key size) FrameFull new promises (fits, full, same) = ap rectangles same
+told-step old (Place key size) (NoMemory evicted) new promises (fits, ran_out, spared) =
     ap (map told_of) ran_out.rest.entries ∙ told-evicted old evicted.items promises ran_out.listed
 told-step old (Get key) (At rectangle) new promises finds =
     ap rectangles finds.after ∙ told-used old key rectangle finds.there
@@ -138,7 +140,7 @@ bounds-without_key : (state : CacheState) (key : ℕ) → SameBounds state (with
 bounds-without_key state key = by_found (lookup (nat_eq key) state.entries)
   where
     by_found : (o : Option Allocation) → SameBounds state (option_map_or
-        (λ (a : Allocation). record { entries = remove_entry (nat_eq key) state.entries; capacity = state.capacity; atlas = returned state.atlas a.id }) o state)
+        (λ (a : Allocation). record { entries = remove_entry (nat_eq key) state.entries; capacity = state.capacity; atlas = returned state.atlas a.id; used_in_frame = option_map (uses_without key state.entries) state.used_in_frame }) o state)
     by_found None = record { frame = refl; capacity = refl }
     by_found (Some a) = record { frame = refl; capacity = refl }
 
@@ -154,7 +156,8 @@ bounds-step old (Place key size) (Placed placed) new (inr first) =
       capacity = enters.capacity ∙ capacity-after_dropping old n;
     }
 bounds-step old (Place key size) TooLarge new (is_new, large, same) = bounds-same old new same
-bounds-step old (Place key size) (NoMemory evicted) new (fits, ran_out) =
+bounds-step old (Place key size) FrameFull new (fits, full, same) = bounds-same old new same
+bounds-step old (Place key size) (NoMemory evicted) new (fits, ran_out, spared) =
     let n = length evicted.items in
     record {
       frame = ap (λ (s : AtlasState). s.frame) ran_out.rest.layout ∙ frame-after_dropping old n;

@@ -5,13 +5,13 @@ use Rattle.etagere_base.specs.declared.frames.Frame.{Frame}
 use Rattle.etagere_base.specs.declared.geometry.Rectangle.{Rectangle}
 use Rattle.etagere_base.specs.declared.geometry.Size.{Size}
 use Rattle.etagere_base.specs.Rectangles.{IsLarge}
-use Rattle.glyph_shelf.specs.Cache.{CacheState, empty_cache, rectangle_at, used, without_key}
-use Rattle.glyph_shelf.specs.Placing.{IsNew, IsTooLarge, Places, RanOut}
+use Rattle.glyph_shelf.specs.Cache.{CacheState, empty_cache, evictable, rectangle_at, used, without_key}
+use Rattle.glyph_shelf.specs.Placing.{IsFrameFull, IsNew, IsTooLarge, Places, RanOut}
 use Rattle.glyph_shelf.specs.Promises.{KeepsCachePromises}
 use Rattle.glyph_run.specs.declared.commands.GlyphCommand.{GlyphCommand}
 use Rattle.glyph_run.specs.declared.commands.GlyphCommand.TheVariants.{Place, Get, Remove, Clear}
 use Rattle.glyph_run.specs.declared.commands.GlyphReply.{GlyphReply}
-use Rattle.glyph_run.specs.declared.commands.GlyphReply.TheVariants.{Placed, TooLarge, NoMemory, At, Removed, NotThere, Cleared}
+use Rattle.glyph_run.specs.declared.commands.GlyphReply.TheVariants.{Placed, TooLarge, NoMemory, At, Removed, NotThere, Cleared, FrameFull}
 
 -- a key that is there has this rectangle, and becomes the most recently used
 pub record Finds (old : CacheState) (key : ℕ) (rectangle : Rectangle) (new : CacheState) : Type 0 where
@@ -29,11 +29,13 @@ pub record Fits (state : CacheState) (key : ℕ) (size : Size) : Type 0 where
   pub new : IsNew state key
   pub fits : ¬ (IsTooLarge state size)
 
--- such a key is placed after the evictions that its size needs, in a rectangle that is large enough
+-- such a key is placed after the evictions that its size needs, in a rectangle that is large enough; none that was used
+-- in this frame goes
 pub record PlacesNew (old : CacheState) (key : ℕ) (size : Size) (rectangle : Rectangle) (evicted : List ℕ)
     (new : CacheState) : Type 0 where
   pub fits : Fits old key size
   pub places : Places old key size rectangle evicted new
+  pub spared : length evicted ≤ evictable old
   pub large : IsLarge old.atlas.frame size rectangle
 
 -- a cache may give this reply to a command, and go from its old state to the new one
@@ -43,7 +45,9 @@ GlyphStep old (Place key size) (Placed placed) new =
     ⊎ PlacesNew old key size placed.rectangle placed.evicted.items new
 GlyphStep old (Place key size) TooLarge new = IsNew old key × IsTooLarge old size × (new ≡ old)
 GlyphStep old (Place key size) (NoMemory evicted) new =
-    Fits old key size × RanOut old size evicted.items new
+    Fits old key size × RanOut old size evicted.items new × (length evicted.items ≤ evictable old)
+GlyphStep old (Place key size) FrameFull new =
+    Fits old key size × IsFrameFull old size × (new ≡ old)
 GlyphStep old (Get key) (At rectangle) new = Finds old key rectangle new
 GlyphStep old (Get key) NotThere new = IsNew old key × (new ≡ old)
 GlyphStep old (Remove key) (Removed rectangle) new =

@@ -30,6 +30,7 @@ fn place(cache: &mut GlyphCache, key: u64, size: Size) -> GlyphReply
         Ok(placed) => GlyphReply::Placed(placed),
         Err(GlyphFault::TooLarge) => GlyphReply::TooLarge,
         Err(GlyphFault::Memory(evicted)) => GlyphReply::NoMemory(evicted),
+        Err(GlyphFault::FrameFull) => GlyphReply::FrameFull,
     }
 }
 

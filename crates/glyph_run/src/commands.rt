@@ -36,4 +36,6 @@ pub enum GlyphReply {
     NotThere,
     /// No key is there any more.
     Cleared,
+    /// The key is new, and there would be no room though all keys went that weren't used in this frame. Nothing changed.
+    FrameFull,
 }

@@ -5,6 +5,7 @@ use Rattle.std.specs.Map.{keys_of}
 use Rattle.std.specs.Option.{option_map_or}
 use Rattle.std.proofs.lemmas.List.{length-drop, length-map, length-reverse, length-take, map-append, reverse-append, take-append-drop, take-take, take_all, take_at}
 use Rattle.lru.specs.LruCache.{last_entry}
+use Rattle.used_keys.specs.Keys.{uses_left}
 use Rattle.shelf_model.specs.Returning.{returned}
 use Rattle.etagere_base.specs.declared.ids.Allocation.{Allocation}
 use Rattle.glyph_shelf.specs.Cache.{CacheState, after_dropping, dropped_keys, without_last}
@@ -16,7 +17,7 @@ pub frame-without_last : (state : CacheState) → (without_last state).atlas.fra
 frame-without_last state = by_last (last_entry state.entries)
   where
     by_last : (o : Option (ℕ × Allocation))
-        → (option_map_or (λ entry. record { entries = take (length state.entries - 1) state.entries; capacity = state.capacity; atlas = returned state.atlas entry.1.id }) o state).atlas.frame
+        → (option_map_or (λ entry. record { entries = take (length state.entries - 1) state.entries; capacity = state.capacity; atlas = returned state.atlas entry.1.id; used_in_frame = uses_left (length state.entries - 1) state.used_in_frame }) o state).atlas.frame
         ≡ state.atlas.frame
     by_last None = refl
     by_last (Some e) = refl
@@ -25,7 +26,7 @@ capacity-without_last : (state : CacheState) → (without_last state).capacity �
 capacity-without_last state = by_last (last_entry state.entries)
   where
     by_last : (o : Option (ℕ × Allocation))
-        → (option_map_or (λ entry. record { entries = take (length state.entries - 1) state.entries; capacity = state.capacity; atlas = returned state.atlas entry.1.id }) o state).capacity
+        → (option_map_or (λ entry. record { entries = take (length state.entries - 1) state.entries; capacity = state.capacity; atlas = returned state.atlas entry.1.id; used_in_frame = uses_left (length state.entries - 1) state.used_in_frame }) o state).capacity
         ≡ state.capacity
     by_last None = refl
     by_last (Some e) = refl
@@ -34,7 +35,7 @@ entries-without_last : (state : CacheState) → (without_last state).entries ≡
 entries-without_last state = by_last (last_entry state.entries) refl
   where
     by_last : (o : Option (ℕ × Allocation)) → last_entry state.entries ≡ o
-        → (option_map_or (λ entry. record { entries = take (length state.entries - 1) state.entries; capacity = state.capacity; atlas = returned state.atlas entry.1.id }) o state).entries
+        → (option_map_or (λ entry. record { entries = take (length state.entries - 1) state.entries; capacity = state.capacity; atlas = returned state.atlas entry.1.id; used_in_frame = uses_left (length state.entries - 1) state.used_in_frame }) o state).entries
         ≡ take (length state.entries - 1) state.entries
     by_last None last = rw (last-none state.entries last) refl
     by_last (Some e) last = refl

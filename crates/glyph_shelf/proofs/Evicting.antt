@@ -7,6 +7,7 @@ use Rattle.std.proofs.lemmas.Bool.Decides.{nat_tests}
 use Rattle.std.proofs.lemmas.List.{length-append, map-append, reverse-append}
 use Rattle.std.proofs.Math.Seq.{take-append_seam}
 use Rattle.lru.specs.LruCache.{last_entry}
+use Rattle.used_keys.specs.Keys.{uses_left}
 use Rattle.shelf_model.proofs.Callers.{tied-empty}
 use Rattle.shelf_model.specs.Callers.{AreTied}
 use Rattle.shelf_model.specs.Choice.{placement_of}
@@ -59,9 +60,9 @@ has_room-nothing state size promises nothing fits =
 
 -- a cache without the entry that stands last
 pub without_last-some : (state : CacheState) (e : ℕ × Allocation) → last_entry state.entries ≡ Some e
-    → without_last state ≡ record { entries = take (length state.entries - 1) state.entries; capacity = state.capacity; atlas = returned state.atlas e.1.id }
+    → without_last state ≡ record { entries = take (length state.entries - 1) state.entries; capacity = state.capacity; atlas = returned state.atlas e.1.id; used_in_frame = uses_left (length state.entries - 1) state.used_in_frame }
 without_last-some state e last =
-    ap (λ (o : Option (ℕ × Allocation)). option_map_or (λ entry. record { entries = take (length state.entries - 1) state.entries; capacity = state.capacity; atlas = returned state.atlas entry.1.id }) o state) last
+    ap (λ (o : Option (ℕ × Allocation)). option_map_or (λ entry. record { entries = take (length state.entries - 1) state.entries; capacity = state.capacity; atlas = returned state.atlas entry.1.id; used_in_frame = uses_left (length state.entries - 1) state.used_in_frame }) o state) last
 
 -- what stays in a cache without its last entry
 parts-without_last : (state : CacheState) (e : ℕ × Allocation) → last_entry state.entries ≡ Some e
@@ -81,7 +82,7 @@ dropped-gone old evicted left has =
     sym (ap (take (length evicted)) order ∙ take-append_seam evicted (reverse (keys_of left.entries)))
 
 -- a number below the next one is below, or is this one
-below_next : (P : ℕ → Type 0) (n : ℕ) → ((k : ℕ) → k < n → P k) → P n → (k : ℕ) → k < suc n → P k
+pub below_next : (P : ℕ → Type 0) (n : ℕ) → ((k : ℕ) → k < n → P k) → P n → (k : ℕ) → k < suc n → P k
 below_next P n below here k lt = elim (nat_lt k n) as (λ b. nat_lt k n ≡ b → P k) [
   | true ↦ λ is. below k (grind (arith, nat_tests))
   | false ↦ λ is. let same : n ≡ k = grind (arith, nat_tests) in subst P same here
@@ -200,7 +201,7 @@ ran_out-first state size promises fits =
       least = found.1;
       few = omega arith;
       listed = refl;
-      rest = record { entries = refl; capacity = refl; layout = refl };
+      rest = record { entries = refl; capacity = refl; uses = refl; layout = refl };
     }
 
 -- where memory runs out while there is no room yet
@@ -213,7 +214,7 @@ evicted-stopped old size evicted left promises fits has =
       least = found.1;
       few = not_fewer found.0 found.1.room;
       listed = dropped-gone old evicted left has.drops;
-      rest = subst (λ (s : CacheState). SameLayout s left) has.drops.after (record { entries = refl; capacity = refl; layout = refl });
+      rest = subst (λ (s : CacheState). SameLayout s left) has.drops.after (record { entries = refl; capacity = refl; uses = refl; layout = refl });
     }
   where
     not_fewer : (n : ℕ) → has_room (after_dropping old n) size ≡ true → length evicted ≤ n
@@ -238,7 +239,7 @@ unknown-without_last : (state : CacheState) (key : ℕ) → lookup (nat_eq key) 
 unknown-without_last state key unknown = by_last (last_entry state.entries)
   where
     by_last : (o : Option (ℕ × Allocation))
-        → lookup (nat_eq key) (option_map_or (λ entry. record { entries = take (length state.entries - 1) state.entries; capacity = state.capacity; atlas = returned state.atlas entry.1.id }) o state).entries ≡ None
+        → lookup (nat_eq key) (option_map_or (λ entry. record { entries = take (length state.entries - 1) state.entries; capacity = state.capacity; atlas = returned state.atlas entry.1.id; used_in_frame = uses_left (length state.entries - 1) state.used_in_frame }) o state).entries ≡ None
     by_last None = unknown
     by_last (Some e) = unknown-take (nat_eq key) (length state.entries - 1) state.entries unknown
 

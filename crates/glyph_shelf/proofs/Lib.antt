@@ -1,6 +1,8 @@
 pub mod Callers
 mod EntryLemmas
 mod Evicting
+mod FrameUses
+mod FullFrames
 mod Keeping
 mod KeyCounts
 mod Shrinking

@@ -1,5 +1,5 @@
 -- The definitions alone, with no program, give what worked examples evict and place.
-use Rattle.std.specs.Prelude.{◌≡◌, ℕ, true, false, pos, None, Some, [], ◌∷◌, refl}
+use Rattle.std.specs.Prelude.{◌≡◌, ℕ, suc, option_map, true, false, pos, None, Some, [], ◌∷◌, refl}
 use Rattle.std.specs.Option.{option_map_or}
 use Rattle.etagere_base.specs.declared.geometry.Rectangle.{Rectangle}
 use Rattle.etagere_base.specs.declared.geometry.Size.{Size}
@@ -28,6 +28,7 @@ entered state key size =
       entries = (key, record { id = key; rectangle = rectangle_of_placement state.atlas.frame placement }) ∷ state.entries;
       capacity = state.capacity;
       atlas = taken state.atlas placement key;
+      used_in_frame = option_map suc state.used_in_frame;
     })
     (placement_of state.atlas size) state
 

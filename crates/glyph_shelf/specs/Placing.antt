@@ -1,5 +1,5 @@
 -- What becomes of a cache when a new key is placed: what is evicted, and what stands after it.
-use Rattle.std.specs.Prelude.{◌≡◌, ℕ, ◌<◌, ◌≤◌, Bool, ◌&&◌, true, false, is_some, nat_eq, nat_lt, None, List, ◌∷◌, length}
+use Rattle.std.specs.Prelude.{◌≡◌, ℕ, suc, ◌<◌, ◌≤◌, Bool, ◌&&◌, true, false, is_some, nat_eq, nat_lt, option_map, None, List, ◌∷◌, length}
 use Rattle.std.specs.Map.{lookup}
 use Rattle.shelf_model.specs.Atlas.{Allocates}
 use Rattle.shelf_model.specs.Choice.{placement_of, IsRefused}
@@ -8,9 +8,9 @@ use Rattle.shelf_model.specs.Layout.{layout}
 use Rattle.etagere_base.specs.declared.geometry.Rectangle.{Rectangle}
 use Rattle.etagere_base.specs.declared.geometry.Size.{Size}
 use Rattle.etagere_base.specs.declared.ids.Allocation.{Allocation}
-use Rattle.glyph_shelf.specs.Cache.{CacheState, after_dropping, dropped_keys}
+use Rattle.glyph_shelf.specs.Cache.{CacheState, after_dropping, dropped_keys, evictable}
 use Rattle.glyph_shelf.specs.declared.faults.GlyphFault.{GlyphFault}
-use Rattle.glyph_shelf.specs.declared.faults.GlyphFault.TheVariants.{TooLarge, Memory}
+use Rattle.glyph_shelf.specs.declared.faults.GlyphFault.TheVariants.{TooLarge, Memory, FrameFull}
 
 -- there is room for one entry more, and a place for its size
 abbrev pub has_room : CacheState → Size → Bool
@@ -30,7 +30,22 @@ pub record IsEvictionCount (state : CacheState) (size : Size) (count : ℕ) : Ty
   pub room : has_room (after_dropping state count) size ≡ true
   pub least : (fewer : ℕ) → fewer < count → has_room (after_dropping state fewer) size ≡ false
 
--- a key stands first, with what the atlas allocated for its size
+-- so many evictions at most make room for a size
+pub record MakesRoom (state : CacheState) (size : Size) (most : ℕ) : Type 0 where
+  pub count : ℕ
+  pub few : count ≤ most
+  pub room : has_room (after_dropping state count) size ≡ true
+
+-- no number of evictions up to this makes room
+abbrev pub LacksRoom : CacheState → Size → ℕ → Type 0
+LacksRoom state size most =
+    (count : ℕ) → count ≤ most → has_room (after_dropping state count) size ≡ false
+
+-- there is no room though all went that weren't used in this frame, nor before
+abbrev pub IsFrameFull : CacheState → Size → Type 0
+IsFrameFull state size = LacksRoom state size (evictable state)
+
+-- a key stands first, with what the atlas allocated for its size; it was used in this frame
 pub record Enters (old : CacheState) (key : ℕ) (size : Size) (rectangle : Rectangle)
     (new : CacheState) : Type 0 where
   pub allocation : Allocation
@@ -38,6 +53,7 @@ pub record Enters (old : CacheState) (key : ℕ) (size : Size) (rectangle : Rect
   pub allocated : Allocates old.atlas size allocation new.atlas
   pub entries : new.entries ≡ (key, allocation) ∷ old.entries
   pub capacity : new.capacity ≡ old.capacity
+  pub uses : new.used_in_frame ≡ option_map suc old.used_in_frame
 
 -- a new key was placed: just the evictions that its size needs went, the least recently used first,
 -- and then it entered
@@ -51,6 +67,7 @@ pub record Places (old : CacheState) (key : ℕ) (size : Size) (rectangle : Rect
 pub record SameLayout (old new : CacheState) : Type 0 where
   pub entries : new.entries ≡ old.entries
   pub capacity : new.capacity ≡ old.capacity
+  pub uses : new.used_in_frame ≡ old.used_in_frame
   pub layout : layout new.atlas ≡ layout old.atlas
 
 -- memory ran out when so many of the evictions that a size needs had gone
@@ -66,3 +83,9 @@ pub record RanOut (old : CacheState) (size : Size) (evicted : List ℕ) (new : C
 abbrev pub IsLeft : CacheState → Size → GlyphFault → CacheState → Type 0
 IsLeft old size TooLarge new = new ≡ old
 IsLeft old size (Memory evicted) new = RanOut old size evicted.items new
+IsLeft old size FrameFull new = new ≡ old
+
+-- what a fault names as evicted wasn't used in this frame
+abbrev pub Spares : CacheState → GlyphFault → Type 0
+Spares old (Memory evicted) = length evicted.items ≤ evictable old
+Spares old fault = Unit {0}

@@ -11,6 +11,7 @@ cache_grown state size =
       entries = state.entries;
       capacity = state.capacity;
       atlas = atlas_grown state.atlas size;
+      used_in_frame = state.used_in_frame;
     }
 
 -- how many entries are more than so many
@@ -20,7 +21,12 @@ surplus state most = length state.entries - most
 -- the same entries, of which there may be so many
 abbrev pub of_capacity : CacheState → ℕ → CacheState
 of_capacity state capacity =
-    record { entries = state.entries; capacity = capacity; atlas = state.atlas }
+    record {
+      entries = state.entries;
+      capacity = capacity;
+      atlas = state.atlas;
+      used_in_frame = state.used_in_frame;
+    }
 
 -- the cache of another capacity: the entries that are too many go, the least recently used first
 abbrev pub with_capacity : CacheState → ℕ → CacheState

@@ -11,8 +11,8 @@ ghost use Rattle.etagere_base.specs.declared.faults.OptionsFault.TheVariants as 
 ghost use Rattle.etagere_base.specs.Rectangles.{IsLarge};
 ghost use Rattle.shelf_model.specs.Growing.{grow_fault, records_needed};
 ghost use Rattle.shelf_model.specs.declared.faults.AtlasGrowFault.TheVariants as grow_faults;
-ghost use Rattle.glyph_shelf.specs.Cache.{empty_cache, listed, rectangle_at, used, without_key};
-ghost use Rattle.glyph_shelf.specs.Placing.{IsLeft, IsNew, IsTooLarge, Places};
+ghost use Rattle.glyph_shelf.specs.Cache.{empty_cache, evictable, frame_uses, in_new_frame, listed, rectangle_at, used, without_key};
+ghost use Rattle.glyph_shelf.specs.Placing.{IsFrameFull, IsLeft, IsNew, IsTooLarge, Places, Spares};
 ghost use Rattle.glyph_shelf.specs.Promises.{KeepsCachePromises};
 ghost use Rattle.glyph_shelf.specs.Sizing.{cache_grown, surplus, surplus_keys, with_capacity};
 
@@ -86,9 +86,14 @@ impl GlyphCache {
     /// `evicted`.
     ///
     /// `TooLarge` comes exactly where the key is new and an empty atlas has no room for the size; then nothing
-    /// changes. `Memory` comes only for a new key, with the keys that were evicted before memory ran out: these are
-    /// gone, and the others stand. Takes memory for the entry, for what the allocation splits, and for the list of
-    /// the evicted keys. Asks the atlas once, and once more for each key that is evicted.
+    /// changes. `FrameFull` comes exactly where the key is new, and evicting all keys that weren't used in this frame
+    /// wouldn't make room, memory aside; then nothing changes. `Memory` comes only for a new key, with the keys that
+    /// were evicted before memory ran out: these are gone, and the others stand.
+    ///
+    /// Takes memory for the entry, for what the allocation splits, and for the list of the evicted keys. Asks the atlas
+    /// once, and once more for each key that is evicted. Where keys were used in this frame, others weren't, and there
+    /// is no room, it first tries on a copy of the atlas which evictions are needed, so that it takes memory for all
+    /// records, and goes through them and through the keys that were used.
     pub fn place(&mut self, key: u64, size: Size) -> Result<Placed, GlyphFault>
         ensures found { IfSome (rectangle_at self.old key)
             (λ rectangle. IsOkAnd result
@@ -101,6 +106,12 @@ impl GlyphCache {
         ensures too_large { IsErrOf result GlyphFault.TooLarge
             ↔ (IsNew self.old key × IsTooLarge self.old size) }
         ensures left { IfErr result (λ fault. IsLeft self.old size fault self.new) }
+        ensures spared { IfOk result
+            (λ placed. length placed.evicted.items ≤ evictable self.old) }
+        ensures spared_left { IfErr result (Spares self.old) }
+        ensures frame_full { IsErrOf result GlyphFault.FrameFull
+            → IsNew self.old key × IsFrameFull self.old size }
+        ensures framed { IsErrOf result GlyphFault.FrameFull → 1 ≤ frame_uses self.old }
         ensures promises { KeepsCachePromises self.new }
     {
         let mut evicted = Vec::new(self.alloc);
@@ -110,10 +121,33 @@ impl GlyphCache {
         if !self.kept.atlas().fits_when_empty(size) {
             return Err(GlyphFault::TooLarge);
         }
-        let Ok(rectangle) = self.kept.place_new(key, size, &mut evicted) else {
+        let Ok(answer) = self.kept.place_new(key, size, &mut evicted) else {
             return Err(GlyphFault::Memory(evicted));
         };
+        let Some(rectangle) = answer else {
+            return Err(GlyphFault::FrameFull);
+        };
         Ok(Placed { rectangle, evicted })
+    }
+
+    /// Begins a frame: what is placed or looked up from now on isn't evicted by `place` until the next frame begins, or
+    /// `clear` is called. The order of use stays.
+    ///
+    /// Takes no memory, and constant time.
+    pub fn begin_frame(&mut self)
+        ensures begun { self.new ≡ in_new_frame self.old }
+        ensures promises { KeepsCachePromises self.new }
+    {
+        self.kept.begin_frame();
+    }
+
+    /// How many keys were placed or looked up in this frame and are still there: none before the first frame.
+    ///
+    /// Takes no memory. Goes through these keys.
+    pub fn used_in_frame(&self) -> usize
+        ensures { result ≡ frame_uses self.now }
+    {
+        self.kept.uses()
     }
 
     /// The rectangle of a key, which becomes the most recently used; none where the key isn't there, and then nothing
@@ -198,7 +232,7 @@ impl GlyphCache {
         Ok(evicted)
     }
 
-    /// Removes all keys: the cache is as new.
+    /// Removes all keys: the cache is as new, and no frame has begun.
     ///
     /// Takes no memory. Goes through the keys and the columns.
     pub fn clear(&mut self)

@@ -17,16 +17,20 @@ pub enum GlyphFault {
     /// first; the others are kept.
     #[error("Memory")]
     Memory(Vec<u64>),
+    /// The key is new, and there would be no room though all keys went that weren't used in this frame. Nothing changed.
+    #[error("FrameFull")]
+    FrameFull,
 }
 
 impl GlyphFault {
-    /// The fault's number, 1 or 2.
+    /// The fault's number, from 1 to 3.
     pub fn number(&self) -> u32
         ensures { result ≡ glyph_fault_number self.now }
     {
         match self {
             GlyphFault::TooLarge => 1,
             GlyphFault::Memory(_) => 2,
+            GlyphFault::FrameFull => 3,
         }
     }
 }

@@ -15,25 +15,25 @@ ghost use Rattle.etagere_base.specs.Frames.{IsAccepted, longest_side, options_fa
 ghost use Rattle.etagere_base.specs.declared.faults.OptionsFault.TheVariants as faults;
 ghost use Rattle.etagere_base.specs.Rectangles.{IsLarge};
 ghost use Rattle.lru.specs.LruCache as lru;
-ghost use Rattle.glyph_shelf.specs.Cache.{after_dropping, empty_cache, listed, rectangle_at, used, without_key, without_last};
-ghost use Rattle.glyph_shelf.specs.Placing.{Enters, Places, RanOut, SameLayout, has_room};
+ghost use Rattle.glyph_shelf.specs.Cache.{after_dropping, empty_cache, evictable, frame_uses, in_new_frame, listed, rectangle_at, used, without_key, without_last};
+ghost use Rattle.glyph_shelf.specs.Placing.{Enters, IsFrameFull, LacksRoom, MakesRoom, Places, RanOut, SameLayout, has_room};
 ghost use Rattle.glyph_shelf.specs.Promises.{KeepsCachePromises};
 ghost use Rattle.glyph_shelf.specs.Sizing.{cache_grown, of_capacity, surplus, surplus_keys};
 
-use crate::giving_back::give_back;
+use crate::giving_back::{give_back, takes};
 use crate::listing::Iter;
 use etagere::{
     Allocation, AllocatorOptions, AtlasAllocator, AtlasGrowFault, OptionsFault, Rectangle, Size,
 };
-use lru::LruCache;
 use std::alloc::{AllocError, Global};
 use std::marker::Model;
 use std::num::NonZeroUsize;
+use used_keys::UsedKeys;
 
 /// Keys with what is allocated for them, the most recently used first, and the atlas where that lies.
 #[derive(Drop)]
 pub(crate) struct Kept {
-    entries: LruCache<u64, Allocation>,
+    entries: UsedKeys,
     atlas: AtlasAllocator,
 }
 
@@ -67,7 +67,7 @@ impl Kept {
             (λ fault. IsAccepted longest_side size options.now → fault ≡ faults.Memory) }
     {
         let atlas = AtlasAllocator::with_options(alloc, size, options)?;
-        let Ok(entries) = LruCache::sparse(alloc, capacity) else {
+        let Ok(entries) = UsedKeys::new(alloc, capacity) else {
             return Err(OptionsFault::Memory);
         };
         Ok(Kept { entries, atlas })
@@ -79,6 +79,13 @@ impl Kept {
         ensures promises { KeepsCachePromises self.now }
     {
         self.entries.len()
+    }
+
+    /// How many entries were used in this frame.
+    pub fn uses(&self) -> usize
+        ensures { result ≡ frame_uses self.now }
+    {
+        self.entries.uses()
     }
 
     /// How many entries there may be.
@@ -100,8 +107,7 @@ impl Kept {
         ensures value { result ≡ rectangle_at self.now key }
         ensures promises { KeepsCachePromises self.now }
     {
-        let allocation = self.entries.peek(&key)?;
-        Some(allocation.rectangle)
+        self.entries.peek(key)
     }
 
     /// The keys with their rectangles, the most recently used first.
@@ -118,8 +124,7 @@ impl Kept {
         ensures used { self.new ≡ used self.old key }
         ensures promises { KeepsCachePromises self.new }
     {
-        let allocation = self.entries.get(&key)?;
-        Some(allocation.rectangle)
+        self.entries.look(key)
     }
 
     /// Drops the least recently used entry, and answers its key; none where there is no entry.
@@ -128,7 +133,7 @@ impl Kept {
         ensures dropped { self.new ≡ without_last self.old }
         ensures promises { KeepsCachePromises self.new }
     {
-        let (key, allocation) = self.entries.pop_lru()?;
+        let (key, allocation) = self.entries.pop_last()?;
         give_back(&mut self.atlas, allocation.id);
         Some(key)
     }
@@ -139,9 +144,17 @@ impl Kept {
         ensures removed { self.new ≡ without_key self.old key }
         ensures promises { KeepsCachePromises self.new }
     {
-        let allocation = self.entries.pop(&key)?;
+        let allocation = self.entries.remove(key)?;
         give_back(&mut self.atlas, allocation.id);
         Some(allocation.rectangle)
+    }
+
+    /// Begins a frame, in which no key was used.
+    pub fn begin_frame(&mut self)
+        ensures begun { self.new ≡ in_new_frame self.old }
+        ensures promises { KeepsCachePromises self.new }
+    {
+        self.entries.begin_frame();
     }
 
     /// Drops everything.
@@ -193,7 +206,7 @@ impl Kept {
         ensures set { self.new ≡ of_capacity self.old (non_zero_usize_get capacity) }
         ensures promises { KeepsCachePromises self.new }
     {
-        self.entries.resize(capacity);
+        self.entries.set_cap(capacity);
     }
 
     /// Puts a new key in front, if there is room for one entry more and the atlas has room for the size.
@@ -221,7 +234,7 @@ impl Kept {
             return Ok(None);
         };
         let Allocation { id, rectangle } = allocation;
-        match put_first(&mut self.entries, key, Allocation { id, rectangle }) {
+        match self.entries.enter(key, Allocation { id, rectangle }) {
             Ok(()) => Ok(Some(rectangle)),
             Err(refused) => {
                 give_back(&mut self.atlas, id);
@@ -231,8 +244,43 @@ impl Kept {
     }
 
     /// Puts a new key in front. Where there is no room, entries are dropped before, the least recently used first,
-    /// no more than needed, and their keys listed in that order; for each there is room before it goes.
+    /// no more than needed and none that was used in this frame, and their keys listed in that order; for each there is
+    /// room before it goes. None where dropping all of these makes no room; then nothing changes.
     pub fn place_new(
+        &mut self,
+        key: u64,
+        size: Size,
+        evicted: &mut Vec<u64>,
+    ) -> Result<Option<Rectangle>, AllocError>
+        requires new { lookup (nat_eq key) self.old.entries ≡ None }
+        requires fits { is_some (choice.placement_of (fresh self.old.atlas.frame) size) ≡ true }
+        requires none { evicted.old.items ≡ [] }
+        ensures ok { IfOk result
+            (λ answer. IfSome answer
+            (λ rectangle. Places self.old key size rectangle evicted.new.items self.new)) }
+        ensures large { IfOk result
+            (λ answer. IfSome answer
+            (λ rectangle. IsLarge self.old.atlas.frame size rectangle)) }
+        ensures full { IfOk result (λ answer. IfNone answer (IsFrameFull self.old size)) }
+        ensures framed { IfOk result (λ answer. IfNone answer (1 ≤ frame_uses self.old)) }
+        ensures none { IfOk result (λ answer. IfNone answer (self.new ≡ self.old)) }
+        ensures err { OnErr result (RanOut self.old size evicted.new.items self.new) }
+        ensures spared { length evicted.new.items ≤ evictable self.old }
+        ensures frame { self.new.atlas.frame ≡ self.old.atlas.frame }
+        ensures promises { KeepsCachePromises self.new }
+    {
+        if let Some(rectangle) = self.enter(key, size)? {
+            return Ok(Some(rectangle));
+        }
+        if !self.makes_room(size)? {
+            return Ok(None);
+        }
+        let rectangle = self.evict_for(key, size, evicted)?;
+        Ok(Some(rectangle))
+    }
+
+    /// Puts a new key in front, after as many entries are dropped as its size needs.
+    fn evict_for(
         &mut self,
         key: u64,
         size: Size,
@@ -241,16 +289,17 @@ impl Kept {
         requires new { lookup (nat_eq key) self.old.entries ≡ None }
         requires fits { is_some (choice.placement_of (fresh self.old.atlas.frame) size) ≡ true }
         requires none { evicted.old.items ≡ [] }
+        requires full { has_room self.old size ≡ false }
+        requires room { MakesRoom self.old size (evictable self.old) }
+        requires promises { KeepsCachePromises self.old }
         ensures ok { IfOk result
             (λ rectangle. Places self.old key size rectangle evicted.new.items self.new) }
         ensures large { IfOk result (λ rectangle. IsLarge self.old.atlas.frame size rectangle) }
         ensures err { OnErr result (RanOut self.old size evicted.new.items self.new) }
+        ensures spared { length evicted.new.items ≤ evictable self.old }
         ensures frame { self.new.atlas.frame ≡ self.old.atlas.frame }
         ensures promises { KeepsCachePromises self.new }
     {
-        if let Some(rectangle) = self.enter(key, size)? {
-            return Ok(rectangle);
-        }
         evicted.reserve(1)?;
         while let Some(dropped) = self.drop_last() {
             evicted.push(dropped).unwrap();
@@ -261,20 +310,46 @@ impl Kept {
         }
         unreachable!()
     }
-}
 
-/// Puts a new key in front of entries that have room for it.
-fn put_first(
-    entries: &mut LruCache<u64, Allocation>,
-    key: u64,
-    allocation: Allocation,
-) -> Result<(), AllocError>
-    requires new { lookup (nat_eq key) entries.old.entries ≡ None }
-    requires room { length entries.old.entries < entries.old.cap }
-    ensures ok { OnOk result (entries.new
-        ≡ lru.lru_cache ((key, allocation) ∷ entries.old.entries) entries.old.cap) }
-    ensures err { OnErr result (entries.new ≡ entries.old) }
-{
-    entries.put(key, allocation)?;
-    Ok(())
+    /// Whether dropping entries that weren't used in this frame makes room. Where some were used, and some not, this is
+    /// tried on a copy of the atlas.
+    fn makes_room(&self, size: Size) -> Result<bool, AllocError>
+        requires fits { is_some (choice.placement_of (fresh self.now.atlas.frame) size) ≡ true }
+        requires full { has_room self.now size ≡ false }
+        ensures room { IfOk result
+            (λ makes. makes ≡ true → MakesRoom self.now size (evictable self.now)) }
+        ensures full { IfOk result (λ makes. makes ≡ false → IsFrameFull self.now size) }
+        ensures framed { IfOk result (λ makes. makes ≡ false → 1 ≤ frame_uses self.now) }
+    {
+        let uses = self.entries.uses();
+        if uses == 0 {
+            return Ok(true);
+        }
+        let earlier = self.entries.len() - uses;
+        if earlier == 0 {
+            return Ok(false);
+        }
+        self.room_without(size, earlier)
+    }
+
+    /// Whether dropping at most so many entries makes room: tried on a copy of the atlas.
+    fn room_without(&self, size: Size, most: usize) -> Result<bool, AllocError>
+        requires few { most ≤ length self.now.entries }
+        requires full { has_room self.now size ≡ false }
+        ensures room { IfOk result (λ makes. makes ≡ true → MakesRoom self.now size most) }
+        ensures full { IfOk result (λ makes. makes ≡ false → LacksRoom self.now size most) }
+    {
+        let mut atlas = self.atlas.clone()?;
+        let mut left = self.entries.iter();
+        for gone in 0..most {
+            let Some((_, entry)) = left.next_back() else {
+                unreachable!()
+            };
+            give_back(&mut atlas, entry.allocation.id);
+            if takes(&mut atlas, size)? {
+                return Ok(true);
+            }
+        }
+        Ok(false)
+    }
 }

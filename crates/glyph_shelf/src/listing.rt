@@ -4,12 +4,14 @@
 
 ghost use Rattle.std.specs.Prelude.{◌≡◌};
 ghost use Rattle.std.specs.Iterator.{YieldsFirst, YieldsLast, item_count};
+ghost use Rattle.used_keys.specs.Private.Stamps.{unstamped};
 ghost use Rattle.glyph_shelf.specs.Cache.{with_rectangles};
 
-use etagere::{Allocation, Rectangle};
+use etagere::Rectangle;
 use std::alloc::AllocError;
 use std::iter::FusedIterator;
 use std::marker::Model;
+use used_keys::Entry;
 
 /// The keys of a cache with their rectangles in pixels, the most recently used first; from the back, the least recently
 /// used first. After the last comes none, for ever.
@@ -17,23 +19,24 @@ use std::marker::Model;
 /// A step takes constant time.
 #[derive(Drop)]
 pub struct Iter<'a> {
-    entries: lru::Iter<'a, u64, Allocation>,
+    entries: lru::Iter<'a, u64, Entry>,
 }
 
 impl<'a> Model for Iter<'a> {
     ghost use Rattle.std.specs.Prelude.{ℕ, List};
     ghost use Rattle.etagere_base.specs.declared.geometry.Rectangle.{Rectangle};
+    ghost use Rattle.used_keys.specs.Private.Stamps.{unstamped};
     ghost use Rattle.glyph_shelf.specs.Cache.{with_rectangles};
 
     ghost Value = { List (ℕ × Rectangle) };
 
-    ghost view = { λ iter. with_rectangles iter.entries };
+    ghost view = { λ iter. with_rectangles (unstamped iter.entries) };
 }
 
 impl<'a> Iter<'a> {
     /// These entries, the most recently used first.
-    pub(crate) fn new(entries: lru::Iter<'a, u64, Allocation>) -> Iter<'a>
-        ensures { result ≡ with_rectangles entries.entry }
+    pub(crate) fn new(entries: lru::Iter<'a, u64, Entry>) -> Iter<'a>
+        ensures { result ≡ with_rectangles (unstamped entries.entry) }
     {
         Iter { entries }
     }
@@ -47,8 +50,8 @@ impl<'a> Iterator for Iter<'a> {
     ghost remaining = { item_count (λ rest. rest) };
 
     fn next(&mut self) -> Option<(u64, Rectangle)> {
-        let (key, allocation) = self.entries.next()?;
-        Some((*key, allocation.rectangle))
+        let (key, entry) = self.entries.next()?;
+        Some((*key, entry.allocation.rectangle))
     }
 
     fn size_hint(&self) -> (usize, Option<usize>) {
@@ -60,8 +63,8 @@ impl<'a> DoubleEndedIterator for Iter<'a> {
     ghost next_back_gives = { YieldsLast (λ rest. rest) };
 
     fn next_back(&mut self) -> Option<(u64, Rectangle)> {
-        let (key, allocation) = self.entries.next_back()?;
-        Some((*key, allocation.rectangle))
+        let (key, entry) = self.entries.next_back()?;
+        Some((*key, entry.allocation.rectangle))
     }
 }
 

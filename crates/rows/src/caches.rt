@@ -43,6 +43,8 @@ impl Called for GlyphCache {
             "get" => say_rectangle(rt, look(self, key_of(words))),
             "remove" => say_rectangle(rt, remove(self, key_of(words))),
             "clear" => clear(self, rt),
+            "frame" => begin_frame(self, rt),
+            "used" => say_number(rt, used(self)),
             "len" => say_number(rt, len(self)),
             "capacity" => say_number(rt, capacity(self)),
             "empty" => say_if(rt, is_empty(self), "yes", "no"),
@@ -101,6 +103,15 @@ fn remove(cache: &mut GlyphCache, key: u64) -> Option<Rectangle> {
 fn clear(cache: &mut GlyphCache, rt: &impl Print) -> io::Result<()> {
     cache.clear();
     say(rt, "cleared")
+}
+
+fn begin_frame(cache: &mut GlyphCache, rt: &impl Print) -> io::Result<()> {
+    cache.begin_frame();
+    say(rt, "begun")
+}
+
+fn used(cache: &GlyphCache) -> u64 {
+    cache.used_in_frame() as u64
 }
 
 fn len(cache: &GlyphCache) -> u64 {

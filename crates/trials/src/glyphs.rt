@@ -27,6 +27,7 @@ pub fn place_glyphs(rt: &(impl Print + AllocGlobal)) -> Result<(), ReplayFault> 
         match cache.place(key, size2(width, height)) {
             Ok(placed) => say_placed(rt, key, &placed)?,
             Err(GlyphFault::TooLarge) => say(rt, "too large")?,
+            Err(GlyphFault::FrameFull) => say(rt, "frame full")?,
             Err(GlyphFault::Memory(evicted)) => {
                 say(rt, "no memory")?;
                 say_keys(rt, &evicted)?;

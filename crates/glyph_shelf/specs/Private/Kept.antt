@@ -6,7 +6,12 @@ use Rattle.glyph_shelf.specs.declared.kept.Kept.TheInside.{Inside}
 -- the state of entries in an atlas
 abbrev pub kept_state : Inside → CacheState
 kept_state kept =
-    record { entries = kept.entries.entries; capacity = kept.entries.cap; atlas = kept.atlas }
+    record {
+      entries = kept.entries.entries;
+      capacity = kept.entries.cap;
+      atlas = kept.atlas;
+      used_in_frame = kept.entries.uses;
+    }
 
 -- they keep what every cache does
 abbrev pub IsKept : Inside → Type 0

@@ -1,7 +1,7 @@
 use Rattle.std.specs.Prelude.{◌≡◌, ◌<◌, false, length, vec_capacity, vec_len}
 use Rattle.glyph_shelf.specs.Placing.{has_room}
 use Rattle.glyph_shelf.proofs.Evicting.{IsEvicting}
-use Rattle.glyph_shelf.proofs.kept.Kept.place_new.Given as goal
+use Rattle.glyph_shelf.proofs.kept.Kept.evict_for.Given as goal
 
 abbrev pub invariant-loop-dropped : goal.invariant-loop-dropped
 invariant-loop-dropped l =

@@ -1,9 +1,0 @@
-use Rattle.std.proofs.Common.{ap, ◌∙◌}
-use Rattle.lru.specs.LruCache.{lru_cache}
-use Rattle.glyph_shelf.proofs.EntryLemmas.{put-first}
-use Rattle.glyph_shelf.proofs.kept.put_first.Goals as goal
-
-pub returns-clause-ok : goal.returns-clause-ok
-returns-clause-ok c =
-    c.in_ok-put.ensures.entries
-    ∙ ap (λ es. lru_cache es c.args.entries.now.cap) (put-first c.args.entries.now c.args.key c.args.allocation c.requires.new c.requires.room)
