@@ -715,6 +715,7 @@ mod tests {
                 etagere_cache_peek(raw, 1, &mut rectangle),
                 etagere_cache_entries(raw, &mut entry, 1, &mut length),
                 etagere_cache_grow(raw, SIZE),
+                etagere_cache_begin_frame(raw),
                 etagere_cache_set_capacity(raw, 1, &mut key, 1, &mut length),
                 etagere_cache_len(raw, &mut length),
                 etagere_cache_capacity(raw, &mut length),
@@ -726,7 +727,7 @@ mod tests {
     fn a_null_handle_is_told() {
         let mut statuses = [of_null::<Shelves>(), of_null::<Buckets>(), of_null::<Keys>()].concat();
         statuses.extend([of_null_atlas::<Shelves>(), of_null_atlas::<Buckets>(), of_null_of_one_kind()].concat());
-        assert_eq!(statuses.len(), 59);
+        assert_eq!(statuses.len(), 60);
         assert!(statuses.iter().all(|&status| status == Status::NULL_HANDLE), "{statuses:?}");
     }
 

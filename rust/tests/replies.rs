@@ -258,6 +258,7 @@ fn a_cache_answers_as_the_program() {
                     Ok(placed) => with_keys(format!("placed {}", corners(placed.rectangle)), &placed.evicted),
                     Err(GlyphFault::TooLarge) => "too large".to_owned(),
                     Err(GlyphFault::Memory(keys)) => with_keys("no memory".to_owned(), &keys),
+                    Err(GlyphFault::FrameFull) => unreachable!("no frame has begun"),
                 };
                 (format!("p {key} {} {}", size.width, size.height), reply)
             }

@@ -216,6 +216,22 @@ fn keys_without_use() {
 }
 
 #[test]
+fn frames() {
+    let three = NonZeroUsize::new(3).expect("not 0");
+    let mut cache = GlyphCache::new(size2(32, 32), &DEFAULT_OPTIONS, three).expect("good options");
+    for key in 1..=3 {
+        assert!(cache.place(key, size2(32, 8)).is_ok());
+    }
+    cache.begin_frame();
+    assert!(cache.get(1).is_some());
+    assert_eq!(cache.place(4, size2(32, 8)).map(|placed| placed.evicted), Ok(vec![2]));
+    assert_eq!(cache.place(5, size2(32, 32)), Err(GlyphFault::FrameFull));
+    assert_eq!((cache.len(), GlyphFault::FrameFull.number()), (3, 3));
+    cache.begin_frame();
+    assert_eq!(cache.place(5, size2(32, 32)).map(|placed| placed.evicted), Ok(vec![3, 1, 4]));
+}
+
+#[test]
 fn growth_of_a_cache() {
     let options = AllocatorOptions { num_columns: 65535, ..DEFAULT_OPTIONS };
     let mut cache = GlyphCache::new(size2(65535, 100), &options, NonZeroUsize::MIN).expect("good options");

@@ -614,6 +614,31 @@ static void cache_looked_at(void) {
     CHECK(etagere_cache_delete(&cache) == ETAGERE_OK);
 }
 
+static void cache_frames(void) {
+    EtagereCache cache = ETAGERE_NULL;
+    EtagereOptions options = ETAGERE_DEFAULT_OPTIONS;
+    EtagereRectangle rectangle;
+    uint64_t key, evicted[3] = { 9, 9, 9 };
+    size_t count, length;
+
+    CHECK(etagere_cache_begin_frame(&cache) == ETAGERE_NULL_HANDLE);
+    CHECK(etagere_cache_new(&cache, size2(32, 32), &options, 3) == ETAGERE_OK);
+    for (key = 1; key <= 3; key += 1) {
+        CHECK(etagere_cache_place(&cache, key, size2(32, 8), &rectangle, evicted, 3, &count) == ETAGERE_OK);
+    }
+    CHECK(etagere_cache_begin_frame(&cache) == ETAGERE_OK);
+    CHECK(etagere_cache_get(&cache, 1, &rectangle) == ETAGERE_OK);
+    CHECK(etagere_cache_place(&cache, 4, size2(32, 8), &rectangle, evicted, 3, &count) == ETAGERE_OK);
+    CHECK(count == 1 && evicted[0] == 2 && lies(rectangle, 0, 8, 32, 16));
+    CHECK(etagere_cache_place(&cache, 5, size2(32, 32), &rectangle, evicted, 3, &count) == ETAGERE_CACHE_FRAME_FULL);
+    CHECK(count == 1 && evicted[0] == 2 && lies(rectangle, 0, 8, 32, 16));
+    CHECK(etagere_cache_len(&cache, &length) == ETAGERE_OK && length == 3);
+    CHECK(etagere_cache_begin_frame(&cache) == ETAGERE_OK);
+    CHECK(etagere_cache_place(&cache, 5, size2(32, 32), &rectangle, evicted, 3, &count) == ETAGERE_OK);
+    CHECK(count == 3 && evicted[0] == 3 && evicted[1] == 1 && evicted[2] == 4);
+    CHECK(etagere_cache_delete(&cache) == ETAGERE_OK);
+}
+
 /* 65535 columns have as many items, so a growth that needs one more is refused. */
 static void cache_grown(void) {
     EtagereCache cache = ETAGERE_NULL;
@@ -706,6 +731,7 @@ int main(void) {
     bucket_batches();
     glyph_cache();
     cache_looked_at();
+    cache_frames();
     cache_grown();
     cache_picture_parts();
     null_cache();

@@ -249,18 +249,21 @@ static void draw_cache(EtagereCache *cache) {
 }
 
 /* The keys that an answer names are gone, and all others are there. */
-static void fill_cache(EtagereCache *cache) {
+static void place_key(EtagereCache *cache, uint64_t key, EtagereSize of) {
     static uint64_t evicted[MOST];
     EtagereRectangle rectangle;
+    size_t before = 0, count = 0, after = 0;
+    EtagereStatus status;
+    failed |= etagere_cache_len(cache, &before) != ETAGERE_OK;
+    status = etagere_cache_place(cache, key, of, &rectangle, evicted, MOST, &count);
+    failed |= etagere_cache_len(cache, &after) != ETAGERE_OK;
+    went("etagere_cache_place", status, after + count == before);
+}
+
+static void fill_cache(EtagereCache *cache) {
     uint64_t key;
     for (key = 0; key < 80; key += 1) {
-        size_t before = 0, count = 0, after = 0;
-        EtagereStatus status;
-        failed |= etagere_cache_len(cache, &before) != ETAGERE_OK;
-        status = etagere_cache_place(cache, key, size2(5 + (int32_t)(key % 7) * 9, 4 + (int32_t)(key % 5) * 11),
-                                     &rectangle, evicted, MOST, &count);
-        failed |= etagere_cache_len(cache, &after) != ETAGERE_OK;
-        went("etagere_cache_place", status, after + count == before);
+        place_key(cache, key, size2(5 + (int32_t)(key % 7) * 9, 4 + (int32_t)(key % 5) * 11));
     }
 }
 
@@ -270,6 +273,15 @@ static void grow_cache(EtagereCache *cache) {
     EtagereStatus status = etagere_cache_grow(cache, size2(4096, 256));
     failed |= etagere_cache_size(cache, &size) != ETAGERE_OK;
     went("etagere_cache_grow", status, size.width == 128);
+}
+
+/* Keys of an earlier frame go, which is tried on a copy of the atlas. */
+static void fill_frame(EtagereCache *cache) {
+    uint64_t key;
+    failed |= etagere_cache_begin_frame(cache) != ETAGERE_OK;
+    for (key = 100; key < 110; key += 1) {
+        place_key(cache, key, size2(50, 20));
+    }
 }
 
 static void shrink_cache(EtagereCache *cache) {
@@ -290,6 +302,7 @@ static void glyph_cache(void) {
     status = etagere_cache_new(&cache, size2(128, 256), &options, 40);
     if (went("etagere_cache_new", status, cache.state == NULL)) {
         fill_cache(&cache);
+        fill_frame(&cache);
         draw_cache(&cache);
         grow_cache(&cache);
         shrink_cache(&cache);
