@@ -19,7 +19,7 @@ QUIET = [f"quiet {kind}" for kind in KINDS]
 ONCE = "split atlas"
 CHECKS = [f"check {kind}" for kind in KINDS]
 # Trials that answer one call.
-CALLS = ["walk links", "rearranged atlas"]
+CALLS = ["walk links", "rearranged atlas", "snapshot pages", "restore pages", "pad pages"]
 GLYPHS = "place glyphs"
 # A trial that asks again where a command was out of memory, and ends where it is still.
 PAGES = "run pages"

@@ -4,4 +4,6 @@
 #[cfg(test)]
 mod assertions;
 #[cfg(test)]
+mod more_rows;
+#[cfg(test)]
 mod rows;

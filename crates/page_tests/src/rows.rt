@@ -6,7 +6,11 @@ use etagere::{AllocId, DEFAULT_OPTIONS, OptionsFault, UnknownId, size2};
 use std::alloc::Global;
 use std::test::Fail;
 
-fn page_options((width, height): (i32, i32), most_pages: u32, choice: PageChoice) -> PageOptions {
+pub fn page_options(
+    (width, height): (i32, i32),
+    most_pages: u32,
+    choice: PageChoice,
+) -> PageOptions {
     PageOptions {
         size: size2(width, height),
         atlas: DEFAULT_OPTIONS,
@@ -15,7 +19,7 @@ fn page_options((width, height): (i32, i32), most_pages: u32, choice: PageChoice
     }
 }
 
-fn pages_of(alloc: Global, most_pages: u32, choice: PageChoice) -> Result<AtlasPages, Fail> {
+pub fn pages_of(alloc: Global, most_pages: u32, choice: PageChoice) -> Result<AtlasPages, Fail> {
     Ok(AtlasPages::new(alloc, &page_options((64, 64), most_pages, choice))?)
 }
 

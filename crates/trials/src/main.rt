@@ -11,6 +11,7 @@ mod copies;
 mod glyphs;
 mod growing;
 mod lines;
+mod listed_pages;
 mod moving;
 mod pages;
 mod quiet;
@@ -77,10 +78,13 @@ fn glyph_trial(rt: &(impl Print + AllocGlobal), call: &str) -> Result<bool, Repl
 
 /// Runs a trial of several pages, if there is one of this name.
 fn page_trial(rt: &(impl Print + AllocGlobal), call: &str) -> Result<bool, ReplayFault> {
-    if call != "run" {
-        return Ok(false);
+    match call {
+        "run" => pages::run_on_pages(rt)?,
+        "snapshot" => listed_pages::snapshot(rt)?,
+        "restore" => listed_pages::restore(rt)?,
+        "pad" => listed_pages::pad(rt)?,
+        _ => return Ok(false),
     }
-    pages::run_on_pages(rt)?;
     Ok(true)
 }
 

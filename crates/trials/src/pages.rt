@@ -7,7 +7,7 @@ use etagere::{DEFAULT_OPTIONS, Size, size2};
 use etagere_run::ReplayFault;
 use page_runs::{PageCommand, PageReply, answer_on_pages};
 
-const OPTIONS: PageOptions = PageOptions {
+pub const OPTIONS: PageOptions = PageOptions {
     size: Size {
         width: 32,
         height: 32,
@@ -90,7 +90,7 @@ fn say_page_reply(rt: &impl Print, reply: &PageReply) -> Result<(), ReplayFault>
     }
 }
 
-fn say_place(rt: &impl Print, place: &PagePlace) -> Result<(), ReplayFault> {
+pub fn say_place(rt: &impl Print, place: &PagePlace) -> Result<(), ReplayFault> {
     let [x0, y0, x1, y1] = corners(place.allocation.rectangle);
     let (page, id) = (place.page, place.allocation.id.serialize());
     println!(rt; "page {page} placed {id} {x0} {y0} {x1} {y1}").map_err(|_| ReplayFault::Write)
