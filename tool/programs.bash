@@ -105,16 +105,21 @@ keep() {
 }
 
 # Whether `rt run` left a program of the crate $1 made of its files as they are: its stamp holds the toolchain's own
-# sum of these, and that of the program.
+# sum of these, with the arguments and the status that it is run for, and that of the program.
 is_left_by_run() {
     local made=$root/crates/$1/out/$1 sum
     [[ -x $made && -f $made.stamp ]] && has_toolchain || return 1
     sum=$(
-        python3 -B - "$(dirname -- "$(rt doc)")/bin" "$root/crates/$1" "$root" 2> /dev/null << 'END'
+        python3 -B - "$(dirname -- "$(rt doc)")/bin/rt" "$root/crates/$1" "$root" 2> /dev/null << 'END'
 import sys
-sys.path.insert(0, sys.argv[1])
-import rtlib
-print(rtlib.Crate(*sys.argv[2:], {}).stamp())
+from importlib.machinery import SourceFileLoader
+from importlib.util import module_from_spec, spec_from_loader
+loader = SourceFileLoader("rt", sys.argv[1])
+rt = module_from_spec(spec_from_loader("rt", loader))
+loader.exec_module(rt)
+crate = rt.rtlib.Crate(*sys.argv[2:], {})
+rt.read_files(crate)
+print(crate.stamp())
 END
     ) || return 1
     [[ $(< "$made.stamp") == "$sum$(sha256sum < "$made" | cut -d ' ' -f 1)" ]]
