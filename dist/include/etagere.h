@@ -122,7 +122,43 @@ enum {
     /* The key is new, and an empty atlas of the same size and options has no place for its size. */
     ETAGERE_CACHE_TOO_LARGE = 601,
     /* The key is new, and there was no memory. */
-    ETAGERE_CACHE_MEMORY = 602
+    ETAGERE_CACHE_MEMORY = 602,
+    /* The key is new, and there would be no place though all keys went that weren't used in this frame. */
+    ETAGERE_CACHE_FRAME_FULL = 603
+};
+
+/* Why a size has no place in an atlas of shelves: the first that holds is told, in this order. */
+enum {
+    /* A side of the size is below 1. */
+    ETAGERE_REFUSAL_NOT_POSITIVE = 1,
+    /* A side of the size is above 65535. */
+    ETAGERE_REFUSAL_TOO_LONG = 2,
+    /* The side along the shelves, rounded up to its alignment, is above the width of a column. */
+    ETAGERE_REFUSAL_WIDER_THAN_COLUMN = 3,
+    /* The side across the shelves, rounded up to its alignment, is above that of the atlas. */
+    ETAGERE_REFUSAL_TALLER_THAN_ATLAS = 4,
+    /* No shelf that is tall enough has a free item that is wide enough. */
+    ETAGERE_REFUSAL_NO_ROOM = 5,
+    /* A shelf has room, but the splits of the chosen place would make more than 65535 items. */
+    ETAGERE_REFUSAL_NO_RECORDS = 6
+};
+
+/* Why a size has no place in a bucketed atlas: the first that holds is told, in this order. */
+enum {
+    /* A side of the size is below 1. */
+    ETAGERE_BUCKETED_REFUSAL_NOT_POSITIVE = 1,
+    /* A side of the size is above 65535. */
+    ETAGERE_BUCKETED_REFUSAL_TOO_LONG = 2,
+    /* The size, rounded up to the alignment, is wider along the shelves than a column. */
+    ETAGERE_BUCKETED_REFUSAL_WIDER_THAN_COLUMN = 3,
+    /* The size, rounded up to the alignment, is taller across the shelves than the atlas. */
+    ETAGERE_BUCKETED_REFUSAL_TALLER_THAN_ATLAS = 4,
+    /* No shelf that is tall enough has a bucket with the width left, and there is no space for a new shelf. */
+    ETAGERE_BUCKETED_REFUSAL_NO_ROOM = 5,
+    /* There is space for a new shelf, but too few of the 4095 buckets are left for it. */
+    ETAGERE_BUCKETED_REFUSAL_NO_BUCKETS = 6,
+    /* A bucket of a shelf that is tall enough has the width left, but has given 4095 items. */
+    ETAGERE_BUCKETED_REFUSAL_ITEMS_USED_UP = 7
 };
 
 /* A place in pixels. */
@@ -148,6 +184,50 @@ typedef struct EtagereAllocation {
     uint32_t id;
     EtagereRectangle rectangle;
 } EtagereAllocation;
+
+/* A key of a cache with its rectangle. */
+typedef struct EtagereEntry {
+    uint64_t key;
+    EtagereRectangle rectangle;
+} EtagereEntry;
+
+/* Why a size has no place. Both are 0 where it has one. */
+typedef struct EtagereRefusal {
+    /* ETAGERE_REFUSAL_.., of a bucketed atlas ETAGERE_BUCKETED_REFUSAL_.. */
+    uint32_t reason;
+    /* Where the reason is .._NO_ROOM, how long the widest item along the shelves is that those which are tall enough
+     * have room for, 0 where they have none; of any other reason 0. */
+    uint32_t widest;
+} EtagereRefusal;
+
+/* How full an atlas of shelves is. */
+typedef struct EtagereUsage {
+    /* How many shelves there are, and how many of them are empty. */
+    uint32_t shelves;
+    uint32_t empty_shelves;
+    /* How many items are allocated, how many are free, and how many more there can be, of 65535 in all. */
+    uint32_t items;
+    uint32_t free_items;
+    uint32_t unused_records;
+    /* As etagere_atlas_largest_free gives it. */
+    EtagereSize largest_free;
+} EtagereUsage;
+
+/* How full a bucketed atlas is. */
+typedef struct EtagereBucketedUsage {
+    /* How many shelves there are, and how many of them hold nothing. */
+    uint32_t shelves;
+    uint32_t idle_shelves;
+    /* How many buckets they have, and how many of these hold nothing. */
+    uint32_t buckets;
+    uint32_t idle_buckets;
+    /* How many items are allocated. */
+    uint32_t items;
+    /* How many buckets can still be made, of 4095. */
+    uint32_t unused_buckets;
+    /* As etagere_bucketed_largest_free gives it. */
+    EtagereSize largest_free;
+} EtagereBucketedUsage;
 
 /* How an atlas is divided and what it rounds sizes to. */
 typedef struct EtagereOptions {
@@ -248,6 +328,21 @@ EtagereStatus etagere_atlas_free_space(EtagereAtlas *atlas, int32_t *space);
 /* Gives 1 where the atlas would have a place for the size if it were empty, and else 0. The atlas stays.
  * Answers ETAGERE_OK; ETAGERE_NULL_HANDLE. Takes constant time. */
 EtagereStatus etagere_atlas_fits_when_empty(EtagereAtlas *atlas, EtagereSize size, uint32_t *fits);
+
+/* Tells why the size has no place: refusal->reason is ETAGERE_REFUSAL_.., the first that holds, or 0 exactly where
+ * etagere_atlas_allocate has a place for it, memory aside. The atlas stays.
+ * Answers ETAGERE_OK; ETAGERE_NULL_HANDLE. Takes no memory. Takes constant time where the size alone is the reason,
+ * and else goes through all shelves and the free items of those that are tall enough. */
+EtagereStatus etagere_atlas_refusal(EtagereAtlas *atlas, EtagereSize size, EtagereRefusal *refusal);
+
+/* Gives how full the atlas is. The atlas stays.
+ * Answers ETAGERE_OK; ETAGERE_NULL_HANDLE. Takes no memory, and goes through all shelves and free items. */
+EtagereStatus etagere_atlas_usage(EtagereAtlas *atlas, EtagereUsage *usage);
+
+/* Gives the widest free item along the shelves, and of equally wide ones the tallest; 0 by 0 where none is free. A
+ * size as large may have no place, where its rounded height is above that of the shelf. The atlas stays.
+ * Answers ETAGERE_OK; ETAGERE_NULL_HANDLE. Takes no memory, and goes through all shelves and free items. */
+EtagereStatus etagere_atlas_largest_free(EtagereAtlas *atlas, EtagereSize *size);
 
 /* Makes the atlas larger. What is allocated keeps its place, its id and its index.
  * Answers ETAGERE_OK; ETAGERE_NULL_HANDLE; ETAGERE_GROW_.., the first fault, ETAGERE_GROW_MEMORY only where there is
@@ -362,6 +457,22 @@ EtagereStatus etagere_bucketed_allocated_space(EtagereBucketed *atlas, int32_t *
  * Answers ETAGERE_OK; ETAGERE_NULL_HANDLE. Takes constant time. */
 EtagereStatus etagere_bucketed_free_space(EtagereBucketed *atlas, int32_t *space);
 
+/* Tells why the size has no place: refusal->reason is ETAGERE_BUCKETED_REFUSAL_.., the first that holds, or 0
+ * exactly where etagere_bucketed_allocate has a place for it, memory aside. The atlas stays.
+ * Answers ETAGERE_OK; ETAGERE_NULL_HANDLE. Takes no memory. Where there is a place, it costs the search of
+ * etagere_bucketed_allocate; else it goes through the shelves once more, and through the buckets of those that are
+ * tall enough. */
+EtagereStatus etagere_bucketed_refusal(EtagereBucketed *atlas, EtagereSize size, EtagereRefusal *refusal);
+
+/* Gives how full the atlas is. The atlas stays.
+ * Answers ETAGERE_OK; ETAGERE_NULL_HANDLE. Takes no memory, and goes through all shelves and buckets. */
+EtagereStatus etagere_bucketed_usage(EtagereBucketed *atlas, EtagereBucketedUsage *usage);
+
+/* Gives the widest item that a shelf can give, with the height of that shelf; 0 by 0 where no shelf has room. The
+ * space for a new shelf doesn't count, nor what several idle shelves could make together. The atlas stays.
+ * Answers ETAGERE_OK; ETAGERE_NULL_HANDLE. Takes no memory, and goes through the shelves. */
+EtagereStatus etagere_bucketed_largest_free(EtagereBucketed *atlas, EtagereSize *size);
+
 /* Makes the atlas larger. What is allocated keeps its place and its id.
  * Answers ETAGERE_OK; ETAGERE_NULL_HANDLE; ETAGERE_BUCKETED_GROW_.., the first fault, ETAGERE_BUCKETED_GROW_MEMORY
  * only where there is no other, buckets are to be made and there was no memory. Goes through all shelves. */
@@ -450,11 +561,19 @@ EtagereStatus etagere_cache_delete(EtagereCache *cache);
  * buffer, the least recently used first, and how many to *count; what is behind stays.
  * Answers ETAGERE_OK; ETAGERE_NULL_HANDLE; ETAGERE_LENGTH where the buffer is shorter than etagere_cache_len says,
  * with nothing written; ETAGERE_CACHE_TOO_LARGE exactly where the key is new and an empty atlas has no place for the
- * size, with nothing written; ETAGERE_CACHE_MEMORY, only for a new key: then the evicted keys and *count are written
- * too, these keys are gone, and the others stand. Asks the atlas once, and once more for each key that is evicted. */
+ * size, with nothing written; ETAGERE_CACHE_FRAME_FULL exactly where the key is new and evicting all keys that weren't
+ * used in this frame wouldn't make room, memory aside, with nothing written; ETAGERE_CACHE_MEMORY, only for a new key:
+ * then the evicted keys and *count are written too, these keys are gone, and the others stand. Asks the atlas once, and
+ * once more for each key that is evicted; where keys were used in this frame, it first tries that on a copy of the
+ * atlas. */
 EtagereStatus etagere_cache_place(
     EtagereCache *cache, uint64_t key, EtagereSize size, EtagereRectangle *rectangle, uint64_t *evicted, size_t
     evicted_length, size_t *count);
+
+/* Begins a frame: what is placed or looked up from now on isn't evicted until the next frame begins, or the cache is
+ * cleared.
+ * Answers ETAGERE_OK; ETAGERE_NULL_HANDLE. Takes no memory, and constant time. */
+EtagereStatus etagere_cache_begin_frame(EtagereCache *cache);
 
 /* Gives the rectangle of a key, which becomes the most recently used.
  * Answers ETAGERE_OK; ETAGERE_NULL_HANDLE; ETAGERE_UNKNOWN_KEY. Takes no memory, and constant time on average. */
@@ -465,7 +584,32 @@ EtagereStatus etagere_cache_get(EtagereCache *cache, uint64_t key, EtagereRectan
  * etagere_atlas_deallocate does. */
 EtagereStatus etagere_cache_remove(EtagereCache *cache, uint64_t key, EtagereRectangle *rectangle);
 
-/* Takes all keys out: the cache is as new.
+/* Gives the rectangle of a key, without using it. The cache stays, with the order of use.
+ * Answers ETAGERE_OK; ETAGERE_NULL_HANDLE; ETAGERE_UNKNOWN_KEY. Takes no memory, and constant time on average. */
+EtagereStatus etagere_cache_peek(EtagereCache *cache, uint64_t key, EtagereRectangle *rectangle);
+
+/* Gives all keys with their rectangles, the most recently used first: writes them to the front of the buffer, and how
+ * many there are to *count. What is behind stays, and the cache does, with the order of use.
+ * Answers ETAGERE_OK; ETAGERE_NULL_HANDLE; ETAGERE_LENGTH where the buffer is shorter than there are keys: then *count
+ * is written too, and nothing else. Takes no memory, and goes through the keys. */
+EtagereStatus etagere_cache_entries(EtagereCache *cache, EtagereEntry *entries, size_t entries_length, size_t *count);
+
+/* Makes the atlas larger. Each key keeps its place, and the order of use stays.
+ * Answers ETAGERE_OK; ETAGERE_NULL_HANDLE; ETAGERE_GROW_.., the first fault, ETAGERE_GROW_MEMORY only where there is
+ * no other, the growth needs records and there was no memory. Costs what etagere_atlas_grow does. */
+EtagereStatus etagere_cache_grow(EtagereCache *cache, EtagereSize size);
+
+/* Sets how many keys there may be. Where more are there, those used least recently are evicted, no more than needed.
+ * Writes the evicted keys to the front of the buffer, the least recently used first, and how many to *count; what is
+ * behind stays.
+ * Answers ETAGERE_OK; ETAGERE_NULL_HANDLE; ETAGERE_LENGTH where the capacity is 0, or the buffer is shorter than
+ * etagere_cache_len says; ETAGERE_MEMORY, only where keys have to go. Takes memory for a list of these keys, and a
+ * smaller table of the keys where there is memory for one; goes through the keys, and takes each evicted rectangle
+ * back as etagere_atlas_deallocate does. */
+EtagereStatus etagere_cache_set_capacity(
+    EtagereCache *cache, size_t capacity, uint64_t *evicted, size_t evicted_length, size_t *count);
+
+/* Takes all keys out: the cache is as new, and no frame has begun.
  * Answers ETAGERE_OK; ETAGERE_NULL_HANDLE. Takes no memory, and goes through the keys and the columns. */
 EtagereStatus etagere_cache_clear(EtagereCache *cache);
 
