@@ -16,9 +16,10 @@
 //! ```
 
 use std::fmt;
-use std::ops::{Add, AddAssign, Div, DivAssign, Mul, MulAssign, Neg, Range, Sub, SubAssign};
+use std::iter::Sum;
+use std::ops::{Add, AddAssign, Div, DivAssign, Mul, MulAssign, Neg, Sub, SubAssign};
 
-use crate::number::Number;
+use crate::number::{Number, Real};
 
 /// The geometry types under the names that `euclid` gives to those without units.
 pub mod default {
@@ -55,26 +56,6 @@ pub struct Size2D<T> {
     pub height: T,
 }
 
-/// What lies from one corner on, up to the other one, which is no part of it.
-#[repr(C)]
-#[derive(Copy, Clone, PartialEq, Eq, Hash, Default)]
-pub struct Box2D<T> {
-    /// The corner at the top left.
-    pub min: Point2D<T>,
-    /// The corner at the bottom right, the first place past the box.
-    pub max: Point2D<T>,
-}
-
-/// A corner and two sides.
-#[repr(C)]
-#[derive(Copy, Clone, PartialEq, Eq, Hash, Default)]
-pub struct Rect<T> {
-    /// The corner at the top left.
-    pub origin: Point2D<T>,
-    /// Its sides.
-    pub size: Size2D<T>,
-}
-
 /// The point at these coordinates: `Point2D::new`.
 pub const fn point2<T>(x: T, y: T) -> Point2D<T> {
     Point2D { x, y }
@@ -88,11 +69,6 @@ pub const fn vec2<T>(x: T, y: T) -> Vector2D<T> {
 /// The size of these sides: `Size2D::new`.
 pub const fn size2<T>(width: T, height: T) -> Size2D<T> {
     Size2D { width, height }
-}
-
-/// The rectangle with this corner and these sides.
-pub const fn rect<T>(x: T, y: T, width: T, height: T) -> Rect<T> {
-    Rect { origin: point2(x, y), size: size2(width, height) }
 }
 
 /// The casts of a type whose `try_cast` is there.
@@ -122,6 +98,45 @@ macro_rules! casts {
         )+
     };
 }
+
+/// The product with a number and the quotient, of a type whose parts have them.
+macro_rules! scaled {
+    ($name:ident($first:ident, $second:ident)) => {
+        impl<T: Copy + Mul<Output = T>> Mul<T> for $name<T> {
+            type Output = Self;
+
+            fn mul(self, factor: T) -> Self {
+                Self { $first: self.$first * factor, $second: self.$second * factor }
+            }
+        }
+
+        impl<T: Copy + Div<Output = T>> Div<T> for $name<T> {
+            type Output = Self;
+
+            fn div(self, divisor: T) -> Self {
+                Self { $first: self.$first / divisor, $second: self.$second / divisor }
+            }
+        }
+
+        impl<T: Copy + Mul<Output = T>> MulAssign<T> for $name<T> {
+            fn mul_assign(&mut self, factor: T) {
+                *self = *self * factor;
+            }
+        }
+
+        impl<T: Copy + Div<Output = T>> DivAssign<T> for $name<T> {
+            fn div_assign(&mut self, divisor: T) {
+                *self = *self / divisor;
+            }
+        }
+    };
+}
+
+mod boxes;
+mod rects;
+
+pub use boxes::Box2D;
+pub use rects::{rect, Rect};
 
 /// What all types of two numbers have.
 macro_rules! pair {
@@ -222,33 +237,36 @@ macro_rules! pair {
             }
         }
 
-        impl<T: Copy + Mul<Output = T>> Mul<T> for $name<T> {
-            type Output = Self;
+        impl<T: Real> $name<T> {
+            /// Both numbers rounded to the nearest whole one, and up from half way.
+            #[must_use]
+            pub fn round(self) -> Self {
+                self.map(T::round)
+            }
 
-            fn mul(self, factor: T) -> Self {
-                self.map(|number| number * factor)
+            /// Both numbers rounded down.
+            #[must_use]
+            pub fn floor(self) -> Self {
+                self.map(T::floor)
+            }
+
+            /// Both numbers rounded up.
+            #[must_use]
+            pub fn ceil(self) -> Self {
+                self.map(T::ceil)
+            }
+
+            /// What lies between this and the other: this at 0, the other at 1.
+            #[must_use]
+            pub fn lerp(self, other: Self, share: T) -> Self {
+                Self {
+                    $first: between(self.$first, other.$first, share),
+                    $second: between(self.$second, other.$second, share),
+                }
             }
         }
 
-        impl<T: Copy + Div<Output = T>> Div<T> for $name<T> {
-            type Output = Self;
-
-            fn div(self, divisor: T) -> Self {
-                self.map(|number| number / divisor)
-            }
-        }
-
-        impl<T: Copy + Mul<Output = T>> MulAssign<T> for $name<T> {
-            fn mul_assign(&mut self, factor: T) {
-                *self = *self * factor;
-            }
-        }
-
-        impl<T: Copy + Div<Output = T>> DivAssign<T> for $name<T> {
-            fn div_assign(&mut self, divisor: T) {
-                *self = *self / divisor;
-            }
-        }
+        scaled!($name($first, $second));
 
         impl<T: Neg<Output = T>> Neg for $name<T> {
             type Output = Self;
@@ -312,6 +330,32 @@ macro_rules! assigned {
 
 assigned!(Point2D Vector2D, Point2D Size2D, Vector2D Vector2D, Size2D Size2D);
 
+/// The sums of all that an iterator has.
+macro_rules! summed {
+    ($($name:ident),+) => {
+        $(
+            impl<T: Default + Add<Output = T>> Sum for $name<T> {
+                fn sum<I: Iterator<Item = Self>>(all: I) -> Self {
+                    all.fold(Self::default(), Add::add)
+                }
+            }
+
+            impl<'a, T: Copy + Default + Add<Output = T>> Sum<&'a Self> for $name<T> {
+                fn sum<I: Iterator<Item = &'a Self>>(all: I) -> Self {
+                    all.copied().sum()
+                }
+            }
+        )+
+    };
+}
+
+summed!(Vector2D, Size2D);
+
+/// What lies between two numbers: the first at 0, the second at 1.
+fn between<T: Real>(start: T, end: T, share: T) -> T {
+    start * (T::ONE - share) + end * share
+}
+
 fn least<T: PartialOrd>(one: T, other: T) -> T {
     if one <= other {
         one
@@ -342,6 +386,28 @@ impl<T> Point2D<T> {
     pub fn to_vector(self) -> Vector2D<T> {
         vec2(self.x, self.y)
     }
+
+    /// The point whose coordinates are swapped.
+    #[must_use]
+    pub fn yx(self) -> Self {
+        point2(self.y, self.x)
+    }
+}
+
+impl<T: Copy + Add<Output = T>> Point2D<T> {
+    /// The point that is farther right and down by a size.
+    #[must_use]
+    pub fn add_size(self, other: &Size2D<T>) -> Self {
+        self + *other
+    }
+}
+
+impl<T: Real> Point2D<T> {
+    /// How far it is to the other point.
+    #[must_use]
+    pub fn distance_to(self, other: Self) -> T {
+        (self - other).length()
+    }
 }
 
 impl<T> Vector2D<T> {
@@ -356,6 +422,64 @@ impl<T> Vector2D<T> {
     pub fn to_size(self) -> Size2D<T> {
         size2(self.x, self.y)
     }
+
+    /// The vector whose coordinates are swapped.
+    #[must_use]
+    pub fn yx(self) -> Self {
+        vec2(self.y, self.x)
+    }
+}
+
+impl<T: Mul<Output = T>> Vector2D<T> {
+    /// The product of each coordinate with that of the other.
+    #[must_use]
+    pub fn component_mul(self, other: Self) -> Self {
+        vec2(self.x * other.x, self.y * other.y)
+    }
+}
+
+impl<T: Div<Output = T>> Vector2D<T> {
+    /// Each coordinate divided by that of the other.
+    #[must_use]
+    pub fn component_div(self, other: Self) -> Self {
+        vec2(self.x / other.x, self.y / other.y)
+    }
+}
+
+impl<T: Copy + Mul<Output = T> + Add<Output = T>> Vector2D<T> {
+    /// The dot product.
+    #[must_use]
+    pub fn dot(self, other: Self) -> T {
+        self.x * other.x + self.y * other.y
+    }
+
+    /// The square of the length.
+    #[must_use]
+    pub fn square_length(self) -> T {
+        self.dot(self)
+    }
+}
+
+impl<T: Copy + Mul<Output = T> + Sub<Output = T>> Vector2D<T> {
+    /// The area of what the two span, negative where the other lies to the left.
+    #[must_use]
+    pub fn cross(self, other: Self) -> T {
+        self.x * other.y - self.y * other.x
+    }
+}
+
+impl<T: Real> Vector2D<T> {
+    /// How long it is.
+    #[must_use]
+    pub fn length(self) -> T {
+        self.square_length().sqrt()
+    }
+
+    /// The vector of length 1 in the same direction; of a zero vector not a number.
+    #[must_use]
+    pub fn normalize(self) -> Self {
+        self / self.length()
+    }
 }
 
 impl<T> Size2D<T> {
@@ -365,6 +489,23 @@ impl<T> Size2D<T> {
         vec2(self.width, self.height)
     }
 }
+
+/// Both numbers without their signs.
+macro_rules! unsigned {
+    ($($name:ident),+) => {
+        $(
+            impl<T: Number + Neg<Output = T>> $name<T> {
+                /// Both numbers without their signs.
+                #[must_use]
+                pub fn abs(self) -> Self {
+                    self.map(|number| if number < T::default() { -number } else { number })
+                }
+            }
+        )+
+    };
+}
+
+unsigned!(Vector2D, Size2D);
 
 impl<T: Mul<Output = T>> Size2D<T> {
     /// Width times height.
@@ -390,272 +531,6 @@ impl<T: PartialOrd> Size2D<T> {
     }
 }
 
-impl<T> Box2D<T> {
-    /// The box between two corners.
-    #[must_use]
-    pub const fn new(min: Point2D<T>, max: Point2D<T>) -> Self {
-        Self { min, max }
-    }
-}
-
-impl<T: Default> Box2D<T> {
-    /// The box without area at (0, 0).
-    #[must_use]
-    pub fn zero() -> Self {
-        Self::default()
-    }
-
-    /// The box of this size at (0, 0).
-    #[must_use]
-    pub fn from_size(size: Size2D<T>) -> Self {
-        Self { min: Point2D::default(), max: point2(size.width, size.height) }
-    }
-}
-
-impl<T: Copy + Add<Output = T>> Box2D<T> {
-    /// The box of this size from this corner on.
-    #[must_use]
-    pub fn from_origin_and_size(origin: Point2D<T>, size: Size2D<T>) -> Self {
-        Self { min: origin, max: origin + size }
-    }
-
-    /// The same box elsewhere.
-    #[must_use]
-    pub fn translate(&self, by: Vector2D<T>) -> Self {
-        Self { min: self.min + by, max: self.max + by }
-    }
-}
-
-impl<T: Copy + Sub<Output = T>> Box2D<T> {
-    /// How wide and how tall it is.
-    #[must_use]
-    pub fn size(&self) -> Size2D<T> {
-        size2(self.width(), self.height())
-    }
-
-    /// How wide it is.
-    #[must_use]
-    pub fn width(&self) -> T {
-        self.max.x - self.min.x
-    }
-
-    /// How tall it is.
-    #[must_use]
-    pub fn height(&self) -> T {
-        self.max.y - self.min.y
-    }
-
-    /// The same as a corner and two sides.
-    #[must_use]
-    pub fn to_rect(&self) -> Rect<T> {
-        Rect { origin: self.min, size: self.size() }
-    }
-}
-
-impl<T: Copy + Sub<Output = T> + Mul<Output = T>> Box2D<T> {
-    /// Width times height.
-    #[must_use]
-    pub fn area(&self) -> T {
-        self.size().area()
-    }
-}
-
-impl<T: Copy + Add<Output = T> + Sub<Output = T>> Box2D<T> {
-    /// The box that is larger by `width` to the left and right, and by `height` above and below.
-    #[must_use]
-    pub fn inflate(&self, width: T, height: T) -> Self {
-        let by = size2(width, height);
-        Self { min: self.min - by, max: self.max + by }
-    }
-}
-
-impl<T: Copy> Box2D<T> {
-    /// The places across which it lies.
-    #[must_use]
-    pub fn x_range(&self) -> Range<T> {
-        self.min.x..self.max.x
-    }
-
-    /// The places along which it lies.
-    #[must_use]
-    pub fn y_range(&self) -> Range<T> {
-        self.min.y..self.max.y
-    }
-}
-
-impl<T: Copy + PartialOrd> Box2D<T> {
-    /// Whether a side isn't positive.
-    #[must_use]
-    pub fn is_empty(&self) -> bool {
-        !(self.max.x > self.min.x && self.max.y > self.min.y)
-    }
-
-    /// Whether a side is negative.
-    #[must_use]
-    pub fn is_negative(&self) -> bool {
-        self.max.x < self.min.x || self.max.y < self.min.y
-    }
-
-    /// Whether a point lies in it; those at its right and lower edge don't.
-    #[must_use]
-    pub fn contains(&self, point: Point2D<T>) -> bool {
-        self.x_range().contains(&point.x) && self.y_range().contains(&point.y)
-    }
-
-    /// Whether a point lies in it or on one of its edges.
-    #[must_use]
-    pub fn contains_inclusive(&self, point: Point2D<T>) -> bool {
-        (self.min.x..=self.max.x).contains(&point.x) && (self.min.y..=self.max.y).contains(&point.y)
-    }
-
-    /// Whether the other box is empty or lies in this one.
-    #[must_use]
-    pub fn contains_box(&self, other: &Self) -> bool {
-        other.is_empty() || (self.contains_inclusive(other.min) && self.contains_inclusive(other.max))
-    }
-
-    /// Whether the two share a place.
-    #[must_use]
-    pub fn intersects(&self, other: &Self) -> bool {
-        self.min.x < other.max.x && self.max.x > other.min.x && self.min.y < other.max.y && self.max.y > other.min.y
-    }
-
-    /// What the two share, or none.
-    #[must_use]
-    pub fn intersection(&self, other: &Self) -> Option<Self> {
-        let shared = self.intersection_unchecked(other);
-        (!shared.is_empty()).then_some(shared)
-    }
-
-    /// What the two share; where that is nothing, a box that is empty.
-    #[must_use]
-    pub fn intersection_unchecked(&self, other: &Self) -> Self {
-        Self { min: self.min.max(other.min), max: self.max.min(other.max) }
-    }
-
-    /// The least box in which both lie; of an empty one and another it is the other.
-    #[must_use]
-    pub fn union(&self, other: &Self) -> Self {
-        if other.is_empty() {
-            *self
-        } else if self.is_empty() {
-            *other
-        } else {
-            Self { min: self.min.min(other.min), max: self.max.max(other.max) }
-        }
-    }
-}
-
-impl<T: Copy + PartialOrd + Default> Box2D<T> {
-    /// The least box that has all points in it or on an edge; without points that at (0, 0).
-    #[must_use]
-    pub fn from_points(points: impl IntoIterator<Item = Point2D<T>>) -> Self {
-        let mut points = points.into_iter();
-        let Some(first) = points.next() else { return Self::default() };
-        points.fold(Self::new(first, first), |all, point| Self::new(all.min.min(point), all.max.max(point)))
-    }
-}
-
-impl<T: Number + Add<Output = T> + Div<Output = T>> Box2D<T> {
-    /// The place half way between the corners, rounded towards 0.
-    #[must_use]
-    pub fn center(&self) -> Point2D<T> {
-        (self.min + self.max.to_vector()) / T::TWO
-    }
-}
-
-impl<T: Number> Box2D<T> {
-    /// The same in another type of numbers, or none where a number has no place in it.
-    #[must_use]
-    pub fn try_cast<N: Number>(self) -> Option<Box2D<N>> {
-        Some(Box2D { min: self.min.try_cast()?, max: self.max.try_cast()? })
-    }
-
-    casts!(Box2D);
-}
-
-impl<T: Default> From<Size2D<T>> for Box2D<T> {
-    fn from(size: Size2D<T>) -> Self {
-        Self::from_size(size)
-    }
-}
-
-impl<T> Rect<T> {
-    /// The rectangle of this size from this corner on.
-    #[must_use]
-    pub const fn new(origin: Point2D<T>, size: Size2D<T>) -> Self {
-        Self { origin, size }
-    }
-}
-
-impl<T: Copy> Rect<T> {
-    /// The corner at the top left.
-    #[must_use]
-    pub fn min(&self) -> Point2D<T> {
-        self.origin
-    }
-
-    /// How wide it is.
-    #[must_use]
-    pub fn width(&self) -> T {
-        self.size.width
-    }
-
-    /// How tall it is.
-    #[must_use]
-    pub fn height(&self) -> T {
-        self.size.height
-    }
-}
-
-impl<T: Copy + Add<Output = T>> Rect<T> {
-    /// The corner at the bottom right, the first place past it.
-    #[must_use]
-    pub fn max(&self) -> Point2D<T> {
-        self.origin + self.size
-    }
-
-    /// The same between two corners.
-    #[must_use]
-    pub fn to_box2d(&self) -> Box2D<T> {
-        Box2D { min: self.min(), max: self.max() }
-    }
-}
-
-impl<T: Copy + Mul<Output = T>> Rect<T> {
-    /// Width times height.
-    #[must_use]
-    pub fn area(&self) -> T {
-        self.size.area()
-    }
-}
-
-impl<T: Copy + PartialOrd + Default> Rect<T> {
-    /// Whether a side isn't positive.
-    #[must_use]
-    pub fn is_empty(&self) -> bool {
-        self.size.is_empty()
-    }
-}
-
-impl<T: Copy + PartialOrd + Add<Output = T>> Rect<T> {
-    /// Whether a point lies in it; those at its right and lower edge don't.
-    #[must_use]
-    pub fn contains(&self, point: Point2D<T>) -> bool {
-        self.to_box2d().contains(point)
-    }
-}
-
-impl<T: Number> Rect<T> {
-    /// The same in another type of numbers, or none where a number has no place in it.
-    #[must_use]
-    pub fn try_cast<N: Number>(self) -> Option<Rect<N>> {
-        Some(Rect { origin: self.origin.try_cast()?, size: self.size.try_cast()? })
-    }
-
-    casts!(Rect);
-}
-
 impl<T: fmt::Debug> fmt::Debug for Point2D<T> {
     fn fmt(&self, f: &mut fmt::Formatter<'_>) -> fmt::Result {
         f.debug_tuple("").field(&self.x).field(&self.y).finish()
@@ -670,18 +545,8 @@ impl<T: fmt::Debug> fmt::Debug for Vector2D<T> {
 
 impl<T: fmt::Debug> fmt::Debug for Size2D<T> {
     fn fmt(&self, f: &mut fmt::Formatter<'_>) -> fmt::Result {
-        write!(f, "{:?}x{:?}", self.width, self.height)
-    }
-}
-
-impl<T: fmt::Debug> fmt::Debug for Box2D<T> {
-    fn fmt(&self, f: &mut fmt::Formatter<'_>) -> fmt::Result {
-        f.debug_tuple("Box2D").field(&self.min).field(&self.max).finish()
-    }
-}
-
-impl<T: fmt::Debug> fmt::Debug for Rect<T> {
-    fn fmt(&self, f: &mut fmt::Formatter<'_>) -> fmt::Result {
-        write!(f, "Rect({:?} at {:?})", self.size, self.origin)
+        fmt::Debug::fmt(&self.width, f)?;
+        f.write_str("x")?;
+        fmt::Debug::fmt(&self.height, f)
     }
 }

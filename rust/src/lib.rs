@@ -51,7 +51,7 @@ pub mod euclid {
     //! The geometry types, at the path at which the Rust crate etagere has those of the crate `euclid`.
 
     pub use crate::geometry::*;
-    pub use crate::number::Number;
+    pub use crate::number::{Number, Real};
 }
 
 pub use allocation::{AllocId, Allocation, AllocatorOptions, DEFAULT_OPTIONS};

@@ -14,6 +14,8 @@ mod sealed {
     }
 }
 
+use std::ops::{Add, Div, Mul, Sub};
+
 use sealed::{Form, Formed};
 
 /// A type of numbers that geometry can be cast to and from: the integers up to 64 bits, `f32` and `f64`.
@@ -25,6 +27,30 @@ pub trait Number: Copy + PartialOrd + Default + Formed {
     fn of<N: Number>(number: N) -> Option<Self> {
         Self::of_form(number.form())
     }
+}
+
+/// A type of numbers with a decimal point: `f32` and `f64`.
+pub trait Real: Number + Add<Output = Self> + Sub<Output = Self> + Mul<Output = Self> + Div<Output = Self> {
+    /// The number 1.
+    const ONE: Self;
+
+    /// Rounded to the nearest whole number, and up from half way.
+    #[must_use]
+    fn round(self) -> Self {
+        (self + Self::ONE / Self::TWO).floor()
+    }
+
+    /// Rounded down.
+    #[must_use]
+    fn floor(self) -> Self;
+
+    /// Rounded up.
+    #[must_use]
+    fn ceil(self) -> Self;
+
+    /// The square root.
+    #[must_use]
+    fn sqrt(self) -> Self;
 }
 
 /// What is left of a number without what is behind its decimal point, where an integer can hold it.
@@ -75,6 +101,22 @@ macro_rules! reals {
 
             impl Number for $name {
                 const TWO: Self = 2.0;
+            }
+
+            impl Real for $name {
+                const ONE: Self = 1.0;
+
+                fn floor(self) -> Self {
+                    self.floor()
+                }
+
+                fn ceil(self) -> Self {
+                    self.ceil()
+                }
+
+                fn sqrt(self) -> Self {
+                    self.sqrt()
+                }
             }
         )+
     };

@@ -34,6 +34,18 @@ fn sums() {
     assert_eq!((corner, size), (point2(3, 5), SIZE));
     assert_eq!((CORNER.to_vector(), SIZE.to_vector()), (vec2(1, 2), vec2(3, 4)));
     assert_eq!((vec2(1, 2).to_point(), vec2(3, 4).to_size(), Point::origin()), (CORNER, SIZE, point2(0, 0)));
+    assert_eq!(([SIZE, SIZE].iter().sum::<Size>(), CORNER.add_size(&SIZE)), (size2(6, 8), BOX.max));
+    assert_eq!([vec2(1, 2), vec2(3, 4)].into_iter().sum::<Vector2D<i32>>(), vec2(4, 6));
+}
+
+#[test]
+fn vectors() {
+    let (one, other) = (vec2(3, 4), vec2(2, -1));
+    assert_eq!((one.dot(other), one.cross(other), one.square_length()), (2, -11, 25));
+    assert_eq!((one.component_mul(other), one.component_div(other)), (vec2(6, -4), vec2(1, -4)));
+    assert_eq!((one.yx(), CORNER.yx(), other.abs(), size2(-3, 4).abs()), (vec2(4, 3), point2(2, 1), vec2(2, 1), SIZE));
+    assert_eq!((one.to_f32().length(), one.to_f64().normalize()), (5.0, vec2(0.6, 0.8)));
+    assert_eq!(point2(1.0, 1.0).distance_to(point2(4.0, 5.0)), 5.0);
 }
 
 #[test]
@@ -55,6 +67,12 @@ fn boxes() {
     assert_eq!(Rectangle::from_points([point2(4, 2), point2(1, 6)]), BOX);
     assert!(Rectangle::zero().is_empty() && !BOX.is_empty() && !BOX.is_negative());
     assert!(Rectangle::new(BOX.max, BOX.min).is_negative());
+    assert_eq!((BOX.to_non_empty(), Rectangle::zero().to_non_empty()), (Some(BOX), None));
+    assert_eq!((BOX * 2, BOX * 2 / 2), (BOX.scale(2, 2), BOX));
+    assert_eq!(BOX.scale(1, 3), Rectangle::new(point2(1, 6), point2(4, 18)));
+    let mut other = Rectangle::from_points([CORNER].iter());
+    other.set_size(SIZE);
+    assert_eq!(other, BOX);
 }
 
 #[test]
@@ -75,6 +93,40 @@ fn rects() {
     assert_eq!(same, rect(1, 2, 3, 4));
     assert_eq!((same.to_box2d(), same.min(), same.max(), same.area()), (BOX, CORNER, BOX.max, 12));
     assert_eq!((same.width(), same.height(), same.is_empty(), same.contains(BOX.max)), (3, 4, false, false));
+    assert_eq!((same.min_x(), same.min_y(), same.max_x(), same.max_y()), (1, 2, 4, 6));
+    assert_eq!((same.x_range(), same.y_range(), same.center()), (1..4, 2..6, point2(2, 4)));
+    assert_eq!((same.translate(vec2(1, -2)), same.inflate(1, 2)), (rect(2, 0, 3, 4), rect(0, 0, 5, 8)));
+    assert_eq!((same * 2, same.scale(1, 3), same * 2 / 2), (rect(2, 4, 6, 8), rect(1, 6, 3, 12), same));
+    assert_eq!((Rect::from_size(SIZE), Rect::from(SIZE)), (rect(0, 0, 3, 4), rect(0, 0, 3, 4)));
+    assert_eq!((Rect::from_points([CORNER, BOX.max]), same.to_non_empty()), (same, Some(same)));
+    assert_eq!((Rect::<i32>::zero().to_non_empty(), Rect::zero().union(&same)), (None, same));
+}
+
+#[test]
+fn two_rects() {
+    let (one, below, beside) = (rect(1, 2, 3, 4), rect(1, 6, 3, 4), rect(3, 4, 3, 4));
+    assert!(!one.intersects(&below) && one.intersects(&beside));
+    assert_eq!((one.intersection(&below), one.intersection(&beside)), (None, Some(rect(3, 4, 1, 2))));
+    assert_eq!(one.union(&beside), rect(1, 2, 5, 6));
+    assert!(one.contains_rect(&one) && one.contains_rect(&Rect::zero()) && !one.contains_rect(&beside));
+}
+
+#[test]
+fn between_whole_numbers() {
+    let corner = point2(-1.5, 2.5);
+    assert_eq!(
+        (corner.round(), corner.floor(), corner.ceil()),
+        (point2(-1.0, 3.0), point2(-2.0, 2.0), point2(-1.0, 3.0))
+    );
+    assert_eq!(size2(1.0, 2.0).lerp(size2(3.0, 6.0), 0.25), size2(1.5, 3.0));
+    let part = Box2D::new(point2(0.25, 0.75), point2(2.25, 2.75));
+    assert_eq!(part.round(), Box2D::new(point2(0.0, 1.0), point2(2.0, 3.0)));
+    assert_eq!(part.round_in(), Box2D::new(point2(1.0, 1.0), point2(2.0, 2.0)));
+    assert_eq!(part.round_out(), Box2D::new(point2(0.0, 0.0), point2(3.0, 3.0)));
+    assert_eq!(part.lerp(part.translate(vec2(2.0, 4.0)), 0.5), part.translate(vec2(1.0, 2.0)));
+    let same = part.to_rect();
+    assert_eq!((same.round(), same.round_in()), (rect(0.0, 1.0, 2.0, 2.0), rect(1.0, 1.0, 1.0, 1.0)));
+    assert_eq!((same.round_out(), same.lerp(same, 0.5)), (rect(0.0, 0.0, 3.0, 3.0), same));
 }
 
 #[test]
@@ -99,4 +151,8 @@ fn a_cast_without_a_place() {
 fn texts() {
     assert_eq!(format!("{CORNER:?} {SIZE:?} {BOX:?}"), "(1, 2) 3x4 Box2D((1, 2), (4, 6))");
     assert_eq!(format!("{:?} {:?}", vec2(1, 2), BOX.to_rect()), "(1, 2) Rect(3x4 at (1, 2))");
+    assert_eq!(
+        format!("{:.1?} {:.1?}", SIZE.to_f32(), rect(0.0, 0.0, 1.0, 2.0)),
+        "3.0x4.0 Rect(1.0x2.0 at (0.0, 0.0))"
+    );
 }
