@@ -117,6 +117,31 @@ impl GlyphCache {
         self.handle.begin_frame();
     }
 
+    /// How many keys were placed or looked up in this frame and are still there: none before the first frame.
+    ///
+    /// ```
+    /// use std::num::NonZeroUsize;
+    ///
+    /// use etagere::{size2, GlyphCache, GlyphFault, DEFAULT_OPTIONS};
+    ///
+    /// let capacity = NonZeroUsize::new(64).unwrap();
+    /// let mut cache = GlyphCache::new(size2(16, 16), &DEFAULT_OPTIONS, capacity)?;
+    ///
+    /// cache.place(1, size2(16, 8))?;
+    /// cache.begin_frame();
+    /// cache.place(2, size2(16, 8))?;
+    /// assert_eq!(cache.used_in_frame(), 1);
+    ///
+    /// // The key 2 was used in this frame, so it stays.
+    /// assert_eq!(cache.place(3, size2(16, 16)), Err(GlyphFault::FrameFull));
+    /// assert_eq!(cache.used_in_frame(), 1);
+    /// # Ok::<(), Box<dyn std::error::Error>>(())
+    /// ```
+    #[must_use]
+    pub fn used_in_frame(&self) -> usize {
+        self.handle.used_in_frame()
+    }
+
     /// The rectangle of a key, which becomes the most recently used, or none.
     pub fn get(&mut self, key: u64) -> Option<Rectangle> {
         there(self.handle.get(key))

@@ -385,6 +385,13 @@ impl Cache {
         unsafe { etagere_cache_begin_frame(self.change()) }.always();
     }
 
+    pub fn used_in_frame(&self) -> usize {
+        let mut count = 0;
+        // SAFETY: the handle is held and alone; `count` is a place.
+        unsafe { etagere_cache_used_in_frame(&mut *self.look(), &mut count) }.always();
+        count
+    }
+
     pub fn len(&self) -> usize {
         let mut len = 0;
         // SAFETY: the handle is held and alone; `len` is a place.
@@ -579,6 +586,7 @@ extern "C" {
     ) -> Status;
     fn etagere_cache_clear(cache: *mut Raw) -> Status;
     fn etagere_cache_begin_frame(cache: *mut Raw) -> Status;
+    fn etagere_cache_used_in_frame(cache: *mut Raw, count: *mut usize) -> Status;
     fn etagere_cache_len(cache: *mut Raw, len: *mut usize) -> Status;
     fn etagere_cache_is_empty(cache: *mut Raw, is_empty: *mut u32) -> Status;
     fn etagere_cache_capacity(cache: *mut Raw, capacity: *mut usize) -> Status;
@@ -716,6 +724,7 @@ mod tests {
                 etagere_cache_entries(raw, &mut entry, 1, &mut length),
                 etagere_cache_grow(raw, SIZE),
                 etagere_cache_begin_frame(raw),
+                etagere_cache_used_in_frame(raw, &mut length),
                 etagere_cache_set_capacity(raw, 1, &mut key, 1, &mut length),
                 etagere_cache_len(raw, &mut length),
                 etagere_cache_capacity(raw, &mut length),
@@ -727,7 +736,7 @@ mod tests {
     fn a_null_handle_is_told() {
         let mut statuses = [of_null::<Shelves>(), of_null::<Buckets>(), of_null::<Keys>()].concat();
         statuses.extend([of_null_atlas::<Shelves>(), of_null_atlas::<Buckets>(), of_null_of_one_kind()].concat());
-        assert_eq!(statuses.len(), 60);
+        assert_eq!(statuses.len(), 61);
         assert!(statuses.iter().all(|&status| status == Status::NULL_HANDLE), "{statuses:?}");
     }
 

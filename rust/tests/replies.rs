@@ -2,6 +2,7 @@
 
 mod common;
 
+use std::collections::HashSet;
 use std::fmt::Write as _;
 use std::io::Write as _;
 use std::num::NonZeroUsize;
@@ -267,5 +268,39 @@ fn a_cache_answers_as_the_program() {
     }
     if let Some(replies) = printed("glyph_run", &[], session.script.as_bytes()) {
         assert!(replies == session.replies, "the replies differ");
+    }
+}
+
+#[test]
+fn a_frame_counts_what_was_used_in_it() {
+    let capacity = NonZeroUsize::new(40).expect("not 0");
+    let mut cache = GlyphCache::new(size2(96, 96), &DEFAULT_OPTIONS, capacity).expect("good options");
+    let mut random = Random::new(10);
+    let mut used = HashSet::new();
+    cache.begin_frame();
+    for _ in 0..COMMANDS {
+        let key = u64::from(random.below(80));
+        match random.below(100) {
+            0..=1 => {
+                cache.begin_frame();
+                used.clear();
+            }
+            2..=9 => {
+                cache.remove(key);
+                used.remove(&key);
+            }
+            10..=39 if cache.get(key).is_some() => {
+                used.insert(key);
+            }
+            10..=39 => assert!(!used.contains(&key)),
+            _ => match cache.place(key, size2(random.side(30), random.side(30))) {
+                Ok(placed) => {
+                    assert!(placed.evicted.iter().all(|evicted| !used.contains(evicted)));
+                    used.insert(key);
+                }
+                Err(fault) => assert!(fault == GlyphFault::FrameFull && !used.is_empty() && !used.contains(&key)),
+            },
+        }
+        assert_eq!(cache.used_in_frame(), used.len());
     }
 }

@@ -222,9 +222,12 @@ fn frames() {
     for key in 1..=3 {
         assert!(cache.place(key, size2(32, 8)).is_ok());
     }
+    assert_eq!(cache.used_in_frame(), 0);
     cache.begin_frame();
-    assert!(cache.get(1).is_some());
+    assert!(cache.get(1).is_some() && cache.peek(2).is_some());
+    assert_eq!(cache.used_in_frame(), 1);
     assert_eq!(cache.place(4, size2(32, 8)).map(|placed| placed.evicted), Ok(vec![2]));
+    assert_eq!(cache.used_in_frame(), 2);
     assert_eq!(cache.place(5, size2(32, 32)), Err(GlyphFault::FrameFull));
     assert_eq!((cache.len(), GlyphFault::FrameFull.number()), (3, 3));
     cache.begin_frame();

@@ -626,10 +626,13 @@ static void cache_frames(void) {
     for (key = 1; key <= 3; key += 1) {
         CHECK(etagere_cache_place(&cache, key, size2(32, 8), &rectangle, evicted, 3, &count) == ETAGERE_OK);
     }
+    CHECK(etagere_cache_used_in_frame(&cache, &length) == ETAGERE_OK && length == 0);
     CHECK(etagere_cache_begin_frame(&cache) == ETAGERE_OK);
     CHECK(etagere_cache_get(&cache, 1, &rectangle) == ETAGERE_OK);
+    CHECK(etagere_cache_used_in_frame(&cache, &length) == ETAGERE_OK && length == 1);
     CHECK(etagere_cache_place(&cache, 4, size2(32, 8), &rectangle, evicted, 3, &count) == ETAGERE_OK);
     CHECK(count == 1 && evicted[0] == 2 && lies(rectangle, 0, 8, 32, 16));
+    CHECK(etagere_cache_used_in_frame(&cache, &length) == ETAGERE_OK && length == 2);
     CHECK(etagere_cache_place(&cache, 5, size2(32, 32), &rectangle, evicted, 3, &count) == ETAGERE_CACHE_FRAME_FULL);
     CHECK(count == 1 && evicted[0] == 2 && lies(rectangle, 0, 8, 32, 16));
     CHECK(etagere_cache_len(&cache, &length) == ETAGERE_OK && length == 3);
@@ -688,6 +691,7 @@ static void null_cache(void) {
     CHECK(etagere_cache_len(&cache, &count) == ETAGERE_NULL_HANDLE && count == 7);
     CHECK(etagere_cache_is_empty(&cache, &number) == ETAGERE_NULL_HANDLE && number == 3);
     CHECK(etagere_cache_capacity(&cache, &count) == ETAGERE_NULL_HANDLE && count == 7);
+    CHECK(etagere_cache_used_in_frame(&cache, &count) == ETAGERE_NULL_HANDLE && count == 7);
     CHECK(etagere_cache_size(&cache, &size) == ETAGERE_NULL_HANDLE && size.width == 3);
     CHECK(etagere_cache_allocated_space(&cache, &space) == ETAGERE_NULL_HANDLE && space == 3);
     CHECK(etagere_cache_free_space(&cache, &space) == ETAGERE_NULL_HANDLE && space == 3);

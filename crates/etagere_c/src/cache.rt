@@ -8,7 +8,7 @@ ghost use Rattle.etagere_base.specs.Frames as frames;
 ghost use Rattle.etagere_base.specs.Frames.{longest_side, options_fault};
 ghost use Rattle.etagere_base.specs.declared.faults.OptionsFault.TheVariants as faults;
 ghost use Rattle.shelf_model.specs.Space as spaces;
-ghost use Rattle.glyph_shelf.specs.Cache.{empty_cache, in_new_frame, rectangle_at, used, without_key};
+ghost use Rattle.glyph_shelf.specs.Cache.{empty_cache, frame_uses, in_new_frame, rectangle_at, used, without_key};
 ghost use Rattle.glyph_shelf.specs.Placing.{IsFrameFull, IsNew, IsTooLarge, Places, RanOut};
 ghost use Rattle.glyph_shelf.specs.Promises.{KeepsCachePromises};
 ghost use Rattle.etagere_c.specs.Calls.{IsAmong, IsFlag, IsWritten, Leads};
@@ -194,6 +194,25 @@ pub extern "C" fn etagere_cache_begin_frame(cache: &mut EtagereCache) -> u32
         return NULL_HANDLE;
     };
     held.begin_frame();
+    OK
+}
+
+/// Gives how many keys were placed or looked up in this frame and are still there: none before the first frame. The
+/// cache stays.
+///
+/// Answers ETAGERE_OK; ETAGERE_NULL_HANDLE. Takes no memory, and goes through these keys.
+#[unsafe(no_mangle)]
+pub extern "C" fn etagere_cache_used_in_frame(cache: &mut EtagereCache, count: &mut usize) -> u32
+    ensures null { (result ≡ statuses.null_handle) ↔ (cache.old.state ≡ None) }
+    ensures status { IsAmong (statuses.ok ∷ statuses.null_handle ∷ []) result }
+    ensures count { result ≡ statuses.ok → IfSome cache.old.state (λ held. count.new ≡ frame_uses held) }
+    ensures unwritten { result ≢ statuses.ok → count.new ≡ count.old }
+    ensures stays { cache.new.state ≡ cache.old.state }
+{
+    let Some(held) = cache.lend() else {
+        return NULL_HANDLE;
+    };
+    *count = held.used_in_frame();
     OK
 }
 
