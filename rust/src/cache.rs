@@ -189,6 +189,38 @@ impl GlyphCache {
         there(self.handle.remove(key))
     }
 
+    /// Asks of each key with its rectangle whether it stays, the least recently used first, and takes out those that
+    /// don't. The order of use stays.
+    ///
+    /// # Errors
+    ///
+    /// [`AllocError`], where there was no memory to list the keys: none was asked of, and nothing has changed.
+    ///
+    /// ```
+    /// use std::num::NonZeroUsize;
+    ///
+    /// use etagere::{size2, GlyphCache, DEFAULT_OPTIONS};
+    ///
+    /// let capacity = NonZeroUsize::new(64).unwrap();
+    /// let mut cache = GlyphCache::new(size2(64, 64), &DEFAULT_OPTIONS, capacity)?;
+    /// for key in 1..=4 {
+    ///     cache.place(key, size2(8, 8))?;
+    /// }
+    ///
+    /// cache.retain(|key, _rectangle| key % 2 == 0)?;
+    ///
+    /// assert!(cache.entries()?.iter().map(|entry| entry.key).eq([4, 2]));
+    /// # Ok::<(), Box<dyn std::error::Error>>(())
+    /// ```
+    pub fn retain(&mut self, mut keeps: impl FnMut(u64, Rectangle) -> bool) -> Result<(), AllocError> {
+        for Entry { key, rectangle } in self.entries()?.into_iter().rev() {
+            if !keeps(key, rectangle) {
+                self.remove(key);
+            }
+        }
+        Ok(())
+    }
+
     /// Takes all keys out: the cache is as new, and no frame has begun.
     pub fn clear(&mut self) {
         self.handle.clear();

@@ -300,6 +300,15 @@ fn keys_are_not_listed_or_evicted() {
     assert!(places > 0);
     let places = refusing(
         cache,
+        |cache| cache.retain(|key, _| key == 3),
+        |cache, answer, refused| {
+            assert_eq!(answer, if refused { Err(AllocError) } else { Ok(()) });
+            assert_eq!(cache.len(), if refused { 8 } else { 1 });
+        },
+    );
+    assert!(places > 0);
+    let places = refusing(
+        cache,
         |cache| cache.set_capacity(NonZeroUsize::MIN),
         |cache, answer, refused| match answer {
             Ok(evicted) => {

@@ -235,6 +235,24 @@ fn frames() {
 }
 
 #[test]
+fn keys_that_are_retained() {
+    let ten = NonZeroUsize::new(10).expect("not 0");
+    let mut cache = GlyphCache::new(size2(64, 64), &DEFAULT_OPTIONS, ten).expect("good options");
+    assert_eq!(cache.retain(|_, _| unreachable!("no key is there")), Ok(()));
+    for key in 1..=4 {
+        assert!(cache.place(key, size2(8, 8)).is_ok());
+    }
+    let mut asked = Vec::new();
+    let retained = cache.retain(|key, rectangle| {
+        asked.push((key, rectangle.min.x));
+        key != 2 && rectangle.min.x != 24
+    });
+    assert_eq!((retained, asked), (Ok(()), vec![(1, 0), (2, 8), (3, 16), (4, 24)]));
+    let keys: Vec<u64> = cache.entries().expect("memory").iter().map(|entry| entry.key).collect();
+    assert_eq!((keys, cache.allocated_space()), (vec![3, 1], 128));
+}
+
+#[test]
 fn growth_of_a_cache() {
     let options = AllocatorOptions { num_columns: 65535, ..DEFAULT_OPTIONS };
     let mut cache = GlyphCache::new(size2(65535, 100), &options, NonZeroUsize::MIN).expect("good options");
