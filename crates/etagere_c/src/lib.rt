@@ -44,10 +44,10 @@ pub use bucketed::{
 };
 pub use bucketed_handle::EtagereBucketed;
 pub use cache::{
-    etagere_cache_allocated_space, etagere_cache_capacity, etagere_cache_clear,
-    etagere_cache_delete, etagere_cache_free_space, etagere_cache_get, etagere_cache_is_empty,
-    etagere_cache_len, etagere_cache_new, etagere_cache_place, etagere_cache_remove,
-    etagere_cache_size,
+    etagere_cache_allocated_space, etagere_cache_begin_frame, etagere_cache_capacity,
+    etagere_cache_clear, etagere_cache_delete, etagere_cache_free_space, etagere_cache_get,
+    etagere_cache_is_empty, etagere_cache_len, etagere_cache_new, etagere_cache_place,
+    etagere_cache_remove, etagere_cache_size, etagere_cache_used_in_frame,
 };
 pub use cache_handle::EtagereCache;
 pub use cache_keys::{etagere_cache_entries, etagere_cache_peek};
