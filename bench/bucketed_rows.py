@@ -6,7 +6,7 @@ import random
 
 from rows import ROUNDS, Row, comes_and_goes, goes_and_comes
 
-MOST = 4095
+BUCKETS = 4095
 """How many buckets there are at most, and so how many shelves."""
 
 
@@ -20,17 +20,17 @@ def same_item(_program):
 
 
 def filled_by(width):
-    return long_shelf() + [f"a {width} 1"] * (MOST - 1), []
+    return long_shelf() + [f"a {width} 1"] * (BUCKETS - 1), []
 
 
 def two_widths(_program):
     """Two widths in turn, of which the wider needs a whole bucket."""
-    return long_shelf() + ["a 9 1", "a 16 1"] * (MOST // 2), []
+    return long_shelf() + ["a 9 1", "a 16 1"] * (BUCKETS // 2), []
 
 
 def full_shelf(position):
     """A full shelf of 4095 buckets, of which the one at a place goes and comes."""
-    filling = long_shelf() + ["a 15 1"] + ["a 16 1"] * (MOST - 1)
+    filling = long_shelf() + ["a 15 1"] + ["a 16 1"] * (BUCKETS - 1)
     return filling, goes_and_comes([position] * ROUNDS, len(filling) - 1, "a 16 1")
 
 
@@ -41,16 +41,16 @@ def whole_shelf(_program):
 
 def full_shelves():
     """4095 shelves of a bucket each, all of it given."""
-    return ["bucketed 16 32760 1 1 1 h"] + ["a 16 8"] * MOST
+    return ["bucketed 16 32760 1 1 1 h"] + ["a 16 8"] * BUCKETS
 
 
 def first_goes(_program):
-    return full_shelves(), goes_and_comes([0] * ROUNDS, MOST, "a 16 8")
+    return full_shelves(), goes_and_comes([0] * ROUNDS, BUCKETS, "a 16 8")
 
 
 def any_goes(_program):
     chooser = random.Random(9)
-    return full_shelves(), goes_and_comes([chooser.randrange(MOST) for _ in range(ROUNDS)], MOST, "a 16 8")
+    return full_shelves(), goes_and_comes([chooser.randrange(BUCKETS) for _ in range(ROUNDS)], BUCKETS, "a 16 8")
 
 
 def refused(_program):
@@ -63,27 +63,30 @@ def merge_looked_for(_program):
 
 def narrow_rooms(_program):
     """4095 shelves that have a little room each, while what is asked for is wider."""
-    return ["bucketed 16 32760 1 1 1 h"] + ["a 12 8"] * MOST, ["a 8 8"] * ROUNDS
+    return ["bucketed 16 32760 1 1 1 h"] + ["a 12 8"] * BUCKETS, ["a 8 8"] * ROUNDS
 
 
 def too_tall(_program):
     """4095 shelves with room, all taller than what is asked for, and small items that come and go."""
-    filling = ["bucketed 16 65520 1 1 1 h"] + ["a 8 16"] * MOST
-    return filling, comes_and_goes(MOST, "a 8 4")
+    filling = ["bucketed 16 65520 1 1 1 h"] + ["a 8 16"] * BUCKETS
+    return filling, comes_and_goes(BUCKETS, "a 8 4")
 
+
+MOST = 1000
+"""So many instructions are wanted at most for a call on so many shelves or buckets."""
 
 ROWS = {
-    "a shelf of 4095 buckets: the same item comes and goes": Row(same_item, 180),
-    "the same, filled by items as wide as a bucket": Row(lambda _: filled_by(16), 8365, "filling"),
-    "the same, filled by items of half a bucket": Row(lambda _: filled_by(9), 26839, "filling"),
-    "the same, by two widths in turn": Row(two_widths, 26833, "filling"),
+    "a shelf of 4095 buckets: the same item comes and goes": Row(same_item, 180, before=43214),
+    "the same, filled by items as wide as a bucket": Row(lambda _: filled_by(16), 8365, "filling", 98129, MOST),
+    "the same, filled by items of half a bucket": Row(lambda _: filled_by(9), 26839, "filling", most=MOST),
+    "the same, by two widths in turn": Row(two_widths, 26833, "filling", most=MOST),
     "a full shelf of 4095 buckets: the second goes and comes": Row(lambda _: full_shelf(2), 169),
-    "the same, the last": Row(lambda _: full_shelf(MOST), 26774),
+    "the same, the last": Row(lambda _: full_shelf(BUCKETS), 26774, most=MOST),
     "the same, added with its only item and dropped with it": Row(whole_shelf),
-    "4095 full shelves: the first goes and comes": Row(first_goes, 158),
-    "the same, any": Row(any_goes, 49080),
-    "the same, a refused size": Row(refused, 311351),
-    "the same, a merge looked for": Row(merge_looked_for, 204872),
-    "4095 shelves with little room: a wider item is refused": Row(narrow_rooms, 311349),
-    "4095 shelves that are too tall: the same item comes and goes": Row(too_tall, 16626),
+    "4095 full shelves: the first goes and comes": Row(first_goes, 158, before=26829),
+    "the same, any": Row(any_goes, 49080, before=26829, most=MOST),
+    "the same, a refused size": Row(refused, 311351, before=82013, most=MOST),
+    "the same, a merge looked for": Row(merge_looked_for, 204872, before=67679, most=MOST),
+    "4095 shelves with little room: a wider item is refused": Row(narrow_rooms, 311349, most=MOST),
+    "4095 shelves that are too tall: the same item comes and goes": Row(too_tall, 16626, most=MOST),
 }

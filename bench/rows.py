@@ -1,11 +1,16 @@
 """What rows of the benches share: each is a filling and what follows on it.
 
-Where `measured` is the filling, that is counted, else what follows. `original` has the instructions that the Rust crate
-takes for each command of such a script, library calls alone, where they were counted.
+Where `measured` is the filling, that is counted, else what follows. All figures are instructions for each command of
+such a script, library calls alone, where they were counted: `original` those of the Rust crate, `before` those of this
+library while its calls went through what they don't touch, and `most` how many are wanted at most. Where that isn't
+given, as many are wanted as the crate takes, or half as many again below 400.
 """
 
 from dataclasses import dataclass
 from typing import Callable, Optional
+
+SMALL = 400
+"""Below so many instructions of the crate half as many again are wanted."""
 
 ROUNDS = 2000
 """How many times something goes and comes."""
@@ -13,11 +18,18 @@ ROUNDS = 2000
 
 @dataclass
 class Row:
-    """A filling, the commands behind it, and what the original takes for each command."""
+    """A filling, the commands behind it, and what each command took before, takes in the original, and may take."""
 
     make: Callable[[str], tuple[list[str], list[str]]]
     original: Optional[int] = None
     measured: str = "later"
+    before: Optional[int] = None
+    most: Optional[int] = None
+
+    @property
+    def wanted(self):
+        """How many instructions are wanted at most, if anything is known of that."""
+        return self.most or wanted_beside(self.original)
 
     def parts(self, program):
         """The text before what is counted, that with it, and how many commands are counted."""
@@ -27,6 +39,11 @@ class Row:
         else:
             head, counted = filling, later
         return text(head), text(head + counted), len(counted)
+
+
+def wanted_beside(original):
+    """How many instructions are wanted at most where the Rust crate takes so many."""
+    return original and round(original * (1.5 if original < SMALL else 1.0))
 
 
 def text(lines):

@@ -60,7 +60,8 @@ def drained(shelves, in_order):
     """Shelves of one item each, of which all go."""
 
     def make(_program):
-        filling = ["atlas 8 65528 1 1 1 h"] + ["a 8 1" if shelves > 8000 else "a 8 8"] * shelves
+        columns = -(-shelves // 8000)
+        filling = [f"atlas {8 * columns} 64000 1 1 {columns} h"] + ["a 8 8"] * shelves
         positions = list(range(shelves))
         if not in_order:
             random.Random(11).shuffle(positions)
@@ -109,25 +110,30 @@ def full_shelves(choose):
 
 
 ROWS = {
-    "4096x4096, 25 to 32 pixels, half returned, then 8 to 14 come and go": Row(small_after_large(4096, (25, 32)), 1339),
-    "1024x1024, 33 to 48, then 8 to 14": Row(small_after_large(1024, (33, 48)), 525),
-    "2048x2048, the same": Row(small_after_large(2048, (33, 48)), 672),
-    "54 shelves with 590 narrow free items each, lower ones behind higher ones": Row(
-        narrow_gaps(54, 590, lambda shelf: 1900 - 28 * shelf, "1 8"), 752
+    "4096x4096, 25 to 32 pixels, half returned, then 8 to 14 come and go": Row(
+        small_after_large(4096, (25, 32)), 1339, before=18576
     ),
-    "180 shelves with 180 narrow free items each, a bad fit": Row(narrow_gaps(180, 180, lambda _: 320, "1 8"), 1857),
-    "2000 with 15": Row(narrow_gaps(2000, 15, lambda _: 32, "1 8"), 17710),
-    "1600 shelves with room that are too tall": Row(too_tall(1600, 40), 13902),
-    "8000 such shelves": Row(too_tall(8000, 16), 68318),
-    "8000 such shelves, and an empty taller one": Row(too_tall(8000, 16, 1000), 68318),
-    "8000 shelves drained in order": Row(drained(8000, True), 146),
-    "16000 shelves drained in any order": Row(drained(16000, False), 91),
-    "4096 shelves, half of them empty: a split and a merge": Row(half_empty(16, 256), 26893),
-    "32000 such shelves": Row(half_empty(16, 2000)),
-    "the same item alone: its shelf splits and merges": Row(same_item(0), 285),
-    "the same item beside another": Row(same_item(1), 208),
-    "65535 columns, the same item": Row(in_columns(65535), 182),
-    "8000 full shelves: the first goes and comes": Row(full_shelves(lambda _: 0), 181),
+    "1024x1024, 33 to 48, then 8 to 14": Row(small_after_large(1024, (33, 48)), 525, before=2000),
+    "2048x2048, the same": Row(small_after_large(2048, (33, 48)), 672, before=1182),
+    "54 shelves with 590 narrow free items each, lower ones behind higher ones": Row(
+        narrow_gaps(54, 590, lambda shelf: 1900 - 28 * shelf, "1 8"), 752, before=179216
+    ),
+    "180 shelves with 180 narrow free items each, a bad fit": Row(
+        narrow_gaps(180, 180, lambda _: 320, "1 8"), 1857, before=200600
+    ),
+    "2000 with 15": Row(narrow_gaps(2000, 15, lambda _: 32, "1 8"), 17710, before=435207),
+    "1600 shelves with room that are too tall": Row(too_tall(1600, 40), 13902, before=213654),
+    "8000 such shelves": Row(too_tall(8000, 16), 68318, before=1112996),
+    "8000 such shelves, and an empty taller one": Row(too_tall(8000, 16, 1000), 68318, before=486340),
+    "8000 shelves drained in order": Row(drained(8000, True), 146, before=4954),
+    "16000 shelves drained in any order": Row(drained(16000, False), 141, before=7947),
+    "32000 shelves drained in any order": Row(drained(32000, False), before=14068, most=600),
+    "4096 shelves, half of them empty: a split and a merge": Row(half_empty(16, 256), 26893, before=1754),
+    "32000 such shelves": Row(half_empty(16, 2000), before=9120, most=600),
+    "the same item alone: its shelf splits and merges": Row(same_item(0), 285, before=772),
+    "the same item beside another": Row(same_item(1), 208, before=301),
+    "65535 columns, the same item": Row(in_columns(65535), 182, before=363),
+    "8000 full shelves: the first goes and comes": Row(full_shelves(lambda _: 0), 181, before=347),
     "8000 full shelves: any goes and comes": Row(full_shelves(lambda chooser: chooser.randrange(8000)), 72703),
 }
 

@@ -192,6 +192,19 @@ ORIGINAL = {
 }
 """The instructions that the Rust crate takes for each command of a workload, library calls alone, counted once."""
 
+BEFORE = {"glyph churn": 401, "sprites": 400, "tall shelves": 4025, "fill and drain": 349, "bucketed": 1196}
+"""Those that this library took before, where they were counted."""
+
+ORIGINAL_END_TO_END = {
+    "glyph churn": 2162,
+    "sprites": 2112,
+    "sprites, vertical, aligned, 2 columns": 2204,
+    "tall shelves": 124113,
+    "fill and drain": 1767,
+    "fill only": 3156,
+}
+"""The instructions that a program over the Rust crate takes for each command, where they were counted."""
+
 BEFORE_AND_WANTED = {
     "glyph churn": (784, 600),
     "sprites": (797, 600),
