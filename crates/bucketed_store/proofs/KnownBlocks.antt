@@ -1,16 +1,17 @@
 -- What is known of blocks of shelves: after a shelf was added or changed, and of shelves that are passed over.
-use Rattle.std.proofs.Common.{◌≡◌, ℕ, zero, suc, ◌+◌, ◌-◌, ◌*◌, ◌<◌, ◌≤◌, Bool, true, false, Option, None, Some, List, [], ◌∷◌, ◌++◌, length, length-append, map, take, cond, get_or, refl, ap, sym, subst, ◌∙◌, arith, ◌==◌}
-use Rattle.std.proofs.lemmas.Bool.{eqb-true, leb-false, ltb-true, ltb-false}
-use Rattle.std.proofs.lemmas.Option.{get_or_from_slice_get, slice_get_past, slice_get_within}
+use Rattle.std.proofs.Common.{◌≡◌, ℕ, zero, suc, ◌+◌, ◌-◌, ◌*◌, ◌<◌, ◌≤◌, Bool, true, false, Option, None, Some, List, [], ◌∷◌, ◌++◌, length, length-append, map, take, cond, refl, ap, sym, subst, ◌∙◌, arith, ◌==◌}
+use Rattle.std.proofs.lemmas.Bool.{eqb-true, leb-false}
+use Rattle.std.proofs.lemmas.Option.{slice_get_within}
 use Rattle.std.specs.Option.{option_map_or}
-use Rattle.std.specs.Prelude.{nat_le, nat_lt, slice_get, slice_set, ◌||◌}
+use Rattle.std.specs.Prelude.{option_map, nat_le, slice_get, slice_set, ◌||◌}
 use Rattle.etagere_links.specs.Edits.{changed_by}
-use Rattle.etagere_links.proofs.RecordChanges.{get-changed_by-other, map-changed_by}
+use Rattle.etagere_links.proofs.RecordChanges.{get-changed_by, get-changed_by-other, map-changed_by}
 use Rattle.bucketed_model.specs.Merging.{Group}
 use Rattle.bucketed_records.specs.declared.records.KeptShelf.{KeptShelf}
 use Rattle.bucketed_records.specs.Private.Store.{last_kept, is_kept_idle}
 use Rattle.bucketed_store.specs.declared.blocks.Block.{Block}
-use Rattle.bucketed_store.specs.Private.Blocks.{AreKnown, AreOthersKnown, IsKnown, IsKnownAt, block_of, may_be_idle, may_give, with_shelf}
+use Rattle.bucketed_store.specs.declared.blocks.Blocks.{Blocks}
+use Rattle.bucketed_store.specs.Private.Blocks.{AreFirstKnown, AreKnown, AreKnownOf, AreKnownWhere, AreOthersKnown, IsKnown, IsPart, block_of, joined, may_be_idle, may_give, raised, with_shelf}
 use Rattle.bucketed_store.specs.Private.Returns.{Dropping, end_dropped, last_dropped}
 use Rattle.bucketed_store.specs.Private.StoreEdits.{across_of, flattened, group_height, kept_merged, to_height}
 
@@ -44,119 +45,172 @@ known-still kept other block known = record { room = omega (arith, known.room); 
 pub some-same : {X : Type 0} (o : Option X) (x y : X) → o ≡ Some x → o ≡ Some y → x ≡ y
 some-same o x y h k = cc
 
--- a shelf is known beside the others
-pub raise-known : (k : ℕ) (one : KeptShelf) (old d : Block) (blocks : List Block) (shelves : List KeptShelf) → slice_get shelves k ≡ Some one → old ≡ get_or blocks (block_of k) d
-    → AreOthersKnown k blocks shelves → AreKnown (slice_set blocks (block_of k) (with_shelf one old)) shelves
-raise-known k one old d blocks shelves here known others number kept block at in_block = by_number (number == k) refl
+-- what is read from a list of which one element was changed
+read-changed : {X P : Type 0} (change : X → X) (xs : List X) (i j : ℕ) (y : X) → slice_get (changed_by (Some i) change xs) j ≡ Some y → ((z : X) → slice_get xs i ≡ Some z → j ≡ i → y ≡ change z → P)
+    → ((j ≡ i → ⊥) → slice_get xs j ≡ Some y → P) → P
+read-changed {X} {P} change xs i j y read here there = by_number (j == i) refl
   where
-    other : ((number ≡ k) → ⊥) → IsKnown kept block
-    other apart =
-        read-set blocks (block_of k) (block_of number) (with_shelf one old) block in_block
-        (λ z stood same is.
-        let was : old ≡ z = known ∙ get_or_from_slice_get blocks (block_of k) z d stood in
-        let first : IsKnown kept old = others number apart kept old at (ap (slice_get blocks) same ∙ stood ∙ ap (λ (b : Block). Some b) (sym was)) in
-        subst (IsKnown kept) (sym is) (known-still kept one old first))
-        (λ _ stood. others number apart kept block at stood)
+    by_old : j ≡ i → (o : Option X) → slice_get xs i ≡ o → option_map change o ≡ Some y → P
+    by_old same None e h = absurd (cc)
+    by_old same (Some z) e h = here z e same (inner z h)
+      where
+        inner : (x : X) → Some (change x) ≡ Some y → y ≡ change x
+        inner x h = cc
 
-    own : number ≡ k → IsKnown kept block
-    own same =
+    by_number : (t : Bool) → (j == i) ≡ t → P
+    by_number true e =
+        let same = eqb-true j i e in
+        by_old same (slice_get xs i) refl (sym (get-changed_by change xs (Some i) i refl) ∙ ap (slice_get (changed_by (Some i) change xs)) (sym same) ∙ read)
+    by_number false e = there (λ same. apart same e) (sym (get-changed_by-other change xs (Some i) j (λ (h : Some i ≡ Some j). apart (inner h) e)) ∙ read)
+      where
+        apart : j ≡ i → (j == i) ≡ false → ⊥
+        apart same h = grind arith
+
+        inner : Some i ≡ Some j → j ≡ i
+        inner h = cc
+
+-- a shelf is known to its block of a size beside others
+raise-of : (Before After : ℕ → Type 0) (size k : ℕ) (one : KeptShelf) (blocks : List Block) (shelves : List KeptShelf) → slice_get shelves k ≡ Some one → ((n : ℕ) → After n → (n ≡ k → ⊥) → Before n)
+    → AreKnownOf Before size blocks shelves → AreKnownOf After size (changed_by (Some (block_of size k)) (with_shelf one) blocks) shelves
+raise-of Before After size k one blocks shelves here before known number kept block after at in_block = by_number (number == k) refl
+  where
+    by_number : (t : Bool) → (number == k) ≡ t → IsKnown kept block
+    by_number true e =
+        let same = eqb-true number k e in
         let shelf : one ≡ kept = some-same (slice_get shelves k) one kept here (ap (slice_get shelves) (sym same) ∙ at) in
-        read-set blocks (block_of k) (block_of number) (with_shelf one old) block in_block
-        (λ z stood _ is. subst (IsKnown kept) (sym is) (subst (λ (s : KeptShelf). IsKnown s (with_shelf one old)) shelf (known-own one old)))
-        (λ apart stood. absurd (apart (ap block_of same)))
-
-    by_number : (t : Bool) → (number == k) ≡ t → IsKnown kept block
-    by_number true e = own (eqb-true number k e)
-    by_number false e = other (λ same. apart same e)
+        read-changed (with_shelf one) blocks (block_of size k) (block_of size number) block in_block
+        (λ z stood _ is. subst (IsKnown kept) (sym is) (subst (λ (s : KeptShelf). IsKnown s (with_shelf one z)) shelf (known-own one z)))
+        (λ apart stood. absurd (apart (ap (block_of size) same)))
+    by_number false e =
+        read-changed (with_shelf one) blocks (block_of size k) (block_of size number) block in_block
+        (λ z stood same is. subst (IsKnown kept) (sym is) (known-still kept one z (known number kept z (before number after (λ h. apart h e)) at (ap (slice_get blocks) same ∙ stood))))
+        (λ _ stood. known number kept block (before number after (λ h. apart h e)) at stood)
       where
         apart : number ≡ k → (number == k) ≡ false → ⊥
         apart same h = grind arith
 
--- a block is known anew
-pub recount-known : (k : ℕ) (fresh : Block) (blocks : List Block) (shelves : List KeptShelf)
-    → ((number : ℕ) (kept : KeptShelf) → block_of k * 64 ≤ number → number < block_of k * 64 + 64 → slice_get shelves number ≡ Some kept → IsKnown kept fresh)
-    → AreOthersKnown k blocks shelves → AreKnown (slice_set blocks (block_of k) fresh) shelves
-recount-known k fresh blocks shelves all others number kept block at in_block =
-    read-set blocks (block_of k) (block_of number) fresh block in_block
-    (λ z stood same is. subst (IsKnown kept) (sym is) (all number kept (omega (arith, same)) (omega (arith, same)) at))
-    (λ apart stood. others number (λ same. apart (ap block_of same)) kept block at stood)
+-- a shelf is known to its blocks beside others
+pub raise-known : (Before After : ℕ → Type 0) (k : ℕ) (one : KeptShelf) (blocks : Blocks) (shelves : List KeptShelf) → slice_get shelves k ≡ Some one → ((n : ℕ) → After n → (n ≡ k → ⊥) → Before n)
+    → AreKnownWhere Before blocks shelves → AreKnownWhere After (raised k one blocks) shelves
+raise-known Before After k one blocks shelves here before known = record {
+  small = raise-of Before After 8 k one blocks.small shelves here before known.small;
+  middle = raise-of Before After 64 k one blocks.middle shelves here before known.middle;
+  large = raise-of Before After 512 k one blocks.large shelves here before known.large;
+}
 
--- of a shelf past the last block nothing is to be known
-pub past-known : (k : ℕ) (blocks : List Block) (shelves : List KeptShelf) → length blocks ≤ block_of k → AreOthersKnown k blocks shelves → AreKnown blocks shelves
-past-known k blocks shelves past others number kept block at in_block = by_number (number == k) refl
+-- a block of a size is known anew
+pub set-of : (size k : ℕ) (fresh : Block) (blocks : List Block) (shelves : List KeptShelf)
+    → ((number : ℕ) (kept : KeptShelf) → block_of size number ≡ block_of size k → block_of size k < length blocks → slice_get shelves number ≡ Some kept → IsKnown kept fresh)
+    → AreKnownOf (λ number. number ≡ k → ⊥) size blocks shelves → AreKnownOf (λ number. Unit {0}) size (changed_by (Some (block_of size k)) (λ _. fresh) blocks) shelves
+set-of size k fresh blocks shelves all others number kept block any at in_block =
+    read-changed (λ _. fresh) blocks (block_of size k) (block_of size number) block in_block
+    (λ z stood same is. subst (IsKnown kept) (sym is) (all number kept same (slice_get_within blocks (block_of size k) z stood) at))
+    (λ apart stood. others number kept block (λ same. apart (ap (block_of size) same)) at stood)
+
+-- what is known of a shelf by its block is known by a larger one
+known-part : (kept : KeptShelf) (block whole : Block) → IsKnown kept block → IsPart block whole → IsKnown kept whole
+known-part kept block whole known part = record { room = omega (arith, known.room, part.room); idle = λ idle. part.idle (known.idle idle) }
+
+-- an element of a list below its length
+element-below : {X P : Type 0} (xs : List X) (n : ℕ) → n < length xs → ((x : X) → slice_get xs n ≡ Some x → P) → P
+element-below [] n within found = absurd (omega arith)
+element-below (x ∷ xs) zero within found = found x refl
+element-below (x ∷ xs) (suc n) within found = element-below xs n (omega arith) found
+
+-- what is known of each of some blocks together
+abbrev pub AreGathered : ℕ → List Block → Block → Type 0
+AreGathered from blocks whole = (number : ℕ) (block : Block) → from ≤ number → number < from + 8 → slice_get blocks number ≡ Some block → IsPart block whole
+
+-- a shelf is known to the middle block that was gathered of its small ones, and to the large one that was of its middle ones
+pub gathered-middle : (k : ℕ) (fresh : Block) (small middle : List Block) (shelves : List KeptShelf) → length small ≡ 512 → length middle ≡ 64 → AreKnownOf (λ number. Unit {0}) 8 small shelves
+    → AreGathered (block_of 64 k * 8) small fresh → (number : ℕ) (kept : KeptShelf) → block_of 64 number ≡ block_of 64 k → block_of 64 k < length middle → slice_get shelves number ≡ Some kept → IsKnown kept fresh
+gathered-middle k fresh small middle shelves long wide known gathered number kept same few at =
+    element-below small (block_of 8 number) (omega (arith, same, few, long, wide))
+    (λ block stood. known-part kept block fresh (known number kept block tt at stood) (gathered (block_of 8 number) block (omega (arith, same)) (omega (arith, same)) stood))
+
+pub gathered-large : (k : ℕ) (fresh : Block) (middle large : List Block) (shelves : List KeptShelf) → length middle ≡ 64 → length large ≡ 8 → AreKnownOf (λ number. Unit {0}) 64 middle shelves
+    → AreGathered (block_of 512 k * 8) middle fresh → (number : ℕ) (kept : KeptShelf) → block_of 512 number ≡ block_of 512 k → block_of 512 k < length large → slice_get shelves number ≡ Some kept → IsKnown kept fresh
+gathered-large k fresh middle large shelves long wide known gathered number kept same few at =
+    element-below middle (block_of 64 number) (omega (arith, same, few, long, wide))
+    (λ block stood. known-part kept block fresh (known number kept block tt at stood) (gathered (block_of 64 number) block (omega (arith, same)) (omega (arith, same)) stood))
+
+-- a block is part of what was gathered with it, and stays so with others
+pub part-own : (whole block : Block) → IsPart block (joined whole block)
+part-own whole block = record { room = omega arith; idle = λ idle. either whole.has_idle block.has_idle idle }
   where
-    by_number : (t : Bool) → (number == k) ≡ t → IsKnown kept block
-    by_number true e = absurd (none (ap (slice_get blocks) (ap block_of (sym (eqb-true number k e))) ∙ in_block))
-      where
-        none : slice_get blocks (block_of k) ≡ Some block → ⊥
-        none h = let past_ = slice_get_past blocks (block_of k) past in cc
-    by_number false e = others number (λ same. apart same e) kept block at in_block
-      where
-        apart : number ≡ k → (number == k) ≡ false → ⊥
-        apart same h = grind arith
+    either : (s t : Bool) → t ≡ true → (s || t) ≡ true
+    either true t h = refl
+    either false t h = h
 
--- the shelves of the blocks before this one are known
-abbrev pub AreFirstKnown : ℕ → List Block → List KeptShelf → Type 0
-AreFirstKnown first blocks shelves = (number : ℕ) → block_of number < first → IsKnownAt blocks shelves number
-
--- one block more is known
-pub next-known : (first : ℕ) (fresh : Block) (blocks : List Block) (shelves : List KeptShelf)
-    → ((number : ℕ) (kept : KeptShelf) → first * 64 ≤ number → number < first * 64 + 64 → slice_get shelves number ≡ Some kept → IsKnown kept fresh)
-    → AreFirstKnown first blocks shelves → AreFirstKnown (first + 1) (slice_set blocks first fresh) shelves
-next-known first fresh blocks shelves all before number low kept block at in_block =
-    read-set blocks first (block_of number) fresh block in_block
-    (λ z stood same is. subst (IsKnown kept) (sym is) (all number kept (omega (arith, same)) (omega (arith, same)) at))
-    (λ apart stood. before number (lower apart) kept block at stood)
+pub part-still : (block whole other : Block) → IsPart block whole → IsPart block (joined whole other)
+part-still block whole other part = record { room = omega (arith, part.room); idle = λ idle. either whole.has_idle other.has_idle (part.idle idle) }
   where
-    lower : (block_of number ≡ first → ⊥) → block_of number < first
-    lower apart = by_number (block_of number == first) refl
-      where
-        by_number : (t : Bool) → (block_of number == first) ≡ t → block_of number < first
-        by_number true e = absurd (apart (eqb-true (block_of number) first e))
-        by_number false e = grind (arith, low)
-
--- all are known where those of each block are
-pub all-known : (first : ℕ) (blocks : List Block) (shelves : List KeptShelf) → length blocks ≡ 64 → (first < 64 → length shelves < first * 64) → AreFirstKnown first blocks shelves → AreKnown blocks shelves
-all-known first blocks shelves long last known number kept block at in_block =
-    known number (below (slice_get_within shelves number kept at) (slice_get_within blocks (block_of number) block in_block)) kept block at in_block
-  where
-    below : number < length shelves → block_of number < length blocks → block_of number < first
-    below within few = by_test (nat_lt first 64) refl
-      where
-        by_test : (t : Bool) → (nat_lt first 64) ≡ t → block_of number < first
-        by_test true e = omega (arith, within, last (ltb-true first 64 e))
-        by_test false e = omega (arith, few, long, ltb-false first 64 e)
+    either : (s t : Bool) → s ≡ true → (s || t) ≡ true
+    either true t h = refl
+    either false t h = absurd (cc)
 
 -- where a block has no room for a width, none of its shelves has
-pub narrow-shelf : (width b : ℕ) (blocks : List Block) (shelves : List KeptShelf) → AreKnown blocks shelves → may_give width blocks b ≡ false
-    → (k : ℕ) (kept : KeptShelf) → b * 64 ≤ k → k < b * 64 + 64 → slice_get shelves k ≡ Some kept → kept.widest_room < width
-narrow-shelf width b blocks shelves known narrow k kept low high at = by_block (slice_get blocks b) refl narrow
+pub narrow-of : (size width b : ℕ) (blocks : List Block) (shelves : List KeptShelf) → AreKnownOf (λ number. Unit {0}) size blocks shelves → may_give width blocks b ≡ false
+    → (k : ℕ) (kept : KeptShelf) → block_of size k ≡ b → slice_get shelves k ≡ Some kept → kept.widest_room < width
+narrow-of size width b blocks shelves known narrow k kept here at = by_block (slice_get blocks b) refl narrow
   where
     by_block : (o : Option Block) → slice_get blocks b ≡ o → option_map_or (λ (block : Block). nat_le width block.widest_room) o true ≡ false → kept.widest_room < width
     by_block None e h = absurd (cc)
-    by_block (Some block) e h =
-        let here : block_of k ≡ b = omega (arith, low, high) in
-        omega (arith, leb-false width block.widest_room h, (known k kept block at (ap (slice_get blocks) here ∙ e)).room)
+    by_block (Some block) e h = omega (arith, leb-false width block.widest_room h, (known k kept block tt at (ap (slice_get blocks) here ∙ e)).room)
 
 -- where a block has nothing that may be idle, each of its shelves is busy
-pub busy-shelf : (b : ℕ) (blocks : List Block) (shelves : List KeptShelf) → AreKnown blocks shelves → may_be_idle blocks b ≡ false
-    → (k : ℕ) (kept : KeptShelf) → b * 64 ≤ k → k < b * 64 + 64 → slice_get shelves k ≡ Some kept → is_kept_idle kept ≡ false
-busy-shelf b blocks shelves known busy k kept low high at = by_block (slice_get blocks b) refl busy
+pub busy-of : (size b : ℕ) (blocks : List Block) (shelves : List KeptShelf) → AreKnownOf (λ number. Unit {0}) size blocks shelves → may_be_idle blocks b ≡ false
+    → (k : ℕ) (kept : KeptShelf) → block_of size k ≡ b → slice_get shelves k ≡ Some kept → is_kept_idle kept ≡ false
+busy-of size b blocks shelves known busy k kept here at = by_block (slice_get blocks b) refl busy
   where
     by_block : (o : Option Block) → slice_get blocks b ≡ o → option_map_or (λ (block : Block). block.has_idle) o true ≡ false → is_kept_idle kept ≡ false
     by_block None e h = absurd (cc)
-    by_block (Some block) e h =
-        let here : block_of k ≡ b = omega (arith, low, high) in
-        by_test (is_kept_idle kept) refl (known k kept block at (ap (slice_get blocks) here ∙ e))
+    by_block (Some block) e h = by_test (is_kept_idle kept) refl (known k kept block tt at (ap (slice_get blocks) here ∙ e))
       where
         by_test : (t : Bool) → is_kept_idle kept ≡ t → IsKnown kept block → is_kept_idle kept ≡ false
         by_test true idle is = let both = is.idle idle in absurd (cc)
         by_test false idle is = idle
 
+-- what is known of a shelf is what was known of the one of its number among others
+record IsCarried (Before : ℕ → Type 0) (xs : List KeptShelf) (number : ℕ) (kept : KeptShelf) : Type 0 where
+  was : KeptShelf
+  such : Before number
+  there : slice_get xs number ≡ Some was
+  known : (block : Block) → IsKnown was block → IsKnown kept block
+
+-- what is known of shelves is known of others
+carry-known : (Before After : ℕ → Type 0) (blocks : Blocks) (xs ys : List KeptShelf) → ((number : ℕ) (kept : KeptShelf) → After number → slice_get ys number ≡ Some kept → IsCarried Before xs number kept)
+    → AreKnownWhere Before blocks xs → AreKnownWhere After blocks ys
+carry-known Before After blocks xs ys carried before = record {
+  small = of_size 8 blocks.small before.small;
+  middle = of_size 64 blocks.middle before.middle;
+  large = of_size 512 blocks.large before.large;
+}
+  where
+    of_size : (size : ℕ) (bs : List Block) → AreKnownOf Before size bs xs → AreKnownOf After size bs ys
+    of_size size bs known number kept block after at in_block =
+        let is = carried number kept after at in
+        is.known block (known number is.was block is.such is.there in_block)
+
+-- each shelf is known where all are of the first so many, of which there are no more
+pub all-known : (count : ℕ) (blocks : Blocks) (shelves : List KeptShelf) → length shelves ≤ count → AreFirstKnown count blocks shelves → AreKnown blocks shelves
+all-known count blocks shelves all known =
+    carry-known (λ n. n < count) (λ n. Unit {0}) blocks shelves shelves
+    (λ number kept any at. record { was = kept; such = omega (arith, all, slice_get_within shelves number kept at); there = at; known = λ block is. is }) known
+
 -- where one shelf changed the others are known
-pub known-others : (k : ℕ) (change : KeptShelf → KeptShelf) (blocks : List Block) (shelves : List KeptShelf) → AreKnown blocks shelves → AreOthersKnown k blocks (changed_by (Some k) change shelves)
-known-others k change blocks shelves known number other kept block at in_block =
-    known number kept block (sym (get-changed_by-other change shelves (Some k) number (λ (h : Some k ≡ Some number). let same : number ≡ k = cc in other same)) ∙ at) in_block
+pub known-others : (k : ℕ) (change : KeptShelf → KeptShelf) (blocks : Blocks) (shelves : List KeptShelf) → AreKnown blocks shelves → AreOthersKnown k blocks (changed_by (Some k) change shelves)
+known-others k change blocks shelves known =
+    carry-known (λ number. Unit {0}) (λ number. number ≡ k → ⊥) blocks shelves (changed_by (Some k) change shelves)
+    (λ number kept other at. record {
+      was = kept;
+      such = tt;
+      there = sym (get-changed_by-other change shelves (Some k) number (λ (h : Some k ≡ Some number). other (inner number h))) ∙ at;
+      known = λ block is. is;
+    }) known
+  where
+    inner : (number : ℕ) → Some k ≡ Some number → number ≡ k
+    inner number h = cc
 
 -- an element before the last one
 before-last : {X : Type 0} (xs : List X) (x y : X) (n : ℕ) → (n ≡ length xs → ⊥) → slice_get (xs ++ x ∷ []) n ≡ Some y → slice_get xs n ≡ Some y
@@ -166,11 +220,13 @@ before-last (z ∷ xs) x y zero other at = at
 before-last (z ∷ xs) x y (suc n) other at = before-last xs x y n (λ e. other (ap suc e)) at
 
 -- where a shelf was added the others are known
-known-added : (one : KeptShelf) (blocks : List Block) (shelves : List KeptShelf) → AreKnown blocks shelves → AreOthersKnown (length shelves) blocks (shelves ++ one ∷ [])
-known-added one blocks shelves known number other kept block at in_block = known number kept block (before-last shelves one kept number other at) in_block
+known-added : (one : KeptShelf) (blocks : Blocks) (shelves : List KeptShelf) → AreKnown blocks shelves → AreOthersKnown (length shelves) blocks (shelves ++ one ∷ [])
+known-added one blocks shelves known =
+    carry-known (λ number. Unit {0}) (λ number. number ≡ length shelves → ⊥) blocks shelves (shelves ++ one ∷ [])
+    (λ number kept other at. record { was = kept; such = tt; there = before-last shelves one kept number other at; known = λ block is. is }) known
 
 -- the same by the shelves after a push that went well
-pub known-last : (one : KeptShelf) (blocks : List Block) (shelves all : List KeptShelf) (pushes : Bool) → pushes ≡ true → all ≡ cond pushes (shelves ++ one ∷ []) shelves
+pub known-last : (one : KeptShelf) (blocks : Blocks) (shelves all : List KeptShelf) (pushes : Bool) → pushes ≡ true → all ≡ cond pushes (shelves ++ one ∷ []) shelves
     → AreKnown blocks shelves → AreOthersKnown (length all - 1) blocks all
 known-last one blocks shelves all pushes well pushed known =
     let added : all ≡ shelves ++ one ∷ [] = pushed ∙ ap (λ (t : Bool). cond t (shelves ++ one ∷ []) shelves) well in
@@ -207,8 +263,9 @@ some-dropped (suc steps) done number kept at = by_last (λ next. some-dropped st
     by_last later (Some one) h = by_test later one (one.live_items == 0) h
 
 -- some of known shelves are known
-pub known-some : (blocks : List Block) (all shelves : List KeptShelf) → AreSome all shelves → AreKnown blocks all → AreKnown blocks shelves
-known-some blocks all shelves some known number kept block at in_block = known number kept block (some number kept at) in_block
+pub known-some : (blocks : Blocks) (all shelves : List KeptShelf) → AreSome all shelves → AreKnown blocks all → AreKnown blocks shelves
+known-some blocks all shelves some known =
+    carry-known (λ number. Unit {0}) (λ number. Unit {0}) blocks all shelves (λ number kept any at. record { was = kept; such = tt; there = some number kept at; known = λ block is. is }) known
 
 -- what a block knows of a shelf
 abbrev known_of : KeptShelf → List ℕ
@@ -235,14 +292,18 @@ same-at (x ∷ xs) (z ∷ ys) (suc n) y same at found =
     same-at xs ys n y tails at found
 
 -- shelves of which the same is known
-known-same : (blocks : List Block) (xs ys : List KeptShelf) → map known_of ys ≡ map known_of xs → AreKnown blocks xs → AreKnown blocks ys
-known-same blocks xs ys same known number kept block at in_block =
-    same-at xs ys number kept same at (λ x was room live.
-    let is = known number x block was in_block in
-    record { room = omega (arith, is.room, room); idle = λ idle. is.idle (ap (λ (n : ℕ). n == 0) (sym live) ∙ idle) })
+known-same : (blocks : Blocks) (xs ys : List KeptShelf) → map known_of ys ≡ map known_of xs → AreKnown blocks xs → AreKnown blocks ys
+known-same blocks xs ys same known =
+    carry-known (λ number. Unit {0}) (λ number. Unit {0}) blocks xs ys
+    (λ number kept any at. same-at xs ys number kept same at (λ x was room live. record {
+      was = x;
+      such = tt;
+      there = was;
+      known = λ block is. record { room = omega (arith, is.room, room); idle = λ idle. is.idle (ap (λ (n : ℕ). n == 0) (sym live) ∙ idle) };
+    })) known
 
 -- merging shelves changes nothing that is known
-pub known-merged : (group : Group) (blocks : List Block) (shelves : List KeptShelf) → AreKnown blocks shelves → AreKnown blocks (kept_merged group shelves)
+pub known-merged : (group : Group) (blocks : Blocks) (shelves : List KeptShelf) → AreKnown blocks shelves → AreKnown blocks (kept_merged group shelves)
 known-merged group blocks shelves known = known-same blocks shelves (kept_merged group shelves) (by_test (group.others == 2)) known
   where
     height : ℕ

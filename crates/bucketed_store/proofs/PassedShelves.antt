@@ -1,15 +1,19 @@
 -- Shelves in which a search finds nothing, so that it may pass over them.
-use Rattle.std.proofs.Common.{◌≡◌, ℕ, zero, suc, ◌<◌, Bool, true, false, cond, Option, None, Some, List, [], ◌∷◌, length, take, drop, refl, ap, arith, ◌∙◌, ◌==◌}
+use Rattle.std.proofs.Common.{◌≡◌, ℕ, zero, suc, ◌<◌, ◌≤◌, map, option_map, sym, Bool, true, false, cond, Option, None, Some, List, [], ◌∷◌, length, take, drop, refl, ap, arith, ◌∙◌, ◌==◌}
 use Rattle.std.proofs.lemmas.Bool.Decides.{nat_tests}
+use Rattle.std.proofs.lemmas.Option.{slice_get_within}
 use Rattle.std.specs.List.{list_all}
 use Rattle.std.specs.Prelude.{nat_le, nat_lt, not, slice_get, ◌&&◌, ◌-◌, ◌+◌}
 use Rattle.etagere_base.specs.declared.sides.Sides.{Sides}
+use Rattle.etagere_base.specs.Least.{Found as Least, better, first_least}
 use Rattle.bucketed_model.specs.Picking.{or_else}
 use Rattle.bucketed_records.specs.declared.records.LinkedBucket.{LinkedBucket}
 use Rattle.bucketed_records.specs.Private.Store.{is_kept_idle}
 use Rattle.bucketed_records.specs.declared.records.KeptShelf.{KeptShelf}
 use Rattle.bucketed_store.specs.declared.searching.Wanted.TheVariants.{Exact}
 use Rattle.bucketed_store.specs.declared.searching.Found.{Found}
+use Rattle.bucketed_store.specs.Private.Blocks.{AreBusy, AreNarrow}
+use Rattle.bucketed_store.proofs.Searched.{best-keeps, better-same, search-skip}
 use Rattle.bucketed_store.specs.Private.Searching.{exact_from, exact_in, found_in, is_kept_idle_in, kept_height, kept_mergeable, kept_waste, serves_at}
 
 -- a width that doesn't fit
@@ -63,3 +67,32 @@ pub mergeable-past : (sides : Sides) (m n : ℕ) (xs : List KeptShelf) → n < l
 mergeable-past sides m n [] within one two = absurd (omega arith)
 mergeable-past sides m zero (x ∷ xs) within one two = rw (one, two) refl
 mergeable-past sides m (suc n) (x ∷ xs) within one two = mergeable-past sides m n xs (omega arith) one two
+
+-- the best so far is the best past shelves that have too little room
+pub least-past : (adds : Bool) (sides : Sides) (shelves : List KeptShelf) (best : Option Least) (from behind : ℕ) → best ≡ first_least (map (kept_waste adds sides) (take from shelves)) → from ≤ behind
+    → AreNarrow sides.along from behind shelves → best ≡ first_least (map (kept_waste adds sides) (take behind shelves))
+least-past adds sides shelves best from behind is on narrow =
+    let end : from + (behind - from) ≡ behind = omega (arith, on) in
+    sym (best-keeps (kept_waste adds sides) shelves best from (behind - from) (sym is)
+    (λ k x low high at.
+    ap (λ (r : Option ℕ). better best (option_map (λ n. record { number = k; rank = n }) r)) (waste-none adds sides x (narrow k x low (omega (arith, high, end)) at)) ∙ better-same best))
+    ∙ ap (λ (k : ℕ). first_least (map (kept_waste adds sides) (take k shelves))) end
+
+-- a search for an exact bucket goes on past shelves that have too little room
+pub exact-behind : (sides : Sides) (buckets : List LinkedBucket) (shelves : List KeptShelf) (from behind : ℕ) → from ≤ behind → AreNarrow sides.along from behind shelves
+    → exact_from sides buckets behind (drop behind shelves) ≡ exact_from sides buckets from (drop from shelves)
+exact-behind sides buckets shelves from behind on narrow =
+    let end : behind ≡ from + (behind - from) = omega (arith, on) in
+    ap (λ (k : ℕ). exact_from sides buckets k (drop k shelves)) end
+    ∙ sym (search-skip (exact_from sides buckets) shelves from (behind - from) (λ m k. refl) (λ k x low high at. exact-past sides buckets k k shelves x at (narrow k x low (omega (arith, high, end)) at)))
+
+-- past shelves that are busy the search goes on
+pub mergeable-behind : (sides : Sides) (shelves : List KeptShelf) (from behind : ℕ) → from ≤ behind → AreBusy from behind shelves
+    → kept_mergeable sides behind (drop behind shelves) ≡ kept_mergeable sides from (drop from shelves)
+mergeable-behind sides shelves from behind on busy =
+    let end : behind ≡ from + (behind - from) = omega (arith, on) in
+    ap (λ (k : ℕ). kept_mergeable sides k (drop k shelves)) end
+    ∙ sym (search-skip (kept_mergeable sides) shelves from (behind - from) (λ m k. refl)
+    (λ k x low high at.
+    let is = busy k x low (omega (arith, high, end)) at in
+    mergeable-past sides k k shelves (slice_get_within shelves k x at) (serves-busy sides 1 k shelves x at is) (serves-busy sides 2 k shelves x at is)))

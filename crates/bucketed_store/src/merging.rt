@@ -10,7 +10,7 @@ ghost use Rattle.bucketed_store.specs.Private.Blocks.{AreKnown};
 ghost use Rattle.bucketed_store.specs.Private.Searching as spec;
 ghost use Rattle.bucketed_store.specs.Private.StoreEdits as edits;
 
-use crate::blocks::{Blocks, SHELVES_OF_BLOCK, block_of};
+use crate::blocks::{Blocks, SHELVES_OF_BLOCK};
 use bucketed_records::records::KeptShelf;
 use etagere_base::Sides;
 use std::marker::Model;
@@ -82,25 +82,33 @@ pub(crate) fn mergeable_shelves(
     shelves: &[KeptShelf],
     blocks: &Blocks,
 ) -> Option<Group>
-    requires { AreKnown blocks.now.each shelves.now }
+    requires { AreKnown blocks.now shelves.now }
     ensures { result ≡ spec.kept_mergeable sides.now 0 shelves.now }
 {
-    for block in 0..block_of(shelves.len()) + 1 {
-        if blocks.may_be_idle(block) {
-            let group = mergeable_in(sides, shelves, block * SHELVES_OF_BLOCK);
+    let mut from = 0;
+    for _block in 0..shelves.len() {
+        if from >= shelves.len() {
+            break;
+        }
+        let behind = blocks.behind_busy(from);
+        if from < behind {
+            from = behind;
+        } else {
+            let group = mergeable_in(sides, shelves, from);
             if group.is_some() {
                 return group;
             }
+            from += SHELVES_OF_BLOCK;
         }
     }
     None
 }
 
-/// The same where the first shelf is one of a block, whose first one has this number.
+/// The same where the first shelf is one of as many as a block has, from the one of this number on.
 fn mergeable_in(sides: &Sides, shelves: &[KeptShelf], from: usize) -> Option<Group>
     requires { from ≤ length shelves.now }
     ensures { or_else result
-        (spec.kept_mergeable sides.now (from + 64) (drop (from + 64) shelves.now))
+        (spec.kept_mergeable sides.now (from + 8) (drop (from + 8) shelves.now))
         ≡ spec.kept_mergeable sides.now from (drop from shelves.now) }
 {
     for first in from..shelves.len().min(from + SHELVES_OF_BLOCK) {

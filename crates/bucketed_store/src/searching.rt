@@ -13,7 +13,7 @@ ghost use Rattle.bucketed_store.specs.Private.Blocks.{AreKnown};
 ghost use Rattle.bucketed_store.specs.Private.Searching as spec;
 ghost use Rattle.bucketed_store.specs.Private.Spans.{AreSpans};
 
-use crate::blocks::{Blocks, SHELVES_OF_BLOCK, block_of};
+use crate::blocks::{Blocks, SHELVES_OF_BLOCK};
 use crate::spans::Spans;
 use bucketed_records::records::{
     KeptShelf, LinkedBucket, MOST_BUCKETS, MOST_GIVEN, record_room, wider,
@@ -227,14 +227,22 @@ fn waste(adds: bool, sides: &Sides, kept: &KeptShelf) -> Option<u32>
 /// The shelf that wastes the least height, the first of such. Blocks in which none has room are passed over, and the
 /// first shelf that wastes nothing ends the search.
 fn least_waste(adds: bool, sides: &Sides, shelves: &[KeptShelf], blocks: &Blocks) -> Option<Least>
-    requires known { AreKnown blocks.now.each shelves.now }
+    requires known { AreKnown blocks.now shelves.now }
     ensures least { result ≡ first_least (map (spec.kept_waste adds sides.now) shelves.now) }
     ensures within { IfSome result (λ least. least.number < length shelves.now) }
 {
     let mut best = None;
-    for block in 0..block_of(shelves.len()) + 1 {
-        if blocks.may_give(block, sides.along) {
-            best = least_in(adds, sides, shelves, block * SHELVES_OF_BLOCK, best);
+    let mut from = 0;
+    for _block in 0..shelves.len() {
+        if from >= shelves.len() {
+            break;
+        }
+        let behind = blocks.behind_narrow(from, sides.along);
+        if from < behind {
+            from = behind;
+        } else {
+            best = least_in(adds, sides, shelves, from, best);
+            from += SHELVES_OF_BLOCK;
             if wastes_nothing(&best) {
                 break;
             }
@@ -243,7 +251,7 @@ fn least_waste(adds: bool, sides: &Sides, shelves: &[KeptShelf], blocks: &Blocks
     best
 }
 
-/// The same with the shelves of a block, of which the first has this number, where this was found before it.
+/// The same with as many shelves as a block has, of which the first has this number, where this was found before it.
 fn least_in(
     adds: bool,
     sides: &Sides,
@@ -255,7 +263,7 @@ fn least_in(
     requires best { best
         ≡ first_least (map (spec.kept_waste adds sides.now) (take from shelves.now)) }
     ensures { result
-        ≡ first_least (map (spec.kept_waste adds sides.now) (take (from + 64) shelves.now)) }
+        ≡ first_least (map (spec.kept_waste adds sides.now) (take (from + 8) shelves.now)) }
 {
     let mut best = best;
     for number in from..shelves.len().min(from + SHELVES_OF_BLOCK) {
@@ -302,18 +310,25 @@ fn exact_from(
     from: usize,
 ) -> Option<Found>
     requires from { from ≤ length shelves.now }
-    requires known { AreKnown blocks.now.each shelves.now }
+    requires known { AreKnown blocks.now shelves.now }
     requires spans { AreSpans spans.now.each buckets.now }
     ensures { result ≡ spec.exact_from sides.now buckets.now from (drop from shelves.now) }
 {
-    for block in block_of(from)..block_of(shelves.len()) + 1 {
-        if blocks.may_give(block, sides.along) {
-            let first = block * SHELVES_OF_BLOCK;
-            let end = first + SHELVES_OF_BLOCK;
-            let found = exact_between(sides, shelves, buckets, spans, from.max(first), end);
+    let mut at = from;
+    for _block in from..shelves.len() {
+        if at >= shelves.len() {
+            break;
+        }
+        let behind = blocks.behind_narrow(at, sides.along);
+        if at < behind {
+            at = behind;
+        } else {
+            let end = at + SHELVES_OF_BLOCK;
+            let found = exact_between(sides, shelves, buckets, spans, at, end);
             if found.is_some() {
                 return found;
             }
+            at = end;
         }
     }
     None
@@ -379,7 +394,7 @@ fn exact_or_found(
     least: Least,
     bucket: usize,
 ) -> Found
-    requires known { AreKnown blocks.now.each shelves.now }
+    requires known { AreKnown blocks.now shelves.now }
     requires spans { AreSpans spans.now.each buckets.now }
     requires shelf { least.number < length shelves.now }
     requires bucket { bucket < length buckets.now }
@@ -404,7 +419,7 @@ pub(crate) fn pick(
     blocks: &Blocks,
     spans: &Spans,
 ) -> Option<Found>
-    requires known { AreKnown blocks.now.each shelves.now }
+    requires known { AreKnown blocks.now shelves.now }
     requires spans { AreSpans spans.now.each buckets.now }
     ensures { result ≡ spec.picked adds sides.now shelves.now buckets.now }
 {

@@ -68,7 +68,7 @@ impl Model for Store {
       unused = store.unused;
     } };
 
-    ghost invariant = { λ store. AreKnown store.blocks.each store.shelves.items
+    ghost invariant = { λ store. AreKnown store.blocks store.shelves.items
         × AreSpans store.spans.each store.buckets.items };
 }
 
@@ -473,7 +473,7 @@ fn add_shelf(
     blocks: &mut Blocks,
     new: &NewShelf,
 )
-    requires known { AreKnown blocks.old.each shelves.old.items }
+    requires known { AreKnown blocks.old shelves.old.items }
     requires spans { AreSpans spans.old.each buckets.old.items }
     requires frame { IsBucketedFrame frame.now }
     requires new { spec.IsNewShelf frame.now new.now }
@@ -514,7 +514,7 @@ fn add_shelf(
     ensures shelf_capacity { vec_capacity shelves.old ≤ vec_capacity shelves.new }
     ensures bucket_length { vec_len buckets.new ≤ vec_len buckets.old + new.now.count }
     ensures bucket_capacity { vec_capacity buckets.old ≤ vec_capacity buckets.new }
-    ensures known { AreKnown blocks.new.each shelves.new.items }
+    ensures known { AreKnown blocks.new shelves.new.items }
     ensures spans { AreSpans spans.new.each buckets.new.items }
 {
     let width = width_of_share(frame, new.count) as u16;

@@ -1,14 +1,11 @@
-use Rattle.std.proofs.Common.{◌≡◌, ℕ, ◌+◌, ◌*◌, false, Option, None, Some, drop, refl, ap, sym, ◌∙◌, arith}
-use Rattle.std.proofs.lemmas.Option.{slice_get_within}
+use Rattle.std.proofs.Common.{◌≡◌, ℕ, ◌+◌, false, Option, None, Some, drop, refl, ap, sym, ◌∙◌, arith}
 use Rattle.std.specs.Prelude.{is_some}
 use Rattle.bucketed_model.specs.Merging.{Group}
 use Rattle.bucketed_model.specs.Picking.{or_else}
 use Rattle.bucketed_store.specs.Private.Searching.{kept_mergeable}
-use Rattle.bucketed_store.proofs.KnownBlocks.{busy-shelf}
-use Rattle.bucketed_store.proofs.PassedShelves.{mergeable-past, serves-busy}
-use Rattle.bucketed_store.proofs.Searched.{search-skip}
+use Rattle.bucketed_store.proofs.PassedShelves.{mergeable-behind}
 use Rattle.bucketed_store.proofs.merging.mergeable_shelves.Goals as goal
-use Rattle.bucketed_store.proofs.merging.mergeable_shelves.Goals.{then-may_be_idle+else-is_some, else-may_be_idle}
+use Rattle.bucketed_store.proofs.merging.mergeable_shelves.Goals.{then-from-behind, else-from-behind+else-is_some}
 
 -- where nothing was found what comes after counts
 none-first : (found later : Option Group) → is_some found ≡ false → or_else found later ≡ later
@@ -19,15 +16,18 @@ pub loop-block-preserved : goal.loop-block-preserved
 loop-block-preserved c =
     let sides = c.args.sides.now in
     let shelves = c.args.shelves.now in
-    let first = c.loop-block.block * 64 in
-    let next : (c.loop-block.block + 1) * 64 ≡ first + 64 = omega arith in
-    let after = kept_mergeable sides (first + 64) (drop (first + 64) shelves) in
-    ap (λ (k : ℕ). kept_mergeable sides k (drop k shelves)) next
-    ∙ elim c.if-may_be_idle.branch [
-      | then-may_be_idle+else-is_some w ↦ sym (none-first w.mergeable_in-group.result after (sym w.is_some.ensures ∙ w.if-is_some.false)) ∙ w.mergeable_in-group.ensures
-      | else-may_be_idle w ↦ sym (search-skip (kept_mergeable sides) shelves first 64 (λ m k. refl)
-          (λ k x low high at.
-          let busy = busy-shelf c.loop-block.block c.args.blocks.now.each shelves c.requires (sym c.may_be_idle.ensures ∙ w.if-may_be_idle.false) k x low high at in
-          mergeable-past sides k k shelves (slice_get_within shelves k x at) (serves-busy sides 1 k shelves x at busy) (serves-busy sides 2 k shelves x at busy)))
+    let from = c.loop-block.from in
+    let behind = c.behind_busy-behind in
+    elim c.if-from-behind.branch [
+      | then-from-behind w ↦ record {
+        rest = ap (λ (k : ℕ). kept_mergeable sides k (drop k shelves)) w.from-is
+            ∙ mergeable-behind sides shelves from behind.result behind.ensures.on (behind.ensures.busy shelves c.requires) ∙ c.loop-block.invariant.rest;
+        on = omega (arith, w.from-is, w.if-from-behind.true, c.loop-block.invariant.on);
+      }
+      | else-from-behind+else-is_some w ↦ record {
+        rest = ap (λ (k : ℕ). kept_mergeable sides k (drop k shelves)) w.from-is
+            ∙ sym (none-first w.mergeable_in-group.result (kept_mergeable sides (from + 8) (drop (from + 8) shelves)) (sym w.is_some.ensures ∙ w.if-is_some.false))
+            ∙ w.mergeable_in-group.ensures ∙ c.loop-block.invariant.rest;
+        on = omega (arith, w.from-is, c.loop-block.invariant.on);
+      }
     ]
-    ∙ c.loop-block.invariant

@@ -8,7 +8,7 @@ use Rattle.bucketed_store.specs.Private.Spans.{AreSpans}
 use Rattle.bucketed_store.proofs.placing.place_of.Goals as goal
 
 pub place_among-requires-clause-known : goal.place_among-requires-clause-known
-place_among-requires-clause-known c = subst (λ (shelves : List KeptShelf). AreKnown c.store.inside.blocks.each shelves) (sym c.deref.ensures.value) c.store.invariant.0
+place_among-requires-clause-known c = subst (λ (shelves : List KeptShelf). AreKnown c.store.inside.blocks shelves) (sym c.deref.ensures.value) c.store.invariant.0
 
 pub place_among-requires-clause-spans : goal.place_among-requires-clause-spans
 place_among-requires-clause-spans c = subst (AreSpans c.store.inside.spans.each) (sym c.deref-2.ensures.value) c.store.invariant.1

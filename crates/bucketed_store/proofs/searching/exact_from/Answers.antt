@@ -1,13 +1,11 @@
-use Rattle.std.proofs.Common.{◌≡◌, ℕ, ◌+◌, ◌-◌, ◌*◌, max, false, Option, None, Some, drop, refl, ap, sym, ◌∙◌, arith}
+use Rattle.std.proofs.Common.{◌≡◌, ℕ, ◌+◌, false, Option, None, Some, drop, refl, ap, sym, ◌∙◌, arith}
 use Rattle.std.specs.Prelude.{is_some}
 use Rattle.bucketed_model.specs.Picking.{or_else}
 use Rattle.bucketed_store.specs.declared.searching.Found.{Found}
 use Rattle.bucketed_store.specs.Private.Searching.{exact_from}
-use Rattle.bucketed_store.proofs.KnownBlocks.{narrow-shelf}
-use Rattle.bucketed_store.proofs.PassedShelves.{exact-past}
-use Rattle.bucketed_store.proofs.Searched.{search-skip}
+use Rattle.bucketed_store.proofs.PassedShelves.{exact-behind}
 use Rattle.bucketed_store.proofs.searching.exact_from.Goals as goal
-use Rattle.bucketed_store.proofs.searching.exact_from.Goals.{then-may_give+else-is_some, else-may_give}
+use Rattle.bucketed_store.proofs.searching.exact_from.Goals.{then-at-behind, else-at-behind+else-is_some}
 
 -- where nothing was found what comes after counts
 none-first : (found later : Option Found) → is_some found ≡ false → or_else found later ≡ later
@@ -19,20 +17,18 @@ loop-block-preserved c =
     let sides = c.args.sides.now in
     let buckets = c.args.buckets.now in
     let shelves = c.args.shelves.now in
-    let block = c.loop-block.block in
-    let here = max c.args.from (c.loop-block.block * 64) in
-    let next : max c.args.from ((block + 1) * 64) ≡ here + (block * 64 + 64 - here) = omega (arith, c.loop-block.auto.block, c.block_of-block.ensures) in
-    let end : max c.args.from ((block + 1) * 64) ≡ block * 64 + 64 = omega (arith, c.loop-block.auto.block, c.block_of-block.ensures) in
-    elim c.if-may_give.branch [
-      | then-may_give+else-is_some w ↦
-          ap (λ (k : ℕ). exact_from sides buckets k (drop k shelves)) end
-          ∙ sym (none-first w.exact_between-found.result (exact_from sides buckets (block * 64 + 64) (drop (block * 64 + 64) shelves)) (sym w.is_some.ensures ∙ w.if-is_some.false))
-          ∙ w.exact_between-found.ensures ∙ ap (λ (k : ℕ). exact_from sides buckets k (drop k shelves)) w.max.ensures
-      | else-may_give w ↦
-          ap (λ (k : ℕ). exact_from sides buckets k (drop k shelves)) next
-          ∙ sym (search-skip (exact_from sides buckets) shelves here (block * 64 + 64 - here) (λ m k. refl)
-          (λ k x low high at.
-          exact-past sides buckets k k shelves x at
-          (narrow-shelf sides.along block c.args.blocks.now.each shelves c.requires.known (sym c.may_give.ensures ∙ w.if-may_give.false) k x (omega (arith, low)) (omega (arith, high, end, next)) at)))
+    let at = c.loop-block.at in
+    let behind = c.behind_narrow-behind in
+    elim c.if-at-behind.branch [
+      | then-at-behind w ↦ record {
+        rest = ap (λ (k : ℕ). exact_from sides buckets k (drop k shelves)) w.at-is
+            ∙ exact-behind sides buckets shelves at behind.result behind.ensures.on (behind.ensures.narrow shelves c.requires.known) ∙ c.loop-block.invariant.rest;
+        on = omega (arith, w.at-is, w.if-at-behind.true, c.loop-block.invariant.on);
+      }
+      | else-at-behind+else-is_some w ↦ record {
+        rest = ap (λ (k : ℕ). exact_from sides buckets k (drop k shelves)) w.at-is
+            ∙ sym (none-first w.exact_between-found.result (exact_from sides buckets (at + 8) (drop (at + 8) shelves)) (sym w.is_some.ensures ∙ w.if-is_some.false))
+            ∙ w.exact_between-found.ensures ∙ c.loop-block.invariant.rest;
+        on = omega (arith, w.at-is, c.loop-block.invariant.on);
+      }
     ]
-    ∙ c.loop-block.invariant

@@ -17,5 +17,5 @@ returns-then-wastes_nothing c =
     let number = c.loop-number.number in
     let more = best-more rank shelves number c.index-shelves-number.result (omega (arith, c.loop-number-test.true, c.min-number-end.ensures)) in
     let best : first_least (map rank (take (suc number) shelves)) ≡ c.better-best.result = cc in
-    let end : suc number + (c.args.from + 64 - suc number) ≡ c.args.from + 64 = omega (arith, c.loop-number-test.true, c.min-number-end.ensures) in
-    sym (ap (λ (k : ℕ). first_least (map rank (take k shelves))) (sym end) ∙ best-done rank shelves c.better-best.result (suc number) (c.args.from + 64 - suc number) best (sym c.wastes_nothing.ensures ∙ c.if-wastes_nothing.true))
+    let end : suc number + (c.args.from + 8 - suc number) ≡ c.args.from + 8 = omega (arith, c.loop-number-test.true, c.min-number-end.ensures) in
+    sym (ap (λ (k : ℕ). first_least (map rank (take k shelves))) (sym end) ∙ best-done rank shelves c.better-best.result (suc number) (c.args.from + 8 - suc number) best (sym c.wastes_nothing.ensures ∙ c.if-wastes_nothing.true))

@@ -1,8 +1,11 @@
-use Rattle.std.proofs.Common.{◌≡◌, ◌*◌, map, take}
+use Rattle.std.proofs.Common.{◌≡◌, ◌≤◌, map, take}
 use Rattle.etagere_base.specs.Least.{first_least}
 use Rattle.bucketed_store.specs.Private.Searching.{kept_waste}
 use Rattle.bucketed_store.proofs.searching.least_waste.Given as goal
 
--- the best of the blocks so far
+-- the best of the shelves so far
 abbrev pub invariant-loop-block : goal.invariant-loop-block
-invariant-loop-block l = l.best ≡ first_least (map (kept_waste l.adds l.sides) (take (l.block * 64) l.shelves))
+invariant-loop-block l = record {
+  best : l.best ≡ first_least (map (kept_waste l.adds l.sides) (take l.from l.shelves));
+  on : l._block ≤ l.from;
+}

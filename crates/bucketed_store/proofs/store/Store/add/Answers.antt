@@ -33,20 +33,20 @@ add_shelf-requires-clause-short c =
     (subst (λ (s : Stored). IsShort c.args.frame.now s.shelves) (sym c.self.view_is) (first-short c.args.frame.now c.args.news.now c.args.self.now c.requires.news.short))
 
 pub invariant_of-self : goal.invariant_of-self
-invariant_of-self c = (subst (AreKnown c.self.inside.blocks.each) (sym c.reserve.ensures.items) c.self.invariant.0, c.self.invariant.1)
+invariant_of-self c = (subst (AreKnown c.self.inside.blocks) (sym c.reserve.ensures.items) c.self.invariant.0, c.self.invariant.1)
 
 pub invariant_of-self-in_err-reserve_records : goal.invariant_of-self-in_err-reserve_records
 invariant_of-self-in_err-reserve_records c =
-    (subst (AreKnown c.self.inside.blocks.each) (sym c.reserve.ensures.items) c.self.invariant.0, subst (AreSpans c.self.inside.spans.each) (sym c.reserve_records.ensures.same) c.self.invariant.1)
+    (subst (AreKnown c.self.inside.blocks) (sym c.reserve.ensures.items) c.self.invariant.0, subst (AreSpans c.self.inside.spans.each) (sym c.reserve_records.ensures.same) c.self.invariant.1)
 
 pub add_shelf-requires-clause-known : goal.add_shelf-requires-clause-known
-add_shelf-requires-clause-known c = subst (AreKnown c.self.inside.blocks.each) (sym c.reserve.ensures.items) c.self.invariant.0
+add_shelf-requires-clause-known c = subst (AreKnown c.self.inside.blocks) (sym c.reserve.ensures.items) c.self.invariant.0
 
 pub add_shelf-requires-2-clause-known : goal.add_shelf-requires-2-clause-known
 add_shelf-requires-2-clause-known c =
     elim c.match-news.branch [
-      | in-Some w ↦ subst (λ (inside : Inside). AreKnown inside.blocks.each inside.shelves.items) (sym w.self-inside-is) w.add_shelf.ensures.known
-      | in_default w ↦ subst (λ (inside : Inside). AreKnown inside.blocks.each inside.shelves.items) (sym w.self-inside-is) (subst (AreKnown c.self.inside.blocks.each) (sym c.reserve.ensures.items) c.self.invariant.0)
+      | in-Some w ↦ subst (λ (inside : Inside). AreKnown inside.blocks inside.shelves.items) (sym w.self-inside-is) w.add_shelf.ensures.known
+      | in_default w ↦ subst (λ (inside : Inside). AreKnown inside.blocks inside.shelves.items) (sym w.self-inside-is) (subst (AreKnown c.self.inside.blocks) (sym c.reserve.ensures.items) c.self.invariant.0)
     ]
 
 pub add_shelf-requires-clause-spans : goal.add_shelf-requires-clause-spans

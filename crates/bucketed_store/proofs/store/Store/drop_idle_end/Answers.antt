@@ -16,7 +16,7 @@ invariant_of-self c =
     let left = ap (λ (done : Dropping). done.stored.shelves) c.drop_idle_end.ensures.dropped in
     let items : (with_items inside.buckets c.drop_idle_end.new.buckets).items ≡ c.drop_idle_end.new.buckets =
     with_items_is inside.buckets c.drop_idle_end.new.buckets (omega (arith, c.drop_idle_end.auto.buckets, c.deref_mut.ensures.len)) in (
-      subst (AreKnown inside.blocks.each) (sym left)
-          (known-some inside.blocks.each inside.shelves.items _ (some-dropped (vec_len inside.shelves) (dropping_of inside.shelves.items c.deref_mut.result.now inside.unused 0)) c.self.invariant.0),
+      subst (AreKnown inside.blocks) (sym left)
+          (known-some inside.blocks inside.shelves.items _ (some-dropped (vec_len inside.shelves) (dropping_of inside.shelves.items c.deref_mut.result.now inside.unused 0)) c.self.invariant.0),
       subst (AreSpans c.drop_idle_end.new.spans.each) (sym items) c.drop_idle_end.ensures.spans,
     )

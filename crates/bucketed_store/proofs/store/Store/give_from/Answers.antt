@@ -41,9 +41,9 @@ follow-requires-clause-others c =
     c.give_from.ensures
     ∙ ap (λ (xs : List KeptShelf). shelves_given shelf xs c.deref-3.result.now) c.deref_mut.ensures.value
     ∙ ap (λ (bs : List LinkedBucket). shelves_given shelf inside.shelves.items bs) c.deref-3.ensures.value in
-    subst (AreOthersKnown shelf inside.blocks.each) (sym (c.deref-4.ensures.value ∙ items ∙ given))
-    (known-others shelf (given_from (widest_from most_buckets inside.buckets.items (first_bucket_of inside.shelves.items shelf))) inside.blocks.each inside.shelves.items c.self.invariant.0)
+    subst (AreOthersKnown shelf inside.blocks) (sym (c.deref-4.ensures.value ∙ items ∙ given))
+    (known-others shelf (given_from (widest_from most_buckets inside.buckets.items (first_bucket_of inside.shelves.items shelf))) inside.blocks inside.shelves.items c.self.invariant.0)
 
 pub invariant_of-self : goal.invariant_of-self
 invariant_of-self c =
-    (subst (AreKnown c.follow.new.self.each) c.deref-4.ensures.value c.follow.ensures, subst (AreSpans c.learn_row.new.spans.each) c.deref-2.ensures.value c.learn_row.ensures)
+    (subst (AreKnown c.follow.new.self) c.deref-4.ensures.value c.follow.ensures, subst (AreSpans c.learn_row.new.spans.each) c.deref-2.ensures.value c.learn_row.ensures)

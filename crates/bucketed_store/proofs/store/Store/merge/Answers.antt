@@ -12,6 +12,6 @@ invariant_of-self c =
     let items : (with_items shelves c.merge.new.shelves).items ≡ c.merge.new.shelves =
     with_items_is shelves c.merge.new.shelves (omega (arith, c.merge.auto.shelves, c.deref_mut.ensures.len)) in
     let merged = items ∙ c.merge.ensures ∙ ap (kept_merged c.args.group.now) c.deref_mut.ensures.value in (
-      subst (AreKnown c.self.inside.blocks.each) (sym merged) (known-merged c.args.group.now c.self.inside.blocks.each shelves.items c.self.invariant.0),
+      subst (AreKnown c.self.inside.blocks) (sym merged) (known-merged c.args.group.now c.self.inside.blocks shelves.items c.self.invariant.0),
       c.self.invariant.1,
     )

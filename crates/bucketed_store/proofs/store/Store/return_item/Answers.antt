@@ -47,9 +47,9 @@ follow-requires-clause-others c =
     ∙ ap (λ (bs : List LinkedBucket). changed_by (Some (shelf_of bs number)) (returned_kept (nat_le (live_of bs number) 1)) c.deref_mut.result.now) c.deref_mut-2.ensures.value
     ∙ ap (λ (xs : List KeptShelf). changed_by (Some (shelf_of inside.buckets.items number)) change xs) c.deref_mut.ensures.value
     ∙ ap (λ (n : ℕ). changed_by (Some n) change inside.shelves.items) (sym shelf) in
-    subst (AreOthersKnown c.shelf_number-shelf.result inside.blocks.each) (sym (c.deref-6.ensures.value ∙ items ∙ returned))
-    (known-others c.shelf_number-shelf.result change inside.blocks.each inside.shelves.items c.self.invariant.0)
+    subst (AreOthersKnown c.shelf_number-shelf.result inside.blocks) (sym (c.deref-6.ensures.value ∙ items ∙ returned))
+    (known-others c.shelf_number-shelf.result change inside.blocks inside.shelves.items c.self.invariant.0)
 
 pub invariant_of-self : goal.invariant_of-self
 invariant_of-self c =
-    (subst (AreKnown c.follow.new.self.each) c.deref-6.ensures.value c.follow.ensures, subst (AreSpans c.track.new.self.each) c.deref-5.ensures.value c.track.ensures)
+    (subst (AreKnown c.follow.new.self) c.deref-6.ensures.value c.follow.ensures, subst (AreSpans c.track.new.self.each) c.deref-5.ensures.value c.track.ensures)

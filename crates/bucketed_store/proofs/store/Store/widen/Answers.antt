@@ -11,7 +11,7 @@ pub overflow_sub-result : goal.overflow_sub-result
 overflow_sub-result c = omega (arith, c.left_after-rest.ensures, left-le c.args.added c.args.left c.deref.result.now)
 
 pub invariant_of-self-2 : goal.invariant_of-self-2
-invariant_of-self-2 c = (subst (AreKnown c.of-self-inside.result.each) c.deref-2.ensures.value c.of-self-inside.ensures, c.widen_shelves.ensures.spans)
+invariant_of-self-2 c = (subst (AreKnown c.of-self-inside.result) c.deref-2.ensures.value c.of-self-inside.ensures, c.widen_shelves.ensures.spans)
 
 pub invariant_of-self : goal.invariant_of-self
 invariant_of-self c = (c.self.invariant.0, subst (AreSpans c.self.inside.spans.each) (sym c.reserve_records.ensures.same) c.self.invariant.1)
