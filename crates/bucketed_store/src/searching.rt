@@ -61,10 +61,13 @@ fn is_wanted(wanted: Wanted, bucket: &LinkedBucket) -> bool
     ensures { result ≡ spec.is_wanted wanted bucket.now }
 {
     let free = u32::from(bucket.free_space);
+    if free < needed_room(wanted) {
+        return false;
+    }
     let can_give = bucket.item_count < MOST_GIVEN;
     match wanted {
-        Wanted::Roomy(width) => width <= free && can_give,
-        Wanted::Exact(width) => width <= free && can_give && free == width,
+        Wanted::Roomy(_) => can_give,
+        Wanted::Exact(width) => can_give && free == width,
         Wanted::Wide(width) => width <= free,
     }
 }
@@ -186,7 +189,7 @@ pub(crate) fn widest_room(buckets: &[LinkedBucket], spans: &Spans, first: Link, 
 }
 
 /// How many buckets `has_room` looks at.
-const FEW_BUCKETS: u32 = 16;
+const FEW_BUCKETS: u32 = 4;
 
 /// Whether one of the next few buckets can give this width to one item, by the links from this one on.
 pub(crate) fn has_room(room: u16, buckets: &[LinkedBucket], first: Link) -> bool

@@ -4,7 +4,7 @@
 //! Definitions: `Private/Spans`. Of a block nothing need be known; then a search looks at each record. Rows of a few
 //! buckets are never gone over for it.
 
-ghost use Rattle.std.specs.Prelude.{◌≡◌, ◌<◌, ◌≤◌, IsTrue, List, length, max};
+ghost use Rattle.std.specs.Prelude.{◌≡◌, ◌<◌, ◌≤◌, IsTrue, Some, List, length, max};
 ghost use Rattle.etagere_links.specs.Links.{no_link};
 ghost use Rattle.bucketed_records.specs.declared.records.LinkedBucket.{LinkedBucket};
 ghost use Rattle.bucketed_store.specs.Private.Spans as spec;
@@ -86,7 +86,7 @@ fn span_from(buckets: &[LinkedBucket], first: usize) -> Span
 }
 
 /// How many records `stays_wide` looks at.
-const FEW_RECORDS: u32 = 8;
+const FEW_RECORDS: u32 = 4;
 
 /// Whether one of the next few records of the same block has this room.
 fn stays_wide(buckets: &[LinkedBucket], number: usize, room: u16) -> bool
@@ -153,14 +153,15 @@ fn followed(buckets: &[LinkedBucket], span: &Span, number: usize, before: u16) -
 fn is_passed(span: &Span, number: usize, width: u32, left: u32) -> bool
     ensures { IsTrue result → spec.IsPassed number width left span.now }
 {
-    let Some(first) = span.first.number() else {
-        return false;
-    };
-    first == number && u32::from(span.widest_room) < width && u32::from(span.steps) <= left
+    u32::from(span.widest_room) < width
+        && u32::from(span.steps) <= left
+        && begins_with(span, number)
 }
 
 /// Whether a span begins with the record of a number.
-fn begins_with(span: &Span, number: usize) -> bool {
+fn begins_with(span: &Span, number: usize) -> bool
+    ensures { IsTrue result → span.now.first ≡ Some number }
+{
     match span.first.number() {
         Some(first) => first == number,
         None => false,
