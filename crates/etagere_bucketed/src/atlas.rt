@@ -208,9 +208,9 @@ impl BucketedAtlasAllocator {
     ///
     /// `Err` comes only where a shelf is to be added and there was no memory. Nothing changes after an
     /// `Err` or none. An added shelf takes memory for its record, and for those of its buckets as far as
-    /// too few were unused; a size that needs none takes none. Goes through the blocks of 64 shelves a few
-    /// times, and through the shelves of those in which one has room, and looks only at buckets of shelves that
-    /// are tall enough, have wide enough buckets and room. The first bucket that wastes nothing ends the search.
+    /// too few were unused; a size that needs none takes none. Passes over up to 512 shelves at once, and
+    /// goes through those of a block of 8 in which one has room, and looks only at buckets of shelves that are
+    /// tall enough, have wide enough buckets and room. The first bucket that wastes nothing ends the search.
     pub fn allocate(&mut self, size: Size) -> Result<Option<Allocation>, AllocError>
         ensures placed { IfOk result
             (λ answer. IfSome answer (λ allocation. Allocates self.old size allocation self.new)) }
