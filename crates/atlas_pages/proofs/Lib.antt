@@ -7,6 +7,7 @@ pub mod PaddedLemmas
 pub mod PageLists
 pub mod Fullest
 pub mod PageSpaces
+pub mod PictureLemmas
 pub mod Ready
 pub mod SavedLemmas
 pub mod Used

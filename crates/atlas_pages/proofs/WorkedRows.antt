@@ -15,7 +15,8 @@ use Rattle.atlas_pages.specs.declared.places.PagePlace.{PagePlace}
 use Rattle.atlas_pages.specs.Choosing.{page_for, ready_for}
 use Rattle.atlas_pages.specs.Listing.{listed_places}
 use Rattle.atlas_pages.specs.Padded.{trimmed_on}
-use Rattle.atlas_pages.specs.Pages.{PagesState, no_pages, pages_fault}
+use Rattle.atlas_pages.specs.Pages.{PagesState, no_pages, page_frame, pages_fault}
+use Rattle.atlas_pages.specs.Picture.{page_area, pages_width}
 use Rattle.atlas_pages.specs.Places.{at_page, allocated_space_of, cleared, free_space_of, rectangle_on, returned_on, shrunk, with_most}
 use Rattle.shelf_model.specs.State.{AtlasState}
 
@@ -134,3 +135,13 @@ padded-too_long = refl
 
 padded-empty : padding_refusal two_around (size 0 1) ≡ Some NotPositive
 padded-empty = refl
+
+-- in a picture 16 pixels stay free between two pages
+picture-width : pages_width 64 2 ≡ 144
+picture-width = refl
+
+picture-none : pages_width 64 0 ≡ 0
+picture-none = refl
+
+picture-second : page_area (page_frame (page_options FirstFit 2)) 1 ≡ rectangle 80 0 144 64
+picture-second = refl

@@ -4,6 +4,7 @@ pub mod Laws
 pub mod Listing
 pub mod Padded
 pub mod Pages
+pub mod Picture
 pub mod Places
 pub mod Private
 pub mod Promises

@@ -3,5 +3,6 @@ pub mod Fullest
 pub mod Kept
 pub mod KeptPadded
 pub mod Listed
+pub mod Pieces
 pub mod Restored
 pub mod Taking

@@ -2,7 +2,7 @@
 //! has.
 //!
 //! `pages` has the public calls, `padded` those of pages with a padding, `open_pages` what calls do to the atlases of
-//! the open pages, `choosing` the search for the fullest page, `listing` the iterator, `saving` what pages are saved as,
+//! the open pages, `choosing` the search for the fullest page, `listing` the iterator, `picture` all pages side by side, `saving` what pages are saved as,
 //! `options` how pages are made and chosen, `places` what a size gets, `faults` why there are no such pages. `laws`
 //! states the rules of the choice and of snapshots.
 #![tactic(auto)]
@@ -15,6 +15,7 @@ mod open_pages;
 mod options;
 mod padded;
 mod pages;
+mod picture;
 mod places;
 mod saving;
 

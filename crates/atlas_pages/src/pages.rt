@@ -4,9 +4,11 @@
 //! pages keep. The clauses stay as they are: callers prove by them.
 
 ghost use Rattle.std.specs.Prelude.{◌≡◌, ◌↔◌, ◌+◌, ◌<◌, [], false, true, Err, None, Some, IfOk, IfErr, IfSome, IfNone, OnOk, OnErr, IsErr, IsTrue, IsOkAnd, MatchOption, length, slice_get};
+ghost use Rattle.std.specs.Io.KnownBytes.{Appends};
 ghost use Rattle.std.specs.List.{AllByRecursion};
 ghost use Rattle.std.specs.Option.{option_copied};
 ghost use Rattle.etagere_base.specs.Rectangles.{IsLarge};
+ghost use Rattle.etagere_base.specs.Sending.{AppendsBeginning};
 ghost use Rattle.shelf_model.specs.Places.{allocations};
 ghost use Rattle.shelf_model.specs.State.{AtlasState};
 ghost use Rattle.atlas_pages.specs.Choosing as choosing;
@@ -14,6 +16,7 @@ ghost use Rattle.atlas_pages.specs.Choosing.{IsRefusedByAll};
 ghost use Rattle.atlas_pages.specs.Listing.{listed_places};
 ghost use Rattle.atlas_pages.specs.Pages as model;
 ghost use Rattle.atlas_pages.specs.Pages.{ArePageOptions, no_pages, page_frame};
+ghost use Rattle.atlas_pages.specs.Picture.{pages_svg};
 ghost use Rattle.atlas_pages.specs.Places as places;
 ghost use Rattle.atlas_pages.specs.Places.{NeedsMemory, Places, is_allocated_on, returned_on, shrunk, with_most};
 ghost use Rattle.atlas_pages.specs.Promises.{KeepsPagesPromises};
@@ -24,12 +27,14 @@ use crate::faults::{FewerPages, PagesFault, PagesRestoreFault};
 use crate::listing::Iter;
 use crate::open_pages::{self, clear_each, drop_empty_end, open_with, return_on};
 use crate::options::{PageOptions, pages_fault};
+use crate::picture::send_pages;
 use crate::places::PagePlace;
 use crate::saving::{PagesSnapshot, restored_pages, saved_pages};
 use etagere::{AllocId, AtlasAllocator, Rectangle, Size, UnknownId};
 use etagere_base::atlas_frame;
 use shelf_store::choosing::fits_when_empty;
 use std::alloc::{AllocError, Global};
+use std::io::{self, Write};
 use std::marker::Model;
 
 /// Several atlases of one size and options, the pages: a size gets a place on one that has room, and where none has, a
@@ -279,6 +284,21 @@ impl AtlasPages {
         ensures promises { KeepsPagesPromises self.now }
     {
         open_pages::free_space(&self.pages)
+    }
+
+    /// Writes an SVG document that shows the open pages side by side, each as `AtlasAllocator::dump_svg` does, with 16
+    /// pixels between two.
+    ///
+    /// A fault is the writer's, or `WriteZero` where it accepts no byte; then a beginning of the text has gone out. Takes
+    /// no memory. Goes through the items of each page once.
+    pub fn dump_svg<W: Write>(&self, output: &mut W) -> io::Result<()>
+        ensures ok { OnOk result
+            (Appends (W.contents output.old) (W.contents output.new) (pages_svg self.now)) }
+        ensures err { OnErr result
+            (AppendsBeginning (W.contents output.old) (W.contents output.new) (pages_svg self.now)) }
+    {
+        let frame = atlas_frame(self.options.size, &self.options.atlas);
+        send_pages(&frame, &self.pages, output)
     }
 }
 
