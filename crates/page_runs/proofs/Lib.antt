@@ -1,2 +1,2 @@
 mod RunsOn
-mod StepsTold
+pub mod StepsTold

@@ -120,7 +120,7 @@ among-opened (x ∷ pages) empty none zero id = refl
 among-opened (x ∷ pages) empty none (suc page) id = among-opened pages empty none page id
 
 -- what pages have that are ready for a size is what they had
-among-ready : (state : PagesState) (size : Size) (page id : ℕ) → among (ready_for state size).pages page id ≡ among state.pages page id
+pub among-ready : (state : PagesState) (size : Size) (page id : ℕ) → among (ready_for state size).pages page id ≡ among state.pages page id
 among-ready state size page id =
     ⊎_elim (λ here. ap (λ (s : PagesState). among s.pages page id) here)
     (λ opens. ap (λ (s : PagesState). among s.pages page id) opens

@@ -40,7 +40,7 @@ tied-permuted kept other all tied moved =
     }
 
 -- what lies inside has sides
-inside-sides : (frame : Frame) → IsFrame longest_side frame → (allocation : Allocation)
+pub inside-sides : (frame : Frame) → IsFrame longest_side frame → (allocation : Allocation)
     → IsInside frame allocation.rectangle → HasSides allocation
 inside-sides frame is_frame allocation inside =
     record {

@@ -73,7 +73,7 @@ side-room low high length alignment aligned large =
     covers (pos n) rounded enough large = omega (arith, ints)
     covers (negsuc n) rounded enough large = omega (arith, ints)
 
-large-room : (frame : Frame) (one other : Rectangle) → IsFrame longest_side frame → IsLarge frame (size_of other) one → IsAsLarge one other
+pub large-room : (frame : Frame) (one other : Rectangle) → IsFrame longest_side frame → IsLarge frame (size_of other) one → IsAsLarge one other
 large-room frame one other is_frame large =
     record {
       width = side-room one.min.x one.max.x (size_of other).width frame.alignment_width is_frame.alignment_width.0 large.width;

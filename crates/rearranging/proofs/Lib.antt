@@ -1,5 +1,5 @@
-mod Asking
 mod Done
-mod Laws
 mod SameFrames
-mod Sorting
+pub mod Asking
+pub mod Laws
+pub mod Sorting

@@ -14,7 +14,7 @@ use Rattle.etagere_base.specs.declared.ids.Allocation.{Allocation}
 use Rattle.rearranging.specs.Order.{AreTallestFirst, height_across, is_out_of_turn}
 
 -- of what is sorted by a test no two neighbours pass it the other way round
-sorted-neighbours : {X : Type 0} (lt touch : X → X → Bool) → ((x y : X) → touch x y ≡ lt y x) → (xs : List X)
+pub sorted-neighbours : {X : Type 0} (lt touch : X → X → Bool) → ((x y : X) → touch x y ≡ lt y x) → (xs : List X)
     → IsSortedBy lt xs → NoNeighbours touch xs
 sorted-neighbours lt touch same [] sorted = tt
 sorted-neighbours lt touch same (x ∷ []) sorted = tt

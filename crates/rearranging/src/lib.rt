@@ -12,3 +12,4 @@ mod order;
 
 pub use moves::{Move, Rearranged};
 pub use moving::rearranged;
+pub use order::height_across;

@@ -19,8 +19,8 @@ fn length(from: i32, to: i32) -> u32
     if length < 0 { 0 } else { length as u32 }
 }
 
-/// The side of a rectangle across the shelves, in pixels.
-fn height_across(vertical: bool, rectangle: Rectangle) -> u32
+/// How tall a rectangle stands on its shelf: its side across the shelves, in pixels. Takes constant time.
+pub fn height_across(vertical: bool, rectangle: Rectangle) -> u32
     ensures { result ≡ spec.height_across vertical rectangle }
 {
     let Rectangle { min, max } = rectangle;

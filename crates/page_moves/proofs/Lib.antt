@@ -1,0 +1,4 @@
+mod Arranged
+mod Done
+mod TiedLists
+mod Turns

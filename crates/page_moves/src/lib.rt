@@ -1,0 +1,12 @@
+//! Moving house with several pages: what is allocated on them gets places on new pages, the tallest first, and so without
+//! the gaps that returns have left, on as few pages as that takes.
+//!
+//! `moving` has the call, `moves` what it answers, `order` who asks first.
+#![tactic(auto)]
+
+mod moves;
+mod moving;
+mod order;
+
+pub use moves::{PageMove, RearrangedPages};
+pub use moving::rearranged_pages;
