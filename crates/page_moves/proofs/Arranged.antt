@@ -1,13 +1,11 @@
 -- Where rectangles asked new pages for places: what moved is all that is allocated there, each as large as before, and
 -- what moved and what was refused are together what asked.
-use Rattle.std.proofs.Common.{◌≡◌, ℕ, ◌+◌, Option, Some, List, [], ◌∷◌, ◌++◌, map, refl, ap, sym, ◌∙◌, subst, arith}
+use Rattle.std.proofs.Common.{◌≡◌, ℕ, ◌+◌, Option, Some, List, [], ◌∷◌, ◌++◌, refl, ap, sym, ◌∙◌, subst, arith}
 use Rattle.std.proofs.lemmas.List.{append_assoc, map-append}
 use Rattle.std.specs.List.{AllByRecursion}
 use Rattle.std.specs.Prelude.{None, option_and_then, slice_get}
 use Rattle.etagere_base.proofs.EachLemmas.{Each-append, Each-back, Each-front, Each-get, Each-weaken}
 use Rattle.etagere_base.specs.Frames.{IsFrame, longest_side}
-use Rattle.etagere_base.specs.declared.frames.Frame.{Frame}
-use Rattle.etagere_base.specs.declared.geometry.Rectangle.{Rectangle}
 use Rattle.etagere_base.specs.declared.geometry.Size.{Size}
 use Rattle.shelf_model.specs.Places.{rectangle_of}
 use Rattle.shelf_model.specs.State.{AtlasState}
@@ -20,7 +18,7 @@ use Rattle.atlas_pages.specs.declared.options.PageOptions.{PageOptions}
 use Rattle.atlas_pages.specs.declared.places.PagePlace.{PagePlace}
 use Rattle.atlas_pages.specs.Choosing.{ready_for}
 use Rattle.atlas_pages.specs.Pages.{PagesState, page_frame}
-use Rattle.atlas_pages.specs.Places.{Places, rectangle_on}
+use Rattle.atlas_pages.specs.Places.{Places}
 use Rattle.atlas_pages.specs.Promises.{IsPage, KeepsPagesPromises}
 use Rattle.page_moves.proofs.TiedLists.{tied-added, times_on-append}
 use Rattle.page_moves.specs.Arranging.{Arranges, nothing, moved, refused, HasRoom, moved_from, moved_to}

@@ -1,6 +1,6 @@
 -- What is listed on pages is all that is allocated there, also in another order; and one place more is, once a size was
 -- given it.
-use Rattle.std.proofs.Common.{◌≡◌, ℕ, zero, suc, ◌+◌, ◌<◌, ◌≤◌, Bool, true, false, cond, ◌&&◌, ◌==◌, Option, Some, List, [], ◌∷◌, ◌++◌, map, add-zero, zero-add, refl, ap, sym, ◌∙◌, subst, arith}
+use Rattle.std.proofs.Common.{◌≡◌, ℕ, zero, suc, ◌+◌, ◌<◌, ◌≤◌, Bool, true, false, cond, ◌&&◌, ◌==◌, Option, Some, List, [], ◌∷◌, ◌++◌, map, add-zero, zero-add, refl, ap, sym, ◌∙◌, arith}
 use Rattle.std.proofs.lemmas.Bool.{eq-eqb, eqb-true}
 use Rattle.std.proofs.lemmas.Bool.Decides.{nat_tests}
 use Rattle.std.proofs.lemmas.List.Elements.{All-from_recursion, recursion_from_All}
@@ -25,7 +25,6 @@ use Rattle.shelf_model.specs.Places.{allocations, rectangle_of}
 use Rattle.shelf_model.specs.State.{AtlasState}
 use Rattle.atlas_pages.proofs.PageLists.{Each-map}
 use Rattle.atlas_pages.specs.declared.places.PagePlace.{PagePlace}
-use Rattle.atlas_pages.specs.Choosing.{ready_for}
 use Rattle.atlas_pages.specs.Listing.{listed_places, on_page, places_from}
 use Rattle.atlas_pages.specs.Pages.{PagesState, page_frame}
 use Rattle.atlas_pages.specs.Places.{Places, is_allocated_on, rectangle_on}
