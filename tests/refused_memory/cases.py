@@ -1,4 +1,4 @@
-"""What the programs are tried on: scripts and snapshots here, the examples, long scripts, and the trials by name."""
+"""What the programs are tried on: scripts and snapshots here, the examples, and long scripts."""
 
 from pathlib import Path
 
@@ -8,21 +8,6 @@ ROOT = HERE.parent.parent
 # Runs and streams of a script here, which answer as its replay does: the call, and the script.
 RUNS = [(call, script) for call in ("run", "stream") for script in ("run_atlas", "run_wider")]
 RUNS += [("run", script) for script in ("run_merged", "run_taller", "run_in_columns")]
-# Trials by direct calls that answer as a replay of a script here does, and the script.
-GROWTHS = {"grow atlas": "grow_atlas", "grow bucketed": "grow_bucketed"}
-KINDS = ("atlas", "bucketed")
-# Trials that make an atlas, and draw it.
-COPIES = [f"{call} {kind}" for call in ("new", "with_options", "clone", "snapshot", "restore") for kind in KINDS]
-# Trials that take no memory once they have written a line.
-QUIET = [f"quiet {kind}" for kind in KINDS]
-# A trial that asks for one growth once it is prepared.
-ONCE = "split atlas"
-CHECKS = [f"check {kind}" for kind in KINDS]
-# Trials that answer one call.
-CALLS = ["walk links", "rearranged atlas", "snapshot pages", "restore pages", "pad pages"]
-GLYPHS = "place glyphs"
-# A trial that asks again where a command was out of memory, and ends where it is still.
-PAGES = "run pages"
 
 
 def texts(*patterns):
@@ -33,12 +18,6 @@ def texts(*patterns):
 
 def script(name):
     return (HERE / f"{name}.atlas").read_text()
-
-
-def runs():
-    """The trials that answer as a replay does: what they are told, and the script of the replay, by their names."""
-    told = {f"{call} {name}": (f"{call} script\n{script(name)}", script(name)) for call, name in RUNS}
-    return told | {trial: (trial, script(name)) for trial, name in GROWTHS.items()}
 
 
 def scripts():

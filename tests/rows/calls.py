@@ -3,12 +3,19 @@
 import re
 import subprocess
 
+from tables import expanded
+
 # What is answered where something couldn't be called or made: a row has to name it, and can't name the first.
-NOT_MADE = "fault 0"
+NOT_MADE = "unread"
 NOT_DONE = {NOT_MADE, "no such call", "nothing was made", "no memory"}
-KINDS = ("atlas", "bucketed", "cache")
+ATLASES = ("atlas", "bucketed")
+KINDS = (*ATLASES, "cache", "pages", "padded")
 # What the program writes in more than a line, up to one that ends it.
-LISTS = ("picture", "iter")
+LISTS = ("picture", "iter", "moved")
+# How the one line begins in place of a list.
+IN_PLACE = ("fault ", "no memory", "no such call", "nothing was made")
+# What stands in rows for numbers.
+NAMED = {"h": "0", "v": "1", "first": "0", "fullest": "1"}
 # What takes a text; all other calls take numbers.
 OF_TEXTS = ("restore", "steps")
 
@@ -18,9 +25,8 @@ class Otherwise(Exception):
 
 
 def asked(words):
-    """The words that make an atlas, with 0 for horizontal shelves and 1 for vertical ones."""
-    *numbers, last = words.split(" ")
-    return " ".join([*numbers, {"h": "0", "v": "1"}.get(last, last)])
+    """The words that make something, as numbers."""
+    return " ".join(NAMED.get(word, word) for word in words.split(" "))
 
 
 class Stage:
@@ -43,7 +49,8 @@ class Stage:
             raise Otherwise(f"no numbers: {words}")
         self.running.stdin.write(f"{place} {call}\n")
         lines = [self.running.stdout.readline()]
-        while word in LISTS and lines[-1] not in ("end\n", ""):
+        is_list = word in LISTS and not lines[0].startswith(IN_PLACE)
+        while is_list and lines[-1] not in ("end\n", ""):
             lines.append(self.running.stdout.readline())
         if not lines[-1].endswith("\n"):
             raise Otherwise("the program has ended")
@@ -51,14 +58,16 @@ class Stage:
 
     def answer_of(self, place, call):
         """What a call answers, as rows have it."""
-        word, is_cache = call.split(" ")[0], self.kind == "cache"
-        if not is_cache and word in ("size", "empty", "spaces"):
+        word = call.split(" ")[0]
+        if self.kind in ATLASES and word in ("size", "empty", "spaces"):
             width, height, is_empty, allocated, free = self.tell(place, "counts").split(" ")
             answers = {"size": f"{width} {height}", "spaces": f"{allocated} {free}"}
             return answers.get(word, "yes" if is_empty == "true" else "no")
-        if not is_cache and word in ("iter", "len"):
-            lines = [line.removeprefix("at ") for line in self.tell(place, "iter").splitlines() if line != "end"]
+        if word == "iter" or self.kind in ATLASES and word == "len":
+            lines = [line.replace("at ", "") for line in self.tell(place, "iter").splitlines() if line != "end"]
             return str(len(lines)) if word == "len" else " ".join(["all", *lines])
+        if word == "moved":
+            return " ".join(line for line in self.tell(place, call).splitlines() if line != "end")
         answer = self.tell(place, call)
         return answer + " none" if answer.endswith(" evicts") else answer
 
@@ -98,7 +107,9 @@ class Stage:
         if word == "other":
             return self.of_other(words)
         answer = self.of_both(call)
-        self.given += [answer.rpartition(" id ")[2]] if word != "iter" and " id " in answer else []
+        if word not in LISTS and " id " in answer:
+            page = answer.split(" ")[1] + " " if answer.startswith("page ") else ""
+            self.given.append(page + answer.rpartition(" id ")[2])
         return answer
 
     def begin(self, words):
@@ -144,8 +155,8 @@ def judge(program, test):
     """Makes the calls of a test."""
     stage = Stage(program, test.kind)
     try:
-        for row, _ in test.turns():
-            answer = answered(stage, row)
+        for row, turn in test.turns():
+            answer = answered(stage, row, turn)
             is_done = answer not in ({NOT_MADE} if row.wanted else NOT_DONE)
             if not is_done or not is_wanted(answer, row.wanted):
                 raise Otherwise(f"line {row.line}: answered {answer}")
@@ -153,9 +164,9 @@ def judge(program, test):
         stage.close()
 
 
-def answered(stage, row):
+def answered(stage, row, turn):
     """What a row is answered, or what is otherwise, with its line."""
     try:
-        return stage.answer(row.call)
+        return stage.answer(expanded(row.call, turn))
     except Otherwise as why:
         raise Otherwise(f"line {row.line}: {why}") from why

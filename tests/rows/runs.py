@@ -1,5 +1,5 @@
 """Runs of commands, each made in three ways that have to answer the same: as a run and as a stream, by the program of
-crates/trials, and as the replay of a script."""
+crates/rows, and as the replay of a script."""
 
 import subprocess
 from dataclasses import dataclass, field
@@ -21,8 +21,8 @@ class Run:
     def judge(self, programs):
         """Compares the three ways, and then each line with its row."""
         script = "".join(f"{line}\n" for line in self.lines).encode()
-        ways = [self.told(programs["etagere_run"], script)]
-        ways += [self.told(programs["trials"], f"{way} script\n".encode() + script) for way in ("run", "stream")]
+        ways = [self.told([programs["etagere_run"]], script)]
+        ways += [self.told([programs["rows"], way], script) for way in ("run", "stream")]
         if ways[0] != ways[1] or ways[0] != ways[2]:
             raise Otherwise(f"replayed, run and streamed as {ways}")
         found = ways[0].splitlines()
@@ -32,8 +32,8 @@ class Run:
             if wanted is not None and not is_like(reply, wanted):
                 raise Otherwise(f"line {line}: answered {reply}")
 
-    def told(self, program, text):
-        done = subprocess.run([program], input=text, capture_output=True, check=False)
+    def told(self, command, text):
+        done = subprocess.run(command, input=text, capture_output=True, check=False)
         if done.returncode not in (0, 1) or done.stderr:
             raise Otherwise(f"status {done.returncode}, {done.stderr}")
         return done.stdout.decode()

@@ -72,10 +72,10 @@ def tests_of(text):
 
 
 def expanded(words, turn):
-    """The words, with a number in the place of each that stands for one, as `n`, `n+1`, `2n` and `2n+3` do."""
+    """The words, with a number in the place of each that stands for one, as `n`, `n+1`, `2n` and `2n+3` do, and `#2n`."""
 
     def number(match):
-        factor, added = match.groups()
-        return str(int(factor or 1) * turn + int(added or 0))
+        mark, factor, added = match.groups()
+        return f"{mark}{int(factor or 1) * turn + int(added or 0)}"
 
-    return " ".join(re.sub(r"\A(\d*)n(?:\+(\d+))?\Z", number, word) for word in words.split(" "))
+    return " ".join(re.sub(r"\A(#?)(\d*)n(?:\+(\d+))?\Z", number, word) for word in words.split(" "))

@@ -89,7 +89,7 @@ class Texts:
         stage = Stage(self.programs["rows"], found[1])
         answer = stage.tell(0, "restore " + found[2].replace("\n", " "))
         stage.close()
-        return {"made": "ok", "fault 0": None}.get(answer, answer.replace("fault", "broken"))
+        return {"made": "ok", "unread": None}.get(answer, answer.replace("fault", "broken"))
 
     def do_each(self, words):
         """Checks the text with each of the numbers in place of the one in a part of it."""

@@ -1,9 +1,5 @@
-//! Tests of pages: worked rows, small and large, with ample memory, and the numbers and names of faults.
+//! Tests of pages that rows can't say: the numbers and names of faults, and which fault a changed snapshot has.
 #![tactic(auto)]
 
 #[cfg(test)]
-mod assertions;
-#[cfg(test)]
-mod more_rows;
-#[cfg(test)]
-mod rows;
+mod faults;

@@ -1,27 +1,45 @@
 //! The calls that atlases of both kinds have.
 
 use crate::lines::{asked, id_of, say, say_fault, say_if, say_placed, size_of};
-use crate::places::NOT_MADE;
-use etagere::{OptionsFault, Size};
+use crate::places::NotMade;
+use etagere::{OptionsFault, RestoreFault, Size};
 use std::alloc::Global;
 use std::io;
 use test_support::atlases::{Atlas, NotGrown};
 
-/// An atlas of these words, or the number of its fault.
-pub fn made<A: Atlas>(alloc: Global, words: &str) -> Result<A, u32> {
+/// An atlas of these words.
+pub fn made<A: Atlas>(alloc: Global, words: &str) -> Result<A, NotMade> {
     let (size, options) = asked(words);
     let made = match options {
         None => A::made(alloc, size),
         Some(options) => A::made_with(alloc, size, &options),
     };
-    made.map_err(|fault: OptionsFault| fault.number())
+    made.map_err(of_options)
 }
 
-/// What a saved one restores, or the number of its fault.
-pub fn restored<A: Atlas>(alloc: Global, saved: Option<A::Snapshot>) -> Result<A, u32> {
+pub fn of_options(fault: OptionsFault) -> NotMade {
+    match fault {
+        OptionsFault::Memory => NotMade::NoMemory,
+        fault => NotMade::Fault(fault.number()),
+    }
+}
+
+pub fn of_rule(fault: RestoreFault) -> NotMade {
+    match fault {
+        RestoreFault::Memory => NotMade::NoMemory,
+        fault => NotMade::Fault(fault.number()),
+    }
+}
+
+pub fn copied<A: Atlas>(atlas: &A) -> Result<A, NotMade> {
+    atlas.copied().map_err(|_| NotMade::NoMemory)
+}
+
+/// What a saved one restores.
+pub fn restored<A: Atlas>(alloc: Global, saved: Option<A::Snapshot>) -> Result<A, NotMade> {
     match saved {
-        Some(saved) => A::restored(alloc, saved).map_err(|fault| fault.number()),
-        None => Err(NOT_MADE),
+        Some(saved) => A::restored(alloc, saved).map_err(of_rule),
+        None => Err(NotMade::Unread),
     }
 }
 

@@ -2,21 +2,22 @@
 
 use crate::atlases;
 use crate::lines::{say, say_size, size_of};
-use crate::places::Called;
+use crate::places::{Called, NotMade};
 use etagere::{
-    BucketedAtlasAllocator, BucketedRefusal, BucketedSnapshot, BucketedUsage, Size, laws,
+    BucketedAtlasAllocator, BucketedRefusal, BucketedSnapshot, BucketedUsage, RestoreFault, Size,
+    laws,
 };
 use std::alloc::Global;
 use std::io;
 use test_support::atlases::Atlas;
 
 impl Called for BucketedAtlasAllocator {
-    fn made(alloc: Global, words: &str) -> Result<BucketedAtlasAllocator, u32> {
+    fn made(alloc: Global, words: &str) -> Result<BucketedAtlasAllocator, NotMade> {
         atlases::made(alloc, words)
     }
 
-    fn copied(&self) -> Option<BucketedAtlasAllocator> {
-        Atlas::copied(self).ok()
+    fn copied(&self, _alloc: Global) -> Result<BucketedAtlasAllocator, NotMade> {
+        atlases::copied(self)
     }
 
     fn saved(&self, alloc: Global) -> Option<String> {
@@ -24,18 +25,20 @@ impl Called for BucketedAtlasAllocator {
         written(alloc, &saved)
     }
 
-    fn restored(alloc: Global, text: &str) -> Result<BucketedAtlasAllocator, u32> {
+    fn restored(alloc: Global, text: &str) -> Result<BucketedAtlasAllocator, NotMade> {
         atlases::restored(alloc, read(alloc, text))
     }
 
-    fn steps(alloc: Global, text: &str) -> u64 {
-        match read(alloc, text) {
-            Some(saved) => steps_of(alloc, saved),
-            None => 0,
-        }
+    fn steps(alloc: Global, text: &str) -> Result<u64, NotMade> {
+        steps_of(alloc, read(alloc, text).ok_or(NotMade::Unread)?)
     }
 
-    fn answer(&mut self, rt: &impl Print, call: &str, words: &str) -> io::Result<()> {
+    fn answer(
+        &mut self,
+        rt: &(impl Print + AllocGlobal),
+        call: &str,
+        words: &str,
+    ) -> io::Result<()> {
         match call {
             "refusal" => say_refusal(rt, refusal_of(self, size_of(words))),
             "usage" => say_usage(rt, &usage_of(self)),
@@ -55,10 +58,12 @@ fn read(alloc: Global, text: &str) -> Option<BucketedSnapshot> {
     serde_json::from_str(alloc, text).ok()
 }
 
-fn steps_of(alloc: Global, saved: BucketedSnapshot) -> u64 {
+fn steps_of(alloc: Global, saved: BucketedSnapshot) -> Result<u64, NotMade> {
     let mut steps = 0;
-    let _ = laws::restore_bucketed(alloc, saved, &mut steps);
-    steps
+    match laws::restore_bucketed(alloc, saved, &mut steps) {
+        Err(RestoreFault::Memory) => Err(NotMade::NoMemory),
+        _ => Ok(steps),
+    }
 }
 
 fn refusal_of(atlas: &BucketedAtlasAllocator, size: Size) -> Option<BucketedRefusal> {

@@ -1,7 +1,8 @@
 //! Calls of a cache of glyphs.
 
+use crate::atlases::of_options;
 use crate::lines::{numbers, say, say_fault, say_if, say_number, say_rectangle, size_of};
-use crate::places::{Called, NOT_MADE};
+use crate::places::{Called, NotMade};
 use etagere::{AllocatorOptions, DEFAULT_OPTIONS, OptionsFault, Rectangle, Size, size2};
 use glyph_shelf::{GlyphCache, GlyphFault, Placed};
 use std::alloc::Global;
@@ -10,34 +11,39 @@ use std::num::NonZeroUsize;
 
 impl Called for GlyphCache {
     /// The words are the capacity of the cache, the sides of its atlas, and how many columns that has.
-    fn made(alloc: Global, words: &str) -> Result<GlyphCache, u32> {
+    fn made(alloc: Global, words: &str) -> Result<GlyphCache, NotMade> {
         let (capacity, words) = words.split_once(' ').unwrap_or(("", words));
-        let capacity = NonZeroUsize::new(capacity.parse().unwrap_or(0)).ok_or(NOT_MADE)?;
+        let capacity = NonZeroUsize::new(capacity.parse().unwrap_or(0)).ok_or(NotMade::Unread)?;
         let [width, height, num_columns, ..] = numbers(words);
         let options = AllocatorOptions {
             num_columns,
             ..DEFAULT_OPTIONS
         };
-        new_cache(alloc, size2(width, height), &options, capacity).map_err(|fault| fault.number())
+        new_cache(alloc, size2(width, height), &options, capacity).map_err(of_options)
     }
 
-    fn copied(&self) -> Option<GlyphCache> {
-        None
+    fn copied(&self, _alloc: Global) -> Result<GlyphCache, NotMade> {
+        Err(NotMade::Unread)
     }
 
     fn saved(&self, _alloc: Global) -> Option<String> {
         None
     }
 
-    fn restored(_alloc: Global, _text: &str) -> Result<GlyphCache, u32> {
-        Err(NOT_MADE)
+    fn restored(_alloc: Global, _text: &str) -> Result<GlyphCache, NotMade> {
+        Err(NotMade::Unread)
     }
 
-    fn steps(_alloc: Global, _text: &str) -> u64 {
-        0
+    fn steps(_alloc: Global, _text: &str) -> Result<u64, NotMade> {
+        Err(NotMade::Unread)
     }
 
-    fn answer(&mut self, rt: &impl Print, call: &str, words: &str) -> io::Result<()> {
+    fn answer(
+        &mut self,
+        rt: &(impl Print + AllocGlobal),
+        call: &str,
+        words: &str,
+    ) -> io::Result<()> {
         match call {
             "place" => place(self, rt, words),
             "get" => say_rectangle(rt, look(self, key_of(words))),
@@ -62,16 +68,23 @@ fn key_of(word: &str) -> u64 {
 fn place(cache: &mut GlyphCache, rt: &impl Print, words: &str) -> io::Result<()> {
     let (key, sides) = words.split_once(' ').unwrap_or((words, ""));
     match placed(cache, key_of(key), size_of(sides)) {
-        Ok(answer) => say_placed(rt, &answer),
+        Ok(Placed { rectangle, evicted }) => {
+            let Rectangle { min, max } = rectangle;
+            print!(rt; "placed ({},{})-({},{})", min.x, min.y, max.x, max.y)?;
+            say_evicted(rt, &evicted)
+        }
+        Err(GlyphFault::Memory(evicted)) => {
+            rt.print("no memory")?;
+            say_evicted(rt, &evicted)
+        }
         Err(fault) => say_fault(rt, fault.number()),
     }
 }
 
-/// Writes where a key lies, and the keys that were evicted for it.
-fn say_placed(rt: &impl Print, placed: &Placed) -> io::Result<()> {
-    let Rectangle { min, max } = placed.rectangle;
-    print!(rt; "placed ({},{})-({},{}) evicts", min.x, min.y, max.x, max.y)?;
-    for key in &placed.evicted {
+/// Ends a line with the keys that were evicted.
+fn say_evicted(rt: &impl Print, evicted: &[u64]) -> io::Result<()> {
+    rt.print(" evicts")?;
+    for key in evicted {
         print!(rt; " {key}")?;
     }
     say(rt, "")

@@ -1,19 +1,26 @@
 //! Makes the calls of standard input, one a line, and writes a line for each answer. `tests/rows/run` writes the calls of
 //! its rows here, and compares the answers.
 //!
-//! The argument is the kind of what is called: `atlas`, `bucketed` or `cache`. There are two places for such a one, and a
-//! line is the number of a place, 0 or 1, the call, and its words.
+//! The argument is the kind of what is called: `atlas`, `bucketed`, `cache`, `pages` or `padded`. There are two places for
+//! such a one, and a line is the number of a place, 0 or 1, the call, and its words. With `run` or `stream` standard input
+//! is a script.
+//!
+//! `tests/refused_memory/run` refuses memory to the calls of rows.
 #![tactic(auto)]
 
 mod atlases;
 mod buckets;
 mod caches;
 mod lines;
+mod padded;
+mod pages;
 mod places;
+mod runs;
 mod shelves;
 
 use crate::places::{Called, Places, answer};
 use anyhow::{Context, Result, bail};
+use atlas_pages::{AtlasPages, PaddedPages};
 use etagere::{AtlasAllocator, BucketedAtlasAllocator};
 use glyph_shelf::GlyphCache;
 use std::env;
@@ -25,6 +32,10 @@ fn main(rt: HostRuntime) -> Result<()> {
         "atlas" => answer_all::<AtlasAllocator, _>(&rt),
         "bucketed" => answer_all::<BucketedAtlasAllocator, _>(&rt),
         "cache" => answer_all::<GlyphCache, _>(&rt),
+        "pages" => answer_all::<AtlasPages, _>(&rt),
+        "padded" => answer_all::<PaddedPages, _>(&rt),
+        "run" => runs::run(&rt),
+        "stream" => runs::stream(&rt),
         _ => bail!("no such kind"),
     }
 }

@@ -4,29 +4,42 @@ use crate::lines::{say, say_fault, say_number, say_text};
 use std::alloc::Global;
 use std::io;
 
+/// Why something isn't made.
+#[derive(Clone, Copy)]
+pub enum NotMade {
+    /// There was no memory.
+    NoMemory,
+    /// A fault of this number, which isn't that of memory.
+    Fault(u32),
+    /// No words say it, or no text can be read.
+    Unread,
+}
+
 /// Something that is made, and then called. It promises nothing, so that what calls it is proved once and fast.
 pub trait Called: Sized {
-    /// What these words say, or the number of the fault for which it can't be made.
-    fn made(alloc: Global, words: &str) -> Result<Self, u32>;
+    /// What these words say.
+    fn made(alloc: Global, words: &str) -> Result<Self, NotMade>;
 
-    /// A clone, if it can be had.
-    fn copied(&self) -> Option<Self>;
+    /// Another one in the same state.
+    fn copied(&self, alloc: Global) -> Result<Self, NotMade>;
 
     /// What it is saved as, as JSON text.
     fn saved(&self, alloc: Global) -> Option<String>;
 
-    /// What such a text restores, or the number of the fault for which it is refused.
-    fn restored(alloc: Global, text: &str) -> Result<Self, u32>;
+    /// What such a text restores.
+    fn restored(alloc: Global, text: &str) -> Result<Self, NotMade>;
 
     /// How many links are read until such a text is restored or refused.
-    fn steps(alloc: Global, text: &str) -> u64;
+    fn steps(alloc: Global, text: &str) -> Result<u64, NotMade>;
 
     /// Makes a call with these words, and writes its answer.
-    fn answer(&mut self, rt: &impl Print, call: &str, words: &str) -> io::Result<()>;
+    fn answer(
+        &mut self,
+        rt: &(impl Print + AllocGlobal),
+        call: &str,
+        words: &str,
+    ) -> io::Result<()>;
 }
-
-/// The number of a fault where there is no memory, or where words can't be read.
-pub const NOT_MADE: u32 = 0;
 
 #[derive(Drop)]
 pub struct Places<C> {
@@ -62,8 +75,8 @@ pub fn answer<C: Called + Drop>(
     match call {
         "make" => fill(rt, places.at(place), C::made(rt.alloc(), words)),
         "restore" => fill(rt, places.at(place), C::restored(rt.alloc(), words)),
-        "clone" => fill(rt, &mut places.other, copy_of(&places.first)),
-        "steps" => say_number(rt, C::steps(rt.alloc(), words)),
+        "clone" => fill(rt, &mut places.other, copy_of(rt.alloc(), &places.first)),
+        "steps" => say_steps(rt, C::steps(rt.alloc(), words)),
         "save" => say_text(rt, &text_of(rt.alloc(), places.at(place))),
         _ => answer_of(rt, places.at(place), call, words),
     }
@@ -78,21 +91,36 @@ fn parted(line: &str) -> (&str, &str) {
 fn fill<C: Called + Drop>(
     rt: &impl Print,
     place: &mut Option<C>,
-    made: Result<C, u32>,
+    made: Result<C, NotMade>,
 ) -> io::Result<()> {
     match made {
         Ok(made) => {
             *place = Some(made);
             say(rt, "made")
         }
-        Err(fault) => say_fault(rt, fault),
+        Err(why) => say_not_made(rt, why),
     }
 }
 
-fn copy_of<C: Called>(place: &Option<C>) -> Result<C, u32> {
+fn say_not_made(rt: &impl Print, why: NotMade) -> io::Result<()> {
+    match why {
+        NotMade::NoMemory => say(rt, "no memory"),
+        NotMade::Fault(number) => say_fault(rt, number),
+        NotMade::Unread => say(rt, "unread"),
+    }
+}
+
+fn say_steps(rt: &impl Print, steps: Result<u64, NotMade>) -> io::Result<()> {
+    match steps {
+        Ok(steps) => say_number(rt, steps),
+        Err(why) => say_not_made(rt, why),
+    }
+}
+
+fn copy_of<C: Called>(alloc: Global, place: &Option<C>) -> Result<C, NotMade> {
     match place {
-        Some(called) => called.copied().ok_or(NOT_MADE),
-        None => Err(NOT_MADE),
+        Some(called) => called.copied(alloc),
+        None => Err(NotMade::Unread),
     }
 }
 
@@ -105,7 +133,7 @@ fn text_of<C: Called>(alloc: Global, place: &Option<C>) -> Option<String> {
 
 /// What a call answers of something that was made.
 fn answer_of<C: Called>(
-    rt: &impl Print,
+    rt: &(impl Print + AllocGlobal),
     place: &mut Option<C>,
     call: &str,
     words: &str,

@@ -1,20 +1,26 @@
 //! Calls of a shelf atlas.
 
 use crate::atlases;
-use crate::lines::{id_of, say, say_given, say_number, say_rectangle, say_size, size_of};
-use crate::places::Called;
-use etagere::{AllocId, AtlasAllocator, AtlasSnapshot, Rectangle, Refusal, Size, Usage, laws};
+use crate::lines::{
+    id_of, say, say_fault, say_given, say_number, say_rectangle, say_size, size_of,
+};
+use crate::places::{Called, NotMade};
+use etagere::{
+    AllocId, AtlasAllocator, AtlasSnapshot, OptionsFault, Rectangle, Refusal, RestoreFault, Size,
+    Usage, laws,
+};
+use rearranging::{Move, Rearranged, rearranged};
 use std::alloc::Global;
 use std::io;
 use test_support::atlases::Atlas;
 
 impl Called for AtlasAllocator {
-    fn made(alloc: Global, words: &str) -> Result<AtlasAllocator, u32> {
+    fn made(alloc: Global, words: &str) -> Result<AtlasAllocator, NotMade> {
         atlases::made(alloc, words)
     }
 
-    fn copied(&self) -> Option<AtlasAllocator> {
-        Atlas::copied(self).ok()
+    fn copied(&self, _alloc: Global) -> Result<AtlasAllocator, NotMade> {
+        atlases::copied(self)
     }
 
     fn saved(&self, alloc: Global) -> Option<String> {
@@ -22,18 +28,20 @@ impl Called for AtlasAllocator {
         written(alloc, &saved)
     }
 
-    fn restored(alloc: Global, text: &str) -> Result<AtlasAllocator, u32> {
+    fn restored(alloc: Global, text: &str) -> Result<AtlasAllocator, NotMade> {
         atlases::restored(alloc, read(alloc, text))
     }
 
-    fn steps(alloc: Global, text: &str) -> u64 {
-        match read(alloc, text) {
-            Some(saved) => steps_of(alloc, saved),
-            None => 0,
-        }
+    fn steps(alloc: Global, text: &str) -> Result<u64, NotMade> {
+        steps_of(alloc, read(alloc, text).ok_or(NotMade::Unread)?)
     }
 
-    fn answer(&mut self, rt: &impl Print, call: &str, words: &str) -> io::Result<()> {
+    fn answer(
+        &mut self,
+        rt: &(impl Print + AllocGlobal),
+        call: &str,
+        words: &str,
+    ) -> io::Result<()> {
         match call {
             "get" => say_rectangle(rt, rectangle_of(self, id_of(words))),
             "index" => say_index(rt, index_of(self, id_of(words))),
@@ -41,6 +49,8 @@ impl Called for AtlasAllocator {
             "refusal" => say_refusal(rt, refusal_of(self, size_of(words))),
             "usage" => say_usage(rt, &usage_of(self)),
             "largest_free" => say_size(rt, largest_of(self)),
+            "moved" => say_moved(rt, &moved(rt.alloc(), self, size_of(words)), true),
+            "moves" => say_moved(rt, &moved(rt.alloc(), self, size_of(words)), false),
             _ => atlases::answer(self, rt, call, words),
         }
     }
@@ -56,10 +66,12 @@ fn read(alloc: Global, text: &str) -> Option<AtlasSnapshot> {
     serde_json::from_str(alloc, text).ok()
 }
 
-fn steps_of(alloc: Global, saved: AtlasSnapshot) -> u64 {
+fn steps_of(alloc: Global, saved: AtlasSnapshot) -> Result<u64, NotMade> {
     let mut steps = 0;
-    let _ = laws::restore_atlas(alloc, saved, &mut steps);
-    steps
+    match laws::restore_atlas(alloc, saved, &mut steps) {
+        Err(RestoreFault::Memory) => Err(NotMade::NoMemory),
+        _ => Ok(steps),
+    }
 }
 
 fn rectangle_of(atlas: &AtlasAllocator, id: AllocId) -> Option<Rectangle> {
@@ -114,4 +126,43 @@ fn say_usage(rt: &impl Print, usage: &Usage) -> io::Result<()> {
     println!(rt;
         "shelves {shelves} empty {empty_shelves} items {items} free {free_items} unused {unused} largest {width} {height}"
     )
+}
+
+/// Writes what moves into a new atlas: with `is_whole` a line for each rectangle, else how many they are, and the last.
+fn say_moved(
+    rt: &impl Print,
+    moved: &Result<Rearranged, OptionsFault>,
+    is_whole: bool,
+) -> io::Result<()> {
+    match moved {
+        Ok(done) if is_whole => say_moves(rt, done),
+        Ok(done) => say_last_move(rt, done),
+        Err(OptionsFault::Memory) => say(rt, "no memory"),
+        Err(fault) => say_fault(rt, fault.number()),
+    }
+}
+
+/// Writes a line for each rectangle that moves, with its old id, one for each that finds no place, and one that ends them.
+fn say_moves(rt: &impl Print, done: &Rearranged) -> io::Result<()> {
+    for Move { before, after } in &done.moves {
+        print!(rt; "{} ", before.id.serialize())?;
+        say_given(rt, "to", after)?;
+    }
+    for left in &done.unplaced {
+        say_given(rt, "left", left)?;
+    }
+    say(rt, "end")
+}
+
+/// Writes how many rectangles move, how many find no place, and what the last one that moves gets.
+fn say_last_move(rt: &impl Print, done: &Rearranged) -> io::Result<()> {
+    print!(rt; "moved {} left {} ", done.moves.len(), done.unplaced.len())?;
+    match done.moves.last() {
+        Some(last) => say_given(rt, "last", &last.after),
+        None => say(rt, "none"),
+    }
+}
+
+fn moved(alloc: Global, atlas: &AtlasAllocator, size: Size) -> Result<Rearranged, OptionsFault> {
+    rearranged(alloc, atlas, size)
 }

@@ -1,0 +1,198 @@
+//! Calls of several pages.
+
+use crate::lines::{numbers, say, say_given, say_if, say_number, say_rectangle, size_of};
+use crate::places::{Called, NotMade};
+use atlas_pages::laws::saved_and_restored;
+use atlas_pages::{
+    AtlasPages, FewerPages, PageChoice, PageOptions, PagePlace, PagesFault, PagesRestoreFault,
+};
+use etagere::{AllocId, AllocatorOptions, DEFAULT_OPTIONS, Rectangle, Size, UnknownId, size2};
+use page_moves::{PageMove, RearrangedPages, rearranged_pages};
+use std::alloc::{AllocError, Global};
+use std::io;
+
+impl Called for AtlasPages {
+    fn made(alloc: Global, words: &str) -> Result<AtlasPages, NotMade> {
+        new_pages(alloc, &options_of(words)).map_err(|fault| NotMade::Fault(fault.number()))
+    }
+
+    fn copied(&self, alloc: Global) -> Result<AtlasPages, NotMade> {
+        copy_of(alloc, self).map_err(|_| NotMade::NoMemory)
+    }
+
+    fn saved(&self, _alloc: Global) -> Option<String> {
+        None
+    }
+
+    fn restored(_alloc: Global, _text: &str) -> Result<AtlasPages, NotMade> {
+        Err(NotMade::Unread)
+    }
+
+    fn steps(_alloc: Global, _text: &str) -> Result<u64, NotMade> {
+        Err(NotMade::Unread)
+    }
+
+    fn answer(
+        &mut self,
+        rt: &(impl Print + AllocGlobal),
+        call: &str,
+        words: &str,
+    ) -> io::Result<()> {
+        match call {
+            "allocate" => say_answer(rt, &asked(self, size_of(words))),
+            "deallocate" => give_back(self, rt, words),
+            "get" => say_rectangle(rt, rectangle_of(self, words)),
+            "iter" => list(self, rt),
+            "picture" => draw(self, rt),
+            "moved" => say_moved(rt, &moved(rt.alloc(), self)),
+            "grow" => grow(self, rt, words),
+            "clear" => clear(self, rt),
+            "shrink" => say_number(rt, shrunk(self)),
+            "open" => say_number(rt, open(self)),
+            "empty" => say_if(rt, is_empty(self), "yes", "no"),
+            "spaces" => say_spaces(rt, spaces(self)),
+            _ => say(rt, "no such call"),
+        }
+    }
+}
+
+/// The sides of a page, how many columns it has, how many pages there may be, and 1 where the fullest gets a size.
+pub fn options_of(words: &str) -> PageOptions {
+    let [width, height, num_columns, most_pages, fullest, _] = numbers(words);
+    PageOptions {
+        size: size2(width, height),
+        atlas: AllocatorOptions {
+            num_columns,
+            ..DEFAULT_OPTIONS
+        },
+        most_pages: u32::try_from(most_pages).unwrap_or(0),
+        choice: if fullest == 1 {
+            PageChoice::FullestFirst
+        } else {
+            PageChoice::FirstFit
+        },
+    }
+}
+
+/// A page and an id.
+pub fn place_of(words: &str) -> (u32, AllocId) {
+    let (page, id) = words.split_once(' ').unwrap_or((words, ""));
+    (
+        page.parse().unwrap_or(0),
+        AllocId::deserialize(id.parse().unwrap_or(0)),
+    )
+}
+
+/// Writes what an allocation answers.
+pub fn say_answer(
+    rt: &impl Print,
+    answer: &Result<Option<PagePlace>, AllocError>,
+) -> io::Result<()> {
+    match answer {
+        Ok(Some(place)) => say_place(rt, "placed", place),
+        Ok(None) => say(rt, "refused"),
+        Err(_) => say(rt, "no memory"),
+    }
+}
+
+/// Writes the page, the corners and the id of a place.
+fn say_place(rt: &impl Print, word: &str, place: &PagePlace) -> io::Result<()> {
+    print!(rt; "page {} ", place.page)?;
+    say_given(rt, word, &place.allocation)
+}
+
+/// Writes a line for everything that is allocated, and one that ends them.
+fn list(pages: &AtlasPages, rt: &impl Print) -> io::Result<()> {
+    for place in pages {
+        say_place(rt, "at", &place)?;
+    }
+    say(rt, "end")
+}
+
+/// Writes the picture of all pages, and a line that ends it.
+fn draw(pages: &AtlasPages, rt: &impl Print) -> io::Result<()> {
+    pages.dump_svg(&mut io::writer(rt))?;
+    say(rt, "end")
+}
+
+/// Writes a line for each place that moves to new pages, one for each that finds none, and one that ends them.
+fn say_moved(rt: &impl Print, moved: &Result<RearrangedPages, AllocError>) -> io::Result<()> {
+    let Ok(done) = moved else {
+        return say(rt, "no memory");
+    };
+    for PageMove { before, after } in &done.moves {
+        say_place(rt, "from", before)?;
+        say_place(rt, "to", after)?;
+    }
+    for left in &done.unplaced {
+        say_place(rt, "left", left)?;
+    }
+    say(rt, "end")
+}
+
+fn give_back(pages: &mut AtlasPages, rt: &impl Print, words: &str) -> io::Result<()> {
+    let is_known = returned(pages, place_of(words)).is_ok();
+    say_if(rt, is_known, "returned", "unknown")
+}
+
+fn grow(pages: &mut AtlasPages, rt: &impl Print, word: &str) -> io::Result<()> {
+    let is_grown = grown(pages, word.parse().unwrap_or(0)).is_ok();
+    say_if(rt, is_grown, "grown", "fewer pages")
+}
+
+/// Writes what is allocated and what is free.
+pub fn say_spaces(rt: &impl Print, (allocated, free): (u64, u64)) -> io::Result<()> {
+    println!(rt; "{allocated} {free}")
+}
+
+// What these calls promise ends in functions that promise nothing, so that it isn't gone through in what uses them.
+
+fn new_pages(alloc: Global, options: &PageOptions) -> Result<AtlasPages, PagesFault> {
+    AtlasPages::new(alloc, options)
+}
+
+fn copy_of(alloc: Global, pages: &AtlasPages) -> Result<AtlasPages, PagesRestoreFault> {
+    saved_and_restored(alloc, pages)
+}
+
+fn moved(alloc: Global, pages: &AtlasPages) -> Result<RearrangedPages, AllocError> {
+    rearranged_pages(alloc, pages)
+}
+
+fn asked(pages: &mut AtlasPages, size: Size) -> Result<Option<PagePlace>, AllocError> {
+    pages.allocate(size)
+}
+
+fn returned(pages: &mut AtlasPages, (page, id): (u32, AllocId)) -> Result<(), UnknownId> {
+    pages.deallocate(page, id)
+}
+
+fn rectangle_of(pages: &AtlasPages, words: &str) -> Option<Rectangle> {
+    let (page, id) = place_of(words);
+    pages.get(page, id)
+}
+
+fn grown(pages: &mut AtlasPages, most_pages: u32) -> Result<(), FewerPages> {
+    pages.grow(most_pages)
+}
+
+fn clear(pages: &mut AtlasPages, rt: &impl Print) -> io::Result<()> {
+    pages.clear();
+    say(rt, "cleared")
+}
+
+fn shrunk(pages: &mut AtlasPages) -> u64 {
+    u64::from(pages.shrink())
+}
+
+fn open(pages: &AtlasPages) -> u64 {
+    u64::from(pages.page_count())
+}
+
+fn is_empty(pages: &AtlasPages) -> bool {
+    pages.is_empty()
+}
+
+pub fn spaces(pages: &AtlasPages) -> (u64, u64) {
+    (pages.allocated_space(), pages.free_space())
+}
