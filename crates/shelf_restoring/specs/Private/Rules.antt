@@ -1,14 +1,15 @@
 -- The rules of a snapshot over lists that walks have met, as passes judge them, by their faults.
-use Rattle.std.specs.Prelude.{◌≡◌, ℕ, ℤ, false, pos, List, map}
+use Rattle.std.specs.Prelude.{◌≡◌, ℕ, ℤ, ◌+◌, ◌%◌, ◌≤◌, ◌&&◌, ◌||◌, ◌==◌, true, false, pos, List, [], ◌∷◌, map}
 use Rattle.etagere_base.specs.declared.faults.RestoreFault.{RestoreFault}
 use Rattle.etagere_base.specs.declared.faults.RestoreFault.TheVariants.{Link, Shelves, Runs, Neighbours, FreeList, Unused, Space, Memory}
 use Rattle.etagere_base.specs.declared.frames.Frame.{Frame}
+use Rattle.etagere_base.specs.Frames.{across_side}
 use Rattle.std.specs.List.{AllByRecursion}
 use Rattle.shelf_links.specs.declared.records.LinkedItem.{LinkedItem}
 use Rattle.shelf_links.specs.declared.records.LinkedShelf.{LinkedShelf}
 use Rattle.shelf_links.specs.RecordLists.{Entry}
-use Rattle.shelf_records.specs.AtlasRecords.{is_allocated_at, spelled_shelf, spelled_state}
-use Rattle.shelf_records.specs.Private.Judging.{FreeBack, HasShelvesIn, LinkBack, atlas_of_records}
+use Rattle.shelf_records.specs.AtlasRecords.{across_of, along_of, height_of, is_allocated_at, spelled_shelf, spelled_state}
+use Rattle.shelf_records.specs.Private.Judging.{FreeBack, HasShelvesIn, LinkBack, atlas_of_records, column_at, height_below}
 use Rattle.shelf_model.specs.Space.{space_in}
 use Rattle.shelf_records.specs.StandsFor.{HasItems, HasNeighbours}
 
@@ -34,3 +35,21 @@ BreaksRule frame shelves items entries unused space Space =
     space ≡ pos (space_in (map (spelled_shelf (atlas_of_records frame shelves items)) entries)) → ⊥
 BreaksRule frame shelves items entries unused space Memory = Unit {0}
 BreaksRule frame shelves items entries unused space fault = ⊥
+
+-- a shelf stands where so much of this column is filled: it is of this column, or the first of the next one after this
+-- one was filled, and it begins where its column and the one before it say
+pub record IsNext (frame : Frame) (shelves : List LinkedShelf) (column height : ℕ) (entry : Entry) : Type 0 where
+  pub goes :
+      (column_at frame shelves entry == column
+      || (height == across_side frame && column_at frame shelves entry == column + 1)) ≡ true
+  pub along : along_of shelves entry.number % frame.column_width ≡ 0
+  pub across : across_of shelves entry.number ≡ height_below frame shelves column height entry
+  pub tall : 1 ≤ height_of shelves entry.number
+
+-- shelves follow where so much of this column is filled, and fill all columns that are left
+abbrev pub FollowFrom : Frame → List LinkedShelf → ℕ → ℕ → List Entry → Type 0
+FollowFrom frame shelves column height [] = (height ≡ across_side frame) × (column + 1 ≡ frame.columns)
+FollowFrom frame shelves column height (entry ∷ entries) =
+    IsNext frame shelves column height entry
+    × FollowFrom frame shelves (column_at frame shelves entry)
+    (height_below frame shelves column height entry + height_of shelves entry.number) entries

@@ -1,19 +1,17 @@
 //! Whether the shelves fill each column, column after column, and stand one on the other.
 //!
-//! Definitions: `HasShelvesIn` of `Judging`, which is `HasShelves` of `StandsFor` over lists. Since
-//! columns rise, a pass keeps the height of one column alone.
+//! Definitions: `HasShelvesIn` of `Judging`, which is `HasShelves` of `StandsFor` over lists, and `FollowFrom` of
+//! `Rules`: since columns rise, one pass keeps the height of one column alone.
 
-ghost use Rattle.std.specs.Prelude.{◌≡◌, ◌≤◌, ◌<◌, ◌/◌, ◌%◌, List, length};
+ghost use Rattle.std.specs.Prelude.{◌≡◌, ◌≤◌, ◌/◌, List, length};
 ghost use Rattle.etagere_base.specs.Deciding.{Decides};
 ghost use Rattle.etagere_base.specs.Frames.{IsFrame, longest_side};
-ghost use Rattle.std.specs.List.{AllByRecursion};
-ghost use Rattle.etagere_base.specs.Lists.{NoNeighbours};
 ghost use Rattle.etagere_links.specs.Links.{no_link};
 ghost use Rattle.shelf_links.specs.RecordLists.{Entry};
 ghost use Rattle.shelf_links.specs.declared.records.LinkedItem.{LinkedItem};
-ghost use Rattle.shelf_records.specs.AtlasRecords as spec;
 ghost use Rattle.shelf_records.specs.Private.Judging as judging;
 ghost use Rattle.shelf_records.specs.Private.Judging.{HasShelvesIn, atlas_of_records};
+ghost use Rattle.shelf_restoring.specs.Private.Rules.{FollowFrom, IsNext};
 
 use crate::judging::WalkedShelf;
 use etagere_base::Frame;
@@ -28,131 +26,53 @@ pub fn has_shelves(frame: &Frame, shelves: &[LinkedShelf], entries: &[WalkedShel
     ensures { (items : List LinkedItem) →
         Decides result (HasShelvesIn (atlas_of_records frame.now shelves.now items) entries.now) }
 {
-    if !are_in_columns(frame, shelves, entries) {
-        return false;
-    }
-    if !are_in_order(frame, shelves, entries) {
-        return false;
-    }
-    if !are_at_columns(frame, shelves, entries) {
-        return false;
-    }
-    if !are_high(shelves, entries) {
-        return false;
-    }
-    if !are_stacked(frame, shelves, entries) {
-        return false;
-    }
     fill_columns(frame, shelves, entries)
 }
 
-/// Whether each of these shelves stands in a column that there is.
-fn are_in_columns(frame: &Frame, shelves: &[LinkedShelf], entries: &[WalkedShelf]) -> bool
-    requires { 1 ≤ frame.now.column_width }
-    ensures { Decides result
-        (AllByRecursion
-        (λ (entry : Entry). judging.column_at frame.now shelves.now entry < frame.now.columns)
-        entries.now) }
-{
-    for entry in entries {
-        if column_of(frame, shelves, entry) >= frame.columns {
-            return false;
-        }
-    }
-    true
-}
-
-/// Whether no shelf stands in an earlier column than the one before it.
-fn are_in_order(frame: &Frame, shelves: &[LinkedShelf], entries: &[WalkedShelf]) -> bool
-    requires { 1 ≤ frame.now.column_width }
-    ensures { Decides result
-        (NoNeighbours (judging.is_later frame.now shelves.now) entries.now) }
-{
-    for at in 0..entries.len() {
-        let next = at + 1;
-        if next < entries.len() && is_later(frame, shelves, &entries[at], &entries[next]) {
-            return false;
-        }
-    }
-    true
-}
-
-/// Whether the first of two shelves stands in a later column.
-fn is_later(frame: &Frame, shelves: &[LinkedShelf], entry: &WalkedShelf, next: &WalkedShelf) -> bool
-    requires { 1 ≤ frame.now.column_width }
-    ensures { result
-        ≡ judging.is_later frame.now shelves.now entry.now next.now }
-{
-    column_of(frame, shelves, next) < column_of(frame, shelves, entry)
-}
-
-/// Whether each of these shelves begins along where its column does.
-fn are_at_columns(frame: &Frame, shelves: &[LinkedShelf], entries: &[WalkedShelf]) -> bool
-    requires { 1 ≤ frame.now.column_width }
-    ensures { Decides result
-        (AllByRecursion
-        (λ (entry : Entry). spec.along_of shelves.now entry.number % frame.now.column_width ≡ 0)
-        entries.now) }
-{
-    for entry in entries {
-        let along = u32::from(fields::along(shelves, usize::from(entry.number)));
-        if along % frame.column_width != 0 {
-            return false;
-        }
-    }
-    true
-}
-
-/// Whether each of these shelves is at least a pixel tall.
-fn are_high(shelves: &[LinkedShelf], entries: &[WalkedShelf]) -> bool
-    ensures { Decides result
-        (AllByRecursion (λ (entry : Entry). 1 ≤ spec.height_of shelves.now entry.number) entries.now) }
-{
-    for entry in entries {
-        if fields::height(shelves, usize::from(entry.number)) == 0 {
-            return false;
-        }
-    }
-    true
-}
-
-/// Whether each of these shelves begins across where the one before it in its column ends.
-fn are_stacked(frame: &Frame, shelves: &[LinkedShelf], entries: &[WalkedShelf]) -> bool
-    requires { 1 ≤ frame.now.column_width }
-    ensures { Decides result (judging.StackFrom frame.now shelves.now 0 0 entries.now) }
-{
-    let mut column = 0;
-    let mut height = 0;
-    for entry in entries {
-        let shelf = usize::from(entry.number);
-        let below = height_below(frame, shelves, column, height, entry);
-        if u32::from(fields::across(shelves, shelf)) != below {
-            return false;
-        }
-        column = column_of(frame, shelves, entry);
-        height = below + u32::from(fields::height(shelves, shelf));
-    }
-    true
-}
-
-/// Whether these shelves fill all columns, one after the other.
+/// Whether each of these shelves stands where the one before it says, and they fill all columns.
 fn fill_columns(frame: &Frame, shelves: &[LinkedShelf], entries: &[WalkedShelf]) -> bool
-    requires width { 1 ≤ frame.now.column_width }
+    requires wide { 1 ≤ frame.now.column_width }
     requires few { length entries.now ≤ no_link }
-    ensures { Decides result (judging.FillFrom frame.now shelves.now 0 0 entries.now) }
+    ensures { Decides result (FollowFrom frame.now shelves.now 0 0 entries.now) }
 {
     let mut column = 0;
     let mut height = 0;
     for entry in entries {
-        let own = column_of(frame, shelves, entry);
-        if own != column && !(height == frame.across_side() && own == column + 1) {
+        if !is_next(frame, shelves, column, height, entry) {
             return false;
         }
         let below = height_below(frame, shelves, column, height, entry);
         height = below + u32::from(fields::height(shelves, usize::from(entry.number)));
-        column = own;
+        column = column_of(frame, shelves, entry);
     }
     height == frame.across_side() && column + 1 == frame.columns
+}
+
+/// Whether a shelf stands where so much of this column is filled.
+fn is_next(
+    frame: &Frame,
+    shelves: &[LinkedShelf],
+    column: u32,
+    height: u32,
+    entry: &WalkedShelf,
+) -> bool
+    requires wide { 1 ≤ frame.now.column_width }
+    requires small { column ≤ no_link }
+    ensures { Decides result (IsNext frame.now shelves.now column height entry.now) }
+{
+    let shelf = usize::from(entry.number);
+    let own = column_of(frame, shelves, entry);
+    if own != column && !(height == frame.across_side() && own == column + 1) {
+        return false;
+    }
+    if u32::from(fields::along(shelves, shelf)) % frame.column_width != 0 {
+        return false;
+    }
+    let below = height_below(frame, shelves, column, height, entry);
+    if u32::from(fields::across(shelves, shelf)) != below {
+        return false;
+    }
+    fields::height(shelves, shelf) >= 1
 }
 
 /// How much stands before a shelf in its column, where so much stands in this column.

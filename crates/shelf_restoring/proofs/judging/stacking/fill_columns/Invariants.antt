@@ -1,12 +1,12 @@
 use Rattle.std.proofs.Common.{◌≤◌, ◌*◌}
 use Rattle.etagere_base.proofs.DecidingLemmas.{IsLeft}
-use Rattle.shelf_records.specs.Private.Judging.{FillFrom}
+use Rattle.shelf_restoring.specs.Private.Rules.{FollowFrom}
 use Rattle.shelf_restoring.proofs.judging.stacking.fill_columns.Given as goal
 
 -- the shelves that are left follow where all do
 abbrev pub invariant-loop-entry : goal.invariant-loop-entry
 invariant-loop-entry l = record {
-  left : IsLeft (FillFrom l.frame l.shelves 0 0 l.entries) (FillFrom l.frame l.shelves l.column l.height) l.entry-index l.entries;
+  left : IsLeft (FollowFrom l.frame l.shelves 0 0 l.entries) (FollowFrom l.frame l.shelves l.column l.height) l.entry-index l.entries;
   short : l.height ≤ 65535 * l.entry-index;
   small : l.column ≤ 65535;
 }
