@@ -1,15 +1,17 @@
-//! Judging the rules of a snapshot, each in one pass over lists that walks have met. No link is
-//! followed here, and no list is searched.
+//! Judging the rules of a snapshot in few passes over lists that walks have met. No link is followed here, and no list
+//! is searched.
 //!
-//! Definitions: `StandsFor`, whose fields are the rules, and `Judging` for some of them over lists.
+//! Definitions: `StandsFor`, whose fields are the rules, and `Judging` and `Rules` for some of them over lists.
 //! Each pass answers exactly: a yes says that the rule holds, a no that it is broken.
 
 ghost use Rattle.shelf_links.specs.RecordLists.{Entry};
 
 pub mod filling;
 pub mod freeing;
+pub mod items;
 pub mod linking;
 pub mod neighbouring;
+pub mod shelves;
 pub mod spacing;
 pub mod stacking;
 

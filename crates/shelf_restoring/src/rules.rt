@@ -1,4 +1,4 @@
-//! Judging the rules of a snapshot whose links were followed, one after another.
+//! Judging the rules of a snapshot whose links were followed. The first that is broken is told.
 //!
 //! Definitions: `Rules`, which has the rules as the passes of `judging` test them.
 
@@ -12,10 +12,9 @@ ghost use Rattle.etagere_links.specs.Lists.{HasEachOnce};
 ghost use Rattle.shelf_restoring.specs.Private.Rules.{BreaksRule, KeepsRules};
 
 use crate::chains::WalkedItems;
-use crate::judging::filling::have_items;
-use crate::judging::freeing::judge_free_lists;
-use crate::judging::linking::have_links_back;
-use crate::judging::neighbouring::has_neighbours;
+use crate::judging::freeing::used_marks;
+use crate::judging::neighbouring::has_empty_shelves_apart;
+use crate::judging::shelves::judge_shelves;
 use crate::judging::spacing::{is_space, none_allocated};
 use crate::judging::stacking::has_shelves;
 use etagere_base::{Frame, RestoreFault};
@@ -49,28 +48,29 @@ pub fn judge_rules(
     ensures fault { IfErr result (BreaksRule frame.now shelves.now items.now
         walked.now.shelves.items walked.now.unused.items allocated_space) }
 {
-    if !have_links_back(items, &walked.shelves) {
-        return Err(RestoreFault::Link);
-    }
-    let Ok(has_free_lists) = judge_free_lists(alloc, items, &walked.shelves, &walked.unused) else {
+    let Ok(marks) = used_marks(alloc, items.len(), &walked.unused) else {
         return Err(RestoreFault::Memory);
     };
-    if !has_free_lists {
+    let judged = judge_shelves(frame, shelves, items, &marks, &walked.shelves);
+    if !judged.are_linked {
+        return Err(RestoreFault::Link);
+    }
+    if !judged.have_free_lists {
         return Err(RestoreFault::FreeList);
     }
     if !has_shelves(frame, shelves, &walked.shelves) {
         return Err(RestoreFault::Shelves);
     }
-    if !have_items(frame, shelves, items, &walked.shelves) {
+    if !judged.are_filled {
         return Err(RestoreFault::Runs);
     }
-    if !has_neighbours(frame, shelves, items, &walked.shelves) {
+    if !judged.are_apart || !has_empty_shelves_apart(frame, shelves, items, &walked.shelves) {
         return Err(RestoreFault::Neighbours);
     }
     if !none_allocated(items, &walked.unused) {
         return Err(RestoreFault::Unused);
     }
-    if !is_space(shelves, items, &walked.shelves, allocated_space) {
+    if !is_space(judged.space, allocated_space) {
         return Err(RestoreFault::Space);
     }
     Ok(())

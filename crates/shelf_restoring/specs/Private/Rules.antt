@@ -1,5 +1,5 @@
 -- The rules of a snapshot over lists that walks have met, as passes judge them, by their faults.
-use Rattle.std.specs.Prelude.{◌≡◌, ℕ, ℤ, ◌+◌, ◌%◌, ◌≤◌, ◌&&◌, ◌||◌, ◌==◌, true, false, pos, List, [], ◌∷◌, map}
+use Rattle.std.specs.Prelude.{◌≡◌, ℕ, ℤ, ◌+◌, ◌%◌, ◌≤◌, ◌&&◌, ◌||◌, ◌==◌, Bool, true, false, not, pos, Option, None, Some, List, [], ◌∷◌, length, map}
 use Rattle.etagere_base.specs.declared.faults.RestoreFault.{RestoreFault}
 use Rattle.etagere_base.specs.declared.faults.RestoreFault.TheVariants.{Link, Shelves, Runs, Neighbours, FreeList, Unused, Space, Memory}
 use Rattle.etagere_base.specs.declared.frames.Frame.{Frame}
@@ -8,8 +8,12 @@ use Rattle.std.specs.List.{AllByRecursion}
 use Rattle.shelf_links.specs.declared.records.LinkedItem.{LinkedItem}
 use Rattle.shelf_links.specs.declared.records.LinkedShelf.{LinkedShelf}
 use Rattle.shelf_links.specs.RecordLists.{Entry}
-use Rattle.shelf_records.specs.AtlasRecords.{across_of, along_of, height_of, is_allocated_at, spelled_shelf, spelled_state}
-use Rattle.shelf_records.specs.Private.Judging.{FreeBack, HasShelvesIn, LinkBack, atlas_of_records, column_at, height_below}
+use Rattle.etagere_links.specs.Chains.{LeadsBack}
+use Rattle.etagere_links.specs.Edits.{link_at}
+use Rattle.shelf_links.specs.Records.{free_list, item_chain}
+use Rattle.shelf_records.specs.AtlasRecords.{across_of, along_of, height_of, is_allocated_at, item_at, item_place_of, shelf_of, spelled_shelf, spelled_state, width_of}
+use Rattle.shelf_records.specs.Private.Judging.{FreeBack, HasShelvesIn, LinkBack, atlas_of_records, column_at, free_present, height_below, is_own_free}
+use Rattle.shelf_model.specs.Valid.{IsItem}
 use Rattle.shelf_model.specs.Space.{space_in}
 use Rattle.shelf_records.specs.StandsFor.{HasItems, HasNeighbours}
 
@@ -53,3 +57,30 @@ FollowFrom frame shelves column height (entry ∷ entries) =
     IsNext frame shelves column height entry
     × FollowFrom frame shelves (column_at frame shelves entry)
     (height_below frame shelves column height entry + height_of shelves entry.number) entries
+
+-- items link back, the first of them to this one, and name their shelf
+abbrev pub LinkedFrom : List LinkedItem → ℕ → Option ℕ → List ℕ → Type 0
+LinkedFrom items shelf before [] = Unit {0}
+LinkedFrom items shelf before (number ∷ numbers) =
+    ((link_at item_chain.previous items number ≡ before) × (shelf_of items number ≡ shelf))
+    × LinkedFrom items shelf (Some number) numbers
+
+-- items lie side by side from a place on, each at least a pixel wide and aligned
+abbrev pub RowFrom : Frame → List LinkedItem → ℕ → List ℕ → Type 0
+RowFrom frame items here [] = Unit {0}
+RowFrom frame items here (number ∷ numbers) =
+    ((item_place_of items number ≡ here) × IsItem frame (item_at items number))
+    × RowFrom frame items (here + width_of items number) numbers
+
+-- no free one of these items stands beside a free one, where the one before them is free or not
+abbrev pub ApartFrom : List LinkedItem → Bool → List ℕ → Type 0
+ApartFrom items was_free [] = Unit {0}
+ApartFrom items was_free (number ∷ numbers) =
+    ((was_free && not (is_allocated_at items number)) ≡ false)
+    × ApartFrom items (not (is_allocated_at items number)) numbers
+
+-- the free list has free items of the shelf alone, as many as there are, and links back to the one before
+pub record FreeOwn (items : List LinkedItem) (marks : List Bool) (entry : Entry) : Type 0 where
+  pub own : AllByRecursion (λ item. is_own_free items marks entry.number item ≡ true) entry.free_list
+  pub long : length entry.free_list ≡ length (free_present items entry.items)
+  pub back : LeadsBack (link_at free_list.previous items) None entry.free_list

@@ -15,7 +15,7 @@ use Rattle.shelf_records.specs.Snapshots.{IsBroken}
 use Rattle.shelf_restoring.proofs.Loaded.ChainsWalked.{each-next, free-next, image-at, images-next}
 use Rattle.shelf_restoring.proofs.Loaded.WalksBroken.{free-broken}
 use Rattle.shelf_restoring.proofs.Loaded.WalksBy.{breaks-by, links-length, walks-by}
-use Rattle.etagere_links.specs.LinksRead.{links_in, links_until}
+use Rattle.etagere_links.specs.LinksRead.{links_until}
 use Rattle.etagere_links.specs.WalkFaults.{links_by}
 use Rattle.shelf_restoring.specs.RestoringSteps.{StopsAfter, free_walks}
 use Rattle.shelf_restoring.proofs.Loaded.LinksFollowed.{free-refused, free-wanting, frees-counted, frees-go}
