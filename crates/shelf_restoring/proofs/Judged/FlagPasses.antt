@@ -1,17 +1,13 @@
 -- A pass that keeps in a flag whether a fact holds of a list so far.
-use Rattle.std.proofs.Common.{◌≡◌, ℕ, ◌+◌, ◌<◌, ◌≤◌, Bool, true, false, ◌&&◌, List, [], ◌∷◌, length, drop, get_or, refl, ap, subst, sym, ◌∙◌}
-use Rattle.std.proofs.lemmas.List.{drop_all, drop_more}
+use Rattle.std.proofs.Common.{◌≡◌, ℕ, ◌+◌, ◌<◌, Bool, true, false, ◌&&◌, List, ◌∷◌, length, drop, get_or, refl, ap, subst, sym, ◌∙◌}
+use Rattle.std.proofs.lemmas.List.{drop_more}
 use Rattle.etagere_base.specs.Deciding.{Decides}
-use Rattle.etagere_base.proofs.DecidingLemmas.{IsLeft, left-all, left-less}
+use Rattle.etagere_base.proofs.DecidingLemmas.{IsLeft, left-less}
 
 -- while the flag is set, the fact of the rest is as much as that of the whole; else that does not hold
 pub record IsFlagged {X : Type 0} (flag : Bool) (whole : Type 0) (Rest : List X → Type 0) (i : ℕ) (xs : List X) : Type 0 where
   pub kept : flag ≡ true → IsLeft whole Rest i xs
   pub broken : flag ≡ false → whole → ⊥
-
--- at first it is set
-pub flagged-all : {X : Type 0} (Rest : List X → Type 0) (xs : List X) → IsFlagged true (Rest xs) Rest 0 xs
-flagged-all Rest xs = record { kept = λ e. left-all Rest xs; broken = λ e. absurd (cc) }
 
 -- one more element was looked at
 pub flagged-more : {X : Type 0} (now flag : Bool) (whole : Type 0) (Rest Next : List X → Type 0) (Here : Type 0) (i : ℕ) (xs : List X) (d x : X)
@@ -25,9 +21,3 @@ flagged-more {X} false true whole Rest Next Here i xs d x to from below is none 
     record { kept = λ e. absurd (cc); broken = λ e all. none (to (drop (i + 1) xs) (subst Rest more ((left.kept refl).to all))).0 }
 flagged-more false false whole Rest Next Here i xs d x to from below is none left =
     record { kept = λ e. absurd (cc); broken = λ e. left.broken refl }
-
--- in the end the flag decides
-pub flagged-end : {X : Type 0} (flag : Bool) (whole : Type 0) (Rest : List X → Type 0) (i : ℕ) (xs : List X)
-    → length xs ≤ i → Rest [] → IsFlagged flag whole Rest i xs → Decides flag whole
-flagged-end true whole Rest i xs out none left = (left.kept refl).from (subst Rest (sym (drop_all i xs out)) none)
-flagged-end false whole Rest i xs out none left = left.broken refl

@@ -18,9 +18,3 @@ pub neighbours-map : {X Y : Type 0} (touch : Y → Y → Bool) (f : X → Y) (xs
 neighbours-map touch f [] apart = tt
 neighbours-map touch f (x ∷ []) apart = tt
 neighbours-map touch f (x ∷ y ∷ ys) apart = (apart.0, neighbours-map touch f (y ∷ ys) apart.1)
-
--- and back
-pub neighbours-unmap : {X Y : Type 0} (touch : Y → Y → Bool) (f : X → Y) (xs : List X) → NoNeighbours touch (map f xs) → NoNeighbours (λ x y. touch (f x) (f y)) xs
-neighbours-unmap touch f [] apart = tt
-neighbours-unmap touch f (x ∷ []) apart = tt
-neighbours-unmap touch f (x ∷ y ∷ ys) apart = (apart.0, neighbours-unmap touch f (y ∷ ys) apart.1)

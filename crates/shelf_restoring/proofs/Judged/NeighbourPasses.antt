@@ -31,29 +31,3 @@ neighbours-last {X} touch f whole i xs d below last left =
       to = λ all. subst Rest (sym none) tt;
       from = λ rest. left.from (subst Rest (sym one) tt);
     }
-
--- the same of a list itself
-pub pairs-less : {X : Type 0} (touch : X → X → Bool) (whole : Type 0) (i : ℕ) (xs : List X) (d e x y : X)
-    → i + 1 < length xs → x ≡ get_or xs i d → y ≡ get_or xs (i + 1) e → touch x y ≡ false
-    → IsLeft whole (NoNeighbours touch) i xs → IsLeft whole (NoNeighbours touch) (i + 1) xs
-pairs-less touch whole i xs d e x y below first second apart left =
-    let later : drop (i + 1) xs ≡ y ∷ drop (i + 1 + 1) xs =
-    drop_more xs (i + 1) e below ∙ ap (λ z. z ∷ drop (i + 1 + 1) xs) (sym second) in
-    let both : drop i xs ≡ x ∷ y ∷ drop (i + 1 + 1) xs =
-    drop_more xs i d (omega (arith, below)) ∙ ap (λ z. z ∷ drop (i + 1) xs) (sym first) ∙ ap (λ zs. x ∷ zs) later in
-    record {
-      to = λ all. subst (NoNeighbours touch) (sym later) (subst (NoNeighbours touch) both (left.to all)).1;
-      from = λ rest. left.from (subst (NoNeighbours touch) (sym both) (apart, subst (NoNeighbours touch) later rest));
-    }
-
--- after the last one nothing is left
-pub pairs-last : {X : Type 0} (touch : X → X → Bool) (whole : Type 0) (i : ℕ) (xs : List X) (d : X)
-    → i < length xs → length xs ≤ i + 1
-    → IsLeft whole (NoNeighbours touch) i xs → IsLeft whole (NoNeighbours touch) (i + 1) xs
-pairs-last touch whole i xs d below last left =
-    let none : drop (i + 1) xs ≡ [] = drop_all (i + 1) xs last in
-    let one : drop i xs ≡ get_or xs i d ∷ [] = drop_more xs i d below ∙ ap (λ zs. get_or xs i d ∷ zs) none in
-    record {
-      to = λ all. subst (NoNeighbours touch) (sym none) tt;
-      from = λ rest. left.from (subst (NoNeighbours touch) (sym one) tt);
-    }
