@@ -1,9 +1,8 @@
 -- Whether dropping what wasn't used in a frame makes room: what has been tried so far, and what follows from it.
-use Rattle.std.proofs.Common.{◌≡◌, ℕ, zero, suc, ◌+◌, ◌-◌, ◌<◌, ◌≤◌, Bool, ◌&&◌, true, false, Option, Some, None, List, [], ◌∷◌, ◌++◌, length, map, take, refl, ap, sym, ◌∙◌, subst, arith}
+use Rattle.std.proofs.Common.{◌≡◌, ℕ, zero, suc, ◌+◌, ◌-◌, ◌<◌, ◌≤◌, true, false, Some, List, [], ◌∷◌, ◌++◌, length, take, refl, ap, sym, ◌∙◌, subst, arith}
 use Rattle.std.proofs.lemmas.Bool.Decides.{nat_tests}
 use Rattle.std.proofs.lemmas.List.{length-append, map-append, take_at}
 use Rattle.std.specs.List.{slice_get}
-use Rattle.std.specs.Option.{option_map_or}
 use Rattle.std.specs.Prelude.{is_some, nat_lt}
 use Rattle.lru.specs.LruCache.{last_entry}
 use Rattle.shelf_model.specs.Choice.{placement_of}
@@ -14,12 +13,12 @@ use Rattle.etagere_base.specs.declared.geometry.Size.{Size}
 use Rattle.etagere_base.specs.declared.ids.Allocation.{Allocation}
 use Rattle.used_keys.specs.declared.stamps.Entry.{Entry}
 use Rattle.used_keys.specs.Private.Stamps.{unstamped}
-use Rattle.glyph_shelf.specs.Cache.{CacheState, after_dropping, evictable, frame_uses, without_last}
+use Rattle.glyph_shelf.specs.Cache.{CacheState, after_dropping, evictable, frame_uses}
 use Rattle.glyph_shelf.specs.Placing.{IsFrameFull, LacksRoom, MakesRoom, has_room}
 use Rattle.glyph_shelf.specs.Promises.{KeepsCachePromises}
 use Rattle.glyph_shelf.proofs.Callers.{capacity-after_dropping, length-after_dropping}
 use Rattle.glyph_shelf.proofs.EntryLemmas.{last-among}
-use Rattle.glyph_shelf.proofs.Evicting.{Fits, HasDropped, HasEvicted, all-make_room, below_next, keeps-after_dropping, without_last-some}
+use Rattle.glyph_shelf.proofs.Evicting.{Fits, HasEvicted, all-make_room, below_next, keeps-after_dropping, without_last-some}
 use Rattle.glyph_shelf.proofs.Keeping.{kept-allocated}
 
 -- where nothing was used in the frame, all may go

@@ -1,3 +1,4 @@
+mod Asking
 pub mod Callers
 mod EntryLemmas
 mod Evicting

@@ -3,4 +3,5 @@ pub mod Faults
 pub mod Placing
 pub mod Private
 pub mod Promises
+pub mod Retaining
 pub mod Sizing

@@ -14,6 +14,7 @@ ghost use Rattle.shelf_model.specs.declared.faults.AtlasGrowFault.TheVariants as
 ghost use Rattle.glyph_shelf.specs.Cache.{empty_cache, evictable, frame_uses, in_new_frame, listed, rectangle_at, used, without_key};
 ghost use Rattle.glyph_shelf.specs.Placing.{IsFrameFull, IsLeft, IsNew, IsTooLarge, Places, Spares};
 ghost use Rattle.glyph_shelf.specs.Promises.{KeepsCachePromises};
+ghost use Rattle.glyph_shelf.specs.Retaining.{Retains};
 ghost use Rattle.glyph_shelf.specs.Sizing.{cache_grown, surplus, surplus_keys, with_capacity};
 
 use crate::faults::GlyphFault;
@@ -192,6 +193,18 @@ impl GlyphCache {
         ensures promises { KeepsCachePromises self.new }
     {
         self.kept.remove(key)
+    }
+
+    /// Keeps the keys of which a test says so. It is asked once of each key and its rectangle, the least recently used
+    /// first; the others are removed in this order. The order of use stays, and so does what was used in the frame.
+    ///
+    /// Takes no memory. A key that goes costs a `deallocate` of the atlas, another one constant time.
+    pub fn retain<F: FnMut(u64, Rectangle) -> bool>(&mut self, keeps: F)
+        requires { F.IsAlwaysCallable keeps }
+        ensures retained { Retains F.step keeps self.old self.new }
+        ensures promises { KeepsCachePromises self.new }
+    {
+        self.kept.retain(keeps);
     }
 
     /// Makes the atlas larger, to this size in pixels, as by `AtlasAllocator::grow`. Each key keeps its place, and the

@@ -2,7 +2,7 @@
 //!
 //! Definitions: `Cache`, `Placing` and `Promises` for what the clauses say, `Private.Kept` for what the fields keep.
 
-ghost use Rattle.std.specs.Prelude.{◌≡◌, ◌<◌, ◌≤◌, [], ◌∷◌, None, false, true, is_some, nat_eq, length, option_map, IfOk, IfErr, IfSome, IfNone, OnOk, OnErr};
+ghost use Rattle.std.specs.Prelude.{◌≡◌, ◌<◌, ◌≤◌, [], ◌∷◌, None, cond, false, true, is_some, nat_eq, length, option_map, IfOk, IfErr, IfSome, IfNone, OnOk, OnErr};
 ghost use Rattle.std.specs.Bool.{MatchBool};
 ghost use Rattle.std.specs.Map.{lookup};
 ghost use Rattle.std.specs.NonZero.{non_zero_usize_get};
@@ -17,7 +17,9 @@ ghost use Rattle.etagere_base.specs.Rectangles.{IsLarge};
 ghost use Rattle.lru.specs.LruCache as lru;
 ghost use Rattle.glyph_shelf.specs.Cache.{after_dropping, empty_cache, evictable, frame_uses, in_new_frame, listed, rectangle_at, used, without_key, without_last};
 ghost use Rattle.glyph_shelf.specs.Placing.{Enters, IsFrameFull, LacksRoom, MakesRoom, Places, RanOut, SameLayout, has_room};
+ghost use Rattle.glyph_shelf.specs.Private.Asking.{Asks};
 ghost use Rattle.glyph_shelf.specs.Promises.{KeepsCachePromises};
+ghost use Rattle.glyph_shelf.specs.Retaining.{Retains};
 ghost use Rattle.glyph_shelf.specs.Sizing.{cache_grown, of_capacity, surplus, surplus_keys};
 
 use crate::giving_back::{give_back, takes};
@@ -155,6 +157,81 @@ impl Kept {
         ensures promises { KeepsCachePromises self.new }
     {
         self.entries.begin_frame();
+    }
+
+    /// Asks a test of each key, the least recently used first, whether it stays. A key that does goes to the front, so
+    /// that in the end the order of use is the same; another goes.
+    ///
+    /// Those used in the frame stand first, and are asked last. Before them a frame begins, in which they are used.
+    pub fn retain<F: FnMut(u64, Rectangle) -> bool>(&mut self, mut keeps: F)
+        requires { F.IsAlwaysCallable keeps }
+        ensures retained { Retains F.step keeps self.old self.new }
+        ensures promises { KeepsCachePromises self.new }
+    {
+        let uses = self.uses();
+        let earlier = self.len() - uses;
+        let framed = self.has_frame();
+        self.ask(earlier, &mut keeps);
+        self.begin_frame_if(framed);
+        self.ask(uses, &mut keeps);
+    }
+
+    /// Asks a test of so many keys in turn, each time of the least recently used one.
+    fn ask<F: FnMut(u64, Rectangle) -> bool>(&mut self, count: usize, keeps: &mut F)
+        requires few { count ≤ length self.old.entries }
+        requires callable { F.IsAlwaysCallable keeps.old }
+        requires promises { KeepsCachePromises self.old }
+        ensures asked { Asks F.step count keeps.old self.old keeps.new self.new }
+        ensures callable { F.IsAlwaysCallable keeps.new }
+        ensures promises { KeepsCachePromises self.new }
+    {
+        for turn in 0..count {
+            self.ask_last(keeps);
+        }
+    }
+
+    /// Asks a test of the least recently used key. Where it stays it becomes the most recently used, else it goes.
+    fn ask_last<F: FnMut(u64, Rectangle) -> bool>(&mut self, keeps: &mut F)
+        requires some { 1 ≤ length self.old.entries }
+        requires callable { F.IsAlwaysCallable keeps.old }
+        ensures asked { Asks F.step 1 keeps.old self.old keeps.new self.new }
+        ensures callable { F.IsAlwaysCallable keeps.new }
+        ensures promises { KeepsCachePromises self.new }
+    {
+        let Some((key, rectangle)) = self.peek_last() else {
+            unreachable!()
+        };
+        if keeps(key, rectangle) {
+            self.look(key);
+        } else {
+            self.drop_last();
+        }
+    }
+
+    /// The least recently used key with its rectangle; none where there is no key.
+    fn peek_last(&self) -> Option<(u64, Rectangle)>
+        ensures { result
+            ≡ option_map (λ entry. (entry.0, entry.1.rectangle)) (lru.last_entry self.now.entries) }
+    {
+        self.entries.peek_last()
+    }
+
+    /// Whether a frame has begun.
+    fn has_frame(&self) -> bool
+        ensures { result ≡ is_some self.now.used_in_frame }
+    {
+        self.entries.has_frame()
+    }
+
+    /// Begins a frame, or doesn't.
+    fn begin_frame_if(&mut self, begins: bool)
+        requires { KeepsCachePromises self.old }
+        ensures begun { self.new ≡ cond begins (in_new_frame self.old) self.old }
+        ensures promises { KeepsCachePromises self.new }
+    {
+        if begins {
+            self.begin_frame();
+        }
     }
 
     /// Drops everything.

@@ -2,7 +2,7 @@
 //!
 //! Definitions: `Keys` for what the clauses say, `Private.Stamps` for what the fields keep.
 
-ghost use Rattle.std.specs.Prelude.{◌≡◌, ◌<◌, ◌≤◌, None, nat_eq, length, map, IfOk, OnOk, OnErr};
+ghost use Rattle.std.specs.Prelude.{◌≡◌, ◌<◌, ◌≤◌, None, is_some, nat_eq, length, map, option_map, IfOk, OnOk, OnErr};
 ghost use Rattle.std.specs.Map.{lookup};
 ghost use Rattle.std.specs.NonZero.{non_zero_usize_get};
 ghost use Rattle.lru.specs.LruCache as lru;
@@ -111,6 +111,17 @@ impl UsedKeys {
         Some((key, entry.allocation))
     }
 
+    /// The least recently used key with its rectangle; none where there is no key. The order stays.
+    pub fn peek_last(&self) -> Option<(u64, Rectangle)>
+        ensures { result
+            ≡ option_map (λ entry. (entry.0, entry.1.rectangle)) (lru.last_entry self.now.entries) }
+    {
+        let Some((key, entry)) = self.entries.peek_lru() else {
+            return None;
+        };
+        Some((*key, entry.allocation.rectangle))
+    }
+
     /// Takes all keys out; no frame has begun.
     pub fn clear(&mut self)
         ensures { self.new ≡ no_keys self.old.cap }
@@ -132,6 +143,13 @@ impl UsedKeys {
         ensures { self.new ≡ framed self.old }
     {
         self.frame = next_frame(&mut self.entries, self.frame);
+    }
+
+    /// Whether a frame has begun.
+    pub fn has_frame(&self) -> bool
+        ensures { result ≡ is_some self.now.uses }
+    {
+        self.frame != 0
     }
 
     /// How many keys were used in the present frame: the first ones. Goes through them once.

@@ -1,11 +1,11 @@
-use Rattle.std.proofs.Common.{◌≡◌, ℕ, ◌≤◌, ◌++◌, [], ◌∷◌, false, true, Result, Ok, Err, OnErr, List, is_some, length, ap, sym, ◌∙◌, subst, arith}
+use Rattle.std.proofs.Common.{◌≡◌, ℕ, ◌++◌, [], ◌∷◌, false, true, Result, Ok, Err, OnErr, List, is_some, length, ap, sym, ◌∙◌, subst, arith}
 use Rattle.std.proofs.lemmas.List.{length-append}
 use Rattle.etagere_base.specs.declared.frames.Frame.{Frame}
 use Rattle.etagere_base.specs.Rectangles.{IsLarge}
 use Rattle.glyph_shelf.specs.Cache.{CacheState, evictable}
 use Rattle.glyph_shelf.specs.Placing.{RanOut, has_room}
 use Rattle.glyph_shelf.proofs.Evicting.{IsEvicting, evicted-places, evicted-ran_out, evicting-shorter, evicting-some, evicting-step, evicting-stopped, ran_out-first}
-use Rattle.glyph_shelf.proofs.FullFrames.{evicted-few, evicted-fewer}
+use Rattle.glyph_shelf.proofs.FullFrames.{evicted-fewer}
 use Rattle.glyph_shelf.proofs.kept.Kept.evict_for.Goals as goal
 
 on_err : {A B : Type 0} (P : Type 0) (r : Result A B) → P → OnErr r P

@@ -1,4 +1,4 @@
-use Rattle.std.proofs.Common.{◌≡◌, ℕ, ◌-◌, length, ap, sym, ◌∙◌, subst, arith}
+use Rattle.std.proofs.Common.{◌≡◌, ◌-◌, length, ap, sym, ◌∙◌, subst, arith}
 use Rattle.glyph_shelf.specs.Cache.{CacheState, frame_uses}
 use Rattle.glyph_shelf.specs.Promises.{KeepsCachePromises}
 use Rattle.glyph_shelf.proofs.FullFrames.{lacks-all, unframed-makes}
