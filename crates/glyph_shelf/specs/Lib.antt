@@ -1,7 +1,9 @@
 pub mod Cache
 pub mod Faults
+pub mod Laws
 pub mod Placing
 pub mod Private
 pub mod Promises
 pub mod Retaining
+pub mod Saved
 pub mod Sizing
