@@ -223,11 +223,11 @@ library_folder() {
     fi
 }
 
-# Runs the program of the crate $1 with the other arguments, in place of this script.
+# Runs the program of the crate $1 with the other arguments, in place of this script and under its name.
 run_program() {
     local crate=$1 program
     shift
     program=$(program_of "$crate") || exit
     [[ ! -t 0 || ($# != 0 && $* != check) ]] || say "reads standard input, up to its end"
-    exec "$program" "$@"
+    exec -a "$0" "$program" "$@"
 }
