@@ -1,36 +1,47 @@
-//! What was expected on a line that isn't good.
+//! Scripts and commands, or what was expected on their first line that isn't good.
 
+use crate::ending::Failure;
 use crate::places::{header_line, line_at};
+use run_commands::commands::AtlasCommand;
+use run_commands::faults::ReplayFault;
 use run_scripts::lines::split_word;
 use run_scripts::numbers::{number_of, position_of};
-use std::alloc::{AllocError, Global};
+use run_scripts::script::{Script, ScriptFault, commands_of, read_script};
+use run_scripts::words::header_of;
+use std::alloc::Global;
 
-/// What was expected on the first bad line of a script.
-pub fn expected_text(alloc: Global, script: &[u8], number: u64) -> Result<String, AllocError> {
+/// The script that an input is.
+pub fn script_in(alloc: Global, input: &[u8]) -> Result<Script, Failure> {
+    match read_script(alloc, input) {
+        Ok(script) => Ok(script),
+        Err(ScriptFault::BadLine(number)) => Err(bad_line(input, number)),
+        Err(ScriptFault::Memory) => Err(Failure::Fault(ReplayFault::Memory)),
+    }
+}
+
+/// The commands that an input is, for a shelf atlas and without a header.
+pub fn commands_in(alloc: Global, input: &[u8]) -> Result<Vec<AtlasCommand>, Failure> {
+    match commands_of(alloc, 0, input) {
+        Ok(commands) => Ok(commands),
+        Err(ScriptFault::BadLine(number)) => Err(Failure::BadLine {
+            number,
+            expected: expected_command(line_at(input, number), b"atlas".as_slice()),
+        }),
+        Err(ScriptFault::Memory) => Err(Failure::Fault(ReplayFault::Memory)),
+    }
+}
+
+/// What was expected on the first bad line of a script, which has this number.
+pub fn bad_line(script: &[u8], number: u64) -> Failure {
     let line = line_at(script, number);
     let header = header_line(script);
-    let begins = header.len() == line.len() && is_header_bad(header);
-    let expected = if line.is_empty() || begins {
+    // A header that isn't good is the first bad line: no command was read.
+    let expected = if header_of(header).is_none() {
         expected_header(line)
     } else {
         expected_command(line, header)
     };
-    format!(in alloc; "line {number}: {expected}")
-}
-
-/// What was expected on the first bad line of commands for a shelf atlas, which have no header.
-pub fn expected_of_commands(
-    alloc: Global,
-    commands: &[u8],
-    number: u64,
-) -> Result<String, AllocError> {
-    let expected = expected_command(line_at(commands, number), b"atlas".as_slice());
-    format!(in alloc; "line {number}: {expected}")
-}
-
-/// Whether the header itself isn't good, so that no command was read.
-fn is_header_bad(header: &[u8]) -> bool {
-    run_scripts::words::header_of(header).is_none()
+    Failure::BadLine { number, expected }
 }
 
 fn expected_header(line: &[u8]) -> &'static str {

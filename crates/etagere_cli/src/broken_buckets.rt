@@ -90,9 +90,11 @@ fn breach_of_links(snapshot: &BucketedSnapshot, lists: &[Buckets]) -> Option<Bre
         if list.end == End::PastTheRecords {
             return breach_at(list.last(), "its link leads past the records");
         }
+        let Record::Shelf(owner) = list.head else {
+            continue;
+        };
         for number in &list.met {
-            let shelf = usize::from(snapshot.buckets.get(*number)?.shelf);
-            if matches!(list.head, Record::Shelf(_)) && list.head != Record::Shelf(shelf) {
+            if usize::from(snapshot.buckets.get(*number)?.shelf) != owner {
                 return breach_at(
                     Record::Bucket(*number),
                     "it names another shelf than the one that has it",

@@ -1,18 +1,7 @@
 //! What the rules of a snapshot say, and what the faults of options are, in words.
 
-use etagere::RestoreFault;
-use saved_json::Saved;
-
-/// The rule that a snapshot breaks, in words.
-pub fn rule_words(fault: RestoreFault, is_bucketed: bool) -> &'static str {
-    if is_bucketed {
-        bucket_rule(fault.number())
-    } else {
-        shelf_rule(fault.number())
-    }
-}
-
-fn shelf_rule(number: u32) -> &'static str {
+/// The rule of this number for snapshots of a shelf atlas, in words.
+pub fn shelf_rule(number: u32) -> &'static str {
     match number {
         1 =>
             "frame: sides, area, alignments and the shelf width are within their limits, and columns fit",
@@ -29,7 +18,8 @@ fn shelf_rule(number: u32) -> &'static str {
     }
 }
 
-fn bucket_rule(number: u32) -> &'static str {
+/// The rule of this number for snapshots of a bucketed atlas, in words.
+pub fn bucket_rule(number: u32) -> &'static str {
     match number {
         1 => "frame: sides, area, alignments and columns are within their limits, and columns fit",
         2 => "counts: there are at most 4095 shelf records, and as many bucket records",

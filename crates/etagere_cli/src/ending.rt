@@ -1,19 +1,19 @@
 //! How the program ends: with bytes for standard output or a file, or a line for standard error, and a status.
 
-use crate::output::{Target, write_to};
-use run_commands::faults::{ReplayFault, RunFault};
-use std::alloc::{AllocError, AllocFailed, Global};
+use crate::broken_rules::options_words;
+use etagere::{OptionsFault, RestoreFault};
+use page_runs::PageRunFault;
+use run_commands::faults::{Checked, Outcome, ReplayFault, RunFault};
+use saved_json::ReadFault;
+use std::alloc::{AllocError, AllocFailed};
+use std::fmt::{self, Display, Formatter};
 use std::io;
-use std::process::ExitCode;
-use std::rt::Files;
 
-/// What is written, and the status behind it.
+/// What is written to standard output, or to the file that is named for it, and the status behind it.
 #[derive(Drop)]
-pub enum Answer {
-    /// What goes to standard output, or to the file that is named for it.
-    Made { bytes: Vec<u8>, status: u8 },
-    /// A line for standard error.
-    Said { line: String, status: u8 },
+pub struct Answer {
+    pub bytes: Vec<u8>,
+    pub status: u8,
 }
 
 impl Answer {
@@ -24,7 +24,7 @@ impl Answer {
 
     /// A text, with this status.
     pub fn told(status: u8, text: String) -> Answer {
-        Answer::Made {
+        Answer {
             bytes: text.into_bytes(),
             status,
         }
@@ -32,43 +32,57 @@ impl Answer {
 
     /// Bytes, after which all is well.
     pub fn made(bytes: Vec<u8>) -> Answer {
-        Answer::Made { bytes, status: 0 }
+        Answer { bytes, status: 0 }
     }
+}
 
-    /// A line for standard error, with this status.
-    pub fn said(alloc: Global, status: u8, line: &str) -> Result<Answer, Failure> {
-        Ok(Answer::Said {
-            line: format!(in alloc; "{line}\n")?,
-            status,
-        })
-    }
+/// Why there is no answer. Its text is said on standard error.
+#[derive(Drop)]
+pub enum Failure {
+    /// A stream failed, or memory ran out.
+    Fault(ReplayFault),
+    /// The line of this number isn't good, where this was expected.
+    BadLine { number: u64, expected: &'static str },
+    /// The options have the fault of this number.
+    Options(u32),
+    /// The snapshot isn't good.
+    Snapshot(Checked),
+    /// The arguments don't go with each other, or with the input.
+    Misused(&'static str),
+    /// Some sizes have no place, which is said of each.
+    Unplaced(String),
+    /// A file can't be read or written, for the reason that is told.
+    File(String),
+}
 
-    /// Writes what was made to where it goes; or says the line.
-    pub fn send(
-        self,
-        rt: &(impl Files + Print + Eprint + AllocGlobal),
-        target: Target<'_>,
-    ) -> Result<ExitCode, Failure> {
+impl Failure {
+    pub fn status(&self) -> u8 {
         match self {
-            Answer::Made { bytes, status } => {
-                write_to(rt, target, bytes.as_slice())?;
-                Ok(ExitCode::from(status))
-            }
-            Answer::Said { line, status } => {
-                let _ = rt.eprint(line.as_str());
-                Ok(ExitCode::from(status))
-            }
+            Failure::Fault(fault) => fault.status(),
+            Failure::BadLine { number, .. } => Outcome::BadLine(*number).status(),
+            Failure::Options(number) => Outcome::Options(*number).status(),
+            Failure::Snapshot(checked) => checked.status(),
+            Failure::Misused(_) => 2,
+            Failure::Unplaced(_) => 1,
+            Failure::File(_) => 3,
         }
     }
 }
 
-/// Why there is no answer.
-#[derive(Debug, Drop)]
-pub enum Failure {
-    /// A stream failed, or memory ran out.
-    Fault(ReplayFault),
-    /// A file can't be read, for the reason in this line.
-    File(String),
+impl Display for Failure {
+    fn fmt<W: fmt::Write>(&self, f: &mut Formatter<W>) -> fmt::Result {
+        match self {
+            Failure::Fault(fault) => f.write_str(fault.words()),
+            Failure::BadLine { number, expected } => write!(f, "line {number}: {expected}"),
+            Failure::Options(number) => {
+                let words = options_words(*number);
+                write!(f, "options {number}: {words}")
+            }
+            Failure::Snapshot(checked) => write!(f, "{checked}"),
+            Failure::Misused(words) => f.write_str(words),
+            Failure::Unplaced(words) | Failure::File(words) => f.write_str(words.as_str()),
+        }
+    }
 }
 
 impl From<AllocError> for Failure {
@@ -95,16 +109,40 @@ impl From<ReplayFault> for Failure {
     }
 }
 
-/// Says why there is no answer, and gives the status.
-pub fn failed(rt: &impl Eprint, failure: Failure) -> ExitCode {
-    match failure {
-        Failure::Fault(fault) => {
-            let _ = rt.eprintln(fault.words());
-            ExitCode::from(fault.status())
+impl From<RunFault> for Failure {
+    fn from(why: RunFault) -> Failure {
+        match why {
+            RunFault::Options(OptionsFault::Memory) | RunFault::Memory => {
+                Failure::Fault(ReplayFault::Memory)
+            }
+            RunFault::Options(fault) => Failure::Options(fault.number()),
         }
-        Failure::File(line) => {
-            let _ = rt.eprintln(line.as_str());
-            ExitCode::from(3)
+    }
+}
+
+impl From<PageRunFault> for Failure {
+    fn from(why: PageRunFault) -> Failure {
+        match why {
+            PageRunFault::Options(fault) => Failure::Options(fault.number()),
+            PageRunFault::Memory => Failure::Fault(ReplayFault::Memory),
+        }
+    }
+}
+
+impl From<ReadFault> for Failure {
+    fn from(why: ReadFault) -> Failure {
+        match why {
+            ReadFault::Unreadable => Failure::Snapshot(Checked::Unreadable),
+            ReadFault::Memory => Failure::Fault(ReplayFault::Memory),
+        }
+    }
+}
+
+impl From<RestoreFault> for Failure {
+    fn from(why: RestoreFault) -> Failure {
+        match why {
+            RestoreFault::Memory => Failure::Fault(ReplayFault::Memory),
+            fault => Failure::Snapshot(Checked::Broken(fault.number())),
         }
     }
 }

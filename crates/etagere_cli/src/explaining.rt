@@ -1,64 +1,52 @@
 //! `etagere explain`: why commands were refused, a line is bad, or a snapshot is broken.
 
-use crate::bad_lines::expected_text;
+use crate::bad_lines::script_in;
 use crate::broken_buckets::breach_of_buckets;
 use crate::broken_records::{Breach, breach_of};
-use crate::broken_rules::{options_words, rule_words};
+use crate::broken_rules::{bucket_rule, shelf_rule};
 use crate::ending::{Answer, Failure};
-use crate::input::{read_named, snapshot_text};
+use crate::input::snapshot_text;
+use crate::pieces::Piece::{Count, Words};
+use crate::pieces::push_pieces;
 use crate::places::{line_numbers, line_of_command};
-use crate::reasons::refused_text;
+use crate::reasons::push_refused;
 use crate::record_walks::Record;
-use clap::ArgMatches;
-use etagere::{AtlasAllocator, BucketedAtlasAllocator, OptionsFault, RestoreFault};
+use etagere::{AtlasAllocator, BucketedAtlasAllocator, RestoreFault};
 use run_commands::faults::{ReplayFault, RunFault};
-use run_scripts::script::{Commands, Script, ScriptFault, read_script};
+use run_scripts::script::{Commands, Script};
 use saved_json::{ReadFault, Saved, read_saved};
 use std::alloc::{AllocError, Global};
-use std::fmt::Write;
-use std::rt::Files;
 use traffic::going_on::Finding;
 use traffic::refusals::{explain_atlas, explain_buckets};
 
-pub fn explain(
-    rt: &(impl Files + Input + AllocGlobal),
-    given: &ArgMatches<'_>,
-) -> Result<Answer, Failure> {
-    let alloc = rt.alloc();
-    let input = read_named(rt, given, "FILE")?;
-    match snapshot_text(input.as_slice()) {
+/// What is told of a script or a snapshot.
+pub fn explain(alloc: Global, input: &[u8]) -> Result<Answer, Failure> {
+    let explained = match snapshot_text(input) {
         Some(text) => explain_snapshot(alloc, text),
-        None => explain_script(alloc, input.as_slice()),
+        None => explain_script(alloc, input),
+    };
+    match explained {
+        Ok(answer) => Ok(answer),
+        Err(failure) => told_of(alloc, failure),
     }
+}
+
+/// What is told of an input that isn't good.
+fn told_of(alloc: Global, failure: Failure) -> Result<Answer, Failure> {
+    let status = failure.status();
+    if matches!(failure, Failure::Fault(_)) {
+        return Err(failure);
+    }
+    let text = format!(in alloc; "{failure}\n")?;
+    Ok(Answer::told(status, text))
 }
 
 fn explain_script(alloc: Global, bytes: &[u8]) -> Result<Answer, Failure> {
-    match read_script(alloc, bytes) {
-        Ok(script) => explain_run(alloc, bytes, &script),
-        Err(ScriptFault::BadLine(number)) => {
-            let text = expected_text(alloc, bytes, number)?;
-            Ok(Answer::told(2, format!(in alloc; "{text}\n")?))
-        }
-        Err(ScriptFault::Memory) => Err(Failure::Fault(ReplayFault::Memory)),
-    }
-}
-
-fn explain_run(alloc: Global, bytes: &[u8], script: &Script) -> Result<Answer, Failure> {
-    match findings_of(alloc, script) {
-        Ok(findings) => {
-            let is_vertical = script.options.vertical_shelves;
-            let text = findings_text(alloc, bytes, findings.as_slice(), is_vertical)?;
-            Ok(Answer::done(text))
-        }
-        Err(RunFault::Options(OptionsFault::Memory) | RunFault::Memory) => {
-            Err(Failure::Fault(ReplayFault::Memory))
-        }
-        Err(RunFault::Options(fault)) => {
-            let number = fault.number();
-            let words = options_words(number);
-            Ok(Answer::told(1, format!(in alloc; "options {number}: {words}\n")?))
-        }
-    }
+    let script = script_in(alloc, bytes)?;
+    let findings = findings_of(alloc, &script)?;
+    let is_vertical = script.options.vertical_shelves;
+    let text = findings_text(alloc, bytes, findings.as_slice(), is_vertical)?;
+    Ok(Answer::done(text))
 }
 
 /// What is told of the commands of a script that are refused.
@@ -80,79 +68,68 @@ fn findings_text(
     let mut text = String::new(alloc);
     for finding in findings {
         let number = line_of_command(numbers.as_slice(), finding.position);
-        let why = refused_text(alloc, &finding.refused, is_vertical)?;
-        writeln!(text, "line {number}: {why}")?;
+        push_pieces(
+            &mut text,
+            &[Words("line "), Count(number as u128), Words(": ")],
+        )?;
+        push_refused(&mut text, &finding.refused, is_vertical)?;
+        text.push_str("\n")?;
     }
     if findings.is_empty() {
-        writeln!(text, "no command was refused")?;
+        text.push_str("no command was refused\n")?;
     }
     Ok(text)
 }
 
 fn explain_snapshot(alloc: Global, text: &[u8]) -> Result<Answer, Failure> {
-    match read_saved(alloc, text) {
-        Ok(saved) => explain_saved(alloc, text, saved),
-        Err(ReadFault::Unreadable) => Ok(Answer::told(
-            2,
-            format!(in alloc; "unreadable: the JSON text of one snapshot is expected\n")?,
-        )),
-        Err(ReadFault::Memory) => Err(Failure::Fault(ReplayFault::Memory)),
-    }
-}
-
-fn explain_saved(alloc: Global, text: &[u8], saved: Saved) -> Result<Answer, Failure> {
-    match saved {
-        Saved::Atlas(snapshot) => match AtlasAllocator::restore(alloc, snapshot) {
-            Ok(_) => sound(alloc),
-            Err(fault) => broken(alloc, text, fault, false),
-        },
-        Saved::Bucketed(snapshot) => match BucketedAtlasAllocator::restore(alloc, snapshot) {
-            Ok(_) => sound(alloc),
-            Err(fault) => broken(alloc, text, fault, true),
-        },
-    }
-}
-
-fn sound(alloc: Global) -> Result<Answer, Failure> {
-    Ok(Answer::done(format!(in alloc; "the snapshot keeps all rules\n")?))
-}
-
-fn broken(
-    alloc: Global,
-    text: &[u8],
-    fault: RestoreFault,
-    is_bucketed: bool,
-) -> Result<Answer, Failure> {
-    if matches!(fault, RestoreFault::Memory) {
-        return Err(Failure::Fault(ReplayFault::Memory));
-    }
-    let number = fault.number();
-    let words = rule_words(fault, is_bucketed);
-    let place = place_text(alloc, text, fault)?;
-    Ok(Answer::told(1, format!(in alloc; "broken {number}: {words}{place}\n")?))
-}
-
-/// At which record a snapshot breaks a rule, in words; no text where that can't be said. It is read again, since
-/// restoring consumed it.
-fn place_text(alloc: Global, text: &[u8], fault: RestoreFault) -> Result<String, Failure> {
-    let found = match read_saved(alloc, text) {
-        Ok(Saved::Atlas(snapshot)) => breach_of(alloc, &snapshot, fault)?,
-        Ok(Saved::Bucketed(snapshot)) => breach_of_buckets(alloc, &snapshot, fault)?,
+    let restored = match read_saved(alloc, text) {
+        Ok(Saved::Atlas(snapshot)) => AtlasAllocator::restore(alloc, snapshot).map(|_| ()),
+        Ok(Saved::Bucketed(snapshot)) => {
+            BucketedAtlasAllocator::restore(alloc, snapshot).map(|_| ())
+        }
+        Err(ReadFault::Unreadable) => {
+            return Err(Failure::Misused("unreadable: the JSON text of one snapshot is expected"));
+        }
         Err(ReadFault::Memory) => return Err(Failure::Fault(ReplayFault::Memory)),
-        Err(ReadFault::Unreadable) => None,
     };
-    match found {
-        Some(breach) => Ok(breach_text(alloc, breach)?),
-        None => Ok(String::new(alloc)),
+    match restored {
+        Ok(()) => Ok(Answer::done("the snapshot keeps all rules\n".to_string(alloc)?)),
+        Err(RestoreFault::Memory) => Err(Failure::Fault(ReplayFault::Memory)),
+        Err(fault) => Ok(Answer::told(1, broken_text(alloc, text, fault)?)),
     }
 }
 
-fn breach_text(alloc: Global, breach: Breach) -> Result<String, AllocError> {
-    let what = breach.what;
-    match breach.record {
-        Record::Field(name) => format!(in alloc; "; at {name}: {what}"),
-        Record::Shelf(number) => format!(in alloc; "; at shelf {number}: {what}"),
-        Record::Item(number) => format!(in alloc; "; at item {number}: {what}"),
-        Record::Bucket(number) => format!(in alloc; "; at bucket {number}: {what}"),
+/// Which rule a snapshot breaks, and at which record, where that can be said. It is read again, since restoring consumed
+/// it.
+fn broken_text(alloc: Global, text: &[u8], fault: RestoreFault) -> Result<String, Failure> {
+    let number = fault.number();
+    let (words, found) = match read_saved(alloc, text)? {
+        Saved::Atlas(snapshot) => (shelf_rule(number), breach_of(alloc, &snapshot, fault)?),
+        Saved::Bucketed(snapshot) => {
+            (
+                bucket_rule(number),
+                breach_of_buckets(alloc, &snapshot, fault)?,
+            )
+        }
+    };
+    let mut line = format!(in alloc; "broken {number}: {words}")?;
+    if let Some(breach) = found {
+        push_breach(&mut line, breach)?;
     }
+    line.push_str("\n")?;
+    Ok(line)
+}
+
+fn push_breach(text: &mut String, breach: Breach) -> Result<(), AllocError> {
+    let (name, number) = match breach.record {
+        Record::Field(name) => (name, None),
+        Record::Shelf(number) => ("shelf ", Some(number)),
+        Record::Item(number) => ("item ", Some(number)),
+        Record::Bucket(number) => ("bucket ", Some(number)),
+    };
+    push_pieces(text, &[Words("; at "), Words(name)])?;
+    if let Some(number) = number {
+        push_pieces(text, &[Count(number as u128)])?;
+    }
+    push_pieces(text, &[Words(": "), Words(breach.what)])
 }

@@ -1,29 +1,51 @@
 //! What the program reads: a file or standard input, and whether that is a script or a snapshot.
 
 use crate::ending::Failure;
+use crate::progress::Progress;
 use clap::ArgMatches;
-use run_scripts::reading::read_all;
+use std::alloc::Global;
 use std::fs;
-use std::rt::Files;
+use std::io::Read;
+use std::rt::{Clock, Files};
+
+/// How many bytes are asked of a reader at once.
+const CHUNK: usize = 4096;
 
 /// All that the file which an argument names has, or standard input where none is named, or `-` is.
-pub fn read_named(
+pub fn read_named<R: Clock + Eprint>(
     rt: &(impl Files + Input + AllocGlobal),
     matches: &ArgMatches<'_>,
     name: &str,
+    progress: &mut Progress<'_, R>,
 ) -> Result<Vec<u8>, Failure> {
+    let alloc = rt.alloc();
     match matches.get_str(name) {
-        None | Some("-") => Ok(read_all(rt.alloc(), &mut rt.reader())?),
-        Some(path) => read_file(rt, path),
+        None | Some("-") => read_all(alloc, &mut rt.reader(), progress),
+        Some(path) => match fs::open(rt, path) {
+            Ok(mut file) => read_all(alloc, &mut file, progress),
+            Err(why) => Err(Failure::File(format!(in alloc; "{path}: can't be opened: {why}")?)),
+        },
     }
 }
 
-fn read_file(rt: &(impl Files + AllocGlobal), path: &str) -> Result<Vec<u8>, Failure> {
-    let alloc = rt.alloc();
-    match fs::open(rt, path) {
-        Ok(mut file) => Ok(read_all(alloc, &mut file)?),
-        Err(why) => Err(Failure::File(format!(in alloc; "{path}: can't be opened: {why}")?)),
+/// All that a reader has.
+fn read_all<R: Clock + Eprint>(
+    alloc: Global,
+    reader: &mut impl Read,
+    progress: &mut Progress<'_, R>,
+) -> Result<Vec<u8>, Failure> {
+    let mut input = Vec::new(alloc);
+    let mut buffer = [0u8; CHUNK];
+    for _ in 0..u64::MAX {
+        let count = reader.read(&mut buffer)?;
+        if count == 0 {
+            break;
+        }
+        input.extend_from_slice(&buffer[..count])?;
+        progress.count(&buffer[..count]);
     }
+    progress.run();
+    Ok(input)
 }
 
 /// The text of a snapshot, where the input is one: it begins with `{`, behind white space and a byte order mark.

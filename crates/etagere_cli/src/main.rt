@@ -12,15 +12,16 @@ mod broken_records;
 mod broken_rules;
 mod ending;
 mod explaining;
-mod faults;
 mod heights;
 mod input;
 mod output;
 mod packing;
 mod packing_lines;
 mod packing_text;
+mod pieces;
 mod places;
 mod plot;
+mod progress;
 mod reasons;
 mod record_walks;
 mod report;
@@ -34,26 +35,52 @@ mod watch_page;
 mod watching;
 
 use crate::arguments::program;
-use crate::ending::{Answer, Failure, failed};
-use crate::output::Target;
+use crate::ending::{Answer, Failure};
+use crate::explaining::explain;
+use crate::input::read_named;
+use crate::output::{Target, write_to};
+use crate::packing::{options_of, pack_list};
+use crate::progress::Progress;
+use crate::resuming::{resume, snapshot_of};
+use crate::saving::save;
+use crate::watching::watch;
 use clap::error::ErrorKind;
 use clap::{ArgMatches, Error};
 use run_commands::faults::ReplayFault;
+use std::alloc::Global;
 use std::env;
+use std::io::IsTerminal;
 use std::process::{self, ExitCode};
-use std::rt::{Env, Files};
+use std::rt::{Clock, Env, Files};
 
 fn main(rt: HostRuntime) -> ExitCode {
-    match run(&rt, process::id(rt.process())) {
+    let host = Host {
+        process: process::id(rt.process()),
+        is_terminal: rt.stderr().is_terminal(),
+    };
+    match run(&rt, host) {
         Ok(code) => code,
-        Err(failure) => failed(&rt, failure),
+        Err(failure) => {
+            let status = failure.status();
+            let _ = rt.eprintln(failure);
+            ExitCode::from(status)
+        }
     }
 }
 
-/// Runs what the arguments ask for, as the process of this number.
-fn run(
-    rt: &(impl Env + Files + Input + Print + Eprint + AllocGlobal),
+/// What the program is run by.
+#[derive(Clone, Copy)]
+struct Host {
+    /// The number of this process.
     process: u32,
+    /// Whether standard error is a terminal.
+    is_terminal: bool,
+}
+
+/// Runs what the arguments ask for.
+fn run(
+    rt: &(impl Env + Files + Clock + Input + Print + Eprint + AllocGlobal),
+    host: Host,
 ) -> Result<ExitCode, Failure> {
     let alloc = rt.alloc();
     let words: Vec<String> = env::args(rt)?.collect(alloc)?;
@@ -61,24 +88,19 @@ fn run(
         Ok(matches) => matches,
         Err(error) => return unparsed(rt, &error),
     };
-    match matches.subcommand() {
-        Some((name, given)) => {
-            let path = given.get_str("output");
-            answered(rt, name, given)?.send(rt, Target { path, process })
-        }
-        None => Answer::said(
-            alloc,
-            2,
-            "usage: etagere COMMAND (etagere --help lists them)",
-        )?
-        .send(
-            rt,
-            Target {
-                path: None,
-                process,
-            },
-        ),
-    }
+    let Some((name, given)) = matches.subcommand() else {
+        return Err(Failure::Misused("usage: etagere COMMAND (etagere --help lists them)"));
+    };
+    let mut progress = Progress::new(rt, host.is_terminal);
+    let answer = answered(rt, name, given, &mut progress);
+    progress.end();
+    let answer = answer?;
+    let target = Target {
+        path: given.get_str("output"),
+        process: host.process,
+    };
+    write_to(rt, target, answer.bytes.as_slice())?;
+    Ok(ExitCode::from(answer.status))
 }
 
 /// Prints help, or what is wrong with the arguments.
@@ -97,17 +119,43 @@ fn unparsed(rt: &(impl Print + Eprint), error: &Error) -> Result<ExitCode, Failu
 }
 
 /// What the subcommand answers.
-fn answered(
+fn answered<R: Clock + Eprint>(
     rt: &(impl Files + Input + AllocGlobal),
     name: &str,
     given: &ArgMatches<'_>,
+    progress: &mut Progress<'_, R>,
+) -> Result<Answer, Failure> {
+    let alloc = rt.alloc();
+    match name {
+        "resume" => {
+            let saved = read_named(rt, given, "SNAPSHOT", progress)?;
+            let snapshot = snapshot_of(alloc, saved.as_slice())?;
+            let input = read_named(rt, given, "FILE", progress)?;
+            resume(alloc, snapshot, input.as_slice(), given.get_flag("live"))
+        }
+        "pack" => {
+            let options = options_of(given)?;
+            let input = read_named(rt, given, "FILE", progress)?;
+            pack_list(alloc, &options, input.as_slice(), given.get_flag("json"))
+        }
+        _ => {
+            let input = read_named(rt, given, "FILE", progress)?;
+            told(alloc, name, given, input.as_slice())
+        }
+    }
+}
+
+/// What the subcommand answers, where it takes one input.
+fn told(
+    alloc: Global,
+    name: &str,
+    given: &ArgMatches<'_>,
+    input: &[u8],
 ) -> Result<Answer, Failure> {
     match name {
-        "explain" => explaining::explain(rt, given),
-        "stats" => stats::stats(rt, given),
-        "save" => saving::save(rt, given),
-        "resume" => resuming::resume(rt, given),
-        "pack" => packing::pack_list(rt, given),
-        _ => watching::watch(rt, given),
+        "explain" => explain(alloc, input),
+        "stats" => stats::stats(alloc, input, given),
+        "save" => save(alloc, input),
+        _ => watch(alloc, input),
     }
 }

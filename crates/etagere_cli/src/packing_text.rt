@@ -1,6 +1,8 @@
 //! What `etagere pack` writes: the place of each size, as text for people or JSON for programs.
 
 use crate::packing_lines::Wanted;
+use crate::pieces::Piece::{Count, Number, Words};
+use crate::pieces::push_pieces;
 use atlas_pages::PagePlace;
 use etagere::Size;
 use page_runs::PageReply;
@@ -24,16 +26,24 @@ pub fn plain_text(
 
 fn push_line(text: &mut String, one: &Wanted<'_>, place: &PagePlace) -> Result<(), AllocError> {
     let corner = place.allocation.rectangle.min;
-    let Size { width, height } = one.size;
-    write!(
+    let space = if one.name.is_empty() { "" } else { " " };
+    push_pieces(
         text,
-        "{} {} {} {width} {height}",
-        place.page, corner.x, corner.y
-    )?;
-    if !one.name.is_empty() {
-        write!(text, " {}", one.name)?;
-    }
-    text.push_str("\n")
+        &[
+            Count(u128::from(place.page)),
+            Words(" "),
+            Number(corner.x),
+            Words(" "),
+            Number(corner.y),
+            Words(" "),
+            Number(one.size.width),
+            Words(" "),
+            Number(one.size.height),
+            Words(space),
+            Words(one.name),
+            Words("\n"),
+        ],
+    )
 }
 
 /// One object on one line: the size of a page, how many there are, and the places.
@@ -44,11 +54,17 @@ pub fn json_text(
     replies: &[PageReply],
 ) -> Result<String, AllocError> {
     let mut text = String::new(alloc);
-    let pages = count_pages(replies);
-    let Size { width, height } = page;
-    write!(
-        text,
-        "{{\"width\":{width},\"height\":{height},\"pages\":{pages},\"places\":["
+    push_pieces(
+        &mut text,
+        &[
+            Words("{\"width\":"),
+            Number(page.width),
+            Words(",\"height\":"),
+            Number(page.height),
+            Words(",\"pages\":"),
+            Count(u128::from(count_pages(replies))),
+            Words(",\"places\":["),
+        ],
     )?;
     for (index, (one, reply)) in wanted.iter().zip(replies).enumerate() {
         if let PageReply::Placed(place) = reply {
@@ -71,17 +87,27 @@ fn count_pages(replies: &[PageReply]) -> u64 {
 }
 
 fn push_object(text: &mut String, one: &Wanted<'_>, place: &PagePlace) -> Result<(), AllocError> {
-    let corner = place.allocation.rectangle.min;
-    let Size { width, height } = one.size;
     if !one.name.is_empty() {
         text.push_str("\"name\":\"")?;
         push_escaped(text, one.name)?;
         text.push_str("\",")?;
     }
-    write!(
+    let corner = place.allocation.rectangle.min;
+    push_pieces(
         text,
-        "\"page\":{},\"x\":{},\"y\":{},\"width\":{width},\"height\":{height}}}",
-        place.page, corner.x, corner.y
+        &[
+            Words("\"page\":"),
+            Count(u128::from(place.page)),
+            Words(",\"x\":"),
+            Number(corner.x),
+            Words(",\"y\":"),
+            Number(corner.y),
+            Words(",\"width\":"),
+            Number(one.size.width),
+            Words(",\"height\":"),
+            Number(one.size.height),
+            Words("}"),
+        ],
     )
 }
 

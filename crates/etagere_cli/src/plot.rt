@@ -1,8 +1,9 @@
 //! What `etagere stats --plot` writes: a picture of fill, live and refusals over the commands.
 
+use crate::pieces::Piece::{Count, Words};
+use crate::pieces::push_pieces;
 use crate::series::Moment;
 use std::alloc::{AllocError, Global};
-use std::fmt::Write;
 
 /// How wide and how tall a curve is.
 const WIDTH: u64 = 1000;
@@ -26,6 +27,21 @@ impl Curve {
         }
     }
 
+    /// The tag that begins its group, and that of its caption, with the first words.
+    fn opening(self) -> &'static str {
+        match self {
+            Curve::Fill => {
+                "<g transform=\"translate(0 0)\" stroke=\"#3d7fd6\">\n<text y=\"-8\" stroke=\"none\">fill: "
+            }
+            Curve::Live => {
+                "<g transform=\"translate(0 140)\" stroke=\"#2c9c58\">\n<text y=\"-8\" stroke=\"none\">live: "
+            }
+            Curve::Refused => {
+                "<g transform=\"translate(0 280)\" stroke=\"#d04a57\">\n<text y=\"-8\" stroke=\"none\">refused so far: "
+            }
+        }
+    }
+
     /// The value at the top of the picture: all of the atlas, or the greatest one.
     fn top(self, moments: &[Moment]) -> u64 {
         if matches!(self, Curve::Fill) {
@@ -43,14 +59,18 @@ impl Curve {
 pub fn plot_text(alloc: Global, moments: &[Moment]) -> Result<String, AllocError> {
     let mut text = String::new(alloc);
     text.push_str(HEAD)?;
-    push_fill(&mut text, moments)?;
-    push_curve(&mut text, moments, Curve::Fill)?;
-    push_live(&mut text, moments)?;
-    push_curve(&mut text, moments, Curve::Live)?;
-    push_refused(&mut text, moments)?;
-    push_curve(&mut text, moments, Curve::Refused)?;
-    push_axis(&mut text, moments)?;
-    text.push_str("</svg>\n")?;
+    for curve in [Curve::Fill, Curve::Live, Curve::Refused] {
+        push_caption(&mut text, moments, curve)?;
+        push_curve(&mut text, moments, curve)?;
+    }
+    push_pieces(
+        &mut text,
+        &[
+            Words("<text y=\"400\">0</text>\n<text x=\"1000\" y=\"400\" text-anchor=\"end\">"),
+            Count(last(moments).commands as u128),
+            Words(" commands</text>\n</svg>\n"),
+        ],
+    )?;
     Ok(text)
 }
 
@@ -80,33 +100,34 @@ fn last(moments: &[Moment]) -> Moment {
     }
 }
 
-fn push_fill(text: &mut String, moments: &[Moment]) -> Result<(), AllocError> {
-    let fill = last(moments).fill();
-    let (whole, tenths) = (fill / 10, fill % 10);
-    writeln!(
+/// The beginning of the group of a curve, with what is said above it.
+fn push_caption(text: &mut String, moments: &[Moment], curve: Curve) -> Result<(), AllocError> {
+    let value = curve.value(&last(moments));
+    let (tenth, unit, top) = match curve {
+        Curve::Fill => (Some(value % 10), " %", 100),
+        _ => (None, "", curve.top(moments)),
+    };
+    text.push_str(curve.opening())?;
+    match tenth {
+        Some(tenth) => push_pieces(
+            text,
+            &[
+                Count(u128::from(value / 10)),
+                Words("."),
+                Count(u128::from(tenth)),
+            ],
+        )?,
+        None => push_pieces(text, &[Count(u128::from(value))])?,
+    }
+    push_pieces(
         text,
-        "<g transform=\"translate(0 0)\" stroke=\"#3d7fd6\">\n<text y=\"-8\" stroke=\"none\">fill: {whole}.{tenths} % at the end, \
-        100 % at the top</text>"
-    )
-}
-
-fn push_live(text: &mut String, moments: &[Moment]) -> Result<(), AllocError> {
-    let live = last(moments).live;
-    let top = Curve::Live.top(moments);
-    writeln!(
-        text,
-        "<g transform=\"translate(0 140)\" stroke=\"#2c9c58\">\n<text y=\"-8\" stroke=\"none\">live: {live} at the end, \
-        {top} at the top</text>"
-    )
-}
-
-fn push_refused(text: &mut String, moments: &[Moment]) -> Result<(), AllocError> {
-    let refused = last(moments).refused;
-    let top = Curve::Refused.top(moments);
-    writeln!(
-        text,
-        "<g transform=\"translate(0 280)\" stroke=\"#d04a57\">\n<text y=\"-8\" stroke=\"none\">refused so far: {refused} at \
-        the end, {top} at the top</text>"
+        &[
+            Words(unit),
+            Words(" at the end, "),
+            Count(u128::from(top)),
+            Words(unit),
+            Words(" at the top</text>\n"),
+        ],
     )
 }
 
@@ -114,15 +135,19 @@ fn push_refused(text: &mut String, moments: &[Moment]) -> Result<(), AllocError>
 fn push_curve(text: &mut String, moments: &[Moment], curve: Curve) -> Result<(), AllocError> {
     let top = curve.top(moments);
     let commands = last(moments).commands as u64;
-    write!(
-        text,
-        "<rect width=\"{WIDTH}\" height=\"{HEIGHT}\" stroke=\"none\"/>\n<path d=\""
-    )?;
+    text.push_str("<rect width=\"1000\" height=\"100\" stroke=\"none\"/>\n<path d=\"")?;
     for (index, moment) in moments.iter().enumerate() {
-        let letter = if index == 0 { 'M' } else { 'L' };
         let x = scaled(moment.commands as u64, commands, WIDTH);
         let y = HEIGHT.saturating_sub(scaled(curve.value(moment), top, HEIGHT));
-        write!(text, "{letter}{x} {y}")?;
+        push_pieces(
+            text,
+            &[
+                Words(if index == 0 { "M" } else { "L" }),
+                Count(u128::from(x)),
+                Words(" "),
+                Count(u128::from(y)),
+            ],
+        )?;
     }
     text.push_str("\"/>\n</g>\n")
 }
@@ -130,12 +155,4 @@ fn push_curve(text: &mut String, moments: &[Moment], curve: Curve) -> Result<(),
 /// A part of a whole, at this scale.
 fn scaled(part: u64, whole: u64, scale: u64) -> u64 {
     part.saturating_mul(scale) / whole.max(1)
-}
-
-fn push_axis(text: &mut String, moments: &[Moment]) -> Result<(), AllocError> {
-    let commands = last(moments).commands;
-    writeln!(
-        text,
-        "<text y=\"400\">0</text>\n<text x=\"{WIDTH}\" y=\"400\" text-anchor=\"end\">{commands} commands</text>"
-    )
 }

@@ -1,132 +1,121 @@
 //! Why a command was refused, in words.
 
+use crate::pieces::Piece::{Count, Number, Words};
+use crate::pieces::push_pieces;
 use etagere::{BucketedRefusal, Refusal, Size};
-use std::alloc::{AllocError, Global};
+use std::alloc::AllocError;
 use traffic::going_on::{Reason, Refused};
 
-/// What is said of a refused command behind its line.
-pub fn refused_text(
-    alloc: Global,
+/// Why a size has no place.
+#[derive(Clone, Copy)]
+enum Why {
+    /// For this reason.
+    Told(&'static str),
+    /// Since no shelf that is tall enough has room, and this is the widest that one has.
+    NoRoom(u32),
+}
+
+/// Adds what is said of a refused command behind its line.
+pub fn push_refused(
+    text: &mut String,
     refused: &Refused,
     is_vertical: bool,
-) -> Result<String, AllocError> {
-    let Size { width, height } = refused.asked;
-    let largest = largest_text(alloc, refused.largest_free)?;
-    match refused.reason {
+) -> Result<(), AllocError> {
+    let why = match refused.reason {
         Reason::OfGrowth(number) => {
-            let why = growth_words(number);
-            format!(in alloc; "growth to {width}x{height} refused: {why}")
+            text.push_str("growth to ")?;
+            return push_why(text, Why::Told(growth_words(number)), refused.asked, false);
         }
-        Reason::OfShelves(reason) => {
-            let why = shelf_words(alloc, reason, refused.asked, is_vertical)?;
-            format!(in alloc; "{width}x{height} refused: {why}; {largest}")
-        }
-        Reason::OfBuckets(reason) => {
-            let why = bucket_words(alloc, reason, refused.asked, is_vertical)?;
-            format!(in alloc; "{width}x{height} refused: {why}; {largest}")
-        }
-    }
+        Reason::OfShelves(reason) => shelf_why(reason),
+        Reason::OfBuckets(reason) => bucket_why(reason),
+    };
+    push_why(text, why, refused.asked, is_vertical)?;
+    push_largest(text, refused.largest_free)
 }
 
-/// What is said of a size that no page has a place for, behind its line: what an empty page says of it, if it has none
-/// either.
-pub fn unplaced_text(
-    alloc: Global,
+/// Adds what is said of a size that no page has a place for, behind its line: what an empty page says of it, if it has
+/// none either.
+pub fn push_unplaced(
+    text: &mut String,
     reason: Option<Refusal>,
     asked: Size,
-) -> Result<String, AllocError> {
-    let Size { width, height } = asked;
-    match reason {
-        Some(reason) => {
-            let why = shelf_words(alloc, reason, asked, false)?;
-            format!(in alloc; "{width}x{height} refused: {why}")
-        }
-        None => {
-            format!(in alloc;
-                "{width}x{height} refused: no page has room, and no more may be opened"
-            )
-        }
-    }
+) -> Result<(), AllocError> {
+    let why = match reason {
+        Some(reason) => shelf_why(reason),
+        None => Why::Told("no page has room, and no more may be opened"),
+    };
+    push_why(text, why, asked, false)
 }
 
-/// What the largest free item is, in words.
-fn largest_text(alloc: Global, largest: Size) -> Result<String, AllocError> {
+/// Adds why a size is refused, and what would have fitted: the widest that a shelf has, as tall as what was asked for.
+fn push_why(text: &mut String, why: Why, asked: Size, is_vertical: bool) -> Result<(), AllocError> {
+    let Size { width, height } = asked;
+    push_pieces(
+        text,
+        &[
+            Number(width),
+            Words("x"),
+            Number(height),
+            Words(" refused: "),
+        ],
+    )?;
+    let pieces = match why {
+        Why::Told(words) => return text.push_str(words),
+        Why::NoRoom(0) => return text.push_str("no shelf that is tall enough has anything free"),
+        Why::NoRoom(widest) if is_vertical => [
+            Number(width),
+            Words("x"),
+            Count(u128::from(widest)),
+        ],
+        Why::NoRoom(widest) => [Count(u128::from(widest)), Words("x"), Number(height)],
+    };
+    text.push_str("no shelf that is tall enough has it free; ")?;
+    push_pieces(text, &pieces)?;
+    text.push_str(" would fit")
+}
+
+/// Adds what the largest free item is.
+fn push_largest(text: &mut String, largest: Size) -> Result<(), AllocError> {
     let Size { width, height } = largest;
     if width == 0 || height == 0 {
-        return format!(in alloc; "no item is free");
+        return text.push_str("; no item is free");
     }
-    format!(in alloc; "the largest free item is {width}x{height}")
+    push_pieces(
+        text,
+        &[
+            Words("; the largest free item is "),
+            Number(width),
+            Words("x"),
+            Number(height),
+        ],
+    )
 }
 
-fn shelf_words(
-    alloc: Global,
-    reason: Refusal,
-    asked: Size,
-    is_vertical: bool,
-) -> Result<String, AllocError> {
-    match reason {
-        Refusal::NotPositive => format!(in alloc; "a side is below 1"),
-        Refusal::TooLong => format!(in alloc; "a side is above 65535"),
-        Refusal::WiderThanColumn => {
-            format!(in alloc; "it is longer along the shelves than a column is wide")
-        }
-        Refusal::TallerThanAtlas => {
-            format!(in alloc; "it is taller across the shelves than the atlas")
-        }
-        Refusal::NoRoom { widest } => no_room(alloc, widest, asked, is_vertical),
-        Refusal::NoRecords => {
-            format!(in alloc; "a shelf has room, but there would be more than 65535 items")
-        }
-    }
+fn shelf_why(reason: Refusal) -> Why {
+    Why::Told(match reason {
+        Refusal::NotPositive => "a side is below 1",
+        Refusal::TooLong => "a side is above 65535",
+        Refusal::WiderThanColumn => "it is longer along the shelves than a column is wide",
+        Refusal::TallerThanAtlas => "it is taller across the shelves than the atlas",
+        Refusal::NoRoom { widest } => return Why::NoRoom(widest),
+        Refusal::NoRecords => "a shelf has room, but there would be more than 65535 items",
+    })
 }
 
-fn bucket_words(
-    alloc: Global,
-    reason: BucketedRefusal,
-    asked: Size,
-    is_vertical: bool,
-) -> Result<String, AllocError> {
-    match reason {
-        BucketedRefusal::NotPositive => format!(in alloc; "a side is below 1"),
-        BucketedRefusal::TooLong => format!(in alloc; "a side is above 65535"),
-        BucketedRefusal::WiderThanColumn => {
-            format!(in alloc; "it is longer along the shelves than a column is wide")
-        }
-        BucketedRefusal::TallerThanAtlas => {
-            format!(in alloc; "it is taller across the shelves than the atlas")
-        }
-        BucketedRefusal::NoRoom { widest } => no_room(alloc, widest, asked, is_vertical),
+fn bucket_why(reason: BucketedRefusal) -> Why {
+    Why::Told(match reason {
+        BucketedRefusal::NotPositive => "a side is below 1",
+        BucketedRefusal::TooLong => "a side is above 65535",
+        BucketedRefusal::WiderThanColumn => "it is longer along the shelves than a column is wide",
+        BucketedRefusal::TallerThanAtlas => "it is taller across the shelves than the atlas",
+        BucketedRefusal::NoRoom { widest } => return Why::NoRoom(widest),
         BucketedRefusal::NoBuckets => {
-            format!(in alloc;
-                "there is space for a shelf, but too few of the 4095 buckets are left"
-            )
+            "there is space for a shelf, but too few of the 4095 buckets are left"
         }
         BucketedRefusal::ItemsUsedUp => {
-            format!(in alloc;
-                "a bucket has room, but has given 4095 items, and gives more once it is empty"
-            )
+            "a bucket has room, but has given 4095 items, and gives more once it is empty"
         }
-    }
-}
-
-/// That no shelf has room, and what would have fitted: the widest that one has, as tall as what was asked for.
-fn no_room(
-    alloc: Global,
-    widest: u32,
-    asked: Size,
-    is_vertical: bool,
-) -> Result<String, AllocError> {
-    if widest == 0 {
-        return format!(in alloc; "no shelf that is tall enough has anything free");
-    }
-    if is_vertical {
-        let width = asked.width;
-        return format!(in alloc;
-            "no shelf that is tall enough has it free; {width}x{widest} would fit"
-        );
-    }
-    let height = asked.height;
-    format!(in alloc; "no shelf that is tall enough has it free; {widest}x{height} would fit")
+    })
 }
 
 fn growth_words(number: u32) -> &'static str {

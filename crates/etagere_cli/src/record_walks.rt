@@ -7,7 +7,7 @@ use std::alloc::{AllocError, Global};
 const NONE: u16 = 65535;
 
 /// A record of a snapshot; or the field of the snapshot that leads to the first of a list.
-#[derive(Clone, Copy, PartialEq)]
+#[derive(Clone, Copy)]
 pub enum Record {
     Field(&'static str),
     Shelf(usize),

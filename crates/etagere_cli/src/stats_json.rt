@@ -1,9 +1,10 @@
 //! What `etagere stats --json` writes for programs: one object on one line.
 
+use crate::pieces::Piece::{Count, Words};
+use crate::pieces::push_pieces;
 use crate::report::{Asked, Fullness, Report};
 use crate::stats_text::natural;
 use std::alloc::{AllocError, Global};
-use std::fmt::Write;
 
 /// The whole text.
 pub fn json_text(alloc: Global, report: &Report) -> Result<String, AllocError> {
@@ -18,24 +19,42 @@ pub fn json_text(alloc: Global, report: &Report) -> Result<String, AllocError> {
     Ok(text)
 }
 
-fn push_asked(text: &mut String, asked: &Asked) -> Result<(), AllocError> {
-    let tally = &asked.tally;
-    push_count(text, "allocations", tally.allocations as u128)?;
-    push_count(text, "refused", tally.refused as u128)?;
-    push_count(text, "returns", tally.returns as u128)?;
-    push_count(text, "looks", tally.looks as u128)?;
-    push_count(text, "growths", tally.growths as u128)?;
-    push_count(text, "growths_refused", tally.growths_refused as u128)?;
-    push_count(text, "clears", tally.clears as u128)?;
-    push_count(text, "not_live", tally.not_live as u128)?;
-    push_count(text, "no_memory", tally.no_memory as u128)?;
-    push_count(text, "live", tally.live.now as u128)?;
-    push_count(text, "most_live", tally.live.most as u128)?;
-    push_count(text, "asked_pixels", asked.space)
+/// Adds counts with their names.
+fn push_counts(text: &mut String, counts: &[(&str, u128)]) -> Result<(), AllocError> {
+    for (name, count) in counts {
+        push_pieces(
+            text,
+            &[
+                Words("\""),
+                Words(name),
+                Words("\":"),
+                Count(*count),
+                Words(","),
+            ],
+        )?;
+    }
+    Ok(())
 }
 
-fn push_count(text: &mut String, name: &str, count: u128) -> Result<(), AllocError> {
-    write!(text, "\"{name}\":{count},")
+fn push_asked(text: &mut String, asked: &Asked) -> Result<(), AllocError> {
+    let tally = &asked.tally;
+    push_counts(
+        text,
+        &[
+            ("allocations", tally.allocations as u128),
+            ("refused", tally.refused as u128),
+            ("returns", tally.returns as u128),
+            ("looks", tally.looks as u128),
+            ("growths", tally.growths as u128),
+            ("growths_refused", tally.growths_refused as u128),
+            ("clears", tally.clears as u128),
+            ("not_live", tally.not_live as u128),
+            ("no_memory", tally.no_memory as u128),
+            ("live", tally.live.now as u128),
+            ("most_live", tally.live.most as u128),
+            ("asked_pixels", asked.space),
+        ],
+    )
 }
 
 fn push_fullness(text: &mut String, fullness: &Fullness) -> Result<(), AllocError> {
@@ -44,30 +63,35 @@ fn push_fullness(text: &mut String, fullness: &Fullness) -> Result<(), AllocErro
     } else {
         "free_items"
     };
-    push_count(text, "allocated_pixels", natural(fullness.allocated))?;
-    push_count(text, "free_pixels", natural(fullness.free))?;
-    push_count(text, "items", u128::from(fullness.items))?;
-    push_count(text, parts, u128::from(fullness.idle_parts))?;
-    push_count(
+    let largest = fullness.largest_free;
+    push_counts(
         text,
-        "largest_free_width",
-        natural(fullness.largest_free.width),
-    )?;
-    push_count(
-        text,
-        "largest_free_height",
-        natural(fullness.largest_free.height),
-    )?;
-    push_count(text, "shelves", u128::from(fullness.shelves))?;
-    push_count(text, "empty_shelves", u128::from(fullness.idle_shelves))
+        &[
+            ("allocated_pixels", natural(fullness.allocated)),
+            ("free_pixels", natural(fullness.free)),
+            ("items", u128::from(fullness.items)),
+            (parts, u128::from(fullness.idle_parts)),
+            ("largest_free_width", natural(largest.width)),
+            ("largest_free_height", natural(largest.height)),
+            ("shelves", u128::from(fullness.shelves)),
+            ("empty_shelves", u128::from(fullness.idle_shelves)),
+        ],
+    )
 }
 
 fn push_heights(text: &mut String, report: &Report) -> Result<(), AllocError> {
     text.push_str("\"heights\":[")?;
     for (index, same) in report.heights.iter().enumerate() {
-        let comma = if index == 0 { "" } else { "," };
-        let (height, shelves) = (same.height, same.shelves);
-        write!(text, "{comma}[{height},{shelves}]")?;
+        push_pieces(
+            text,
+            &[
+                Words(if index == 0 { "[" } else { ",[" }),
+                Count(u128::from(same.height)),
+                Words(","),
+                Count(same.shelves as u128),
+                Words("]"),
+            ],
+        )?;
     }
     text.push_str("]")
 }

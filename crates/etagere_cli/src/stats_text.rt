@@ -1,8 +1,9 @@
 //! What `etagere stats` writes for people.
 
+use crate::pieces::Piece::{Count, Words};
+use crate::pieces::push_pieces;
 use crate::report::{Asked, Fullness, Report};
 use std::alloc::{AllocError, Global};
-use std::fmt::Write;
 
 /// The whole text.
 pub fn plain_text(alloc: Global, report: &Report) -> Result<String, AllocError> {
@@ -21,24 +22,31 @@ pub fn plain_text(alloc: Global, report: &Report) -> Result<String, AllocError> 
 
 fn push_asked(text: &mut String, asked: &Asked) -> Result<(), AllocError> {
     let tally = &asked.tally;
-    writeln!(
+    push_pieces(
         text,
-        "allocations   {}, of which {} were refused",
-        tally.allocations, tally.refused
-    )?;
-    writeln!(text, "returns       {}", tally.returns)?;
-    writeln!(text, "looks         {}", tally.looks)?;
-    writeln!(
-        text,
-        "growths       {}, of which {} were refused",
-        tally.growths, tally.growths_refused
-    )?;
-    writeln!(text, "clears        {}", tally.clears)?;
-    writeln!(text, "not live      {} returns and looks", tally.not_live)?;
-    writeln!(
-        text,
-        "live          {} at the end, {} at most",
-        tally.live.now, tally.live.most
+        &[
+            Words("allocations   "),
+            Count(tally.allocations as u128),
+            Words(", of which "),
+            Count(tally.refused as u128),
+            Words(" were refused\nreturns       "),
+            Count(tally.returns as u128),
+            Words("\nlooks         "),
+            Count(tally.looks as u128),
+            Words("\ngrowths       "),
+            Count(tally.growths as u128),
+            Words(", of which "),
+            Count(tally.growths_refused as u128),
+            Words(" were refused\nclears        "),
+            Count(tally.clears as u128),
+            Words("\nnot live      "),
+            Count(tally.not_live as u128),
+            Words(" returns and looks\nlive          "),
+            Count(tally.live.now as u128),
+            Words(" at the end, "),
+            Count(tally.live.most as u128),
+            Words(" at most\n"),
+        ],
     )
 }
 
@@ -59,10 +67,19 @@ fn push_fill(text: &mut String, fullness: &Fullness) -> Result<(), AllocError> {
     let allocated = natural(fullness.allocated);
     let area = allocated.saturating_add(natural(fullness.free));
     let fill = thousandths(allocated, area);
-    let (whole, tenths) = (fill / 10, fill % 10);
-    writeln!(
+    push_pieces(
         text,
-        "fill          {whole}.{tenths} %, {allocated} of {area} pixels"
+        &[
+            Words("fill          "),
+            Count(fill / 10),
+            Words("."),
+            Count(fill % 10),
+            Words(" %, "),
+            Count(allocated),
+            Words(" of "),
+            Count(area),
+            Words(" pixels\n"),
+        ],
     )
 }
 
@@ -70,34 +87,65 @@ fn push_rounding(text: &mut String, fullness: &Fullness, asked: &Asked) -> Resul
     let allocated = natural(fullness.allocated);
     let wasted = allocated.saturating_sub(asked.space);
     let share = thousandths(wasted, allocated);
-    let (whole, tenths) = (share / 10, share % 10);
-    writeln!(
+    push_pieces(
         text,
-        "not asked for {whole}.{tenths} % of that, {wasted} pixels"
+        &[
+            Words("not asked for "),
+            Count(share / 10),
+            Words("."),
+            Count(share % 10),
+            Words(" % of that, "),
+            Count(wasted),
+            Words(" pixels\n"),
+        ],
     )
 }
 
 fn push_shelves(text: &mut String, report: &Report) -> Result<(), AllocError> {
-    let fullness = &report.fullness;
-    writeln!(
+    push_pieces(
         text,
-        "shelves       {}, of which {} are empty",
-        fullness.shelves, fullness.idle_shelves
+        &[
+            Words("shelves       "),
+            Count(u128::from(report.fullness.shelves)),
+            Words(", of which "),
+            Count(u128::from(report.fullness.idle_shelves)),
+            Words(" are empty\n"),
+        ],
     )?;
     for same in report.heights.as_slice() {
-        writeln!(text, "  {} tall: {}", same.height, same.shelves)?;
+        push_pieces(
+            text,
+            &[
+                Words("  "),
+                Count(u128::from(same.height)),
+                Words(" tall: "),
+                Count(same.shelves as u128),
+                Words("\n"),
+            ],
+        )?;
     }
     Ok(())
 }
 
 fn push_free(text: &mut String, fullness: &Fullness) -> Result<(), AllocError> {
     let name = if fullness.is_bucketed {
-        "idle buckets "
+        "\nidle buckets  "
     } else {
-        "free items   "
+        "\nfree items    "
     };
     let largest = fullness.largest_free;
-    writeln!(text, "items         {}", fullness.items)?;
-    writeln!(text, "{name} {}", fullness.idle_parts)?;
-    writeln!(text, "largest free  {}x{}", largest.width, largest.height)
+    push_pieces(
+        text,
+        &[
+            Words("items         "),
+            Count(u128::from(fullness.items)),
+            Words(name),
+            Count(u128::from(fullness.idle_parts)),
+            Words("\nlargest free  "),
+            Count(natural(largest.width)),
+            Words("x"),
+            Count(natural(largest.height)),
+            Words("\n"),
+        ],
+    )
 }

@@ -3,31 +3,25 @@
 //! A script that runs has letters, digits, `-`, spaces and line feeds alone, and so have its replies: nothing of them has
 //! to be escaped in the page.
 
+use crate::bad_lines::bad_line;
 use crate::ending::{Answer, Failure};
-use crate::faults::{bad_line, bad_options};
-use crate::input::read_named;
 use crate::watch_page::{HEAD, MIDDLE, TAIL};
-use clap::ArgMatches;
 use etagere_run::replay;
 use run_commands::faults::{Outcome, ReplayFault};
 use std::alloc::{AllocError, Global};
-use std::rt::Files;
 
-pub fn watch(
-    rt: &(impl Files + Input + AllocGlobal),
-    given: &ArgMatches<'_>,
-) -> Result<Answer, Failure> {
-    let alloc = rt.alloc();
-    let script = read_named(rt, given, "FILE")?;
+/// The page of a script.
+pub fn watch(alloc: Global, script: &[u8]) -> Result<Answer, Failure> {
     let mut replies: Vec<u8> = Vec::new(alloc);
     // The slice can't fail to be read, and the replies only for want of memory.
-    let outcome = replay(alloc, &mut script.as_slice(), &mut replies).map_err(|_| Failure::Fault(
+    let mut reader = script;
+    let outcome = replay(alloc, &mut reader, &mut replies).map_err(|_| Failure::Fault(
         ReplayFault::Memory,
     ))?;
     match outcome {
-        Outcome::Done => Ok(Answer::made(page(alloc, script.as_slice(), replies.as_slice())?)),
-        Outcome::BadLine(number) => bad_line(alloc, script.as_slice(), number),
-        Outcome::Options(number) => bad_options(alloc, number),
+        Outcome::Done => Ok(Answer::made(page(alloc, script, replies.as_slice())?)),
+        Outcome::BadLine(number) => Err(bad_line(script, number)),
+        Outcome::Options(number) => Err(Failure::Options(number)),
     }
 }
 
