@@ -5,12 +5,13 @@ use crate::lines::{
     id_of, say, say_fault, say_given, say_number, say_rectangle, say_size, size_of,
 };
 use crate::places::{Called, NotMade};
+use etagere::laws::Walk;
 use etagere::{
     AllocId, AtlasAllocator, AtlasSnapshot, OptionsFault, Rectangle, Refusal, RestoreFault, Size,
     Usage, laws,
 };
 use rearranging::{Move, Rearranged, rearranged};
-use std::alloc::Global;
+use std::alloc::{AllocError, Global};
 use std::io;
 use test_support::atlases::Atlas;
 
@@ -49,6 +50,7 @@ impl Called for AtlasAllocator {
             "refusal" => say_refusal(rt, refusal_of(self, size_of(words))),
             "usage" => say_usage(rt, &usage_of(self)),
             "largest_free" => say_size(rt, largest_of(self)),
+            "walk" => say_walk(rt, &walked(rt.alloc(), words)),
             "moved" => say_moved(rt, &moved(rt.alloc(), self, size_of(words)), true),
             "moves" => say_moved(rt, &moved(rt.alloc(), self, size_of(words)), false),
             _ => atlases::answer(self, rt, call, words),
@@ -128,6 +130,18 @@ fn say_usage(rt: &impl Print, usage: &Usage) -> io::Result<()> {
     )
 }
 
+/// Writes what a walk met, its end and its steps.
+fn say_walk(rt: &impl Print, walk: &Result<Walk, AllocError>) -> io::Result<()> {
+    let Ok(walk) = walk else {
+        return say(rt, "no memory");
+    };
+    rt.print("met ")?;
+    for number in &walk.met {
+        print!(rt; "{number} ")?;
+    }
+    println!(rt; "end {} steps {}", walk.end, walk.steps)
+}
+
 /// Writes what moves into a new atlas: with `is_whole` a line for each rectangle, else how many they are, and the last.
 fn say_moved(
     rt: &impl Print,
@@ -161,6 +175,20 @@ fn say_last_move(rt: &impl Print, done: &Rearranged) -> io::Result<()> {
         Some(last) => say_given(rt, "last", &last.after),
         None => say(rt, "none"),
     }
+}
+
+fn links_of(words: &str) -> [u16; 6] {
+    let mut links = [0; 6];
+    for (link, word) in links.iter_mut().zip(words.split(' ')) {
+        *link = word.parse().unwrap_or(0);
+    }
+    links
+}
+
+/// The walk from the first number, where the others are the link of each record.
+fn walked(alloc: Global, words: &str) -> Result<Walk, AllocError> {
+    let links = links_of(words);
+    laws::walk(alloc, &links[1..], links[0])
 }
 
 fn moved(alloc: Global, atlas: &AtlasAllocator, size: Size) -> Result<Rearranged, OptionsFault> {
