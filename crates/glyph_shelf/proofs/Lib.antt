@@ -6,8 +6,6 @@ mod FrameUses
 mod FullFrames
 mod Keeping
 mod KeyCounts
-mod Restoring
-mod SavedLemmas
 mod Shrinking
 mod Tying
 mod WorkedRows
