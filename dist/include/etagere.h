@@ -575,6 +575,11 @@ EtagereStatus etagere_cache_place(
  * Answers ETAGERE_OK; ETAGERE_NULL_HANDLE. Takes no memory, and constant time. */
 EtagereStatus etagere_cache_begin_frame(EtagereCache *cache);
 
+/* Gives how many keys were placed or looked up in this frame and are still there: none before the first frame. The
+ * cache stays.
+ * Answers ETAGERE_OK; ETAGERE_NULL_HANDLE. Takes no memory, and goes through these keys. */
+EtagereStatus etagere_cache_used_in_frame(EtagereCache *cache, size_t *count);
+
 /* Gives the rectangle of a key, which becomes the most recently used.
  * Answers ETAGERE_OK; ETAGERE_NULL_HANDLE; ETAGERE_UNKNOWN_KEY. Takes no memory, and constant time on average. */
 EtagereStatus etagere_cache_get(EtagereCache *cache, uint64_t key, EtagereRectangle *rectangle);
