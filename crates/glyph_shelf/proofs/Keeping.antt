@@ -30,7 +30,7 @@ cache entries capacity atlas uses =
     record { entries = entries; capacity = capacity; atlas = atlas; used_in_frame = uses }
 
 -- what an atlas promises is promised of what a cache keeps of it
-keeps : (state : CacheState) → KeepsPromises state.atlas → length state.entries ≤ state.capacity → 1 ≤ state.capacity
+pub keeps : (state : CacheState) → KeepsPromises state.atlas → length state.entries ≤ state.capacity → 1 ≤ state.capacity
     → ((key : ℕ) → times key (keys_of state.entries) ≤ 1) → AreTied (kept_allocations state) (allocations state.atlas)
     → frame_uses state ≤ length state.entries → KeepsCachePromises state
 keeps state atlas few capacity keys tied uses =

@@ -6,6 +6,8 @@ mod FrameUses
 mod FullFrames
 mod Keeping
 mod KeyCounts
+mod Restoring
+mod SavedLemmas
 mod Shrinking
 mod Tying
 mod WorkedRows

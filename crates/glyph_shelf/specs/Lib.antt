@@ -5,4 +5,5 @@ pub mod Placing
 pub mod Private
 pub mod Promises
 pub mod Retaining
+pub mod Saved
 pub mod Sizing

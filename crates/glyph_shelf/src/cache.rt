@@ -15,11 +15,13 @@ ghost use Rattle.glyph_shelf.specs.Cache.{empty_cache, evictable, frame_uses, in
 ghost use Rattle.glyph_shelf.specs.Placing.{IsFrameFull, IsLeft, IsNew, IsTooLarge, Places, Spares};
 ghost use Rattle.glyph_shelf.specs.Promises.{KeepsCachePromises};
 ghost use Rattle.glyph_shelf.specs.Retaining.{Retains};
+ghost use Rattle.glyph_shelf.specs.Saved.{CacheStandsFor, IsCacheBroken, without_frame};
 ghost use Rattle.glyph_shelf.specs.Sizing.{cache_grown, surplus, surplus_keys, with_capacity};
 
-use crate::faults::GlyphFault;
+use crate::faults::{CacheRestoreFault, GlyphFault};
 use crate::kept::Kept;
 use crate::listing::Iter;
+use crate::saving::CacheSnapshot;
 use etagere::{AllocatorOptions, AtlasAllocator, AtlasGrowFault, OptionsFault, Rectangle, Size};
 use std::alloc::{AllocError, Global};
 use std::marker::Model;
@@ -205,6 +207,30 @@ impl GlyphCache {
         ensures promises { KeepsCachePromises self.new }
     {
         self.kept.retain(keeps);
+    }
+
+    /// The cache as it is saved: its capacity, its atlas, and its keys in the order of use. What was used in the frame
+    /// isn't saved.
+    ///
+    /// The error comes only where there was no memory. Takes memory for the records of the atlas and for the keys, and
+    /// goes through them.
+    pub fn snapshot(&self) -> Result<CacheSnapshot, AllocError>
+        ensures { IfOk result (λ snapshot. CacheStandsFor snapshot (without_frame self.now)) }
+    {
+        self.kept.snapshot(self.alloc)
+    }
+
+    /// The cache for which a snapshot stands, whoever wrote it; no frame has begun.
+    ///
+    /// The fault is a rule that the snapshot breaks, or `Memory`. Takes memory for the cache, and until it is done for a
+    /// copy of the atlas. Costs what `restore` and `clone` of the atlas do, and a `deallocate` for each key.
+    pub fn restore(alloc: Global, snapshot: CacheSnapshot) -> Result<GlyphCache, CacheRestoreFault>
+        ensures ok { IfOk result (CacheStandsFor snapshot) }
+        ensures fault { IfErr result (IsCacheBroken snapshot) }
+        ensures promises { IfOk result KeepsCachePromises }
+    {
+        let kept = Kept::restored(alloc, snapshot)?;
+        Ok(GlyphCache { kept, alloc })
     }
 
     /// Makes the atlas larger, to this size in pixels, as by `AtlasAllocator::grow`. Each key keeps its place, and the

@@ -20,10 +20,13 @@ ghost use Rattle.glyph_shelf.specs.Placing.{Enters, IsFrameFull, LacksRoom, Make
 ghost use Rattle.glyph_shelf.specs.Private.Asking.{Asks};
 ghost use Rattle.glyph_shelf.specs.Promises.{KeepsCachePromises};
 ghost use Rattle.glyph_shelf.specs.Retaining.{Retains};
+ghost use Rattle.glyph_shelf.specs.Saved.{CacheStandsFor, IsCacheBroken, without_frame};
 ghost use Rattle.glyph_shelf.specs.Sizing.{cache_grown, of_capacity, surplus, surplus_keys};
 
+use crate::faults::CacheRestoreFault;
 use crate::giving_back::{give_back, takes};
 use crate::listing::Iter;
+use crate::saving::{CacheSnapshot, restored_atlas, restored_keys, saved_keys};
 use etagere::{
     Allocation, AllocatorOptions, AtlasAllocator, AtlasGrowFault, OptionsFault, Rectangle, Size,
 };
@@ -72,6 +75,42 @@ impl Kept {
         let Ok(entries) = UsedKeys::new(alloc, capacity) else {
             return Err(OptionsFault::Memory);
         };
+        Ok(Kept { entries, atlas })
+    }
+
+    /// What is saved of the entries and the atlas.
+    pub fn snapshot(&self, alloc: Global) -> Result<CacheSnapshot, AllocError>
+        ensures { IfOk result (λ snapshot. CacheStandsFor snapshot (without_frame self.now)) }
+    {
+        let atlas = self.atlas.snapshot()?;
+        let keys = saved_keys(alloc, &self.entries)?;
+        let capacity = self.entries.cap().get();
+        Ok(CacheSnapshot {
+            capacity,
+            atlas,
+            keys,
+        })
+    }
+
+    /// The entries and the atlas for which a snapshot stands.
+    pub fn restored(alloc: Global, snapshot: CacheSnapshot) -> Result<Kept, CacheRestoreFault>
+        ensures ok { IfOk result (CacheStandsFor snapshot) }
+        ensures fault { IfErr result (IsCacheBroken snapshot) }
+        ensures promises { IfOk result KeepsCachePromises }
+    {
+        let CacheSnapshot {
+            capacity,
+            atlas,
+            keys,
+        } = snapshot;
+        let Some(most) = NonZeroUsize::new(capacity) else {
+            return Err(CacheRestoreFault::NoCapacity);
+        };
+        if keys.len() > capacity {
+            return Err(CacheRestoreFault::TooManyKeys);
+        }
+        let atlas = restored_atlas(alloc, atlas)?;
+        let entries = restored_keys(alloc, &atlas, most, keys.as_slice())?;
         Ok(Kept { entries, atlas })
     }
 

@@ -2,7 +2,8 @@
 //! are evicted, no more than needed.
 //!
 //! `cache` has the public calls, `kept` the entries with their atlas, which change together, `giving_back` how an
-//! entry's rectangle goes back to the atlas, and `listing` the iterator. `laws` states what a cache without a frame is.
+//! entry's rectangle goes back to the atlas, `saving` what a cache is saved as, and `listing` the iterator. `laws` states
+//! what a cache without a frame is, and what snapshots stand for.
 #![tactic(auto)]
 
 mod cache;
@@ -11,7 +12,9 @@ mod giving_back;
 mod kept;
 pub mod laws;
 mod listing;
+mod saving;
 
 pub use cache::{GlyphCache, Placed};
-pub use faults::GlyphFault;
+pub use faults::{CacheRestoreFault, GlyphFault};
 pub use listing::Iter;
+pub use saving::{CacheSnapshot, SavedKey};

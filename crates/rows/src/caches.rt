@@ -3,8 +3,9 @@
 use crate::atlases::of_options;
 use crate::lines::{numbers, say, say_fault, say_if, say_number, say_rectangle, size_of};
 use crate::places::{Called, NotMade};
-use etagere::{AllocatorOptions, DEFAULT_OPTIONS, OptionsFault, Rectangle, Size, size2};
-use glyph_shelf::{GlyphCache, GlyphFault, Placed};
+use etagere::{AllocId, AllocatorOptions, DEFAULT_OPTIONS, OptionsFault, Rectangle, Size, size2};
+use glyph_shelf::laws::saved_and_restored;
+use glyph_shelf::{CacheRestoreFault, CacheSnapshot, GlyphCache, GlyphFault, Placed, SavedKey};
 use std::alloc::Global;
 use std::io;
 use std::num::NonZeroUsize;
@@ -22,8 +23,8 @@ impl Called for GlyphCache {
         new_cache(alloc, size2(width, height), &options, capacity).map_err(of_options)
     }
 
-    fn copied(&self, _alloc: Global) -> Result<GlyphCache, NotMade> {
-        Err(NotMade::Unread)
+    fn copied(&self, alloc: Global) -> Result<GlyphCache, NotMade> {
+        copy_of(alloc, self).map_err(|_| NotMade::NoMemory)
     }
 
     fn saved(&self, _alloc: Global) -> Option<String> {
@@ -56,6 +57,9 @@ impl Called for GlyphCache {
             "capacity" => say_number(rt, capacity(self)),
             "empty" => say_if(rt, is_empty(self), "yes", "no"),
             "allocated" => say_number(rt, allocated(self)),
+            "with_capacity" | "with_key" | "with_id" | "with_space" | "without_last" => {
+                say_restored(rt, &changed(self, rt.alloc(), call, key_of(words)))
+            }
             _ => say(rt, "no such call"),
         }
     }
@@ -91,6 +95,39 @@ fn say_evicted(rt: &impl Print, evicted: &[u64]) -> io::Result<()> {
     say(rt, "")
 }
 
+fn say_restored(
+    rt: &impl Print,
+    restored: &Result<GlyphCache, CacheRestoreFault>,
+) -> io::Result<()> {
+    match restored {
+        Ok(_) => say(rt, "restored"),
+        Err(CacheRestoreFault::Memory) => say(rt, "no memory"),
+        Err(fault) => say_fault(rt, fault.number()),
+    }
+}
+
+/// Makes what is saved say something else, as the call tells.
+fn change(saved: &mut CacheSnapshot, call: &str, number: u64) {
+    match call {
+        "with_capacity" => saved.capacity = usize::try_from(number).unwrap_or(0),
+        "with_space" => saved.atlas.allocated_space = i32::try_from(number).unwrap_or(0),
+        "without_last" => {
+            let _ = saved.keys.pop();
+        }
+        _ => change_first(saved.keys.get_mut(0), call, number),
+    }
+}
+
+/// Gives the key that was used last another number, or another id.
+fn change_first(first: Option<&mut SavedKey>, call: &str, number: u64) {
+    if let Some(first) = first {
+        match call {
+            "with_key" => first.key = number,
+            _ => first.id = AllocId::deserialize(u32::try_from(number).unwrap_or(0)),
+        }
+    }
+}
+
 // What these calls promise ends in functions that promise nothing, so that it isn't gone through in what uses them.
 
 fn new_cache(
@@ -100,6 +137,22 @@ fn new_cache(
     capacity: NonZeroUsize,
 ) -> Result<GlyphCache, OptionsFault> {
     GlyphCache::new(alloc, size, options, capacity)
+}
+
+fn copy_of(alloc: Global, cache: &GlyphCache) -> Result<GlyphCache, CacheRestoreFault> {
+    saved_and_restored(alloc, cache)
+}
+
+/// What is restored of what is saved with a change.
+fn changed(
+    cache: &GlyphCache,
+    alloc: Global,
+    call: &str,
+    number: u64,
+) -> Result<GlyphCache, CacheRestoreFault> {
+    let mut saved = cache.snapshot().map_err(|_| CacheRestoreFault::Memory)?;
+    change(&mut saved, call, number);
+    GlyphCache::restore(alloc, saved)
 }
 
 fn placed(cache: &mut GlyphCache, key: u64, size: Size) -> Result<Placed, GlyphFault> {
