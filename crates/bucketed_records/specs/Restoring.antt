@@ -10,9 +10,9 @@ use Rattle.bucketed_model.specs.State.{BucketedState}
 use Rattle.bucketed_model.specs.Valid.{ends_idle}
 use Rattle.bucketed_records.specs.declared.records.LinkedBucket.{LinkedBucket}
 use Rattle.bucketed_records.specs.declared.records.LinkedBucketShelf.{LinkedBucketShelf}
-use Rattle.bucketed_records.specs.declared.snapshots.BucketRecord.{BucketRecord}
-use Rattle.bucketed_records.specs.declared.snapshots.BucketShelfRecord.{BucketShelfRecord}
-use Rattle.bucketed_records.specs.declared.snapshots.BucketedSnapshot.{BucketedSnapshot}
+use Rattle.bucketed_snapshots.specs.declared.BucketRecord.{BucketRecord}
+use Rattle.bucketed_snapshots.specs.declared.BucketShelfRecord.{BucketShelfRecord}
+use Rattle.bucketed_snapshots.specs.declared.BucketedSnapshot.{BucketedSnapshot}
 use Rattle.bucketed_records.specs.BucketRecords.{BucketRecords, bucket_walk, spelled_state}
 use Rattle.bucketed_records.specs.StandsFor.{HasBuckets, HasCounts, HasLinks, HasShelves, IsShared, live_of, used_area}
 

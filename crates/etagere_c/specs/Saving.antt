@@ -5,13 +5,13 @@ use Rattle.etagere_base.specs.declared.faults.RestoreFault.TheVariants.{Memory}
 use Rattle.bucketed_records.specs.Restoring as buckets
 use Rattle.bucketed_records.specs.StandsFor as bucket_rules
 use Rattle.bucketed_model.specs.State.{BucketedState}
-use Rattle.bucketed_records.specs.declared.snapshots.BucketedSnapshot.{BucketedSnapshot}
+use Rattle.bucketed_snapshots.specs.declared.BucketedSnapshot.{BucketedSnapshot}
 use Rattle.saved_json.specs.Snapshots.{Spells}
 use Rattle.saved_json.specs.declared.saved.Saved.TheVariants.{Atlas, Bucketed}
 use Rattle.shelf_model.specs.State.{AtlasState}
 use Rattle.shelf_records.specs.Snapshots as shelves
 use Rattle.shelf_records.specs.StandsFor as shelf_rules
-use Rattle.shelf_records.specs.declared.snapshots.AtlasSnapshot.{AtlasSnapshot}
+use Rattle.shelf_snapshots.specs.declared.AtlasSnapshot.{AtlasSnapshot}
 use Rattle.etagere_c.specs.Calls.{IsWritten}
 use Rattle.etagere_c.specs.Statuses.{restore_refused, restore_memory, unreadable}
 

@@ -10,9 +10,9 @@ use Rattle.shelf_links.specs.declared.records.LinkedItem.{LinkedItem}
 use Rattle.shelf_links.specs.declared.records.LinkedShelf.{LinkedShelf}
 use Rattle.etagere_links.specs.Links.{link_of}
 use Rattle.shelf_links.specs.RecordLists.{unused_item_walk}
-use Rattle.shelf_records.specs.declared.snapshots.AtlasSnapshot.{AtlasSnapshot}
-use Rattle.shelf_records.specs.declared.snapshots.ItemRecord.{ItemRecord}
-use Rattle.shelf_records.specs.declared.snapshots.ShelfRecord.{ShelfRecord}
+use Rattle.shelf_snapshots.specs.declared.AtlasSnapshot.{AtlasSnapshot}
+use Rattle.shelf_snapshots.specs.declared.ItemRecord.{ItemRecord}
+use Rattle.shelf_snapshots.specs.declared.ShelfRecord.{ShelfRecord}
 use Rattle.shelf_records.specs.AtlasRecords.{AtlasRecords, is_allocated_at, spelled_state, walked_entries}
 use Rattle.shelf_model.specs.Space.{space_in}
 use Rattle.shelf_model.specs.State.{AtlasState}

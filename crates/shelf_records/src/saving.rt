@@ -5,9 +5,9 @@
 ghost use Rattle.std.specs.Prelude.{◌≡◌, IfOk, map};
 ghost use Rattle.shelf_records.specs.Snapshots as spec;
 
-use crate::snapshots::{ItemRecord, ShelfRecord};
 use etagere_links::Link;
 use shelf_links::{LinkedItem, LinkedShelf};
+use shelf_snapshots::{ItemRecord, ShelfRecord};
 use std::alloc::{AllocError, Global};
 
 /// The item that a saved one stands for.
