@@ -1,9 +1,7 @@
+pub mod BusyShelves
 pub mod Drawn
 pub mod Emptying
-pub mod KnownBlocks
-pub mod KnownSpans
-pub mod PassedShelves
+pub mod KnownShelves
 pub mod Refused
-pub mod Searched
 pub mod Spelling
 pub mod Widening

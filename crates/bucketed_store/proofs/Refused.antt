@@ -24,7 +24,7 @@ use Rattle.bucketed_records.specs.declared.records.KeptShelf.{KeptShelf}
 use Rattle.bucketed_records.specs.Private.Store.{AreBucketsSpelled, AreShelvesSpelled, Spells, Stored, first_link, kept_shelf, kept_shelves, widest_room}
 use Rattle.bucketed_records.specs.Private.Store as store
 use Rattle.bucketed_records.proofs.Spelling.KeptShelves.{length-kept, live-idle}
-use Rattle.bucketed_store.specs.declared.searching.Wanted.TheVariants.{Wide}
+use Rattle.bucket_index.specs.declared.searching.Wanted.TheVariants.{Wide}
 use Rattle.bucketed_store.specs.Private.Refusals.{idle_from, idle_in, idle_one, kept_has_width, kept_height_with, kept_idle_count, kept_items, kept_largest, kept_refusal, kept_shelves_refusal, kept_tallest, kept_usage, kept_widest}
 use Rattle.bucketed_store.proofs.Spelling.FoundFirst.{first-found, number_of}
 use Rattle.bucketed_store.proofs.Spelling.PlacedRecords.{place-is, place_by}

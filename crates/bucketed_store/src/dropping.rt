@@ -7,10 +7,10 @@ ghost use Rattle.etagere_links.specs.Edits.{changed_by};
 ghost use Rattle.bucketed_model.specs.Picking.{or_else};
 ghost use Rattle.bucketed_model.specs.State.{most_buckets};
 ghost use Rattle.bucketed_records.specs.BucketRecords.{next_of};
+ghost use Rattle.bucket_index.specs.Private.Spans.{AreSpans};
 ghost use Rattle.bucketed_store.specs.Private.Returns as spec;
-ghost use Rattle.bucketed_store.specs.Private.Spans.{AreSpans};
 
-use crate::spans::Spans;
+use bucket_index::spans::Spans;
 use bucketed_records::records::{KeptShelf, LinkedBucket};
 use etagere_links::Link;
 

@@ -7,12 +7,12 @@ ghost use Rattle.std.specs.Prelude.{◌≡◌, ◌+◌, ◌-◌, ◌*◌, ◌<�
 ghost use Rattle.etagere_links.specs.Edits.{changed_by};
 ghost use Rattle.etagere_links.specs.Links.{no_link};
 ghost use Rattle.bucketed_model.specs.State.{most_buckets};
+ghost use Rattle.bucket_index.specs.Private.Spans.{AreSpans};
 ghost use Rattle.bucketed_store.specs.Private.Growths as spec;
 ghost use Rattle.bucketed_store.specs.Private.Returns.{width_of};
-ghost use Rattle.bucketed_store.specs.Private.Spans.{AreSpans};
 
 use crate::making::{NewBuckets, make_buckets};
-use crate::spans::Spans;
+use bucket_index::spans::Spans;
 use bucketed_records::records::{KeptShelf, LinkedBucket, LinkedBucketShelf};
 use etagere_links::Link;
 

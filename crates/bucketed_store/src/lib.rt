@@ -1,16 +1,14 @@
-//! What calls do to the records of a bucketed atlas: searching, making, taking, merging, returning, dropping, growing
+//! What calls do to the records of a bucketed atlas: placing, making, taking, merging, returning, dropping, growing
 //! and drawing, each over the records in one store.
 //!
 //! `store` has the records and the steps of which calls are made. For an allocation `placing` decides the place: by
-//! `searching` in a bucket, on a new shelf, or by `merging` on idle ones; by what `blocks` know of shelves, and `spans`
-//! of the buckets of long shelves, these pass over many at once. `returning` and `dropping` are the steps of a return,
-//! `growing` those of a growth, `making` makes buckets for shelves that are added and for growths, and `drawing` has the
-//! picture. `refusing` finds why a size has no place, and `usage` how full an atlas is.
+//! `searching` of `bucket_index` in a bucket, on a new shelf, or by `merging` on idle ones. `returning` and `dropping`
+//! are the steps of a return, `growing` those of a growth, `making` makes buckets for shelves that are added and for
+//! growths, and `drawing` has the picture. `refusing` finds why a size has no place, and `usage` how full an atlas is.
 //!
 //! Definitions: `Store` of `bucketed_records` for what is stored, `StoreEdits` for what steps do to it.
 #![tactic(auto)]
 
-pub mod blocks;
 pub mod drawing;
 pub mod dropping;
 pub mod growing;
@@ -19,7 +17,5 @@ pub mod merging;
 pub mod placing;
 pub mod refusing;
 pub mod returning;
-pub mod searching;
-pub mod spans;
 pub mod store;
 pub mod usage;

@@ -4,10 +4,10 @@
 
 ghost use Rattle.std.specs.Prelude.{◌≡◌, ◌+◌, ◌*◌, ◌<◌, ◌≤◌, ◌^◌, OnOk, OnErr, length, vec_len, vec_capacity};
 ghost use Rattle.etagere_links.specs.Links.{no_link};
-ghost use Rattle.bucketed_store.specs.Private.Spans.{AreSpans};
+ghost use Rattle.bucket_index.specs.Private.Spans.{AreSpans};
 ghost use Rattle.bucketed_store.specs.Private.StoreEdits as spec;
 
-use crate::spans::Spans;
+use bucket_index::spans::Spans;
 use bucketed_records::records::LinkedBucket;
 use etagere_links::Link;
 use std::alloc::AllocError;

@@ -1,16 +1,16 @@
 //! Merges neighbouring shelves that hold nothing live, so that a taller item fits.
 //!
-//! Definitions: `Searching` and `StoreEdits`, and `Merging` for what they mean.
+//! Definitions: `Placing` and `StoreEdits`, and `Merging` for what they mean.
 
 ghost use Rattle.std.specs.Prelude.{◌≡◌, ◌+◌, ◌<◌, ◌≤◌, ◌^◌, Some, length, drop};
 ghost use Rattle.std.specs.List.{list_all};
 ghost use Rattle.etagere_links.specs.Edits.{changed_by};
 ghost use Rattle.bucketed_model.specs.Picking.{or_else};
-ghost use Rattle.bucketed_store.specs.Private.Blocks.{AreKnown};
-ghost use Rattle.bucketed_store.specs.Private.Searching as spec;
+ghost use Rattle.bucket_index.specs.Private.Blocks.{AreKnown};
+ghost use Rattle.bucketed_store.specs.Private.Placing as spec;
 ghost use Rattle.bucketed_store.specs.Private.StoreEdits as edits;
 
-use crate::blocks::{Blocks, SHELVES_OF_BLOCK};
+use bucket_index::blocks::{Blocks, SHELVES_OF_BLOCK};
 use bucketed_records::records::KeptShelf;
 use etagere_base::Sides;
 use std::marker::Model;

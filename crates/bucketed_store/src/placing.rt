@@ -1,20 +1,20 @@
 //! Where an item goes, and what is made ready for it.
 //!
-//! Definitions: `Searching`, `StoreEdits`, and `Placing` for what they mean.
+//! Definitions: `Private/Placing` and `StoreEdits`, and `Placing` of `bucketed_model` for what they mean.
 
 ghost use Rattle.std.specs.Prelude.{◌≡◌, ◌<◌, ◌^◌};
 ghost use Rattle.std.specs.Option.{option_map};
 ghost use Rattle.bucketed_model.specs.Frames.{IsBucketedFrame};
-ghost use Rattle.bucketed_store.specs.Private.Blocks.{AreKnown};
-ghost use Rattle.bucketed_store.specs.Private.Searching as spec;
-ghost use Rattle.bucketed_store.specs.Private.Spans.{AreSpans};
+ghost use Rattle.bucket_index.specs.Private.Blocks.{AreKnown};
+ghost use Rattle.bucket_index.specs.Private.Spans.{AreSpans};
+ghost use Rattle.bucketed_store.specs.Private.Placing as spec;
 ghost use Rattle.bucketed_store.specs.Private.StoreEdits as edits;
 
-use crate::blocks::Blocks;
 use crate::merging::{Group, mergeable_shelves};
-use crate::searching::{Found, pick};
-use crate::spans::Spans;
 use crate::store::Store;
+use bucket_index::blocks::Blocks;
+use bucket_index::searching::{Found, pick};
+use bucket_index::spans::Spans;
 use bucketed_model::adding::{NewShelves, Remaining, can_add, new_shelves};
 use bucketed_records::records::{KeptShelf, LinkedBucket};
 use etagere_base::{Frame, Sides};

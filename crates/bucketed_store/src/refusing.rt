@@ -5,13 +5,13 @@
 ghost use Rattle.std.specs.Prelude.{◌≡◌, ◌<◌, ◌^◌};
 ghost use Rattle.std.specs.List.{list_any};
 ghost use Rattle.bucketed_model.specs.Frames.{IsBucketedFrame};
+ghost use Rattle.bucket_index.specs.Private.Spans.{AreSpans};
 ghost use Rattle.bucketed_store.specs.Private.Refusals as spec;
-ghost use Rattle.bucketed_store.specs.Private.Spans.{AreSpans};
 
 use crate::placing::place_of;
-use crate::searching::{Wanted, first_wanted};
-use crate::spans::Spans;
 use crate::store::Store;
+use bucket_index::searching::{Wanted, first_wanted};
+use bucket_index::spans::Spans;
 use bucketed_model::adding::Remaining;
 use bucketed_model::refusals::{BucketedRefusal, has_space};
 use bucketed_records::records::{KeptShelf, LinkedBucket, wider};

@@ -12,22 +12,23 @@ ghost use Rattle.bucketed_model.specs.Taking as taking;
 ghost use Rattle.bucketed_records.specs.StandsFor.{free_of, place_of, shelf_of};
 ghost use Rattle.bucketed_records.specs.Private.Store.{record_room, shelf_record};
 ghost use Rattle.bucketed_records.specs.Restoring as restoring;
-ghost use Rattle.bucketed_store.specs.Private.Blocks.{AreKnown};
+ghost use Rattle.bucket_index.specs.Private.Blocks.{AreKnown};
+ghost use Rattle.bucket_index.specs.Private.Searching as searching;
+ghost use Rattle.bucket_index.specs.Private.Spans.{AreSpans};
 ghost use Rattle.bucketed_store.specs.Private.Growths as growths;
 ghost use Rattle.bucketed_store.specs.Private.Returns as returns;
-ghost use Rattle.bucketed_store.specs.Private.Searching as searching;
-ghost use Rattle.bucketed_store.specs.Private.Spans.{AreSpans};
+ghost use Rattle.bucketed_store.specs.Private.Placing as placing;
 ghost use Rattle.bucketed_store.specs.Private.StoreEdits as spec;
 
-use crate::blocks::Blocks;
 use crate::dropping::{drop_idle_end, next_of};
 use crate::growing::{left_after, widen_shelves};
 use crate::making::{NewBuckets, make_buckets, reserve_records};
 use crate::merging::{Group, merge};
 use crate::placing::Place;
 use crate::returning::{is_known, return_item, returned_area, shelf_number};
-use crate::searching::{Found, has_room, widest_room};
-use crate::spans::{RECORDS_OF_BLOCK, Spans};
+use bucket_index::blocks::Blocks;
+use bucket_index::searching::{Found, has_room, widest_room};
+use bucket_index::spans::{RECORDS_OF_BLOCK, Spans};
 use bucketed_model::adding::{NewShelf, NewShelves, width_of_share};
 use bucketed_records::records::{
     KeptShelf, LinkedBucket, LinkedBucketShelf, MOST_BUCKETS, record_room,
@@ -56,9 +57,9 @@ pub struct Store {
 }
 
 impl Model for Store {
-    ghost use Rattle.bucketed_store.specs.Private.Blocks.{AreKnown};
-    ghost use Rattle.bucketed_store.specs.Private.Spans.{AreSpans};
     ghost use Rattle.bucketed_records.specs.Private.Store.{Stored};
+    ghost use Rattle.bucket_index.specs.Private.Blocks.{AreKnown};
+    ghost use Rattle.bucket_index.specs.Private.Spans.{AreSpans};
 
     ghost Value = { Stored };
 
@@ -174,13 +175,13 @@ impl Store {
     ) -> Result<Found, AllocError>
         requires frame { IsBucketedFrame frame.now }
         requires place { spec.CanPrepare frame.now
-            (searching.place_seen place.now) in_use self.old }
+            (placing.place_seen place.now) in_use self.old }
         ensures ok { OnOk result
-            (self.new ≡ spec.stored_ready frame.now (searching.place_seen place.now) self.old) }
+            (self.new ≡ spec.stored_ready frame.now (placing.place_seen place.now) self.old) }
         ensures found { IfOk result
-            (λ found. spec.found_of (searching.place_seen place.now) self.new ≡ Some found) }
+            (λ found. spec.found_of (placing.place_seen place.now) self.new ≡ Some found) }
         ensures err { OnErr result (self.new ≡ self.old) }
-        ensures adds { OnErr result (spec.IsAdding (searching.place_seen place.now)) }
+        ensures adds { OnErr result (spec.IsAdding (placing.place_seen place.now)) }
     {
         match place {
             Place::InBucket(found) => Ok(*found),

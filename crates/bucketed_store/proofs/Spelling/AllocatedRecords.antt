@@ -31,8 +31,8 @@ use Rattle.bucketed_records.specs.declared.records.KeptShelf.{KeptShelf}
 use Rattle.bucketed_records.specs.Private.Store.{Spells, Stored, kept_shelf, record_of, stored_state}
 use Rattle.bucketed_records.specs.Private.Witnessed.{Witnessed}
 use Rattle.bucketed_records.proofs.Spelling.Fresh.{witnessed-read}
-use Rattle.bucketed_store.specs.declared.searching.Found.{Found}
-use Rattle.bucketed_store.specs.Private.Searching.{Place, kept_place}
+use Rattle.bucket_index.specs.declared.searching.Found.{Found}
+use Rattle.bucketed_store.specs.Private.Placing.{Place, kept_place}
 use Rattle.bucketed_store.specs.Private.StoreEdits.{CanGive, CanPrepare, HasFirst, IsAdding, IsShort, IsWidest, end_of, first_bucket_of, found_first, found_of, height_of, kept_allocation, live_items_of, needed_for, stored_ready, stored_taken}
 use Rattle.bucketed_store.specs.Private.StoreEdits as store
 use Rattle.bucketed_store.proofs.Spelling.FoundPlace.{found_seen}

@@ -7,8 +7,8 @@ use Rattle.bucketed_model.specs.Picking.{has_room, is_exact}
 use Rattle.bucketed_model.specs.State.{Bucket, BucketShelf}
 use Rattle.bucketed_records.specs.declared.records.LinkedBucket.{LinkedBucket}
 use Rattle.bucketed_records.specs.Private.Store.{record_room, AreBucketsSpelled, first_link, record_of, room_of, widest_room}
-use Rattle.bucketed_store.specs.declared.searching.Wanted.{Wanted}
-use Rattle.bucketed_store.specs.Private.Searching.{first_from, is_wanted, widest_from}
+use Rattle.bucket_index.specs.declared.searching.Wanted.{Wanted}
+use Rattle.bucket_index.specs.Private.Searching.{first_from, is_wanted, widest_from}
 
 -- the number of a bucket
 abbrev pub number_of : Bucket → ℕ

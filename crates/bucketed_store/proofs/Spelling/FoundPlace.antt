@@ -16,9 +16,9 @@ use Rattle.bucketed_records.specs.declared.records.LinkedBucket.{LinkedBucket}
 use Rattle.bucketed_records.specs.Private.Store.{AreBucketsSpelled, AreShelvesSpelled, kept_shelf, kept_shelves, widest_room}
 use Rattle.bucketed_records.specs.declared.records.KeptShelf.{KeptShelf}
 use Rattle.bucketed_records.specs.StandsFor.{free_of}
-use Rattle.bucketed_store.specs.declared.searching.Wanted.TheVariants.{Roomy, Exact}
-use Rattle.bucketed_store.specs.declared.searching.Found.{Found}
-use Rattle.bucketed_store.specs.Private.Searching.{exact_from, exact_in, exact_or_found, first_wanted, found_in, kept_waste, picked}
+use Rattle.bucket_index.specs.declared.searching.Wanted.TheVariants.{Roomy, Exact}
+use Rattle.bucket_index.specs.declared.searching.Found.{Found}
+use Rattle.bucket_index.specs.Private.Searching.{exact_from, exact_in, exact_or_found, first_wanted, found_in, kept_waste, picked}
 use Rattle.bucketed_store.proofs.Spelling.FoundFirst.{exact-roomy, first-found, number_of, spelled-back, widest-roomy}
 
 -- a bucket that was found, by the numbers of its shelf and its own

@@ -15,7 +15,7 @@ use Rattle.bucketed_records.specs.declared.records.LinkedBucket.{LinkedBucket}
 use Rattle.bucketed_records.specs.Private.Store.{AreShelvesSpelled, IsPool, Spells, Stored, kept_shelf, kept_shelves, live_items}
 use Rattle.bucketed_records.specs.declared.records.KeptShelf.{KeptShelf}
 use Rattle.bucketed_records.proofs.Spelling.KeptShelves.{live-idle, kept-heights, length-kept}
-use Rattle.bucketed_store.specs.Private.Searching.{is_kept_idle_in, kept_height, kept_mergeable, kept_serves}
+use Rattle.bucketed_store.specs.Private.Placing.{is_kept_idle_in, kept_height, kept_mergeable, kept_serves}
 use Rattle.bucketed_store.specs.Private.StoreEdits.{across_of, flattened, kept_merged, to_height}
 
 -- two columns begin at the same place where they are the same

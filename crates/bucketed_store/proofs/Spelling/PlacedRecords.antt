@@ -25,8 +25,8 @@ use Rattle.bucketed_model.proofs.Validity.Picked.{map-parts, or_else-parts}
 use Rattle.bucketed_records.specs.declared.records.KeptShelf.{KeptShelf}
 use Rattle.bucketed_records.specs.Private.Store.{Spells, Stored, first_link, kept_shelf, kept_shelves}
 use Rattle.bucketed_records.proofs.Spelling.KeptShelves.{length-kept}
-use Rattle.bucketed_store.specs.declared.searching.Found.{Found}
-use Rattle.bucketed_store.specs.Private.Searching.{InAdded, InBucket, InMerged, Place, kept_mergeable, kept_place}
+use Rattle.bucket_index.specs.declared.searching.Found.{Found}
+use Rattle.bucketed_store.specs.Private.Placing.{InAdded, InBucket, InMerged, Place, kept_mergeable, kept_place}
 use Rattle.bucketed_store.specs.Private.StoreEdits.{CanStore, IsGroupIn, IsNewShelf, across_of, found_first, found_of, group_height, needed_for, stored_ready, stored_shelves}
 use Rattle.bucketed_store.proofs.Spelling.FoundPlace.{found_seen, kept-at, picked-is}
 use Rattle.bucketed_store.proofs.Spelling.MadeShelves.{AreStored, stored_shelves-are}

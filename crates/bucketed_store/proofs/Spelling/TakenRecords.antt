@@ -19,7 +19,7 @@ use Rattle.bucketed_records.specs.BucketRecords.{next_of}
 use Rattle.bucketed_records.specs.Private.Store.{AreBucketsSpelled, AreShelvesSpelled, IsPool, Spells, Stored, first_link, kept_shelf, kept_shelves, live_items, record_of, widest_room}
 use Rattle.bucketed_records.specs.declared.records.KeptShelf.{KeptShelf}
 use Rattle.bucketed_records.proofs.Spelling.KeptShelves.{kept-heights}
-use Rattle.bucketed_store.specs.Private.Searching.{widest_from}
+use Rattle.bucket_index.specs.Private.Searching.{widest_from}
 use Rattle.bucketed_store.specs.Private.StoreEdits.{first_bucket_of, given_from, stored_taken, taken_record}
 use Rattle.bucketed_store.proofs.Spelling.FoundFirst.{widest-read}
 use Rattle.bucketed_store.proofs.Spelling.FoundPlace.{few-at, kept-at, spelled-at}

@@ -1,4 +1,4 @@
--- The widest room of a shelf: by one step along its links, and after one of its buckets gave an item.
+-- The widest room of a shelf after one of its buckets gave an item.
 use Rattle.std.proofs.Common.{◌≡◌, ℕ, zero, suc, ◌+◌, ◌-◌, ◌≤◌, Bool, true, false, cond, Option, None, Some, List, max, refl, subst, ap, sym, ◌∙◌, arith, ◌==◌}
 use Rattle.std.proofs.lemmas.Bool.{eqb-true}
 use Rattle.std.proofs.lemmas.Bool.Decides.{nat_tests}
@@ -10,16 +10,8 @@ use Rattle.bucketed_model.specs.State.{most_buckets}
 use Rattle.bucketed_records.specs.declared.records.LinkedBucket.{LinkedBucket}
 use Rattle.bucketed_records.specs.Private.Store.{record_room, Stored}
 use Rattle.bucketed_records.specs.BucketRecords.{next_of}
-use Rattle.bucketed_store.specs.Private.Searching.{widest_from}
+use Rattle.bucket_index.specs.Private.Searching.{widest_from}
 use Rattle.bucketed_store.specs.Private.StoreEdits.{IsWidest, IsWidestKept, first_bucket_of, taken_record}
-
--- the widest from a link on
-pub widest-at : (buckets : List LinkedBucket) (left fewer number : ℕ) (at : Option ℕ) (found : Option LinkedBucket) → at ≡ Some number → left ≡ suc fewer → slice_get buckets number ≡ found
-    → widest_from left buckets at ≡ option_map_or (λ (bucket : LinkedBucket). max (record_room bucket) (widest_from fewer buckets bucket.next)) found 0
-widest-at buckets left fewer number at found names less here =
-    ap (widest_from left buckets) names
-    ∙ ap (λ (n : ℕ). widest_from n buckets (Some number)) less
-    ∙ ap (λ (r : Option LinkedBucket). option_map_or (λ (bucket : LinkedBucket). max (record_room bucket) (widest_from fewer buckets bucket.next)) r 0) here
 
 -- a width that was, and the one after a bucket of this room gave an item: it is no more, and it is the same unless the
 -- bucket was the widest

@@ -13,7 +13,7 @@ use Rattle.bucketed_records.specs.declared.records.LinkedBucket.{LinkedBucket}
 use Rattle.bucketed_records.specs.BucketRecords.{next_of}
 use Rattle.bucketed_records.specs.Private.Store.{AreBucketsSpelled, Spells, Stored, first_link, widest_room}
 use Rattle.bucketed_records.specs.declared.records.KeptShelf.{KeptShelf}
-use Rattle.bucketed_store.specs.Private.Searching.{widest_from}
+use Rattle.bucket_index.specs.Private.Searching.{widest_from}
 use Rattle.bucketed_store.specs.Private.StoreEdits.{IsWidest, first_bucket_of, taken_record, widest_of}
 use Rattle.bucketed_store.proofs.Spelling.FoundFirst.{spelled-back, widest-read}
 use Rattle.bucketed_store.proofs.Spelling.FoundPlace.{few-at, spelled-at}

@@ -15,8 +15,9 @@ use Rattle.bucketed_model.specs.Usage.{size_of}
 use Rattle.bucketed_records.specs.declared.records.LinkedBucket.{LinkedBucket}
 use Rattle.bucketed_records.specs.declared.records.KeptShelf.{KeptShelf}
 use Rattle.bucketed_records.specs.Private.Store.{is_kept_idle}
-use Rattle.bucketed_store.specs.declared.searching.Wanted.TheVariants.{Wide}
-use Rattle.bucketed_store.specs.Private.Searching.{first_wanted, kept_place}
+use Rattle.bucket_index.specs.declared.searching.Wanted.TheVariants.{Wide}
+use Rattle.bucket_index.specs.Private.Searching.{first_wanted}
+use Rattle.bucketed_store.specs.Private.Placing.{kept_place}
 
 -- the widest room in the shelves that are at least so tall
 abbrev pub kept_widest : ℕ → List KeptShelf → ℕ

@@ -17,8 +17,9 @@ pub use Rattle.bucketed_records.specs.declared.records.LinkedBucket.{LinkedBucke
 use Rattle.bucketed_records.specs.BucketRecords.{next_of}
 pub use Rattle.bucketed_records.specs.declared.records.KeptShelf.{KeptShelf}
 use Rattle.bucketed_records.specs.Private.Store.{Stored}
-use Rattle.bucketed_store.specs.declared.searching.Found.{Found}
-use Rattle.bucketed_store.specs.Private.Searching.{Place, InBucket, InAdded, InMerged, kept_height, widest_from}
+use Rattle.bucket_index.specs.declared.searching.Found.{Found}
+use Rattle.bucket_index.specs.Private.Searching.{widest_from}
+use Rattle.bucketed_store.specs.Private.Placing.{Place, InBucket, InAdded, InMerged, kept_height}
 -- buckets to be made side by side: the number of their shelf, their width, and where the first one
 -- begins
 pub use Rattle.bucketed_store.specs.declared.making.NewBuckets.{NewBuckets}

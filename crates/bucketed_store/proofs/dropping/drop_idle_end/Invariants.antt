@@ -1,6 +1,6 @@
 use Rattle.std.proofs.Common.{◌≡◌, ◌*◌, ◌-◌, ◌≤◌, length, vec_len, vec_capacity}
+use Rattle.bucket_index.specs.Private.Spans.{AreSpans}
 use Rattle.bucketed_store.specs.Private.Returns as spec
-use Rattle.bucketed_store.specs.Private.Spans.{AreSpans}
 use Rattle.bucketed_store.proofs.dropping.drop_idle_end.Given as goal
 
 -- what is dropped so far and from here on is all that is dropped

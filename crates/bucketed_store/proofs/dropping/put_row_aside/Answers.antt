@@ -1,5 +1,5 @@
+use Rattle.bucket_index.proofs.KnownSpans.{spans-changed}
 use Rattle.bucketed_store.specs.Private.Returns as spec
-use Rattle.bucketed_store.proofs.KnownSpans.{spans-changed}
 use Rattle.bucketed_store.proofs.dropping.put_row_aside.Goals as goal
 
 pub forget-requires : goal.forget-requires

@@ -5,10 +5,10 @@ use Rattle.std.specs.Prelude.{slice_get}
 use Rattle.etagere_links.specs.Edits.{changed_by}
 use Rattle.etagere_links.proofs.EditLemmas.{set-changed}
 use Rattle.bucketed_records.specs.declared.records.LinkedBucket.{LinkedBucket}
-use Rattle.bucketed_store.specs.Private.Spans.{AreOtherSpans, AreSpans}
+use Rattle.bucket_index.specs.Private.Spans.{AreOtherSpans, AreSpans}
+use Rattle.bucket_index.proofs.KnownSpans.{spans-added, spans-changed}
 use Rattle.bucketed_store.specs.Private.StoreEdits.{Made, made_again, made_new, made_one, new_record}
 use Rattle.bucketed_store.specs.declared.making.NewBuckets.{NewBuckets}
-use Rattle.bucketed_store.proofs.KnownSpans.{spans-added, spans-changed}
 use Rattle.bucketed_store.proofs.making.make_bucket.Goals as goal
 use Rattle.bucketed_store.proofs.making.make_bucket.Goals.{in-Some+else-number-len, in_default}
 

@@ -1,6 +1,6 @@
 use Rattle.std.proofs.Common.{◌≡◌, drop}
 use Rattle.std.specs.List.{list_all}
-use Rattle.bucketed_store.specs.Private.Searching.{is_kept_idle_in}
+use Rattle.bucketed_store.specs.Private.Placing.{is_kept_idle_in}
 use Rattle.bucketed_store.proofs.merging.are_idle_in.Given as goal
 
 -- all are where those from here on are

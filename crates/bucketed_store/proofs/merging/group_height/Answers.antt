@@ -1,6 +1,6 @@
 use Rattle.std.proofs.Common.{◌≡◌, ℕ, suc, ◌+◌, ◌-◌, take, drop, ap, ◌∙◌, arith}
 use Rattle.bucketed_model.specs.Merging.{Group}
-use Rattle.bucketed_store.specs.Private.Searching.{kept_height}
+use Rattle.bucketed_store.specs.Private.Placing.{kept_height}
 use Rattle.bucketed_store.specs.Private.StoreEdits.{group_height}
 use Rattle.bucketed_store.proofs.merging.group_height.Goals as goal
 

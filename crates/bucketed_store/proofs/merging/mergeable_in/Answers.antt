@@ -1,5 +1,5 @@
 use Rattle.std.proofs.Common.{◌≡◌, suc, ◌+◌, sym, ◌∙◌, arith}
-use Rattle.bucketed_store.proofs.PassedShelves.{mergeable-past}
+use Rattle.bucketed_store.proofs.BusyShelves.{mergeable-past}
 use Rattle.bucketed_store.proofs.merging.mergeable_in.Goals as goal
 
 pub loop-first-preserved : goal.loop-first-preserved

@@ -2,8 +2,8 @@ use Rattle.std.proofs.Common.{◌≡◌, ℕ, ◌+◌, false, Option, None, Some
 use Rattle.std.specs.Prelude.{is_some}
 use Rattle.bucketed_model.specs.Merging.{Group}
 use Rattle.bucketed_model.specs.Picking.{or_else}
-use Rattle.bucketed_store.specs.Private.Searching.{kept_mergeable}
-use Rattle.bucketed_store.proofs.PassedShelves.{mergeable-behind}
+use Rattle.bucketed_store.specs.Private.Placing.{kept_mergeable}
+use Rattle.bucketed_store.proofs.BusyShelves.{mergeable-behind}
 use Rattle.bucketed_store.proofs.merging.mergeable_shelves.Goals as goal
 use Rattle.bucketed_store.proofs.merging.mergeable_shelves.Goals.{then-from-behind, else-from-behind+else-is_some}
 

@@ -1,5 +1,5 @@
 use Rattle.std.proofs.Common.{◌≡◌, ◌≤◌, drop}
-use Rattle.bucketed_store.specs.Private.Searching.{kept_mergeable}
+use Rattle.bucketed_store.specs.Private.Placing.{kept_mergeable}
 use Rattle.bucketed_store.proofs.merging.mergeable_shelves.Given as goal
 
 -- what is sought among all shelves is what is sought from here on

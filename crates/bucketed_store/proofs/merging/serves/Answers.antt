@@ -3,7 +3,7 @@ use Rattle.std.proofs.lemmas.List.{length-take}
 use Rattle.std.specs.Prelude.{◌==◌}
 use Rattle.etagere_base.specs.declared.sides.Sides.{Sides}
 use Rattle.bucketed_records.specs.declared.records.KeptShelf.{KeptShelf}
-use Rattle.bucketed_store.specs.Private.Searching.{serves_at}
+use Rattle.bucketed_store.specs.Private.Placing.{serves_at}
 use Rattle.bucketed_store.proofs.merging.serves.Goals as goal
 
 -- a shelf doesn't serve with more than stand after it

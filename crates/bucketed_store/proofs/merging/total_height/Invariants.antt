@@ -1,5 +1,5 @@
 use Rattle.std.proofs.Common.{◌≡◌, ◌+◌, ◌*◌, ◌≤◌, drop}
-use Rattle.bucketed_store.specs.Private.Searching.{kept_height}
+use Rattle.bucketed_store.specs.Private.Placing.{kept_height}
 use Rattle.bucketed_store.proofs.merging.total_height.Given as goal
 
 -- the height so far and the heights of the shelves from here on make up the whole

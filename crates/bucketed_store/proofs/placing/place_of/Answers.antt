@@ -2,9 +2,9 @@ use Rattle.std.proofs.Common.{List, ap, subst, sym, ◌∙◌}
 use Rattle.bucketed_records.specs.declared.records.LinkedBucket.{LinkedBucket}
 use Rattle.bucketed_records.specs.declared.records.KeptShelf.{KeptShelf}
 use Rattle.bucketed_records.specs.Private.Store.{Stored}
-use Rattle.bucketed_store.specs.Private.Blocks.{AreKnown}
-use Rattle.bucketed_store.specs.Private.Searching.{kept_place}
-use Rattle.bucketed_store.specs.Private.Spans.{AreSpans}
+use Rattle.bucket_index.specs.Private.Blocks.{AreKnown}
+use Rattle.bucket_index.specs.Private.Spans.{AreSpans}
+use Rattle.bucketed_store.specs.Private.Placing.{kept_place}
 use Rattle.bucketed_store.proofs.placing.place_of.Goals as goal
 
 pub place_among-requires-clause-known : goal.place_among-requires-clause-known

@@ -1,5 +1,5 @@
 use Rattle.std.proofs.Common.{subst, sym}
-use Rattle.bucketed_store.specs.Private.Spans.{AreSpans}
+use Rattle.bucket_index.specs.Private.Spans.{AreSpans}
 use Rattle.bucketed_store.proofs.refusing.place_refusal.Goals as goal
 
 pub shelves_refusal-requires-clause-spans : goal.shelves_refusal-requires-clause-spans

@@ -4,9 +4,9 @@ use Rattle.std.specs.Result.{is_ok}
 use Rattle.etagere_base.proofs.FrameSides.{sides_low}
 use Rattle.bucketed_model.specs.Adding.{NewShelf, width_of_share}
 use Rattle.bucketed_model.proofs.Shelving.Shares.{shares-fit}
+use Rattle.bucket_index.specs.Private.Blocks.{AreKnown}
+use Rattle.bucket_index.proofs.KnownBlocks.{known-last}
 use Rattle.bucketed_store.specs.Private.StoreEdits.{EndsBy}
-use Rattle.bucketed_store.specs.Private.Blocks.{AreKnown}
-use Rattle.bucketed_store.proofs.KnownBlocks.{known-last}
 use Rattle.bucketed_store.proofs.store.add_shelf.Goals as goal
 
 pub make_buckets-first_bucket-requires-clause-narrow : goal.make_buckets-first_bucket-requires-clause-narrow

@@ -1,11 +1,11 @@
 use Rattle.std.proofs.Common.{length, ap, arith, subst, sym, ◌∙◌}
 use Rattle.bucketed_model.specs.Adding.{NewShelves, news_of}
 use Rattle.bucketed_records.specs.Private.Store.{Stored}
+use Rattle.bucket_index.specs.Private.Blocks.{AreKnown}
+use Rattle.bucket_index.specs.Private.Spans.{AreSpans}
 use Rattle.bucketed_store.specs.Private.StoreEdits.{IsShort, stored_shelves}
 use Rattle.bucketed_store.proofs.Spelling.MadeLengths.{filler-keeps}
 use Rattle.bucketed_store.proofs.Spelling.MadeShelves.{first-short}
-use Rattle.bucketed_store.specs.Private.Blocks.{AreKnown}
-use Rattle.bucketed_store.specs.Private.Spans.{AreSpans}
 use Rattle.bucketed_store.specs.declared.store.Store.TheInside.{Inside}
 use Rattle.bucketed_store.proofs.store.Store.add.Goals as goal
 use Rattle.bucketed_store.proofs.store.Store.add.Goals.{in-Some, in_default}

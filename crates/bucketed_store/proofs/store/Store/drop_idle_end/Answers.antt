@@ -1,10 +1,11 @@
 use Rattle.std.proofs.Common.{◌≡◌, ap, arith, subst, sym, vec_len}
 use Rattle.std.proofs.lemmas.List.{with_items_is}
 use Rattle.std.specs.Vec.{with_items}
-use Rattle.bucketed_store.specs.Private.Blocks.{AreKnown}
+use Rattle.bucket_index.specs.Private.Blocks.{AreKnown}
+use Rattle.bucket_index.specs.Private.Spans.{AreSpans}
+use Rattle.bucket_index.proofs.KnownBlocks.{known-some}
 use Rattle.bucketed_store.specs.Private.Returns.{Dropping, dropping_of}
-use Rattle.bucketed_store.specs.Private.Spans.{AreSpans}
-use Rattle.bucketed_store.proofs.KnownBlocks.{known-some, some-dropped}
+use Rattle.bucketed_store.proofs.KnownShelves.{some-dropped}
 use Rattle.bucketed_store.proofs.store.Store.drop_idle_end.Goals as goal
 
 pub drop_idle_end-requires-clause-spans : goal.drop_idle_end-requires-clause-spans

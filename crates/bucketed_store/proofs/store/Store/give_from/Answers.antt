@@ -5,11 +5,11 @@ use Rattle.bucketed_model.specs.State.{most_buckets}
 use Rattle.bucketed_records.specs.declared.records.LinkedBucket.{LinkedBucket}
 use Rattle.bucketed_records.specs.declared.records.KeptShelf.{KeptShelf}
 use Rattle.bucketed_records.specs.Private.Store.{Stored}
-use Rattle.bucketed_store.specs.Private.Blocks.{AreKnown, AreOthersKnown}
-use Rattle.bucketed_store.specs.Private.Searching.{widest_from}
-use Rattle.bucketed_store.specs.Private.Spans.{AreSpans}
+use Rattle.bucket_index.specs.Private.Blocks.{AreKnown, AreOthersKnown}
+use Rattle.bucket_index.specs.Private.Searching.{widest_from}
+use Rattle.bucket_index.specs.Private.Spans.{AreSpans}
+use Rattle.bucket_index.proofs.KnownBlocks.{known-others}
 use Rattle.bucketed_store.specs.Private.StoreEdits.{first_bucket_of, given_from, shelves_given}
-use Rattle.bucketed_store.proofs.KnownBlocks.{known-others}
 use Rattle.bucketed_store.proofs.store.Store.give_from.Goals as goal
 
 pub learn_row-requires-clause-spans : goal.learn_row-requires-clause-spans

@@ -1,9 +1,9 @@
 use Rattle.std.proofs.Common.{◌≡◌, ap, subst, sym, ◌∙◌, arith}
 use Rattle.std.proofs.lemmas.List.{with_items_is}
 use Rattle.std.specs.Vec.{with_items}
-use Rattle.bucketed_store.specs.Private.Blocks.{AreKnown}
+use Rattle.bucket_index.specs.Private.Blocks.{AreKnown}
 use Rattle.bucketed_store.specs.Private.StoreEdits.{kept_merged}
-use Rattle.bucketed_store.proofs.KnownBlocks.{known-merged}
+use Rattle.bucketed_store.proofs.KnownShelves.{known-merged}
 use Rattle.bucketed_store.proofs.store.Store.merge.Goals as goal
 
 pub invariant_of-self : goal.invariant_of-self

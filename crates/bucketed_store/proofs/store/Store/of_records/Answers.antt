@@ -1,5 +1,5 @@
 use Rattle.std.proofs.Common.{subst}
-use Rattle.bucketed_store.specs.Private.Blocks.{AreKnown}
+use Rattle.bucket_index.specs.Private.Blocks.{AreKnown}
 use Rattle.bucketed_store.proofs.store.Store.of_records.Goals as goal
 
 pub invariant_of-result : goal.invariant_of-result

@@ -6,11 +6,11 @@ use Rattle.etagere_links.specs.Edits.{changed_by}
 use Rattle.bucketed_records.specs.declared.records.LinkedBucket.{LinkedBucket}
 use Rattle.bucketed_records.specs.declared.records.KeptShelf.{KeptShelf}
 use Rattle.bucketed_records.specs.StandsFor.{live_of, shelf_of}
-use Rattle.bucketed_store.specs.Private.Blocks.{AreKnown, AreOthersKnown}
+use Rattle.bucket_index.specs.Private.Blocks.{AreKnown, AreOthersKnown}
+use Rattle.bucket_index.specs.Private.Spans.{AreSpans, AreSpansBut}
+use Rattle.bucket_index.proofs.KnownBlocks.{known-others}
+use Rattle.bucket_index.proofs.KnownSpans.{spans-changed-room}
 use Rattle.bucketed_store.specs.Private.Returns.{emptied_record, lessened_record, returned_kept, returned_record, width_of}
-use Rattle.bucketed_store.specs.Private.Spans.{AreSpans, AreSpansBut}
-use Rattle.bucketed_store.proofs.KnownBlocks.{known-others}
-use Rattle.bucketed_store.proofs.KnownSpans.{spans-changed-room}
 use Rattle.bucketed_store.proofs.store.Store.return_item.Goals as goal
 
 -- a return keeps a record's link

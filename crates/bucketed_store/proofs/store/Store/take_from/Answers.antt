@@ -3,9 +3,9 @@ use Rattle.std.proofs.lemmas.List.{with_items_is}
 use Rattle.std.specs.Vec.{with_items}
 use Rattle.etagere_links.specs.Edits.{changed_by}
 use Rattle.bucketed_records.specs.declared.records.LinkedBucket.{LinkedBucket}
-use Rattle.bucketed_store.specs.Private.Spans.{AreSpans, AreSpansBut}
+use Rattle.bucket_index.specs.Private.Spans.{AreSpans, AreSpansBut}
+use Rattle.bucket_index.proofs.KnownSpans.{spans-changed-room}
 use Rattle.bucketed_store.specs.Private.StoreEdits.{taken_record}
-use Rattle.bucketed_store.proofs.KnownSpans.{spans-changed-room}
 use Rattle.bucketed_store.proofs.store.Store.take_from.Goals as goal
 
 pub track-requires-clause-others : goal.track-requires-clause-others

@@ -1,6 +1,6 @@
 use Rattle.std.proofs.Common.{arith, subst, sym}
-use Rattle.bucketed_store.specs.Private.Blocks.{AreKnown}
-use Rattle.bucketed_store.specs.Private.Spans.{AreSpans}
+use Rattle.bucket_index.specs.Private.Blocks.{AreKnown}
+use Rattle.bucket_index.specs.Private.Spans.{AreSpans}
 use Rattle.bucketed_store.proofs.Widening.Shares.{left-le}
 use Rattle.bucketed_store.proofs.store.Store.widen.Goals as goal
 

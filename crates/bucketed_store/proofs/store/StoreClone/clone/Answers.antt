@@ -3,8 +3,8 @@ use Rattle.std.specs.List.{AllZip}
 use Rattle.bucketed_records.specs.declared.records.LinkedBucket.{LinkedBucket}
 use Rattle.bucketed_records.specs.declared.records.KeptShelf.{KeptShelf}
 use Rattle.bucketed_records.specs.Private.Store.{Stored}
-use Rattle.bucketed_store.specs.Private.Blocks.{AreKnown}
-use Rattle.bucketed_store.specs.Private.Spans.{AreSpans}
+use Rattle.bucket_index.specs.Private.Blocks.{AreKnown}
+use Rattle.bucket_index.specs.Private.Spans.{AreSpans}
 use Rattle.bucketed_store.proofs.store.StoreClone.clone.Goals as goal
 
 -- a list of copies is the list

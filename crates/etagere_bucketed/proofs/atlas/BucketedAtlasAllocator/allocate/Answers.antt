@@ -23,9 +23,9 @@ use Rattle.bucketed_model.proofs.Ledger.EntriesApart.{tied-apart}
 use Rattle.bucketed_records.specs.Private.Store.{Stored, stored_state}
 use Rattle.bucketed_records.specs.Private.Witnessed.{HasTotals, Witnessed}
 use Rattle.bucketed_records.proofs.Spelling.Fresh.{space-small}
+use Rattle.bucket_index.specs.declared.searching.Found.{Found}
 use Rattle.bucketed_store.specs.declared.placing.Place as code
-use Rattle.bucketed_store.specs.declared.searching.Found.{Found}
-use Rattle.bucketed_store.specs.Private.Searching.{Place, kept_place, place_seen}
+use Rattle.bucketed_store.specs.Private.Placing.{Place, kept_place, place_seen}
 use Rattle.bucketed_store.specs.Private.StoreEdits.{CanGive, IsShort, end_of, found_of, height_of, kept_allocation, live_items_of, stored_ready, stored_taken}
 use Rattle.bucketed_store.specs.Private.StoreEdits as store
 use Rattle.bucketed_store.proofs.Spelling.AllocatedRecords.{IsAllocation, Makes, allocation-is, makes, needed-few, needs-shelf, refused}

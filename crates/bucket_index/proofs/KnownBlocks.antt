@@ -1,0 +1,282 @@
+-- What is known of blocks of shelves: after a shelf was added or changed, and of shelves that are passed over.
+use Rattle.std.proofs.Common.{◌≡◌, ℕ, zero, suc, ◌+◌, ◌-◌, ◌*◌, ◌<◌, ◌≤◌, Bool, true, false, Option, None, Some, List, [], ◌∷◌, ◌++◌, length, length-append, map, take, cond, refl, ap, sym, subst, ◌∙◌, arith, ◌==◌}
+use Rattle.std.proofs.lemmas.Bool.{eqb-true, leb-false}
+use Rattle.std.proofs.lemmas.Option.{slice_get_within}
+use Rattle.std.specs.Option.{option_map_or}
+use Rattle.std.specs.Prelude.{option_map, nat_le, slice_get, slice_set, ◌||◌}
+use Rattle.etagere_links.specs.Edits.{changed_by}
+use Rattle.etagere_links.proofs.RecordChanges.{get-changed_by, get-changed_by-other}
+use Rattle.bucketed_records.specs.declared.records.KeptShelf.{KeptShelf}
+use Rattle.bucketed_records.specs.Private.Store.{is_kept_idle}
+use Rattle.bucket_index.specs.declared.blocks.Block.{Block}
+use Rattle.bucket_index.specs.declared.blocks.Blocks.{Blocks}
+use Rattle.bucket_index.specs.Private.Blocks.{AreFirstKnown, AreKnown, AreKnownOf, AreKnownWhere, AreOthersKnown, IsKnown, IsPart, block_of, joined, may_be_idle, may_give, raised, with_shelf}
+
+-- what is read from a list after a write to one place: what was written, or else what was there
+pub read-set : {X P : Type 0} (xs : List X) (i j : ℕ) (v y : X) → slice_get (slice_set xs i v) j ≡ Some y → ((z : X) → slice_get xs i ≡ Some z → j ≡ i → y ≡ v → P)
+    → ((j ≡ i → ⊥) → slice_get xs j ≡ Some y → P) → P
+read-set [] i j v y read here there = absurd (cc)
+read-set (x ∷ xs) zero zero v y read here there = here x refl refl (cc)
+read-set (x ∷ xs) zero (suc j) v y read here there = there (λ e. absurd (omega arith)) read
+read-set (x ∷ xs) (suc i) zero v y read here there = there (λ e. absurd (omega arith)) read
+read-set (x ∷ xs) (suc i) (suc j) v y read here there =
+    read-set xs i j v y read (λ z at same is. here z at (ap suc same) is) (λ other at. there (λ e. other (omega arith)) at)
+
+-- a shelf is known to a block that was counted with it
+pub known-own : (kept : KeptShelf) (block : Block) → IsKnown kept (with_shelf kept block)
+known-own kept block = record { room = omega arith; idle = λ idle. either block.has_idle (is_kept_idle kept) idle }
+  where
+    either : (s t : Bool) → t ≡ true → (s || t) ≡ true
+    either true t h = refl
+    either false t h = h
+
+-- a shelf stays known where another one is counted with it
+pub known-still : (kept other : KeptShelf) (block : Block) → IsKnown kept block → IsKnown kept (with_shelf other block)
+known-still kept other block known = record { room = omega (arith, known.room); idle = λ idle. either block.has_idle (is_kept_idle other) (known.idle idle) }
+  where
+    either : (s t : Bool) → s ≡ true → (s || t) ≡ true
+    either true t h = refl
+    either false t h = absurd (cc)
+
+-- the same element was read twice
+pub some-same : {X : Type 0} (o : Option X) (x y : X) → o ≡ Some x → o ≡ Some y → x ≡ y
+some-same o x y h k = cc
+
+-- what is read from a list of which one element was changed
+read-changed : {X P : Type 0} (change : X → X) (xs : List X) (i j : ℕ) (y : X) → slice_get (changed_by (Some i) change xs) j ≡ Some y → ((z : X) → slice_get xs i ≡ Some z → j ≡ i → y ≡ change z → P)
+    → ((j ≡ i → ⊥) → slice_get xs j ≡ Some y → P) → P
+read-changed {X} {P} change xs i j y read here there = by_number (j == i) refl
+  where
+    by_old : j ≡ i → (o : Option X) → slice_get xs i ≡ o → option_map change o ≡ Some y → P
+    by_old same None e h = absurd (cc)
+    by_old same (Some z) e h = here z e same (inner z h)
+      where
+        inner : (x : X) → Some (change x) ≡ Some y → y ≡ change x
+        inner x h = cc
+
+    by_number : (t : Bool) → (j == i) ≡ t → P
+    by_number true e =
+        let same = eqb-true j i e in
+        by_old same (slice_get xs i) refl (sym (get-changed_by change xs (Some i) i refl) ∙ ap (slice_get (changed_by (Some i) change xs)) (sym same) ∙ read)
+    by_number false e = there (λ same. apart same e) (sym (get-changed_by-other change xs (Some i) j (λ (h : Some i ≡ Some j). apart (inner h) e)) ∙ read)
+      where
+        apart : j ≡ i → (j == i) ≡ false → ⊥
+        apart same h = grind arith
+
+        inner : Some i ≡ Some j → j ≡ i
+        inner h = cc
+
+-- a shelf is known to its block of a size beside others
+raise-of : (Before After : ℕ → Type 0) (size k : ℕ) (one : KeptShelf) (blocks : List Block) (shelves : List KeptShelf) → slice_get shelves k ≡ Some one → ((n : ℕ) → After n → (n ≡ k → ⊥) → Before n)
+    → AreKnownOf Before size blocks shelves → AreKnownOf After size (changed_by (Some (block_of size k)) (with_shelf one) blocks) shelves
+raise-of Before After size k one blocks shelves here before known number kept block after at in_block = by_number (number == k) refl
+  where
+    by_number : (t : Bool) → (number == k) ≡ t → IsKnown kept block
+    by_number true e =
+        let same = eqb-true number k e in
+        let shelf : one ≡ kept = some-same (slice_get shelves k) one kept here (ap (slice_get shelves) (sym same) ∙ at) in
+        read-changed (with_shelf one) blocks (block_of size k) (block_of size number) block in_block
+        (λ z stood _ is. subst (IsKnown kept) (sym is) (subst (λ (s : KeptShelf). IsKnown s (with_shelf one z)) shelf (known-own one z)))
+        (λ apart stood. absurd (apart (ap (block_of size) same)))
+    by_number false e =
+        read-changed (with_shelf one) blocks (block_of size k) (block_of size number) block in_block
+        (λ z stood same is. subst (IsKnown kept) (sym is) (known-still kept one z (known number kept z (before number after (λ h. apart h e)) at (ap (slice_get blocks) same ∙ stood))))
+        (λ _ stood. known number kept block (before number after (λ h. apart h e)) at stood)
+      where
+        apart : number ≡ k → (number == k) ≡ false → ⊥
+        apart same h = grind arith
+
+-- a shelf is known to its blocks beside others
+pub raise-known : (Before After : ℕ → Type 0) (k : ℕ) (one : KeptShelf) (blocks : Blocks) (shelves : List KeptShelf) → slice_get shelves k ≡ Some one → ((n : ℕ) → After n → (n ≡ k → ⊥) → Before n)
+    → AreKnownWhere Before blocks shelves → AreKnownWhere After (raised k one blocks) shelves
+raise-known Before After k one blocks shelves here before known = record {
+  small = raise-of Before After 8 k one blocks.small shelves here before known.small;
+  middle = raise-of Before After 64 k one blocks.middle shelves here before known.middle;
+  large = raise-of Before After 512 k one blocks.large shelves here before known.large;
+}
+
+-- a block of a size is known anew
+pub set-of : (size k : ℕ) (fresh : Block) (blocks : List Block) (shelves : List KeptShelf)
+    → ((number : ℕ) (kept : KeptShelf) → block_of size number ≡ block_of size k → block_of size k < length blocks → slice_get shelves number ≡ Some kept → IsKnown kept fresh)
+    → AreKnownOf (λ number. number ≡ k → ⊥) size blocks shelves → AreKnownOf (λ number. Unit {0}) size (changed_by (Some (block_of size k)) (λ _. fresh) blocks) shelves
+set-of size k fresh blocks shelves all others number kept block any at in_block =
+    read-changed (λ _. fresh) blocks (block_of size k) (block_of size number) block in_block
+    (λ z stood same is. subst (IsKnown kept) (sym is) (all number kept same (slice_get_within blocks (block_of size k) z stood) at))
+    (λ apart stood. others number kept block (λ same. apart (ap (block_of size) same)) at stood)
+
+-- what is known of a shelf by its block is known by a larger one
+known-part : (kept : KeptShelf) (block whole : Block) → IsKnown kept block → IsPart block whole → IsKnown kept whole
+known-part kept block whole known part = record { room = omega (arith, known.room, part.room); idle = λ idle. part.idle (known.idle idle) }
+
+-- an element of a list below its length
+element-below : {X P : Type 0} (xs : List X) (n : ℕ) → n < length xs → ((x : X) → slice_get xs n ≡ Some x → P) → P
+element-below [] n within found = absurd (omega arith)
+element-below (x ∷ xs) zero within found = found x refl
+element-below (x ∷ xs) (suc n) within found = element-below xs n (omega arith) found
+
+-- what is known of each of some blocks together
+abbrev pub AreGathered : ℕ → List Block → Block → Type 0
+AreGathered from blocks whole = (number : ℕ) (block : Block) → from ≤ number → number < from + 8 → slice_get blocks number ≡ Some block → IsPart block whole
+
+-- a shelf is known to the middle block that was gathered of its small ones, and to the large one that was of its middle ones
+pub gathered-middle : (k : ℕ) (fresh : Block) (small middle : List Block) (shelves : List KeptShelf) → length small ≡ 512 → length middle ≡ 64 → AreKnownOf (λ number. Unit {0}) 8 small shelves
+    → AreGathered (block_of 64 k * 8) small fresh → (number : ℕ) (kept : KeptShelf) → block_of 64 number ≡ block_of 64 k → block_of 64 k < length middle → slice_get shelves number ≡ Some kept → IsKnown kept fresh
+gathered-middle k fresh small middle shelves long wide known gathered number kept same few at =
+    element-below small (block_of 8 number) (omega (arith, same, few, long, wide))
+    (λ block stood. known-part kept block fresh (known number kept block tt at stood) (gathered (block_of 8 number) block (omega (arith, same)) (omega (arith, same)) stood))
+
+pub gathered-large : (k : ℕ) (fresh : Block) (middle large : List Block) (shelves : List KeptShelf) → length middle ≡ 64 → length large ≡ 8 → AreKnownOf (λ number. Unit {0}) 64 middle shelves
+    → AreGathered (block_of 512 k * 8) middle fresh → (number : ℕ) (kept : KeptShelf) → block_of 512 number ≡ block_of 512 k → block_of 512 k < length large → slice_get shelves number ≡ Some kept → IsKnown kept fresh
+gathered-large k fresh middle large shelves long wide known gathered number kept same few at =
+    element-below middle (block_of 64 number) (omega (arith, same, few, long, wide))
+    (λ block stood. known-part kept block fresh (known number kept block tt at stood) (gathered (block_of 64 number) block (omega (arith, same)) (omega (arith, same)) stood))
+
+-- a block is part of what was gathered with it, and stays so with others
+pub part-own : (whole block : Block) → IsPart block (joined whole block)
+part-own whole block = record { room = omega arith; idle = λ idle. either whole.has_idle block.has_idle idle }
+  where
+    either : (s t : Bool) → t ≡ true → (s || t) ≡ true
+    either true t h = refl
+    either false t h = h
+
+pub part-still : (block whole other : Block) → IsPart block whole → IsPart block (joined whole other)
+part-still block whole other part = record { room = omega (arith, part.room); idle = λ idle. either whole.has_idle other.has_idle (part.idle idle) }
+  where
+    either : (s t : Bool) → s ≡ true → (s || t) ≡ true
+    either true t h = refl
+    either false t h = absurd (cc)
+
+-- where a block has no room for a width, none of its shelves has
+pub narrow-of : (size width b : ℕ) (blocks : List Block) (shelves : List KeptShelf) → AreKnownOf (λ number. Unit {0}) size blocks shelves → may_give width blocks b ≡ false
+    → (k : ℕ) (kept : KeptShelf) → block_of size k ≡ b → slice_get shelves k ≡ Some kept → kept.widest_room < width
+narrow-of size width b blocks shelves known narrow k kept here at = by_block (slice_get blocks b) refl narrow
+  where
+    by_block : (o : Option Block) → slice_get blocks b ≡ o → option_map_or (λ (block : Block). nat_le width block.widest_room) o true ≡ false → kept.widest_room < width
+    by_block None e h = absurd (cc)
+    by_block (Some block) e h = omega (arith, leb-false width block.widest_room h, (known k kept block tt at (ap (slice_get blocks) here ∙ e)).room)
+
+-- where a block has nothing that may be idle, each of its shelves is busy
+pub busy-of : (size b : ℕ) (blocks : List Block) (shelves : List KeptShelf) → AreKnownOf (λ number. Unit {0}) size blocks shelves → may_be_idle blocks b ≡ false
+    → (k : ℕ) (kept : KeptShelf) → block_of size k ≡ b → slice_get shelves k ≡ Some kept → is_kept_idle kept ≡ false
+busy-of size b blocks shelves known busy k kept here at = by_block (slice_get blocks b) refl busy
+  where
+    by_block : (o : Option Block) → slice_get blocks b ≡ o → option_map_or (λ (block : Block). block.has_idle) o true ≡ false → is_kept_idle kept ≡ false
+    by_block None e h = absurd (cc)
+    by_block (Some block) e h = by_test (is_kept_idle kept) refl (known k kept block tt at (ap (slice_get blocks) here ∙ e))
+      where
+        by_test : (t : Bool) → is_kept_idle kept ≡ t → IsKnown kept block → is_kept_idle kept ≡ false
+        by_test true idle is = let both = is.idle idle in absurd (cc)
+        by_test false idle is = idle
+
+-- what is known of a shelf is what was known of the one of its number among others
+record IsCarried (Before : ℕ → Type 0) (xs : List KeptShelf) (number : ℕ) (kept : KeptShelf) : Type 0 where
+  was : KeptShelf
+  such : Before number
+  there : slice_get xs number ≡ Some was
+  known : (block : Block) → IsKnown was block → IsKnown kept block
+
+-- what is known of shelves is known of others
+carry-known : (Before After : ℕ → Type 0) (blocks : Blocks) (xs ys : List KeptShelf) → ((number : ℕ) (kept : KeptShelf) → After number → slice_get ys number ≡ Some kept → IsCarried Before xs number kept)
+    → AreKnownWhere Before blocks xs → AreKnownWhere After blocks ys
+carry-known Before After blocks xs ys carried before = record {
+  small = of_size 8 blocks.small before.small;
+  middle = of_size 64 blocks.middle before.middle;
+  large = of_size 512 blocks.large before.large;
+}
+  where
+    of_size : (size : ℕ) (bs : List Block) → AreKnownOf Before size bs xs → AreKnownOf After size bs ys
+    of_size size bs known number kept block after at in_block =
+        let is = carried number kept after at in
+        is.known block (known number is.was block is.such is.there in_block)
+
+-- each shelf is known where all are of the first so many, of which there are no more
+pub all-known : (count : ℕ) (blocks : Blocks) (shelves : List KeptShelf) → length shelves ≤ count → AreFirstKnown count blocks shelves → AreKnown blocks shelves
+all-known count blocks shelves all known =
+    carry-known (λ n. n < count) (λ n. Unit {0}) blocks shelves shelves
+    (λ number kept any at. record { was = kept; such = omega (arith, all, slice_get_within shelves number kept at); there = at; known = λ block is. is }) known
+
+-- where one shelf changed the others are known
+pub known-others : (k : ℕ) (change : KeptShelf → KeptShelf) (blocks : Blocks) (shelves : List KeptShelf) → AreKnown blocks shelves → AreOthersKnown k blocks (changed_by (Some k) change shelves)
+known-others k change blocks shelves known =
+    carry-known (λ number. Unit {0}) (λ number. number ≡ k → ⊥) blocks shelves (changed_by (Some k) change shelves)
+    (λ number kept other at. record {
+      was = kept;
+      such = tt;
+      there = sym (get-changed_by-other change shelves (Some k) number (λ (h : Some k ≡ Some number). other (inner number h))) ∙ at;
+      known = λ block is. is;
+    }) known
+  where
+    inner : (number : ℕ) → Some k ≡ Some number → number ≡ k
+    inner number h = cc
+
+-- an element before the last one
+before-last : {X : Type 0} (xs : List X) (x y : X) (n : ℕ) → (n ≡ length xs → ⊥) → slice_get (xs ++ x ∷ []) n ≡ Some y → slice_get xs n ≡ Some y
+before-last [] x y zero other at = absurd (other refl)
+before-last [] x y (suc n) other at = at
+before-last (z ∷ xs) x y zero other at = at
+before-last (z ∷ xs) x y (suc n) other at = before-last xs x y n (λ e. other (ap suc e)) at
+
+-- where a shelf was added the others are known
+known-added : (one : KeptShelf) (blocks : Blocks) (shelves : List KeptShelf) → AreKnown blocks shelves → AreOthersKnown (length shelves) blocks (shelves ++ one ∷ [])
+known-added one blocks shelves known =
+    carry-known (λ number. Unit {0}) (λ number. number ≡ length shelves → ⊥) blocks shelves (shelves ++ one ∷ [])
+    (λ number kept other at. record { was = kept; such = tt; there = before-last shelves one kept number other at; known = λ block is. is }) known
+
+-- the same by the shelves after a push that went well
+pub known-last : (one : KeptShelf) (blocks : Blocks) (shelves all : List KeptShelf) (pushes : Bool) → pushes ≡ true → all ≡ cond pushes (shelves ++ one ∷ []) shelves
+    → AreKnown blocks shelves → AreOthersKnown (length all - 1) blocks all
+known-last one blocks shelves all pushes well pushed known =
+    let added : all ≡ shelves ++ one ∷ [] = pushed ∙ ap (λ (t : Bool). cond t (shelves ++ one ∷ []) shelves) well in
+    let last : length all - 1 ≡ length shelves = omega (arith, ap (λ (xs : List KeptShelf). length xs) added, length-append shelves (one ∷ [])) in
+    rw last (subst (AreOthersKnown (length shelves) blocks) (sym added) (known-added one blocks shelves known))
+
+-- shelves among which are these
+abbrev pub AreSome : List KeptShelf → List KeptShelf → Type 0
+AreSome all shelves = (number : ℕ) (kept : KeptShelf) → slice_get shelves number ≡ Some kept → slice_get all number ≡ Some kept
+
+-- the first of some shelves
+pub some-taken : (count : ℕ) (shelves : List KeptShelf) → AreSome shelves (take count shelves)
+some-taken zero shelves number kept at = absurd (cc)
+some-taken (suc count) [] number kept at = at
+some-taken (suc count) (x ∷ shelves) zero kept at = at
+some-taken (suc count) (x ∷ shelves) (suc number) kept at = some-taken count shelves number kept at
+
+-- some of known shelves are known
+pub known-some : (blocks : Blocks) (all shelves : List KeptShelf) → AreSome all shelves → AreKnown blocks all → AreKnown blocks shelves
+known-some blocks all shelves some known =
+    carry-known (λ number. Unit {0}) (λ number. Unit {0}) blocks all shelves (λ number kept any at. record { was = kept; such = tt; there = some number kept at; known = λ block is. is }) known
+
+-- what a block knows of a shelf
+abbrev pub known_of : KeptShelf → List ℕ
+known_of kept = kept.widest_room ∷ kept.live_items ∷ []
+
+-- the same element of a list in which the same is known of each
+same-at : {P : Type 0} (xs ys : List KeptShelf) (n : ℕ) (y : KeptShelf) → map known_of ys ≡ map known_of xs → slice_get ys n ≡ Some y
+    → ((x : KeptShelf) → slice_get xs n ≡ Some x → y.widest_room ≡ x.widest_room → y.live_items ≡ x.live_items → P) → P
+same-at [] [] n y same at found = absurd (cc)
+same-at [] (z ∷ ys) n y same at found = absurd (cc)
+same-at (x ∷ xs) [] n y same at found = absurd (cc)
+same-at (x ∷ xs) (z ∷ ys) zero y same at found =
+    let is : z ≡ y = cc in
+    let heads : known_of z ≡ known_of x = cc in
+    found x refl (sym (ap (λ (k : KeptShelf). k.widest_room) is) ∙ room z heads) (sym (ap (λ (k : KeptShelf). k.live_items) is) ∙ live z heads)
+  where
+    room : (k : KeptShelf) → known_of k ≡ known_of x → k.widest_room ≡ x.widest_room
+    room k h = cc
+
+    live : (k : KeptShelf) → known_of k ≡ known_of x → k.live_items ≡ x.live_items
+    live k h = cc
+same-at (x ∷ xs) (z ∷ ys) (suc n) y same at found =
+    let tails : map known_of ys ≡ map known_of xs = cc in
+    same-at xs ys n y tails at found
+
+-- shelves of which the same is known
+pub known-same : (blocks : Blocks) (xs ys : List KeptShelf) → map known_of ys ≡ map known_of xs → AreKnown blocks xs → AreKnown blocks ys
+known-same blocks xs ys same known =
+    carry-known (λ number. Unit {0}) (λ number. Unit {0}) blocks xs ys
+    (λ number kept any at. same-at xs ys number kept same at (λ x was room live. record {
+      was = x;
+      such = tt;
+      there = was;
+      known = λ block is. record { room = omega (arith, is.room, room); idle = λ idle. is.idle (ap (λ (n : ℕ). n == 0) (sym live) ∙ idle) };
+    })) known

@@ -1,0 +1,63 @@
+-- Shelves in which a search finds nothing, so that it may pass over them.
+use Rattle.std.proofs.Common.{◌≡◌, ℕ, zero, suc, ◌<◌, ◌≤◌, map, option_map, sym, Bool, true, false, cond, Option, None, Some, List, [], ◌∷◌, take, drop, refl, ap, arith, ◌∙◌, ◌==◌}
+use Rattle.std.proofs.lemmas.Bool.Decides.{nat_tests}
+use Rattle.std.specs.Prelude.{nat_le, nat_lt, not, slice_get, ◌&&◌, ◌-◌, ◌+◌}
+use Rattle.etagere_base.specs.declared.sides.Sides.{Sides}
+use Rattle.etagere_base.specs.Least.{Found as Least, better, first_least}
+use Rattle.bucketed_model.specs.Picking.{or_else}
+use Rattle.bucketed_records.specs.declared.records.LinkedBucket.{LinkedBucket}
+use Rattle.bucketed_records.specs.declared.records.KeptShelf.{KeptShelf}
+use Rattle.bucket_index.specs.declared.searching.Wanted.TheVariants.{Exact}
+use Rattle.bucket_index.specs.declared.searching.Found.{Found}
+use Rattle.bucket_index.specs.Private.Blocks.{AreNarrow}
+use Rattle.bucket_index.proofs.Searched.{best-keeps, better-same, search-skip}
+use Rattle.bucket_index.specs.Private.Searching.{exact_from, exact_in, found_in, kept_waste}
+
+-- a width that doesn't fit
+too-wide : (room width : ℕ) → room < width → nat_le width room ≡ false
+too-wide room width h = grind (arith, nat_tests)
+
+-- two tests of which the second fails
+second-fails : (s t : Bool) → t ≡ false → (s && t) ≡ false
+second-fails true t h = h
+second-fails false t h = refl
+
+-- a shelf that has too little room counts for nothing
+pub waste-none : (adds : Bool) (sides : Sides) (kept : KeptShelf) → kept.widest_room < sides.along → kept_waste adds sides kept ≡ None
+waste-none adds sides kept narrow =
+    ap (λ (t : Bool). cond t (Some (kept.shelf.height - sides.across)) None)
+    (second-fails (nat_le sides.across kept.shelf.height && (nat_le sides.along kept.shelf.bucket_width && not (adds && nat_lt sides.across (kept.shelf.height - sides.across))))
+    (nat_le sides.along kept.widest_room) (too-wide kept.widest_room sides.along narrow))
+
+-- a shelf that has too little room has no exact bucket
+exact-none : (sides : Sides) (buckets : List LinkedBucket) (number : ℕ) (kept : KeptShelf) → kept.widest_room < sides.along → exact_in sides buckets number kept ≡ None
+exact-none sides buckets number kept narrow =
+    ap (λ (t : Bool). cond t (found_in (Exact sides.along) buckets number kept) None)
+    (second-fails (kept.shelf.height == sides.across) (nat_le sides.along kept.widest_room) (too-wide kept.widest_room sides.along narrow))
+
+-- a search for an exact bucket goes on past a shelf that has too little room
+pub exact-past : (sides : Sides) (buckets : List LinkedBucket) (m n : ℕ) (xs : List KeptShelf) (kept : KeptShelf) → slice_get xs n ≡ Some kept → kept.widest_room < sides.along
+    → exact_from sides buckets m (drop n xs) ≡ exact_from sides buckets (suc m) (drop (suc n) xs)
+exact-past sides buckets m n [] kept at narrow = absurd (cc)
+exact-past sides buckets m zero (x ∷ xs) kept at narrow =
+    let same : x ≡ kept = cc in
+    ap (λ (o : Option Found). or_else o (exact_from sides buckets (suc m) xs)) (ap (exact_in sides buckets m) same ∙ exact-none sides buckets m kept narrow)
+exact-past sides buckets m (suc n) (x ∷ xs) kept at narrow = exact-past sides buckets m n xs kept at narrow
+
+-- the best so far is the best past shelves that have too little room
+pub least-past : (adds : Bool) (sides : Sides) (shelves : List KeptShelf) (best : Option Least) (from behind : ℕ) → best ≡ first_least (map (kept_waste adds sides) (take from shelves)) → from ≤ behind
+    → AreNarrow sides.along from behind shelves → best ≡ first_least (map (kept_waste adds sides) (take behind shelves))
+least-past adds sides shelves best from behind is on narrow =
+    let end : from + (behind - from) ≡ behind = omega (arith, on) in
+    sym (best-keeps (kept_waste adds sides) shelves best from (behind - from) (sym is)
+    (λ k x low high at.
+    ap (λ (r : Option ℕ). better best (option_map (λ n. record { number = k; rank = n }) r)) (waste-none adds sides x (narrow k x low (omega (arith, high, end)) at)) ∙ better-same best))
+    ∙ ap (λ (k : ℕ). first_least (map (kept_waste adds sides) (take k shelves))) end
+
+-- a search for an exact bucket goes on past shelves that have too little room
+pub exact-behind : (sides : Sides) (buckets : List LinkedBucket) (shelves : List KeptShelf) (from behind : ℕ) → from ≤ behind → AreNarrow sides.along from behind shelves
+    → exact_from sides buckets behind (drop behind shelves) ≡ exact_from sides buckets from (drop from shelves)
+exact-behind sides buckets shelves from behind on narrow =
+    let end : behind ≡ from + (behind - from) = omega (arith, on) in
+    ap (λ (k : ℕ). exact_from sides buckets k (drop k shelves)) end
+    ∙ sym (search-skip (exact_from sides buckets) shelves from (behind - from) (λ m k. refl) (λ k x low high at. exact-past sides buckets k k shelves x at (narrow k x low (omega (arith, high, end)) at)))

@@ -1,0 +1,6 @@
+use Rattle.bucket_index.specs.Private.Blocks.{AreFirstKnown}
+use Rattle.bucket_index.proofs.blocks.Blocks.of.Given as goal
+
+-- the shelves so far are known
+abbrev pub invariant-loop-number : goal.invariant-loop-number
+invariant-loop-number l = AreFirstKnown l.number l.known l.shelves

@@ -1,0 +1,14 @@
+use Rattle.std.proofs.Common.{Some, false, refl}
+use Rattle.etagere_links.proofs.EditLemmas.{set-changed, changed_by-past}
+use Rattle.bucket_index.specs.Private.Blocks.{Block}
+use Rattle.bucket_index.proofs.blocks.set_block.Goals as goal
+
+-- what a block is that is not there
+abbrev none : Block
+none = record { widest_room = 0; has_idle = false }
+
+pub returns-then-number-blocks : goal.returns-then-number-blocks
+returns-then-number-blocks c = (set-changed (λ (block : Block). c.args.fresh) c.args.blocks.now c.args.number none c.if-number-blocks.true)
+
+pub returns-else-number-blocks : goal.returns-else-number-blocks
+returns-else-number-blocks c = changed_by-past (λ (block : Block). c.args.fresh) c.args.blocks.now (Some c.args.number) c.args.number refl c.if-number-blocks.false

@@ -1,0 +1,34 @@
+use Rattle.std.proofs.Common.{◌≡◌, ℕ, ◌+◌, false, Option, None, Some, drop, refl, ap, sym, ◌∙◌, arith}
+use Rattle.std.specs.Prelude.{is_some}
+use Rattle.bucketed_model.specs.Picking.{or_else}
+use Rattle.bucket_index.specs.declared.searching.Found.{Found}
+use Rattle.bucket_index.specs.Private.Searching.{exact_from}
+use Rattle.bucket_index.proofs.PassedShelves.{exact-behind}
+use Rattle.bucket_index.proofs.searching.exact_from.Goals as goal
+use Rattle.bucket_index.proofs.searching.exact_from.Goals.{then-at-behind, else-at-behind+else-is_some}
+
+-- where nothing was found what comes after counts
+none-first : (found later : Option Found) → is_some found ≡ false → or_else found later ≡ later
+none-first None later h = refl
+none-first (Some found) later h = absurd (cc)
+
+pub loop-block-preserved : goal.loop-block-preserved
+loop-block-preserved c =
+    let sides = c.args.sides.now in
+    let buckets = c.args.buckets.now in
+    let shelves = c.args.shelves.now in
+    let at = c.loop-block.at in
+    let behind = c.behind_narrow-behind in
+    elim c.if-at-behind.branch [
+      | then-at-behind w ↦ record {
+        rest = ap (λ (k : ℕ). exact_from sides buckets k (drop k shelves)) w.at-is
+            ∙ exact-behind sides buckets shelves at behind.result behind.ensures.on (behind.ensures.narrow shelves c.requires.known) ∙ c.loop-block.invariant.rest;
+        on = omega (arith, w.at-is, w.if-at-behind.true, c.loop-block.invariant.on);
+      }
+      | else-at-behind+else-is_some w ↦ record {
+        rest = ap (λ (k : ℕ). exact_from sides buckets k (drop k shelves)) w.at-is
+            ∙ sym (none-first w.exact_between-found.result (exact_from sides buckets (at + 8) (drop (at + 8) shelves)) (sym w.is_some.ensures ∙ w.if-is_some.false))
+            ∙ w.exact_between-found.ensures ∙ c.loop-block.invariant.rest;
+        on = omega (arith, w.at-is, c.loop-block.invariant.on);
+      }
+    ]

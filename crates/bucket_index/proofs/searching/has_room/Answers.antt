@@ -1,0 +1,25 @@
+use Rattle.std.proofs.Common.{◌-◌, ◌+◌, Some, length, refl, sym, ◌∙◌, arith}
+use Rattle.std.proofs.lemmas.Option.{slice_get_read}
+use Rattle.bucketed_model.specs.State.{most_buckets}
+use Rattle.bucket_index.proofs.WidestRooms.{widest-at}
+use Rattle.bucket_index.proofs.searching.has_room.Goals as goal
+
+pub returns-then-room-record_room : goal.returns-then-room-record_room
+returns-then-room-record_room c =
+    λ _. omega (
+      arith,
+      c.loop-step.invariant,
+      c.record_room.ensures,
+      c.if-room-record_room.true,
+      widest-at c.args.buckets.now (most_buckets - c.loop-step._step) (most_buckets - (c.loop-step._step + 1)) c.in-Some.number c.loop-step.at (Some c.index-buckets-number.result)
+          (sym c.number.ensures.value ∙ c.in-Some.is) (omega arith) (slice_get_read c.args.buckets.now (length c.args.buckets.now) c.in-Some.number c.index-buckets-number.result refl (omega arith) c.index-buckets-number.is),
+    )
+
+pub loop-step-preserved : goal.loop-step-preserved
+loop-step-preserved c =
+    omega (
+      arith,
+      c.loop-step.invariant,
+      widest-at c.args.buckets.now (most_buckets - c.loop-step._step) (most_buckets - (c.loop-step._step + 1)) c.in-Some.number c.loop-step.at (Some c.index-buckets-number.result)
+          (sym c.number.ensures.value ∙ c.in-Some.is) (omega arith) (slice_get_read c.args.buckets.now (length c.args.buckets.now) c.in-Some.number c.index-buckets-number.result refl (omega arith) c.index-buckets-number.is),
+    )

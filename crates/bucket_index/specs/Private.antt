@@ -1,0 +1,4 @@
+-- What contracts of steps and invariants of types cite; no public clause of the atlas does.
+pub mod Blocks
+pub mod Searching
+pub mod Spans

@@ -1,0 +1,103 @@
+-- What is known of neighbouring shelves together.
+pub use Rattle.std.specs.Prelude.{ℕ}
+use Rattle.std.specs.Prelude.{◌≡◌, ◌<◌, ◌≤◌, ◌+◌, ◌*◌, ◌/◌, max, Bool, true, false, ◌||◌, Some, List, slice_get, nat_le}
+use Rattle.std.specs.Option.{option_map_or}
+use Rattle.etagere_links.specs.Edits.{changed_by}
+use Rattle.bucketed_records.specs.Private.Store.{is_kept_idle}
+pub use Rattle.bucketed_records.specs.declared.records.KeptShelf.{KeptShelf}
+pub use Rattle.bucket_index.specs.declared.blocks.Block.{Block}
+use Rattle.bucket_index.specs.declared.blocks.Blocks.{Blocks}
+
+abbrev pub Shelves : Type 0
+Shelves = List KeptShelf
+
+-- the number of the block of a shelf, where each has so many shelves
+abbrev pub block_of : ℕ → ℕ → ℕ
+block_of size shelf = shelf / size
+
+-- what is known of a block with a shelf beside the others
+abbrev pub with_shelf : KeptShelf → Block → Block
+with_shelf kept block =
+    record {
+      widest_room = max block.widest_room kept.widest_room;
+      has_idle = block.has_idle || is_kept_idle kept;
+    }
+
+-- what is known of two blocks together
+abbrev pub joined : Block → Block → Block
+joined one other =
+    record {
+      widest_room = max one.widest_room other.widest_room;
+      has_idle = one.has_idle || other.has_idle;
+    }
+
+-- a shelf has no more room than is known of its block; if it holds nothing live that is known too
+pub record IsKnown (kept : KeptShelf) (block : Block) : Type 0 where
+  pub room : kept.widest_room ≤ block.widest_room
+  pub idle : is_kept_idle kept ≡ true → block.has_idle ≡ true
+
+-- what is known of a block is known of a larger one
+pub record IsPart (block whole : Block) : Type 0 where
+  pub room : block.widest_room ≤ whole.widest_room
+  pub idle : block.has_idle ≡ true → whole.has_idle ≡ true
+
+-- each of these shelves of such a number is known to its block of this size, if there is one of it
+abbrev pub AreKnownOf : (ℕ → Type 0) → ℕ → List Block → List KeptShelf → Type 0
+AreKnownOf IsSuch size blocks shelves =
+    (number : ℕ) (kept : KeptShelf) (block : Block) → IsSuch number
+    → slice_get shelves number ≡ Some kept
+    → slice_get blocks (block_of size number) ≡ Some block → IsKnown kept block
+
+-- each of these shelves of such a number is known to its blocks of each size
+pub record AreKnownWhere (IsSuch : ℕ → Type 0) (blocks : Blocks) (shelves : List KeptShelf)
+    : Type 0 where
+  pub small : AreKnownOf IsSuch 8 blocks.small shelves
+  pub middle : AreKnownOf IsSuch 64 blocks.middle shelves
+  pub large : AreKnownOf IsSuch 512 blocks.large shelves
+
+-- what is known with the shelf of a number beside the others
+abbrev pub raised : ℕ → KeptShelf → Blocks → Blocks
+raised number kept blocks =
+    record {
+      small = changed_by (Some (block_of 8 number)) (with_shelf kept) blocks.small;
+      middle = changed_by (Some (block_of 64 number)) (with_shelf kept) blocks.middle;
+      large = changed_by (Some (block_of 512 number)) (with_shelf kept) blocks.large;
+    }
+
+-- the number of the first shelf behind the block of one
+abbrev pub end_of : ℕ → ℕ → ℕ
+end_of size shelf = block_of size shelf * size + size
+
+-- each of these shelves is known to its blocks
+abbrev pub AreKnown : Blocks → List KeptShelf → Type 0
+AreKnown blocks shelves = AreKnownWhere (λ number. Unit {0}) blocks shelves
+
+-- each of these shelves but the one of a number is known to its blocks
+abbrev pub AreOthersKnown : ℕ → Blocks → List KeptShelf → Type 0
+AreOthersKnown one blocks shelves = AreKnownWhere (λ number. number ≡ one → ⊥) blocks shelves
+
+-- each of the first so many shelves is known to its blocks
+abbrev pub AreFirstKnown : ℕ → Blocks → List KeptShelf → Type 0
+AreFirstKnown count blocks shelves = AreKnownWhere (λ number. number < count) blocks shelves
+
+-- a shelf of the block of a number may have room for this width
+abbrev pub may_give : ℕ → List Block → ℕ → Bool
+may_give width blocks number =
+    option_map_or (λ (block : Block). nat_le width block.widest_room) (slice_get blocks number) true
+
+-- a shelf of the block of a number may hold nothing live
+abbrev pub may_be_idle : List Block → ℕ → Bool
+may_be_idle blocks number =
+    option_map_or (λ (block : Block). block.has_idle) (slice_get blocks number) true
+
+-- none of the shelves from one number up to another has room for this width
+abbrev pub AreNarrow : ℕ → ℕ → ℕ → List KeptShelf → Type 0
+AreNarrow width from behind shelves =
+    (number : ℕ) (kept : KeptShelf) → from ≤ number → number < behind
+    → slice_get shelves number ≡ Some kept → kept.widest_room < width
+
+-- each of the shelves from one number up to another holds something live
+abbrev pub AreBusy : ℕ → ℕ → List KeptShelf → Type 0
+AreBusy from behind shelves =
+    (number : ℕ) (kept : KeptShelf) → from ≤ number → number < behind
+    → slice_get shelves number ≡ Some kept → is_kept_idle kept ≡ false

@@ -1,0 +1,265 @@
+//! What is known of neighbouring shelves together, so that a search passes over many of them at once: how much room
+//! the buckets of one may have, and whether one may hold nothing live.
+//!
+//! Definitions: `Private/Blocks`. What is known of a block may be too much, never too little.
+
+ghost use Rattle.std.specs.Prelude.{◌≡◌, ◌+◌, ◌-◌, ◌<◌, ◌≤◌, ◌^◌, Some, [], length, slice_get};
+ghost use Rattle.etagere_links.specs.Edits.{changed_by};
+ghost use Rattle.bucket_index.specs.Private.Blocks as spec;
+
+use bucketed_records::records::KeptShelf;
+
+/// How many shelves stand in a small block.
+pub const SHELVES_OF_BLOCK: usize = 8;
+
+/// How many blocks stand in one of the next size.
+const PARTS_OF_BLOCK: usize = 8;
+
+/// How many shelves stand in a middle block.
+const SHELVES_OF_MIDDLE: usize = 64;
+
+/// How many shelves stand in a large block.
+const SHELVES_OF_LARGE: usize = 512;
+
+/// Of how many small blocks something is known: enough for the most shelves that there can be.
+const MOST_SMALL: usize = 512;
+
+/// Of how many middle blocks.
+const MOST_MIDDLE: usize = 64;
+
+/// Of how many large blocks.
+const MOST_LARGE: usize = 8;
+
+/// What is known of the shelves of a block.
+#[derive(Clone, Copy)]
+pub struct Block {
+    /// None of them has a bucket with more room.
+    pub widest_room: u16,
+    /// Where it is false, each of them holds something live.
+    pub has_idle: bool,
+}
+
+/// Nothing is known of shelves, since there are none.
+const NO_SHELVES: Block = Block {
+    widest_room: 0,
+    has_idle: false,
+};
+
+/// The blocks of the shelves of an atlas, in three sizes.
+#[derive(Clone, Copy)]
+pub struct Blocks {
+    pub small: [Block; MOST_SMALL],
+    pub middle: [Block; MOST_MIDDLE],
+    pub large: [Block; MOST_LARGE],
+}
+
+/// What is known of a block with this shelf beside the others.
+fn with_shelf(block: Block, kept: &KeptShelf) -> Block
+    ensures { result ≡ spec.with_shelf kept.now block }
+{
+    Block {
+        widest_room: block.widest_room.max(kept.widest_room),
+        has_idle: block.has_idle || kept.is_idle(),
+    }
+}
+
+/// What is known of two blocks together.
+fn joined(one: Block, other: Block) -> Block
+    ensures { result ≡ spec.joined one other }
+{
+    Block {
+        widest_room: one.widest_room.max(other.widest_room),
+        has_idle: one.has_idle || other.has_idle,
+    }
+}
+
+/// What is known of the shelves from this one on, as many as a small block has.
+fn counted(shelves: &[KeptShelf], from: usize) -> Block
+    requires { from ≤ length shelves.now }
+    ensures { (number : spec.ℕ) (kept : spec.KeptShelf) → from ≤ number
+        → number < from + 8
+        → slice_get shelves.now number ≡ Some kept
+        → spec.IsKnown kept result }
+{
+    let mut block = NO_SHELVES;
+    for number in from..shelves.len().min(from + SHELVES_OF_BLOCK) {
+        block = with_shelf(block, &shelves[number]);
+    }
+    block
+}
+
+/// What is known of the blocks from this one on, as many as stand in one of the next size.
+fn gathered(blocks: &[Block], from: usize) -> Block
+    requires { from < 2 ^ 62 }
+    ensures { (number : spec.ℕ) (block : spec.Block) → from ≤ number
+        → number < from + 8
+        → slice_get blocks.now number ≡ Some block
+        → spec.IsPart block result }
+{
+    let mut whole = NO_SHELVES;
+    for number in from..blocks.len().min(from + PARTS_OF_BLOCK) {
+        whole = joined(whole, blocks[number]);
+    }
+    whole
+}
+
+/// Whether a shelf of the block of a number may have room for this width.
+fn may_give(blocks: &[Block], number: usize, width: u32) -> bool
+    ensures { result ≡ spec.may_give width blocks.now number }
+{
+    number >= blocks.len() || width <= u32::from(blocks[number].widest_room)
+}
+
+/// Whether a shelf of the block of a number may hold nothing live.
+fn may_be_idle(blocks: &[Block], number: usize) -> bool
+    ensures { result ≡ spec.may_be_idle blocks.now number }
+{
+    number >= blocks.len() || blocks[number].has_idle
+}
+
+/// Knows a shelf beside the others in the block of a number.
+fn raise_block(blocks: &mut [Block], number: usize, kept: &KeptShelf)
+    ensures { blocks.new ≡ changed_by (Some number) (spec.with_shelf kept.now) blocks.old }
+{
+    if number < blocks.len() {
+        let block = &mut blocks[number];
+        *block = with_shelf(*block, kept);
+    }
+}
+
+/// Knows something else of the block of a number.
+fn set_block(blocks: &mut [Block], number: usize, fresh: Block)
+    ensures { blocks.new ≡ changed_by (Some number) (λ _. fresh) blocks.old }
+{
+    if number < blocks.len() {
+        let block = &mut blocks[number];
+        *block = fresh;
+    }
+}
+
+/// The number of the first shelf behind the block of this size in which one stands.
+fn end_of(size: usize, shelf: usize) -> usize
+    requires size { (0 < size) × (size ≤ 512) }
+    requires shelf { shelf < 2 ^ 62 }
+    ensures { result ≡ spec.end_of size shelf }
+{
+    shelf / size * size + size
+}
+
+impl Blocks {
+    /// Those of no shelves.
+    pub fn new() -> Blocks
+        ensures { spec.AreKnown result [] }
+    {
+        Blocks {
+            small: [NO_SHELVES; MOST_SMALL],
+            middle: [NO_SHELVES; MOST_MIDDLE],
+            large: [NO_SHELVES; MOST_LARGE],
+        }
+    }
+
+    /// Those of these shelves.
+    pub fn of(shelves: &[KeptShelf]) -> Blocks
+        ensures { spec.AreKnown result shelves.now }
+    {
+        let mut known = Blocks::new();
+        for number in 0..shelves.len() {
+            known.raise(number, &shelves[number]);
+        }
+        known
+    }
+
+    /// Where a search for a shelf with room for this width goes on that has come to the shelf of a number: at that
+    /// one, or behind a block in which none has room.
+    pub fn behind_narrow(&self, from: usize, width: u32) -> usize
+        requires { from < 2 ^ 62 }
+        ensures on { from ≤ result }
+        ensures small { result ≤ from + 512 }
+        ensures narrow { (shelves : spec.Shelves) → spec.AreKnown self.now shelves
+            → spec.AreNarrow width from result shelves }
+    {
+        if may_give(&self.small, from / SHELVES_OF_BLOCK, width) {
+            from
+        } else if may_give(&self.middle, from / SHELVES_OF_MIDDLE, width) {
+            end_of(SHELVES_OF_BLOCK, from)
+        } else if may_give(&self.large, from / SHELVES_OF_LARGE, width) {
+            end_of(SHELVES_OF_MIDDLE, from)
+        } else {
+            end_of(SHELVES_OF_LARGE, from)
+        }
+    }
+
+    /// Where a search for a shelf that holds nothing live goes on that has come to the shelf of a number: at that one,
+    /// or behind a block in which each holds something live.
+    pub fn behind_busy(&self, from: usize) -> usize
+        requires { from < 2 ^ 62 }
+        ensures on { from ≤ result }
+        ensures small { result ≤ from + 512 }
+        ensures busy { (shelves : spec.Shelves) → spec.AreKnown self.now shelves
+            → spec.AreBusy from result shelves }
+    {
+        if may_be_idle(&self.small, from / SHELVES_OF_BLOCK) {
+            from
+        } else if may_be_idle(&self.middle, from / SHELVES_OF_MIDDLE) {
+            end_of(SHELVES_OF_BLOCK, from)
+        } else if may_be_idle(&self.large, from / SHELVES_OF_LARGE) {
+            end_of(SHELVES_OF_MIDDLE, from)
+        } else {
+            end_of(SHELVES_OF_LARGE, from)
+        }
+    }
+
+    /// Knows the shelf of a number beside the others.
+    fn raise(&mut self, number: usize, kept: &KeptShelf)
+        ensures { self.new ≡ spec.raised number kept.now self.old }
+    {
+        raise_block(&mut self.small, number / SHELVES_OF_BLOCK, kept);
+        raise_block(&mut self.middle, number / SHELVES_OF_MIDDLE, kept);
+        raise_block(&mut self.large, number / SHELVES_OF_LARGE, kept);
+    }
+
+    /// Knows the blocks of the shelf of a number anew.
+    fn recount(&mut self, shelves: &[KeptShelf], number: usize)
+        requires within { number < length shelves.now }
+        requires others { spec.AreOthersKnown number self.old shelves.now }
+        ensures { spec.AreKnown self.new shelves.now }
+    {
+        let small = number / SHELVES_OF_BLOCK;
+        let middle = number / SHELVES_OF_MIDDLE;
+        let large = number / SHELVES_OF_LARGE;
+        let fresh = counted(shelves, small * SHELVES_OF_BLOCK);
+        set_block(&mut self.small, small, fresh);
+        let fresh_middle = gathered(&self.small, middle * PARTS_OF_BLOCK);
+        set_block(&mut self.middle, middle, fresh_middle);
+        let fresh_large = gathered(&self.middle, large * PARTS_OF_BLOCK);
+        set_block(&mut self.large, large, fresh_large);
+    }
+
+    /// Knows the shelf of a number, which was this one before. Its blocks are looked at where less may be known of
+    /// it now.
+    pub fn follow(&mut self, shelves: &[KeptShelf], number: usize, before: &KeptShelf)
+        requires within { number < length shelves.now }
+        requires others { spec.AreOthersKnown number self.old shelves.now }
+        ensures { spec.AreKnown self.new shelves.now }
+    {
+        let kept = &shelves[number];
+        let wider = u32::from(before.widest_room) + 1;
+        let narrows = kept.widest_room < before.widest_room
+            && !may_give(&self.small, number / SHELVES_OF_BLOCK, wider);
+        if narrows || before.is_idle() && !kept.is_idle() {
+            self.recount(shelves, number);
+        } else {
+            self.raise(number, kept);
+        }
+    }
+
+    /// Knows the last shelf beside the others.
+    pub fn add_last(&mut self, shelves: &[KeptShelf])
+        requires some { 0 < length shelves.now }
+        requires others { spec.AreOthersKnown (length shelves.now - 1) self.old shelves.now }
+        ensures { spec.AreKnown self.new shelves.now }
+    {
+        let number = shelves.len() - 1;
+        self.raise(number, &shelves[number]);
+    }
+}

@@ -1,0 +1,11 @@
+//! The index of the shelves and buckets of a bucketed atlas, and the search by it for a bucket that gives an item.
+//!
+//! By what `blocks` know of shelves, and `spans` of the buckets of long shelves, `searching` passes over many at once.
+//! What is known may be too much, never too little: what is found is what a search that looks at each would find.
+//!
+//! Definitions: `Private/Searching` for what is found, `Private/Blocks` and `Private/Spans` for what is known.
+#![tactic(auto)]
+
+pub mod blocks;
+pub mod searching;
+pub mod spans;

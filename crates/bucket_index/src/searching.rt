@@ -1,0 +1,434 @@
+//! Which bucket gives an item: the first with room of the shelf that wastes the least height.
+//!
+//! Definitions: `Searching`, and `Picking` for what it means. No bucket is looked at of a shelf that one
+//! comparison tells has none that is wanted.
+
+ghost use Rattle.std.specs.Prelude.{◌≡◌, ◌+◌, ◌<◌, ◌≤◌, IfSome, IsTrue, length, map, max, take, drop};
+ghost use Rattle.std.specs.Option.{option_map};
+ghost use Rattle.etagere_base.specs.Least.{first_least};
+ghost use Rattle.etagere_base.specs.Least as least;
+ghost use Rattle.bucketed_model.specs.Picking.{or_else};
+ghost use Rattle.bucketed_model.specs.State.{most_buckets};
+ghost use Rattle.bucket_index.specs.Private.Blocks.{AreKnown};
+ghost use Rattle.bucket_index.specs.Private.Searching as spec;
+ghost use Rattle.bucket_index.specs.Private.Spans.{AreSpans};
+
+use crate::blocks::{Blocks, SHELVES_OF_BLOCK};
+use crate::spans::Spans;
+use bucketed_records::records::{
+    KeptShelf, LinkedBucket, MOST_BUCKETS, MOST_GIVEN, record_room, wider,
+};
+use etagere_base::Sides;
+use etagere_links::Link;
+use std::marker::Model;
+
+/// What a search requires of a bucket.
+#[derive(Clone, Copy)]
+pub enum Wanted {
+    /// At least this width is free, and another item can be given.
+    Roomy(u32),
+    /// Just this width is free, and another item can be given.
+    Exact(u32),
+    /// At least this width is free, whether or not another item can be given.
+    Wide(u32),
+}
+
+/// A bucket that was found: its number, and that of its shelf.
+#[derive(Clone, Copy)]
+pub struct Found {
+    pub shelf: usize,
+    pub bucket: usize,
+}
+
+/// A shelf that was found: its number, and the height that it wastes.
+#[derive(Clone, Copy)]
+pub struct Least {
+    pub number: usize,
+    pub rank: u32,
+}
+
+impl Model for Least {
+    ghost use Rattle.etagere_base.specs.Least.{Found};
+
+    ghost Value = { Found };
+
+    ghost view = { λ least. record { number = least.number; rank = least.rank } };
+
+    ghost inverse = { λ least. record { number = least.number; rank = least.rank } };
+}
+
+fn is_wanted(wanted: Wanted, bucket: &LinkedBucket) -> bool
+    ensures { result ≡ spec.is_wanted wanted bucket.now }
+{
+    let free = u32::from(bucket.free_space);
+    if free < needed_room(wanted) {
+        return false;
+    }
+    let can_give = bucket.item_count < MOST_GIVEN;
+    match wanted {
+        Wanted::Roomy(_) => can_give,
+        Wanted::Exact(width) => can_give && free == width,
+        Wanted::Wide(width) => width <= free,
+    }
+}
+
+/// The room that a bucket needs to be wanted.
+fn needed_room(wanted: Wanted) -> u32
+    ensures { result ≡ spec.needed_room wanted }
+{
+    match wanted {
+        Wanted::Roomy(width) | Wanted::Exact(width) => width,
+        Wanted::Wide(_) => 0,
+    }
+}
+
+/// The number of the first bucket that is wanted, by the links from this one on.
+pub fn first_wanted(
+    wanted: Wanted,
+    buckets: &[LinkedBucket],
+    spans: &Spans,
+    first: Link,
+) -> Option<usize>
+    requires { AreSpans spans.now.each buckets.now }
+    ensures number { result ≡ spec.first_from most_buckets wanted buckets.now first }
+    ensures within { IfSome result (λ number. number < length buckets.now) }
+{
+    if spans.knows(first) {
+        return first_by_spans(wanted, buckets, spans, first);
+    }
+    first_by_links(wanted, buckets, first)
+}
+
+/// The same, link by link.
+fn first_by_links(wanted: Wanted, buckets: &[LinkedBucket], first: Link) -> Option<usize>
+    ensures number { result ≡ spec.first_from most_buckets wanted buckets.now first }
+    ensures within { IfSome result (λ number. number < length buckets.now) }
+{
+    let mut at = first;
+    for _step in 0..MOST_BUCKETS {
+        let Some(number) = at.number() else {
+            return None;
+        };
+        if number >= buckets.len() {
+            return None;
+        }
+        let bucket = &buckets[number];
+        if is_wanted(wanted, bucket) {
+            return Some(number);
+        }
+        at = bucket.next;
+    }
+    None
+}
+
+/// The same, by spans where none of their buckets has the room.
+fn first_by_spans(
+    wanted: Wanted,
+    buckets: &[LinkedBucket],
+    spans: &Spans,
+    first: Link,
+) -> Option<usize>
+    requires { AreSpans spans.now.each buckets.now }
+    ensures number { result ≡ spec.first_from most_buckets wanted buckets.now first }
+    ensures within { IfSome result (λ number. number < length buckets.now) }
+{
+    let needed = needed_room(wanted);
+    let mut at = first;
+    let mut left = MOST_BUCKETS;
+    for _step in 0..MOST_BUCKETS {
+        if left == 0 {
+            return None;
+        }
+        let Some(number) = at.number() else {
+            return None;
+        };
+        if number >= buckets.len() {
+            return None;
+        }
+        let bucket = &buckets[number];
+        if is_wanted(wanted, bucket) {
+            return Some(number);
+        }
+        let ahead = spans.ahead(buckets, number, needed, left);
+        at = ahead.at;
+        left -= ahead.steps;
+    }
+    None
+}
+
+/// The greatest width that a bucket can give to one item, by the links from this one on, where none can give more
+/// than this one.
+pub fn widest_room(buckets: &[LinkedBucket], spans: &Spans, first: Link, most: u16) -> u16
+    requires spans { AreSpans spans.now.each buckets.now }
+    requires most { spec.widest_from most_buckets buckets.now first ≤ most }
+    ensures { result ≡ spec.widest_from most_buckets buckets.now first }
+{
+    let mut widest = 0;
+    let mut at = first;
+    let mut left = MOST_BUCKETS;
+    for _step in 0..MOST_BUCKETS {
+        if left == 0 {
+            break;
+        }
+        let Some(number) = at.number() else {
+            break;
+        };
+        if number >= buckets.len() {
+            break;
+        }
+        if most <= widest {
+            break;
+        }
+        let bucket = &buckets[number];
+        widest = wider(widest, record_room(bucket));
+        let ahead = spans.ahead(buckets, number, u32::from(widest) + 1, left);
+        at = ahead.at;
+        left -= ahead.steps;
+    }
+    widest
+}
+
+/// How many buckets `has_room` looks at.
+const FEW_BUCKETS: u32 = 4;
+
+/// Whether one of the next few buckets can give this width to one item, by the links from this one on.
+pub fn has_room(room: u16, buckets: &[LinkedBucket], first: Link) -> bool
+    ensures { IsTrue result → room ≤ spec.widest_from most_buckets buckets.now first }
+{
+    let mut at = first;
+    for _step in 0..FEW_BUCKETS {
+        let Some(number) = at.number() else {
+            return false;
+        };
+        if number >= buckets.len() {
+            return false;
+        }
+        let bucket = &buckets[number];
+        if room <= record_room(bucket) {
+            return true;
+        }
+        at = bucket.next;
+    }
+    false
+}
+
+/// The height that a shelf wastes where it is eligible and has room.
+fn waste(adds: bool, sides: &Sides, kept: &KeptShelf) -> Option<u32>
+    ensures { result ≡ spec.kept_waste adds sides.now kept.now }
+{
+    let height = u32::from(kept.shelf.height);
+    if u32::from(kept.widest_room) < sides.along || height < sides.across {
+        return None;
+    }
+    let waste = height - sides.across;
+    if (adds && sides.across < waste) || u32::from(kept.shelf.bucket_width) < sides.along {
+        return None;
+    }
+    Some(waste)
+}
+
+/// The shelf that wastes the least height, the first of such. Blocks in which none has room are passed over, and the
+/// first shelf that wastes nothing ends the search.
+fn least_waste(adds: bool, sides: &Sides, shelves: &[KeptShelf], blocks: &Blocks) -> Option<Least>
+    requires known { AreKnown blocks.now shelves.now }
+    ensures least { result ≡ first_least (map (spec.kept_waste adds sides.now) shelves.now) }
+    ensures within { IfSome result (λ least. least.number < length shelves.now) }
+{
+    let mut best = None;
+    let mut from = 0;
+    for _block in 0..shelves.len() {
+        if from >= shelves.len() {
+            break;
+        }
+        let behind = blocks.behind_narrow(from, sides.along);
+        if from < behind {
+            from = behind;
+        } else {
+            best = least_in(adds, sides, shelves, from, best);
+            from += SHELVES_OF_BLOCK;
+            if wastes_nothing(&best) {
+                break;
+            }
+        }
+    }
+    best
+}
+
+/// The same with as many shelves as a block has, of which the first has this number, where this was found before it.
+fn least_in(
+    adds: bool,
+    sides: &Sides,
+    shelves: &[KeptShelf],
+    from: usize,
+    best: Option<Least>,
+) -> Option<Least>
+    requires from { from ≤ length shelves.now }
+    requires best { best
+        ≡ first_least (map (spec.kept_waste adds sides.now) (take from shelves.now)) }
+    ensures { result
+        ≡ first_least (map (spec.kept_waste adds sides.now) (take (from + 8) shelves.now)) }
+{
+    let mut best = best;
+    for number in from..shelves.len().min(from + SHELVES_OF_BLOCK) {
+        best = better(best, number, waste(adds, sides, &shelves[number]));
+        if wastes_nothing(&best) {
+            break;
+        }
+    }
+    best
+}
+
+/// Whether a shelf was found that wastes nothing.
+fn wastes_nothing(best: &Option<Least>) -> bool
+    ensures { result ≡ spec.wastes_nothing best.now }
+{
+    match best {
+        Some(least) => least.rank == 0,
+        None => false,
+    }
+}
+
+/// What was found before, unless the next shelf wastes less.
+fn better(best: Option<Least>, number: usize, waste: Option<u32>) -> Option<Least>
+    ensures { result ≡ least.better best
+        (option_map (λ rank. record { number = number; rank = rank }) waste) }
+{
+    let Some(rank) = waste else {
+        return best;
+    };
+    match best {
+        Some(found) if found.rank <= rank => Some(found),
+        _ => Some(Least { number, rank }),
+    }
+}
+
+/// The first exact bucket of a shelf that wastes no height, from the shelf of this number on. Blocks in which none has
+/// room are passed over.
+fn exact_from(
+    sides: &Sides,
+    shelves: &[KeptShelf],
+    buckets: &[LinkedBucket],
+    blocks: &Blocks,
+    spans: &Spans,
+    from: usize,
+) -> Option<Found>
+    requires from { from ≤ length shelves.now }
+    requires known { AreKnown blocks.now shelves.now }
+    requires spans { AreSpans spans.now.each buckets.now }
+    ensures { result ≡ spec.exact_from sides.now buckets.now from (drop from shelves.now) }
+{
+    let mut at = from;
+    for _block in from..shelves.len() {
+        if at >= shelves.len() {
+            break;
+        }
+        let behind = blocks.behind_narrow(at, sides.along);
+        if at < behind {
+            at = behind;
+        } else {
+            let end = at + SHELVES_OF_BLOCK;
+            let found = exact_between(sides, shelves, buckets, spans, at, end);
+            if found.is_some() {
+                return found;
+            }
+            at = end;
+        }
+    }
+    None
+}
+
+/// The first exact bucket of a shelf that wastes no height, from the shelf of one number up to that of another.
+fn exact_between(
+    sides: &Sides,
+    shelves: &[KeptShelf],
+    buckets: &[LinkedBucket],
+    spans: &Spans,
+    from: usize,
+    end: usize,
+) -> Option<Found>
+    requires from { from ≤ length shelves.now }
+    requires end { from ≤ end }
+    requires spans { AreSpans spans.now.each buckets.now }
+    ensures { or_else result (spec.exact_from sides.now buckets.now end (drop end shelves.now))
+        ≡ spec.exact_from sides.now buckets.now from (drop from shelves.now) }
+{
+    for number in from..shelves.len().min(end) {
+        let found = exact_in(sides, &shelves[number], buckets, spans, number);
+        if found.is_some() {
+            return found;
+        }
+    }
+    None
+}
+
+fn exact_in(
+    sides: &Sides,
+    kept: &KeptShelf,
+    buckets: &[LinkedBucket],
+    spans: &Spans,
+    number: usize,
+) -> Option<Found>
+    requires { AreSpans spans.now.each buckets.now }
+    ensures { result ≡ spec.exact_in sides.now buckets.now number kept.now }
+{
+    if u32::from(kept.shelf.height) != sides.across || u32::from(kept.widest_room) < sides.along {
+        return None;
+    }
+    let bucket = first_wanted(
+        Wanted::Exact(sides.along),
+        buckets,
+        spans,
+        kept.shelf.first_bucket,
+    )?;
+    Some(Found {
+        shelf: number,
+        bucket,
+    })
+}
+
+/// What was found in the shelf of least waste, unless it wastes width alone, and there is an exact bucket in a
+/// later shelf.
+fn exact_or_found(
+    sides: &Sides,
+    shelves: &[KeptShelf],
+    buckets: &[LinkedBucket],
+    blocks: &Blocks,
+    spans: &Spans,
+    least: Least,
+    bucket: usize,
+) -> Found
+    requires known { AreKnown blocks.now shelves.now }
+    requires spans { AreSpans spans.now.each buckets.now }
+    requires shelf { least.number < length shelves.now }
+    requires bucket { bucket < length buckets.now }
+    ensures { result ≡ spec.exact_or_found sides.now shelves.now buckets.now least bucket }
+{
+    let found = Found {
+        shelf: least.number,
+        bucket,
+    };
+    if least.rank != 0 || u32::from(buckets[bucket].free_space) == sides.along {
+        return found;
+    }
+    exact_from(sides, shelves, buckets, blocks, spans, least.number + 1).unwrap_or(found)
+}
+
+/// The bucket that is picked for these sides.
+pub fn pick(
+    adds: bool,
+    sides: &Sides,
+    shelves: &[KeptShelf],
+    buckets: &[LinkedBucket],
+    blocks: &Blocks,
+    spans: &Spans,
+) -> Option<Found>
+    requires known { AreKnown blocks.now shelves.now }
+    requires spans { AreSpans spans.now.each buckets.now }
+    ensures { result ≡ spec.picked adds sides.now shelves.now buckets.now }
+{
+    let least = least_waste(adds, sides, shelves, blocks)?;
+    let wanted = Wanted::Roomy(sides.along);
+    let first = shelves[least.number].shelf.first_bucket;
+    let bucket = first_wanted(wanted, buckets, spans, first)?;
+    Some(exact_or_found(sides, shelves, buckets, blocks, spans, least, bucket))
+}

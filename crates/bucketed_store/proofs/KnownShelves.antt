@@ -1,0 +1,57 @@
+-- What blocks know of the shelves that are left when some were dropped or merged.
+use Rattle.std.proofs.Common.{◌≡◌, ℕ, zero, suc, ◌+◌, ◌-◌, Bool, true, false, Option, None, Some, List, length, map, cond, refl, ◌∙◌, ◌==◌}
+use Rattle.std.specs.Option.{option_map_or}
+use Rattle.std.specs.Prelude.{slice_get}
+use Rattle.etagere_links.specs.Edits.{changed_by}
+use Rattle.etagere_links.proofs.RecordChanges.{map-changed_by}
+use Rattle.bucketed_model.specs.Merging.{Group}
+use Rattle.bucketed_records.specs.declared.records.KeptShelf.{KeptShelf}
+use Rattle.bucketed_records.specs.Private.Store.{last_kept}
+use Rattle.bucket_index.specs.declared.blocks.Blocks.{Blocks}
+use Rattle.bucket_index.specs.Private.Blocks.{AreKnown}
+use Rattle.bucket_index.proofs.KnownBlocks.{AreSome, known-same, known_of, some-taken}
+use Rattle.bucketed_store.specs.Private.Returns.{Dropping, end_dropped, last_dropped}
+use Rattle.bucketed_store.specs.Private.StoreEdits.{across_of, flattened, group_height, kept_merged, to_height}
+
+-- what is left when shelves at the end were dropped
+pub some-dropped : (steps : ℕ) (done : Dropping) → AreSome done.stored.shelves (end_dropped steps done).stored.shelves
+some-dropped zero done number kept at = at
+some-dropped (suc steps) done number kept at = by_last (λ next. some-dropped steps next) (last_kept done.stored.shelves) at
+  where
+    rest : Option KeptShelf → Dropping
+    rest last = option_map_or (λ (one : KeptShelf). cond (one.live_items == 0) (end_dropped steps (last_dropped one done)) done) last done
+
+    by_test : ((next : Dropping) → AreSome next.stored.shelves (end_dropped steps next).stored.shelves) → (one : KeptShelf) (t : Bool)
+        → slice_get (cond t (end_dropped steps (last_dropped one done)) done).stored.shelves number ≡ Some kept → slice_get done.stored.shelves number ≡ Some kept
+    by_test later one true h = some-taken (length done.stored.shelves - 1) done.stored.shelves number kept (later (last_dropped one done) number kept h)
+    by_test later one false h = h
+
+    by_last : ((next : Dropping) → AreSome next.stored.shelves (end_dropped steps next).stored.shelves) → (last : Option KeptShelf)
+        → slice_get (rest last).stored.shelves number ≡ Some kept → slice_get done.stored.shelves number ≡ Some kept
+    by_last later None h = h
+    by_last later (Some one) h = by_test later one (one.live_items == 0) h
+
+-- merging shelves changes nothing that is known
+pub known-merged : (group : Group) (blocks : Blocks) (shelves : List KeptShelf) → AreKnown blocks shelves → AreKnown blocks (kept_merged group shelves)
+known-merged group blocks shelves known = known-same blocks shelves (kept_merged group shelves) (by_test (group.others == 2)) known
+  where
+    height : ℕ
+    height = group_height group shelves
+
+    across : ℕ
+    across = across_of shelves group.first + height
+
+    risen : List KeptShelf
+    risen = changed_by (Some group.first) (to_height height) shelves
+
+    next : List KeptShelf
+    next = changed_by (Some (group.first + 1)) (flattened across) risen
+
+    two : map known_of next ≡ map known_of shelves
+    two =
+        map-changed_by known_of (flattened across) risen (Some (group.first + 1)) (λ x. refl)
+        ∙ map-changed_by known_of (to_height height) shelves (Some group.first) (λ x. refl)
+
+    by_test : (t : Bool) → map known_of (cond t (changed_by (Some (group.first + 2)) (flattened across) next) next) ≡ map known_of shelves
+    by_test true = map-changed_by known_of (flattened across) next (Some (group.first + 2)) (λ x. refl) ∙ two
+    by_test false = two

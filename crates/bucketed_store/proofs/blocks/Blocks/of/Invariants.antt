@@ -1,6 +1,0 @@
-use Rattle.bucketed_store.specs.Private.Blocks.{AreFirstKnown}
-use Rattle.bucketed_store.proofs.blocks.Blocks.of.Given as goal
-
--- the shelves so far are known
-abbrev pub invariant-loop-number : goal.invariant-loop-number
-invariant-loop-number l = AreFirstKnown l.number l.known l.shelves

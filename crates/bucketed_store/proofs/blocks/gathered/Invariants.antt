@@ -1,9 +1,0 @@
-use Rattle.std.proofs.Common.{◌≡◌, ℕ, ◌<◌, ◌≤◌, Some}
-use Rattle.std.specs.Prelude.{slice_get}
-use Rattle.bucketed_store.specs.Private.Blocks.{Block, IsPart}
-use Rattle.bucketed_store.proofs.blocks.gathered.Given as goal
-
--- the blocks so far are parts
-abbrev pub invariant-loop-number : goal.invariant-loop-number
-invariant-loop-number l =
-    (number : ℕ) (block : Block) → l.from ≤ number → number < l.number → slice_get l.blocks number ≡ Some block → IsPart block l.whole

@@ -1,9 +1,0 @@
-use Rattle.std.proofs.Common.{◌≡◌, ◌-◌}
-use Rattle.bucketed_model.specs.State.{most_buckets}
-use Rattle.bucketed_store.specs.Private.Searching.{first_from}
-use Rattle.bucketed_store.proofs.searching.first_by_links.Given as goal
-
--- what is sought from the first link on is what is sought from here on
-abbrev pub invariant-loop-step : goal.invariant-loop-step
-invariant-loop-step l =
-    first_from (most_buckets - l._step) l.wanted l.buckets l.at ≡ first_from most_buckets l.wanted l.buckets l.fn.first

@@ -1,9 +1,0 @@
-use Rattle.std.proofs.Common.{◌-◌, ◌≤◌}
-use Rattle.bucketed_model.specs.State.{most_buckets}
-use Rattle.bucketed_store.specs.Private.Searching.{widest_from}
-use Rattle.bucketed_store.proofs.searching.has_room.Given as goal
-
--- the widest from here on is one of all
-abbrev pub invariant-loop-step : goal.invariant-loop-step
-invariant-loop-step l =
-    widest_from (most_buckets - l._step) l.buckets l.at ≤ widest_from most_buckets l.buckets l.fn.first

@@ -1,5 +1,0 @@
-use Rattle.bucketed_store.proofs.KnownSpans.{spans-forgotten}
-use Rattle.bucketed_store.proofs.spans.Spans.forget.Goals as goal
-
-pub returns : goal.returns
-returns c = rw c.block_of-block.ensures.value (spans-forgotten c.args.number c.args.self.now.each c.args.buckets.now c.requires)
