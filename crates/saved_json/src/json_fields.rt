@@ -1,4 +1,5 @@
-//! Whether the fields of a record hold what they should.
+//! Whether the fields of a record hold what they should. A field is told by how many the record has, its place among
+//! them, and its name.
 //!
 //! Definitions: `JsonFields`.
 
@@ -8,6 +9,23 @@ ghost use Rattle.json.specs.Value.{value_view, members_view};
 ghost use Rattle.saved_json.specs.JsonFields.{field, natural, the_only, values_named, whole};
 
 use json::Value;
+
+/// Whether a field holds this number, written in full.
+pub fn holds_number(
+    json: &Value<'_>,
+    count: usize,
+    position: usize,
+    name: &str,
+    number: u64,
+) -> bool
+    ensures { IsTrue result → field count position name.now (value_view json.now) ≡ Some (natural number) }
+{
+    let Some(Value::Number(text)) = field(json, count, position, name) else {
+        return false;
+    };
+    let mut digits = itoa::Buffer::new();
+    *text == digits.format(number)
+}
 
 /// Whether a field holds this number.
 pub fn holds_natural(
@@ -19,11 +37,7 @@ pub fn holds_natural(
 ) -> bool
     ensures { IsTrue result → field count position name.now (value_view json.now) ≡ Some (natural number) }
 {
-    let mut digits = itoa::Buffer::new();
-    match field(json, count, position, name) {
-        Some(Value::Number(text)) => *text == digits.format(number),
-        _ => false,
-    }
+    holds_number(json, count, position, name, u64::from(number))
 }
 
 /// Whether a field holds this number, which may have a minus sign.

@@ -88,8 +88,14 @@ fn has_columns(json: &Value<'_>, snapshot: &BucketedSnapshot) -> bool
         && holds_whole(json, 13, 10, "allocated_space", snapshot.allocated_space)
 }
 
-/// Whether the fields hold these sides, with which the snapshots of both atlases begin.
-fn has_sides(json: &Value<'_>, count: usize, size: Size, alignment: Size, vertical: bool) -> bool
+/// Whether the fields hold these sides, with which a snapshot begins, of so many fields.
+pub fn has_sides(
+    json: &Value<'_>,
+    count: usize,
+    size: Size,
+    alignment: Size,
+    vertical: bool,
+) -> bool
     ensures { IsTrue result → HasSides count (value_view json.now) size alignment vertical }
 {
     holds_whole(json, count, 0, "width", size.width)
@@ -100,7 +106,7 @@ fn has_sides(json: &Value<'_>, count: usize, size: Size, alignment: Size, vertic
 }
 
 /// Whether a field holds an array of these records.
-fn holds_records<R: Spelled>(
+pub fn holds_records<R: Spelled>(
     json: &Value<'_>,
     count: usize,
     position: usize,

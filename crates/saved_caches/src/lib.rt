@@ -1,0 +1,13 @@
+//! Saved caches as JSON text.
+//!
+//! `reading` and `writing` have the calls, `texts` what serde reads and writes, and `caches` what a JSON value has to say
+//! of a cache.
+#![tactic(auto)]
+
+mod caches;
+mod reading;
+mod texts;
+mod writing;
+
+pub use reading::read_saved_cache;
+pub use writing::write_saved_cache;
