@@ -1,0 +1,4 @@
+pub mod Done
+pub mod Entries
+pub mod Found
+pub mod Restored

@@ -1,0 +1,3 @@
+-- What contracts of private functions cite; no public clause does.
+pub mod ById
+pub mod Following
