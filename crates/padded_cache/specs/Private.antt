@@ -1,0 +1,3 @@
+-- What keeps the fields; no public clause cites it.
+pub mod Kept
+pub mod Listed

@@ -1,0 +1,11 @@
+//! A cache in which so many pixels stay free around each rectangle: a size is asked for with them, and a rectangle is
+//! given back without them.
+//!
+//! `cache` has the calls, `listing` the iterator.
+#![tactic(auto)]
+
+mod cache;
+mod listing;
+
+pub use cache::PaddedCache;
+pub use listing::Iter;
