@@ -28,15 +28,24 @@ fn draw_page(rt: &(impl Input + Print + AllocGlobal)) -> Result<(), &'static str
     let mut text = Vec::new(rt.alloc());
     let read = rt.reader().read_to_end(&mut text);
     read.map_err(|_| "read fault")?;
+    let mut cache = empty_cache(rt)?;
+    place_text(&mut cache, &text)?;
+    let drawn = cache.atlas().dump_svg(&mut io::writer(rt));
+    drawn.map_err(|_| "write fault")
+}
+
+fn empty_cache(rt: &impl AllocGlobal) -> Result<GlyphCache, &'static str> {
     let capacity = NonZeroUsize::new(MOST_GLYPHS).ok_or("no capacity")?;
     let (width, height) = SIDES;
     let made = GlyphCache::new(rt.alloc(), size2(width, height), &DEFAULT_OPTIONS, capacity);
-    let mut cache = made.map_err(|_| "no memory")?;
+    made.map_err(|_| "no memory")
+}
+
+fn place_text(cache: &mut GlyphCache, text: &[u8]) -> Result<(), &'static str> {
     for line in text.split(|byte| *byte == b'\n') {
-        place_line(&mut cache, line)?;
+        place_line(cache, line)?;
     }
-    let drawn = cache.atlas().dump_svg(&mut io::writer(rt));
-    drawn.map_err(|_| "write fault")
+    Ok(())
 }
 
 /// Places the glyphs of a line. One that begins with `#` is a heading.

@@ -33,14 +33,22 @@ fn draw_both(rt: &(impl Print + AllocGlobal)) -> Result<(), &'static str> {
     let mut atlas = AtlasAllocator::new(rt.alloc(), size).map_err(|_| "no memory")?;
     use_for_long(rt, &mut atlas)?;
     let done = rearranged(rt.alloc(), &atlas, size).map_err(|_| "no memory")?;
-    let mut output = io::writer(rt);
+    draw_pages(&mut io::writer(rt), &atlas, &done.atlas)
+}
+
+/// Draws both pages side by side.
+fn draw_pages<W: Write>(
+    output: &mut W,
+    old: &AtlasAllocator,
+    new: &AtlasAllocator,
+) -> Result<(), &'static str> {
     write_text(
-        &mut output,
+        output,
         b"<svg xmlns=\"http://www.w3.org/2000/svg\" viewBox=\"0 0 336 128\">\n",
     )?;
-    draw_page(&mut output, &atlas, 0)?;
-    draw_page(&mut output, &done.atlas, SECOND)?;
-    write_text(&mut output, b"</svg>\n")
+    draw_page(output, old, 0)?;
+    draw_page(output, new, SECOND)?;
+    write_text(output, b"</svg>\n")
 }
 
 /// Pictures come and go; one that finds no room is left out.

@@ -12,7 +12,7 @@ mod texture;
 
 use anyhow::{Context, Result};
 use apart::allocate_two;
-use etagere::{AtlasAllocator, DEFAULT_OPTIONS, Rectangle, size2};
+use etagere::{AllocId, Allocation, AtlasAllocator, DEFAULT_OPTIONS, Rectangle, size2};
 use frames::draw_frames;
 use glyph_shelf::GlyphCache;
 use pages::{PAGE, allocate_on_pages};
@@ -34,20 +34,38 @@ fn main(rt: HostRuntime) -> Result<()> {
 
 fn show_two(rt: &(impl Print + AllocGlobal)) -> Result<()> {
     let mut atlas = AtlasAllocator::new(rt.alloc(), size2(100, 100))?;
-    let no_room = allocate_two(&mut atlas, size2(60, 60), size2(60, 60))?.is_none();
+    show_neither(rt, &mut atlas)?;
+    show_both(rt, &mut atlas)
+}
+
+fn show_neither(rt: &impl Print, atlas: &mut AtlasAllocator) -> Result<()> {
+    let no_room = allocate_two(atlas, size2(60, 60), size2(60, 60))?.is_none();
     println!(rt; "two: neither {no_room}, nothing kept {}", atlas.is_empty())?;
-    let (one, other) = allocate_two(&mut atlas, size2(60, 40), size2(40, 40))?.context("no room")?;
+    Ok(())
+}
+
+fn show_both(rt: &impl Print, atlas: &mut AtlasAllocator) -> Result<()> {
+    let (one, other) = allocate_two(atlas, size2(60, 40), size2(40, 40))?.context("no room")?;
     show(rt, "two: one", one.rectangle)?;
     show(rt, "two: other", other.rectangle)
 }
 
 fn show_offset(rt: &(impl Print + AllocGlobal)) -> Result<()> {
     let mut atlas = AtlasAllocator::new(rt.alloc(), size2(1000, 1000))?;
+    let lower = lower_of_two(&mut atlas)?;
+    show_offsets(rt, &atlas, lower)
+}
+
+fn lower_of_two(atlas: &mut AtlasAllocator) -> Result<AllocId> {
     atlas.allocate(size2(100, 100))?.context("no room")?;
     let lower = atlas.allocate(size2(1000, 800))?.context("no room")?;
-    let first = pixel_offset(&atlas, lower.id, 0, 0);
-    let last = pixel_offset(&atlas, lower.id, 999, 831);
-    let below = pixel_offset(&atlas, lower.id, 0, 832);
+    Ok(lower.id)
+}
+
+fn show_offsets(rt: &impl Print, atlas: &AtlasAllocator, id: AllocId) -> Result<()> {
+    let first = pixel_offset(atlas, id, 0, 0);
+    let last = pixel_offset(atlas, id, 999, 831);
+    let below = pixel_offset(atlas, id, 0, 832);
     println!(rt; "offset: {first:?} {last:?} {below:?}")?;
     Ok(())
 }
@@ -56,10 +74,14 @@ fn show_sheet(rt: &(impl Print + AllocGlobal)) -> Result<()> {
     let sizes = [size2(32, 32), size2(16, 20), size2(20, 20), size2(64, 8)];
     let mut atlas = AtlasAllocator::new(rt.alloc(), size2(64, 64))?;
     let places = place_sheet(rt.alloc(), &mut atlas, &sizes)?;
-    for place in &places {
+    show_places(rt, &places, sizes.len())
+}
+
+fn show_places(rt: &impl Print, places: &[Allocation], wanted: usize) -> Result<()> {
+    for place in places {
         show(rt, "sheet", place.rectangle)?;
     }
-    println!(rt; "sheet: placed {} of {}", places.len(), sizes.len())?;
+    println!(rt; "sheet: placed {} of {wanted}", places.len())?;
     Ok(())
 }
 
@@ -107,13 +129,19 @@ fn show(rt: &impl Print, what: &str, rectangle: Rectangle) -> Result<()> {
 /// The example of the README, with a second return, written down.
 fn show_recorded(rt: &(impl Print + AllocGlobal)) -> Result<()> {
     let mut recorder = Recorder::new(rt.alloc(), size2(1000, 1000), &DEFAULT_OPTIONS)?;
+    let unknown = record(&mut recorder)?;
+    println!(rt; "recorded: unknown {unknown}")?;
+    let script = recorder.finish().context("no memory")?;
+    print!(rt; "{script}")?;
+    Ok(())
+}
+
+/// Makes the calls of the example, and tells whether the second return was refused.
+fn record(recorder: &mut Recorder) -> Result<bool> {
     let first = recorder.allocate(size2(100, 100))?.context("no room")?;
     recorder.allocate(size2(900, 200))?.context("no room")?;
     recorder.deallocate(first.id)?;
     let unknown = recorder.deallocate(first.id).is_err();
     recorder.allocate(size2(300, 200))?.context("no room")?;
-    println!(rt; "recorded: unknown {unknown}")?;
-    let script = recorder.finish().context("no memory")?;
-    print!(rt; "{script}")?;
-    Ok(())
+    Ok(unknown)
 }
