@@ -155,6 +155,35 @@ fn start_beside(
     from
 }
 
+/// Where the shelves begin that don't come before this one, by a search that starts near a position.
+fn start_near(
+    shelves: &[LinkedShelf],
+    by_height: &ShelvesByHeight,
+    shelf: usize,
+    near: usize,
+) -> usize
+    requires order { AreInOrder shelves.now by_height.now.items }
+    requires within { shelf < length shelves.now }
+    ensures within { result ≤ length by_height.now.items }
+    ensures before { AllByRecursion (λ one. spec.order_of shelves.now one.shelf < spec.order_of shelves.now shelf)
+        (take result by_height.now.items) }
+    ensures after { AllByRecursion (λ one. spec.order_of shelves.now shelf ≤ spec.order_of shelves.now one.shelf)
+        (drop result by_height.now.items) }
+{
+    let order = order_of(shelves, shelf);
+    let mut from = 0;
+    let mut end = by_height.len();
+    while from < end {
+        let middle = probed_near(near, from, end);
+        if order_of(shelves, by_height.shelf(middle)) < order {
+            from = middle + 1;
+        } else {
+            end = middle;
+        }
+    }
+    from
+}
+
 /// Where to look next between two positions: at this one or the one before it while they are among those in question,
 /// since most shelves stay where they are, and else in the middle.
 fn probed_near(near: usize, from: usize, end: usize) -> usize
@@ -232,8 +261,14 @@ pub fn take_out(shelves: &[LinkedShelf], by_height: &mut ShelvesByHeight, shelf:
     by_height.remove(index).widest
 }
 
-/// Puts a shelf in where it stands in the order, for which there is room.
-pub fn put_in(shelves: &[LinkedShelf], by_height: &mut ShelvesByHeight, one: BoundedShelf)
+/// Puts a shelf in where it stands in the order, for which there is room. It is looked for first right behind a position:
+/// what is left of a shelf mostly stands where that stood.
+pub fn put_in(
+    shelves: &[LinkedShelf],
+    by_height: &mut ShelvesByHeight,
+    one: BoundedShelf,
+    behind: usize,
+)
     requires order { AreInOrder shelves.now by_height.old.items }
     requires within { one.shelf < length shelves.now }
     requires room { length by_height.old.items < by_height.old.capacity }
@@ -242,7 +277,7 @@ pub fn put_in(shelves: &[LinkedShelf], by_height: &mut ShelvesByHeight, one: Bou
     ensures len { length by_height.new.items ≡ length by_height.old.items + 1 }
 {
     let shelf = usize::from(one.shelf);
-    let index = start_of(shelves, by_height, shelf).index;
+    let index = start_near(shelves, by_height, shelf, behind.wrapping_add(1));
     by_height.insert(index, one);
     by_height.keep_position(shelf, index);
 }

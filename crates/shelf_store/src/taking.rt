@@ -123,7 +123,8 @@ fn split_shelf(
     let free = free_item(whole.x, column_width, shelf as u16, generation);
     records.split_shelf(found.shelf, height, shelf, rest, item, free);
     settle(records.shelves(), by_height, found.shelf, index);
-    put_in(records.shelves(), by_height, bounded(shelf, column_width));
+    let left = bounded(shelf, column_width);
+    put_in(records.shelves(), by_height, left, index);
 }
 
 /// Gives the item of a placement: its front, where this is the number of the rest's record, else all of it.

@@ -1,5 +1,5 @@
 -- Where a shelf stands in the list of shelves by height, as halving finds it, and what an edit there makes of the list.
-use Rattle.std.proofs.Common.{◌≡◌, ◌≢◌, ℕ, zero, suc, ◌+◌, ◌<◌, ◌≤◌, Bool, true, false, List, [], ◌∷◌, length, map, get_or, set, take, drop, refl, ap, arith, sym, subst}
+use Rattle.std.proofs.Common.{◌≡◌, ◌≢◌, ℕ, zero, suc, ◌+◌, ◌<◌, ◌≤◌, Bool, true, false, List, [], ◌∷◌, length, map, get_or, set, take, drop, refl, ap, arith, sym}
 use Rattle.std.proofs.Math.Nat.{pow-suc}
 use Rattle.std.specs.Prelude.{insert, nat_lt, remove, ◌*◌, ◌^◌, ◌==◌}
 use Rattle.std.specs.List.{AllByRecursion}
@@ -175,13 +175,6 @@ stands-found shelves shelf index probes by_height in_order stands start = stands
 -- one that stands there has a record
 pub stands-within : (shelves : List LinkedShelf) (shelf : ℕ) (by_height : List BoundedShelf) → AreInOrder shelves by_height → 1 ≤ times shelf (numbers_by_height by_height) → shelf < length shelves
 stands-within shelves shelf by_height in_order stands = Each-member (λ k. k < length shelves) (numbers_by_height by_height) shelf in_order.within stands
-
--- one is put in where its order was found to begin
-pub put_in-found : (shelves : List LinkedShelf) (number index probes : ℕ) (one : BoundedShelf) (by_height : List BoundedShelf) → number ≡ one.shelf
-    → IsStart shelves by_height (order_of shelves number) index probes → insert by_height index one ≡ put_in shelves one by_height
-put_in-found shelves number index probes one by_height is start =
-    let from : IsStart shelves by_height (order_of shelves one.shelf) index probes = subst (λ n. IsStart shelves by_height (order_of shelves n) index probes) is start in
-    put_in-at shelves one index by_height from.within from.before from.after
 
 -- a shelf that is read stands there
 times-read : (shelf index : ℕ) (by_height : List BoundedShelf) → index < length by_height → (bounded_at by_height index).shelf ≡ shelf → 1 ≤ times shelf (numbers_by_height by_height)
