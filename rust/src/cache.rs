@@ -5,10 +5,13 @@ use std::io::{self, Write};
 use std::mem;
 use std::num::NonZeroUsize;
 
-use crate::outcome::{grown, with_memory};
+use crate::outcome::{cache_restore_refused, grown, with_memory};
 use crate::picture;
 use crate::sys::{self, Status};
-use crate::{AllocError, AllocatorOptions, AtlasGrowFault, GlyphFault, OptionsFault, Rectangle, Size};
+use crate::{
+    AllocError, AllocatorOptions, AtlasGrowFault, CacheRestoreFault, GlyphFault, JsonFault, OptionsFault, Rectangle,
+    Size,
+};
 
 /// Rectangles of an atlas under keys, of which those used least recently are evicted where a new one needs room.
 ///
@@ -219,6 +222,44 @@ impl GlyphCache {
             }
         }
         Ok(())
+    }
+
+    /// What is needed to make a cache in the same state, but for the frame, as JSON text: an object
+    /// `{"capacity": .., "atlas": {..}, "keys": [{"key": .., "id": ..}, ..]}`, the most recently used key first.
+    ///
+    /// # Errors
+    ///
+    /// [`AllocError`], where there was no memory.
+    ///
+    /// ```
+    /// use std::num::NonZeroUsize;
+    ///
+    /// use etagere::{size2, GlyphCache, DEFAULT_OPTIONS};
+    ///
+    /// let capacity = NonZeroUsize::new(64).unwrap();
+    /// let mut cache = GlyphCache::new(size2(16, 16), &DEFAULT_OPTIONS, capacity)?;
+    /// for key in 1..=2 {
+    ///     cache.place(key, size2(16, 8))?;
+    /// }
+    ///
+    /// let mut restored = GlyphCache::from_json(&cache.to_json()?)?;
+    /// assert_eq!(restored.entries(), cache.entries());
+    /// assert_eq!(restored.place(3, size2(16, 8))?.evicted, [1]);
+    /// # Ok::<(), Box<dyn std::error::Error>>(())
+    /// ```
+    pub fn to_json(&self) -> Result<Vec<u8>, AllocError> {
+        with_memory(self.handle.snapshot())
+    }
+
+    /// The cache that [`to_json`](Self::to_json) has saved; no frame has begun. The text may come from anybody: what
+    /// isn't that of a cache is refused.
+    ///
+    /// # Errors
+    ///
+    /// [`JsonFault::Unreadable`], where the text says no saved cache; else a broken rule.
+    pub fn from_json(text: &[u8]) -> Result<Self, JsonFault<CacheRestoreFault>> {
+        let handle = sys::Cache::restore(text).map_err(cache_restore_refused)?;
+        Ok(Self { handle, evicted: Vec::new() })
     }
 
     /// Takes all keys out: the cache is as new, and no frame has begun.

@@ -116,28 +116,95 @@ faults! {
     }
 }
 
-/// Why a JSON text gives no atlas.
+/// Why a saved cache can't be restored: a rule that it breaks, where it breaks several any of them.
 #[derive(Copy, Clone, Debug, PartialEq, Eq, Hash)]
-pub enum JsonFault {
-    /// It isn't the text of a saved atlas of this kind, or there was no memory to read it.
-    Unreadable,
-    /// It was read, and what it says can't be restored.
-    Refused(RestoreFault),
+pub enum CacheRestoreFault {
+    /// Its atlas breaks this rule, which is never [`RestoreFault::Memory`].
+    Atlas(RestoreFault),
+    /// There was no memory.
+    Memory,
+    /// There may be no key.
+    NoCapacity,
+    /// There are more keys than there may be.
+    TooManyKeys,
+    /// A key stands twice.
+    KeyTwice,
+    /// A key has an id under which nothing is allocated, or which another key has too.
+    WrongId,
+    /// Something is allocated for no key.
+    NoKey,
 }
 
-impl fmt::Display for JsonFault {
+impl CacheRestoreFault {
+    /// The number of the fault.
+    #[must_use]
+    pub const fn number(self) -> u32 {
+        match self {
+            Self::Atlas(fault) => fault.number(),
+            Self::Memory => 11,
+            Self::NoCapacity => 12,
+            Self::TooManyKeys => 13,
+            Self::KeyTwice => 14,
+            Self::WrongId => 15,
+            Self::NoKey => 16,
+        }
+    }
+
+    /// The fault with this number.
+    pub(crate) const fn of_number(number: u32) -> Option<Self> {
+        match number {
+            11 => Some(Self::Memory),
+            12 => Some(Self::NoCapacity),
+            13 => Some(Self::TooManyKeys),
+            14 => Some(Self::KeyTwice),
+            15 => Some(Self::WrongId),
+            16 => Some(Self::NoKey),
+            _ => match RestoreFault::of_number(number) {
+                Some(fault) => Some(Self::Atlas(fault)),
+                None => None,
+            },
+        }
+    }
+}
+
+impl fmt::Display for CacheRestoreFault {
+    fn fmt(&self, f: &mut fmt::Formatter<'_>) -> fmt::Result {
+        f.write_str(match self {
+            Self::Atlas(fault) => return fault.fmt(f),
+            Self::Memory => "out of memory",
+            Self::NoCapacity => "there may be no key",
+            Self::TooManyKeys => "there are more keys than there may be",
+            Self::KeyTwice => "a key stands twice",
+            Self::WrongId => "nothing is allocated under the id of a key, or another key has it",
+            Self::NoKey => "something is allocated for no key",
+        })
+    }
+}
+
+impl Error for CacheRestoreFault {}
+
+/// Why a JSON text gives no atlas, or no cache.
+#[derive(Copy, Clone, Debug, PartialEq, Eq, Hash)]
+pub enum JsonFault<F = RestoreFault> {
+    /// It isn't the text of what is saved of this kind, or there was no memory to read it.
+    Unreadable,
+    /// It was read, and what it says can't be restored.
+    Refused(F),
+}
+
+impl<F: fmt::Display> fmt::Display for JsonFault<F> {
     fn fmt(&self, f: &mut fmt::Formatter<'_>) -> fmt::Result {
         match self {
-            Self::Unreadable => f.write_str("not the text of a saved atlas of this kind"),
+            Self::Unreadable => f.write_str("not the text of what is saved of this kind"),
             Self::Refused(fault) => fault.fmt(f),
         }
     }
 }
 
-impl Error for JsonFault {}
+impl<F: Error> Error for JsonFault<F> {}
 
-impl From<RestoreFault> for JsonFault {
-    fn from(fault: RestoreFault) -> Self {
+impl<F> From<F> for JsonFault<F> {
+    fn from(fault: F) -> Self {
         Self::Refused(fault)
     }
 }

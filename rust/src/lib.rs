@@ -58,7 +58,10 @@ pub use allocation::{AllocId, Allocation, AllocatorOptions, DEFAULT_OPTIONS};
 pub use atlas::{AtlasAllocator, Iter};
 pub use bucketed::BucketedAtlasAllocator;
 pub use cache::{Entry, GlyphCache, Placed};
-pub use faults::{AllocError, AtlasGrowFault, GlyphFault, GrowFault, JsonFault, OptionsFault, RestoreFault, UnknownId};
+pub use faults::{
+    AllocError, AtlasGrowFault, CacheRestoreFault, GlyphFault, GrowFault, JsonFault, OptionsFault, RestoreFault,
+    UnknownId,
+};
 pub use fullness::{BucketedRefusal, BucketedUsage, Refusal, Usage};
 pub use geometry::{point2, size2};
 pub use record::{Recordable, Recorder};

@@ -3,7 +3,9 @@
 use std::fmt::Display;
 
 use crate::sys::Status;
-use crate::{AllocError, Allocation, AtlasGrowFault, JsonFault, OptionsFault, RestoreFault, UnknownId};
+use crate::{
+    AllocError, Allocation, AtlasGrowFault, CacheRestoreFault, JsonFault, OptionsFault, RestoreFault, UnknownId,
+};
 
 impl OptionsFault {
     /// Why a handle wasn't filled.
@@ -51,6 +53,17 @@ pub fn restore_refused(status: Status) -> JsonFault {
             Some(fault) => JsonFault::Refused(fault),
             None => other.unexpected(),
         },
+    }
+}
+
+/// Why a text wasn't restored as a cache.
+pub fn cache_restore_refused(status: Status) -> JsonFault<CacheRestoreFault> {
+    if status == Status::UNREADABLE {
+        return JsonFault::Unreadable;
+    }
+    match CacheRestoreFault::of_number(status.fault()) {
+        Some(fault) => JsonFault::Refused(fault),
+        None => status.unexpected(),
     }
 }
 

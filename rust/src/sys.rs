@@ -126,6 +126,8 @@ pub trait Kind {
     const PICTURE: Tell;
     const PICTURE_LINES: Tell;
     const PICTURE_PART: TellPart;
+    const SNAPSHOT: Tell;
+    const RESTORE: FillFrom;
 }
 
 /// What handles of atlases are also asked for by.
@@ -136,8 +138,6 @@ pub trait AtlasKind: Kind {
     const DEALLOCATE: unsafe extern "C" fn(*mut Raw, u32) -> Status;
     const GROW: unsafe extern "C" fn(*mut Raw, Size) -> Status;
     const CLONE: unsafe extern "C" fn(*mut Raw, *mut Raw) -> Status;
-    const SNAPSHOT: Tell;
-    const RESTORE: FillFrom;
     const REFUSAL: unsafe extern "C" fn(*mut Raw, Size, *mut Reason) -> Status;
     const USAGE: Look<Self::Usage>;
     const LARGEST_FREE: Look<Size>;
@@ -227,6 +227,18 @@ impl<K: Kind> Handle<K> {
             }
         })
     }
+
+    /// The JSON text of what is saved.
+    pub fn snapshot(&self) -> Result<Vec<u8>, Status> {
+        let mut raw = self.look();
+        // SAFETY: the handle is held and alone; `listed` gives places.
+        listed(0, |text, length, count| unsafe { K::SNAPSHOT(&mut *raw, text, length, count) })
+    }
+
+    pub fn restore(text: &[u8]) -> Result<Self, Status> {
+        // SAFETY: the handle is null and alone; `text` with its length is a place.
+        Self::filled(|raw| unsafe { K::RESTORE(raw, text.as_ptr(), text.len()) })
+    }
 }
 
 impl<K: AtlasKind> Handle<K> {
@@ -257,18 +269,6 @@ impl<K: AtlasKind> Handle<K> {
         let mut raw = self.look();
         // SAFETY: the handle is held and alone; the copy is null, alone, and another one.
         Self::filled(|copy| unsafe { K::CLONE(&mut *raw, copy) })
-    }
-
-    /// The JSON text of what is saved.
-    pub fn snapshot(&self) -> Result<Vec<u8>, Status> {
-        let mut raw = self.look();
-        // SAFETY: the handle is held and alone; `listed` gives places.
-        listed(0, |text, length, count| unsafe { K::SNAPSHOT(&mut *raw, text, length, count) })
-    }
-
-    pub fn restore(text: &[u8]) -> Result<Self, Status> {
-        // SAFETY: the handle is null and alone; `text` with its length is a place.
-        Self::filled(|raw| unsafe { K::RESTORE(raw, text.as_ptr(), text.len()) })
     }
 
     pub fn refusal(&self, size: Size) -> Reason {
@@ -463,6 +463,8 @@ impl Kind for Shelves {
     const PICTURE: Tell = etagere_atlas_picture;
     const PICTURE_LINES: Tell = etagere_atlas_picture_lines;
     const PICTURE_PART: TellPart = etagere_atlas_picture_part;
+    const SNAPSHOT: Tell = etagere_atlas_snapshot;
+    const RESTORE: FillFrom = etagere_atlas_restore;
 }
 
 impl AtlasKind for Shelves {
@@ -472,8 +474,6 @@ impl AtlasKind for Shelves {
     const DEALLOCATE: unsafe extern "C" fn(*mut Raw, u32) -> Status = etagere_atlas_deallocate;
     const GROW: unsafe extern "C" fn(*mut Raw, Size) -> Status = etagere_atlas_grow;
     const CLONE: unsafe extern "C" fn(*mut Raw, *mut Raw) -> Status = etagere_atlas_clone;
-    const SNAPSHOT: Tell = etagere_atlas_snapshot;
-    const RESTORE: FillFrom = etagere_atlas_restore;
     const REFUSAL: unsafe extern "C" fn(*mut Raw, Size, *mut Reason) -> Status = etagere_atlas_refusal;
     const USAGE: Look<Usage> = etagere_atlas_usage;
     const LARGEST_FREE: Look<Size> = etagere_atlas_largest_free;
@@ -490,6 +490,8 @@ impl Kind for Buckets {
     const PICTURE: Tell = etagere_bucketed_picture;
     const PICTURE_LINES: Tell = etagere_bucketed_picture_lines;
     const PICTURE_PART: TellPart = etagere_bucketed_picture_part;
+    const SNAPSHOT: Tell = etagere_bucketed_snapshot;
+    const RESTORE: FillFrom = etagere_bucketed_restore;
 }
 
 impl AtlasKind for Buckets {
@@ -499,8 +501,6 @@ impl AtlasKind for Buckets {
     const DEALLOCATE: unsafe extern "C" fn(*mut Raw, u32) -> Status = etagere_bucketed_deallocate;
     const GROW: unsafe extern "C" fn(*mut Raw, Size) -> Status = etagere_bucketed_grow;
     const CLONE: unsafe extern "C" fn(*mut Raw, *mut Raw) -> Status = etagere_bucketed_clone;
-    const SNAPSHOT: Tell = etagere_bucketed_snapshot;
-    const RESTORE: FillFrom = etagere_bucketed_restore;
     const REFUSAL: unsafe extern "C" fn(*mut Raw, Size, *mut Reason) -> Status = etagere_bucketed_refusal;
     const USAGE: Look<BucketedUsage> = etagere_bucketed_usage;
     const LARGEST_FREE: Look<Size> = etagere_bucketed_largest_free;
@@ -517,6 +517,8 @@ impl Kind for Keys {
     const PICTURE: Tell = etagere_cache_picture;
     const PICTURE_LINES: Tell = etagere_cache_picture_lines;
     const PICTURE_PART: TellPart = etagere_cache_picture_part;
+    const SNAPSHOT: Tell = etagere_cache_snapshot;
+    const RESTORE: FillFrom = etagere_cache_restore;
 }
 
 extern "C" {
@@ -649,6 +651,13 @@ extern "C" {
         text_length: *mut usize,
     ) -> Status;
     fn etagere_bucketed_restore(atlas: *mut Raw, text: *const u8, text_length: usize) -> Status;
+    fn etagere_cache_snapshot(
+        cache: *mut Raw,
+        buffer: *mut u8,
+        buffer_length: usize,
+        text_length: *mut usize,
+    ) -> Status;
+    fn etagere_cache_restore(cache: *mut Raw, text: *const u8, text_length: usize) -> Status;
     fn etagere_atlas_allocations(
         atlas: *mut Raw,
         allocations: *mut Allocation,
@@ -681,6 +690,7 @@ mod tests {
                 K::PICTURE(raw, &mut byte, 1, &mut length),
                 K::PICTURE_LINES(raw, &mut byte, 1, &mut length),
                 K::PICTURE_PART(raw, Rectangle::default(), &mut byte, 1, &mut length),
+                K::SNAPSHOT(raw, &mut byte, 1, &mut length),
             ]
         }
     }
@@ -688,7 +698,7 @@ mod tests {
     /// Each further call of a kind of atlas on a null handle.
     fn of_null_atlas<K: AtlasKind>() -> Vec<Status> {
         let raw = &mut Raw::null();
-        let (mut allocation, mut copy, mut length, mut byte) = (NOTHING, Raw::null(), 0, 0);
+        let (mut allocation, mut copy) = (NOTHING, Raw::null());
         let (mut reason, mut usage, mut size) = (Reason::default(), K::Usage::default(), SIZE);
         // SAFETY: both handles are null and alone; all else are places.
         unsafe {
@@ -697,7 +707,6 @@ mod tests {
                 K::DEALLOCATE(raw, 65536),
                 K::GROW(raw, SIZE),
                 K::CLONE(raw, &mut copy),
-                K::SNAPSHOT(raw, &mut byte, 1, &mut length),
                 K::REFUSAL(raw, SIZE, &mut reason),
                 K::USAGE(raw, &mut usage),
                 K::LARGEST_FREE(raw, &mut size),
@@ -736,7 +745,7 @@ mod tests {
     fn a_null_handle_is_told() {
         let mut statuses = [of_null::<Shelves>(), of_null::<Buckets>(), of_null::<Keys>()].concat();
         statuses.extend([of_null_atlas::<Shelves>(), of_null_atlas::<Buckets>(), of_null_of_one_kind()].concat());
-        assert_eq!(statuses.len(), 61);
+        assert_eq!(statuses.len(), 62);
         assert!(statuses.iter().all(|&status| status == Status::NULL_HANDLE), "{statuses:?}");
     }
 
@@ -763,6 +772,10 @@ mod tests {
         let cache = Cache::with_capacity(SIZE, &DEFAULT_OPTIONS, 1).expect("good options");
         // SAFETY: the handle is held and alone; the options are a place.
         let status = unsafe { etagere_cache_new(&mut *cache.look(), SIZE, &Options::from(&DEFAULT_OPTIONS), 1) };
+        assert_eq!(status, Status::HANDLE_IN_USE);
+        let text = cache.snapshot().expect("memory");
+        // SAFETY: the handle is held and alone; the text with its length is a place.
+        let status = unsafe { etagere_cache_restore(&mut *cache.look(), text.as_ptr(), text.len()) };
         assert_eq!(status, Status::HANDLE_IN_USE);
     }
 
@@ -802,7 +815,7 @@ mod tests {
     }
 
     /// The call that writes what is saved, with a buffer that is too short.
-    fn of_short_snapshot<K: AtlasKind>(handle: &Handle<K>) -> Status {
+    fn of_short_snapshot<K: Kind>(handle: &Handle<K>) -> Status {
         let (mut length, mut byte) = (0, 0);
         // SAFETY: the handle is held and alone; all else are places.
         unsafe { K::SNAPSHOT(&mut *handle.look(), &mut byte, 1, &mut length) }
@@ -818,6 +831,7 @@ mod tests {
         assert_eq!(of_short_buffer(&cache), [Status::LENGTH; 3]);
         assert_eq!(of_short_snapshot(&atlas), Status::LENGTH);
         assert_eq!(of_short_snapshot(&buckets), Status::LENGTH);
+        assert_eq!(of_short_snapshot(&cache), Status::LENGTH);
 
         let mut count = 0;
         assert!(atlas.allocate(SIZE).is_ok() && cache.place(1, SIZE, &mut [], &mut count).is_ok());

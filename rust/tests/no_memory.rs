@@ -10,8 +10,8 @@ use std::num::NonZeroUsize;
 use std::ptr;
 
 use etagere::{
-    size2, AllocError, AllocatorOptions, AtlasAllocator, AtlasGrowFault, BucketedAtlasAllocator, GlyphCache,
-    GlyphFault, GrowFault, JsonFault, OptionsFault, RestoreFault, DEFAULT_OPTIONS,
+    size2, AllocError, AllocatorOptions, AtlasAllocator, AtlasGrowFault, BucketedAtlasAllocator, CacheRestoreFault,
+    GlyphCache, GlyphFault, GrowFault, JsonFault, OptionsFault, RestoreFault, DEFAULT_OPTIONS,
 };
 
 extern "C" {
@@ -262,6 +262,28 @@ fn nothing_is_saved_or_restored() {
         |()| AtlasAllocator::from_json(&text),
         |(), answer, refused| {
             let faults = [JsonFault::Unreadable, JsonFault::Refused(RestoreFault::Memory)];
+            assert_eq!(answer.as_ref().is_err_and(|fault| faults.contains(fault)), refused);
+        },
+    );
+    assert!(places > 0);
+}
+
+#[test]
+fn no_cache_is_saved_or_restored() {
+    let places = refusing(
+        cache,
+        |cache| cache.to_json(),
+        |_, answer, refused| {
+            assert_eq!(answer.err(), refused.then_some(AllocError));
+        },
+    );
+    assert!(places > 0);
+    let text = cache().to_json().expect("memory");
+    let places = refusing(
+        || (),
+        |()| GlyphCache::from_json(&text),
+        |(), answer, refused| {
+            let faults = [JsonFault::Unreadable, JsonFault::Refused(CacheRestoreFault::Memory)];
             assert_eq!(answer.as_ref().is_err_and(|fault| faults.contains(fault)), refused);
         },
     );

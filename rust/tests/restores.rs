@@ -1,6 +1,11 @@
-//! Saved atlases that break each rule of a snapshot once.
+//! Saved atlases and caches that break each rule of a snapshot once.
 
-use etagere::{size2, AtlasAllocator, BucketedAtlasAllocator, JsonFault, RestoreFault};
+use std::num::NonZeroUsize;
+
+use etagere::{
+    size2, AtlasAllocator, BucketedAtlasAllocator, CacheRestoreFault, GlyphCache, JsonFault, RestoreFault,
+    DEFAULT_OPTIONS,
+};
 
 /// What is put in place of what, each once.
 type Changes<'l> = &'l [(&'l str, &'l str)];
@@ -105,4 +110,42 @@ fn each_rule_of_buckets() {
         assert_eq!(found, Some(JsonFault::Refused(rule)));
     }
     assert!(BucketedAtlasAllocator::from_json(text.as_bytes()).is_ok());
+}
+
+/// A saved cache of two keys, the second of which is the greatest and was used last.
+fn saved_cache() -> String {
+    let capacity = NonZeroUsize::new(2).expect("not 0");
+    let mut cache = GlyphCache::new(size2(16, 16), &DEFAULT_OPTIONS, capacity).expect("good options");
+    for key in [1, u64::MAX] {
+        cache.place(key, size2(16, 8)).expect("room");
+    }
+    saved(cache.to_json().expect("memory"))
+}
+
+#[test]
+fn each_rule_of_a_cache() {
+    let text = saved_cache();
+    assert!(text.starts_with("{\"capacity\":2,\"atlas\":{\"width\":16,"), "{text}");
+    assert!(
+        text.ends_with(",\"keys\":[{\"key\":18446744073709551615,\"id\":65537},{\"key\":1,\"id\":65536}]}"),
+        "{text}"
+    );
+    let rules: [(CacheRestoreFault, Changes<'_>); 6] = [
+        (CacheRestoreFault::Atlas(RestoreFault::Space), &[("\"allocated_space\":256", "\"allocated_space\":255")]),
+        (CacheRestoreFault::NoCapacity, &[("\"capacity\":2", "\"capacity\":0")]),
+        (CacheRestoreFault::TooManyKeys, &[("\"capacity\":2", "\"capacity\":1")]),
+        (CacheRestoreFault::KeyTwice, &[("\"key\":1,", "\"key\":18446744073709551615,")]),
+        (CacheRestoreFault::WrongId, &[("\"id\":65536", "\"id\":65537")]),
+        (CacheRestoreFault::NoKey, &[(",{\"key\":1,\"id\":65536}", "")]),
+    ];
+    for (rule, changes) in rules {
+        let found = GlyphCache::from_json(changed(&text, changes).as_bytes()).err();
+        assert_eq!(found, Some(JsonFault::Refused(rule)));
+    }
+    for unreadable in ["", "{}", "{\"atlas\":{}}", &changed(&text, &[("615,", "616,")])] {
+        assert_eq!(GlyphCache::from_json(unreadable.as_bytes()).err(), Some(JsonFault::Unreadable));
+    }
+    let mut cache = GlyphCache::from_json(text.as_bytes()).expect("sound");
+    assert_eq!(cache.place(2, size2(16, 16)).map(|placed| placed.evicted), Ok(vec![1, u64::MAX]));
+    assert_eq!((CacheRestoreFault::Memory.number(), CacheRestoreFault::NoKey.number()), (11, 16));
 }

@@ -236,6 +236,20 @@ static void bucketed_atlas(void) {
     }
 }
 
+static void save_cache(EtagereCache *cache) {
+    EtagereCache copy = ETAGERE_NULL;
+    size_t length = 7, before = 0, after = 0;
+    EtagereStatus status = etagere_cache_snapshot(cache, text, TEXT, &length);
+    failed |= etagere_cache_len(cache, &before) != ETAGERE_OK;
+    if (went("etagere_cache_snapshot", status, length == 7)) {
+        status = etagere_cache_restore(&copy, text, length);
+        if (went("etagere_cache_restore", status, copy.state == NULL)) {
+            failed |= etagere_cache_len(&copy, &after) != ETAGERE_OK || after != before;
+            etagere_cache_delete(&copy);
+        }
+    }
+}
+
 static void draw_cache(EtagereCache *cache) {
     EtagereRectangle part = { { 0, 0 }, { 9, 9 } };
     size_t length = 7;
@@ -303,6 +317,7 @@ static void glyph_cache(void) {
     if (went("etagere_cache_new", status, cache.state == NULL)) {
         fill_cache(&cache);
         fill_frame(&cache);
+        save_cache(&cache);
         draw_cache(&cache);
         grow_cache(&cache);
         shrink_cache(&cache);

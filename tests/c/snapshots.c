@@ -1,4 +1,5 @@
-/* Atlases saved as JSON text and made from it, also compiled as C++: what texts say, and the rule that each breaks. */
+/* Atlases and caches saved as JSON text and made from it, also compiled as C++: what texts say, and the rule that each
+ * breaks. */
 
 #include <stdio.h>
 #include <string.h>
@@ -48,6 +49,17 @@ static const char filled[] =
 
 static const char bucket[] =
     "{\"x\":0,\"free_space\":16,\"next\":65535,\"refcount\":1,\"item_count\":1,\"shelf\":0,\"generation\":0}";
+
+/* A cache of 10x10 for two keys, with the greatest one. */
+static const char one_key[] =
+    "{\"capacity\":2,\"atlas\":{\"width\":10,\"height\":10,\"alignment_width\":1,\"alignment_height\":1,"
+    "\"vertical_shelves\":false,\"shelf_width\":10,\"first_shelf\":0,\"free_items\":65535,\"free_shelves\":65535,"
+    "\"allocated_space\":100,"
+    "\"shelves\":[{\"x\":0,\"y\":0,\"height\":10,\"prev\":65535,\"next\":65535,\"first_item\":0,"
+    "\"first_unallocated\":65535,\"is_empty\":false}],"
+    "\"items\":[{\"x\":0,\"width\":10,\"prev\":65535,\"next\":65535,\"prev_unallocated\":65535,"
+    "\"next_unallocated\":65535,\"shelf\":0,\"allocated\":true,\"generation\":1}]},"
+    "\"keys\":[{\"key\":18446744073709551615,\"id\":65536}]}";
 
 /* The text of a call, and its length. */
 static char text[MOST_TEXT];
@@ -132,40 +144,66 @@ static void unreadable_texts(void) {
     CHECK(atlas.state == NULL && buckets.state == NULL);
 }
 
+/* Makes the text of the given atlas one of a cache for four keys, whose key 7 has the allocation. */
+static void take_as_cache(void) {
+    change("{ ", "{ \"keys\":[{\"key\":7,\"id\":65536}],\"capacity\":4,");
+}
+
 static void broken_shelves(void) {
     EtagereAtlas atlas = ETAGERE_NULL;
+    EtagereCache cache = ETAGERE_NULL;
 
     take_changed(given, "\"width\":20", "\"width\":0");
     CHECK(etagere_atlas_restore(&atlas, bytes(), length) == ETAGERE_RESTORE_FRAME);
+    take_as_cache();
+    CHECK(etagere_cache_restore(&cache, bytes(), length) == ETAGERE_RESTORE_FRAME);
     take_changed(given,
                  "{\"x\":0,\"y\":0,\"height\":8,\"prev\":65535,\"next\":65535,\"first_item\":0,"
                  "\"first_unallocated\":1,\"is_empty\":false}",
                  "");
     CHECK(etagere_atlas_restore(&atlas, bytes(), length) == ETAGERE_RESTORE_COUNTS);
+    take_as_cache();
+    CHECK(etagere_cache_restore(&cache, bytes(), length) == ETAGERE_RESTORE_COUNTS);
     take_changed(given, "\"prev\":0", "\"prev\":65535");
     CHECK(etagere_atlas_restore(&atlas, bytes(), length) == ETAGERE_RESTORE_LINK);
+    take_as_cache();
+    CHECK(etagere_cache_restore(&cache, bytes(), length) == ETAGERE_RESTORE_LINK);
     take_changed(given, "\"y\":0", "\"y\":1");
     CHECK(etagere_atlas_restore(&atlas, bytes(), length) == ETAGERE_RESTORE_SHELVES);
+    take_as_cache();
+    CHECK(etagere_cache_restore(&cache, bytes(), length) == ETAGERE_RESTORE_SHELVES);
     take_changed(given, "\"width\":12", "\"width\":11");
     CHECK(etagere_atlas_restore(&atlas, bytes(), length) == ETAGERE_RESTORE_RUNS);
+    take_as_cache();
+    CHECK(etagere_cache_restore(&cache, bytes(), length) == ETAGERE_RESTORE_RUNS);
     take_changed(given, "\"allocated\":true", "\"allocated\":false");
     change("\"allocated_space\":64", "\"allocated_space\":0");
     change("\"first_unallocated\":1", "\"first_unallocated\":0");
     change("\"prev_unallocated\":65535", "\"prev_unallocated\":0");
     change("\"prev_unallocated\":7,\"next_unallocated\":7", "\"prev_unallocated\":65535,\"next_unallocated\":1");
     CHECK(etagere_atlas_restore(&atlas, bytes(), length) == ETAGERE_RESTORE_NEIGHBOURS);
+    take_as_cache();
+    CHECK(etagere_cache_restore(&cache, bytes(), length) == ETAGERE_RESTORE_NEIGHBOURS);
     take_changed(given, "\"next_unallocated\":65535", "\"next_unallocated\":1");
     CHECK(etagere_atlas_restore(&atlas, bytes(), length) == ETAGERE_RESTORE_FREE_LIST);
+    take_as_cache();
+    CHECK(etagere_cache_restore(&cache, bytes(), length) == ETAGERE_RESTORE_FREE_LIST);
     take_changed(given, "\"free_items\":65535", "\"free_items\":1");
     CHECK(etagere_atlas_restore(&atlas, bytes(), length) == ETAGERE_RESTORE_SHARING);
+    take_as_cache();
+    CHECK(etagere_cache_restore(&cache, bytes(), length) == ETAGERE_RESTORE_SHARING);
     take_changed(given, "\"free_items\":65535", "\"free_items\":2");
     change("\"generation\":1}]",
            "\"generation\":1},{\"x\":0,\"width\":1,\"prev\":65535,\"next\":65535,\"prev_unallocated\":65535,"
            "\"next_unallocated\":65535,\"shelf\":0,\"allocated\":true,\"generation\":1}]");
     CHECK(etagere_atlas_restore(&atlas, bytes(), length) == ETAGERE_RESTORE_UNUSED);
+    take_as_cache();
+    CHECK(etagere_cache_restore(&cache, bytes(), length) == ETAGERE_RESTORE_UNUSED);
     take_changed(given, "\"allocated_space\":64", "\"allocated_space\":65");
     CHECK(etagere_atlas_restore(&atlas, bytes(), length) == ETAGERE_RESTORE_SPACE);
-    CHECK(atlas.state == NULL);
+    take_as_cache();
+    CHECK(etagere_cache_restore(&cache, bytes(), length) == ETAGERE_RESTORE_SPACE);
+    CHECK(atlas.state == NULL && cache.state == NULL);
 }
 
 static void bucketed_atlas(void) {
@@ -195,6 +233,76 @@ static void bucketed_atlas(void) {
     CHECK(etagere_bucketed_allocate(&atlas, size2(9, 8), &first) == ETAGERE_OK && lies(first.rectangle, 0, 8, 9, 16));
     CHECK(etagere_bucketed_allocate(&other, size2(9, 8), &second) == ETAGERE_OK && second.id == first.id);
     CHECK(etagere_bucketed_delete(&atlas) == ETAGERE_OK && etagere_bucketed_delete(&other) == ETAGERE_OK);
+}
+
+static void glyph_cache(void) {
+    EtagereCache cache = ETAGERE_NULL, other = ETAGERE_NULL;
+    EtagereOptions options = ETAGERE_DEFAULT_OPTIONS;
+    EtagereRectangle rectangle;
+    uint64_t evicted[2];
+    uint8_t buffer[1024];
+    size_t count = 7;
+
+    CHECK(etagere_cache_snapshot(&cache, buffer, 1024, &count) == ETAGERE_NULL_HANDLE && count == 7);
+    CHECK(etagere_cache_new(&cache, size2(10, 10), &options, 2) == ETAGERE_OK);
+    CHECK(etagere_cache_place(&cache, UINT64_MAX, size2(10, 10), &rectangle, evicted, 2, &count) == ETAGERE_OK);
+    memset(buffer, '#', sizeof buffer);
+    CHECK(etagere_cache_snapshot(&cache, buffer, strlen(one_key) - 1, &count) == ETAGERE_LENGTH);
+    CHECK(count == strlen(one_key) && buffer[0] == '#');
+    CHECK(etagere_cache_snapshot(&cache, buffer, 1024, &count) == ETAGERE_OK && count == strlen(one_key));
+    CHECK(memcmp(buffer, one_key, count) == 0 && buffer[count] == '#');
+    CHECK(etagere_cache_restore(&cache, buffer, count) == ETAGERE_HANDLE_IN_USE);
+    CHECK(etagere_cache_restore(&other, buffer, count) == ETAGERE_OK);
+    CHECK(etagere_cache_peek(&other, UINT64_MAX, &rectangle) == ETAGERE_OK && lies(rectangle, 0, 0, 10, 10));
+    CHECK(etagere_cache_capacity(&other, &count) == ETAGERE_OK && count == 2);
+    CHECK(etagere_cache_place(&other, 1, size2(10, 10), &rectangle, evicted, 2, &count) == ETAGERE_OK && count == 1);
+    CHECK(evicted[0] == UINT64_MAX);
+    CHECK(etagere_cache_delete(&cache) == ETAGERE_OK && etagere_cache_delete(&other) == ETAGERE_OK);
+
+    take(given);
+    take_as_cache();
+    CHECK(etagere_cache_restore(&cache, bytes(), length) == ETAGERE_OK);
+    CHECK(etagere_cache_get(&cache, 7, &rectangle) == ETAGERE_OK && lies(rectangle, 0, 0, 8, 8));
+    CHECK(etagere_cache_delete(&cache) == ETAGERE_OK);
+}
+
+/* The text of a cache of 10x16 for two keys, 1 and 2. */
+static void take_two_keys(void) {
+    EtagereCache cache = ETAGERE_NULL;
+    EtagereOptions options = ETAGERE_DEFAULT_OPTIONS;
+    EtagereRectangle rectangle;
+    uint64_t key, evicted[2];
+    size_t count;
+
+    CHECK(etagere_cache_new(&cache, size2(10, 16), &options, 2) == ETAGERE_OK);
+    for (key = 1; key <= 2; key += 1) {
+        CHECK(etagere_cache_place(&cache, key, size2(10, 8), &rectangle, evicted, 2, &count) == ETAGERE_OK && count == 0);
+    }
+    CHECK(etagere_cache_snapshot(&cache, (uint8_t *)text, MOST_TEXT - 1, &length) == ETAGERE_OK);
+    text[length] = 0;
+    CHECK(etagere_cache_delete(&cache) == ETAGERE_OK);
+}
+
+static void broken_caches(void) {
+    EtagereCache cache = ETAGERE_NULL;
+
+    take(new_atlas);
+    CHECK(etagere_cache_restore(&cache, bytes(), length) == ETAGERE_UNREADABLE);
+    take_changed(one_key, "18446744073709551615", "18446744073709551616");
+    CHECK(etagere_cache_restore(&cache, bytes(), length) == ETAGERE_UNREADABLE);
+    take_changed(one_key, "\"capacity\":2", "\"capacity\":0");
+    CHECK(etagere_cache_restore(&cache, bytes(), length) == ETAGERE_CACHE_RESTORE_NO_CAPACITY);
+    take_two_keys();
+    change("\"capacity\":2", "\"capacity\":1");
+    CHECK(etagere_cache_restore(&cache, bytes(), length) == ETAGERE_CACHE_RESTORE_TOO_MANY_KEYS);
+    take_two_keys();
+    change("\"key\":2", "\"key\":1");
+    CHECK(etagere_cache_restore(&cache, bytes(), length) == ETAGERE_CACHE_RESTORE_KEY_TWICE);
+    take_changed(one_key, "\"id\":65536", "\"id\":65537");
+    CHECK(etagere_cache_restore(&cache, bytes(), length) == ETAGERE_CACHE_RESTORE_WRONG_ID);
+    take_changed(one_key, "{\"key\":18446744073709551615,\"id\":65536}", "");
+    CHECK(etagere_cache_restore(&cache, bytes(), length) == ETAGERE_CACHE_RESTORE_NO_KEY);
+    CHECK(cache.state == NULL);
 }
 
 /* The text of an atlas with more buckets than there may be. */
@@ -246,6 +354,8 @@ int main(void) {
     shelf_atlas();
     unreadable_texts();
     broken_shelves();
+    glyph_cache();
+    broken_caches();
     bucketed_atlas();
     broken_buckets();
     if (failures > 0) {

@@ -2,7 +2,7 @@
 //!
 //! Definitions: `Calls`, `Crossing`, `Statuses`, and those of `etagere`.
 
-ghost use Rattle.std.specs.Prelude.{◌≡◌, ◌↔◌, ◌≢◌, ◌*◌, ◌-◌, [], ◌∷◌, None, Some, pos, ◌≤◌, false, Err, IsSome, IfErr, IfNone, IfOk, IfSome};
+ghost use Rattle.std.specs.Prelude.{◌≡◌, ◌↔◌, ◌≢◌, ◌*◌, ◌-◌, [], ◌∷◌, None, Some, pos, ◌≤◌, false, Err, IsSome, IfNone, IfSome};
 ghost use Rattle.etagere_base.specs.Frames as frames;
 ghost use Rattle.etagere_base.specs.Frames.{longest_side, options_fault};
 ghost use Rattle.etagere_base.specs.declared.faults.OptionsFault.TheVariants as faults;
@@ -16,38 +16,19 @@ ghost use Rattle.shelf_model.specs.Places as places;
 ghost use Rattle.shelf_model.specs.Places.{allocations, is_allocated};
 ghost use Rattle.shelf_model.specs.Returning.{returned};
 ghost use Rattle.shelf_model.specs.Space as spaces;
-ghost use Rattle.etagere_c.specs.Calls.{IsAmong, IsFlag, Leads};
+ghost use Rattle.c_answers.specs.Calls.{IsAmong, IsFlag, Leads};
 ghost use Rattle.etagere.specs.Plain.{allocation_in, rectangle_in};
-ghost use Rattle.etagere_c.specs.Crossing.{options_in, size_in};
-ghost use Rattle.etagere_c.specs.Statuses as statuses;
+ghost use Rattle.c_answers.specs.Crossing.{options_in, size_in};
+ghost use Rattle.c_answers.specs.Statuses as statuses;
 
-use crate::atlas_handle::EtagereAtlas;
-use crate::geometry::{EtagereAllocation, EtagereOptions, EtagereRectangle, EtagereSize};
-use crate::statuses::{
-    HANDLE_IN_USE, MEMORY, NO_ROOM, NULL_HANDLE, OK, UNKNOWN_ID, grow_refused, options_refused,
+use c_answers::atlas::{allocate, copied, made};
+use c_answers::geometry::{EtagereAllocation, EtagereOptions, EtagereRectangle, EtagereSize};
+use c_answers::statuses::{
+    HANDLE_IN_USE, MEMORY, NULL_HANDLE, OK, UNKNOWN_ID, grow_refused, options_refused,
 };
-use etagere::{AllocId, AtlasAllocator, OptionsFault};
+use c_handles::EtagereAtlas;
+use etagere::AllocId;
 use std::alloc::Global;
-
-/// A boxed atlas of this size and options.
-fn made(
-    alloc: Global,
-    size: EtagereSize,
-    options: &EtagereOptions,
-) -> Result<Box<AtlasAllocator>, OptionsFault>
-    ensures made { IfOk result (λ boxed. boxed.value
-        ≡ fresh (frames.atlas_frame (size_in size) (options_in options.now))) }
-    ensures fault { IfSome (options_fault longest_side (size_in size) (options_in options.now))
-        (λ fault. result ≡ Err fault) }
-    ensures promises { IfOk result (λ boxed. KeepsPromises boxed.value) }
-    ensures memory { IfErr result (λ fault. options_fault longest_side (size_in size) (options_in options.now) ≡ None → fault ≡ faults.Memory) }
-{
-    let atlas = AtlasAllocator::with_options(alloc, size.size(), &options.options())?;
-    match Box::new(alloc, atlas) {
-        Ok(boxed) => Ok(boxed),
-        Err(_) => Err(OptionsFault::Memory),
-    }
-}
 
 /// Fills a null handle with an empty atlas.
 ///
@@ -92,28 +73,6 @@ pub extern "C" fn etagere_atlas_delete(alloc: Global, atlas: &mut EtagereAtlas) 
     match atlas.take(alloc) {
         Some(_) => OK,
         None => NULL_HANDLE,
-    }
-}
-
-/// Allocates a size, and says by a status how that went.
-pub(crate) fn allocate(
-    atlas: &mut AtlasAllocator,
-    size: EtagereSize,
-    allocation: &mut EtagereAllocation,
-) -> u32
-    ensures status { IsAmong (statuses.ok ∷ statuses.no_room ∷ statuses.out_of_memory ∷ []) result }
-    ensures placed { result ≡ statuses.ok
-        → Allocates atlas.old (size_in size) (allocation_in allocation.new) atlas.new }
-    ensures refused { result ≡ statuses.no_room → IsRefused atlas.old (size_in size) }
-    ensures split { result ≡ statuses.out_of_memory → NeedsSplit atlas.old (size_in size) }
-    ensures stays { result ≢ statuses.ok → atlas.new ≡ atlas.old }
-    ensures unwritten { result ≢ statuses.ok → allocation.new ≡ allocation.old }
-    ensures promises { KeepsPromises atlas.new }
-{
-    match atlas.allocate_to(size.size(), allocation) {
-        Ok(true) => OK,
-        Ok(false) => NO_ROOM,
-        Err(_) => MEMORY,
     }
 }
 
@@ -353,14 +312,6 @@ pub extern "C" fn etagere_atlas_grow(atlas: &mut EtagereAtlas, size: EtagereSize
         Ok(()) => OK,
         Err(fault) => grow_refused(fault),
     }
-}
-
-/// A boxed copy of an atlas, or none where there was no memory.
-fn copied(alloc: Global, atlas: &AtlasAllocator) -> Option<Box<AtlasAllocator>>
-    ensures { IfSome result (λ boxed. boxed.value ≡ atlas.now) }
-{
-    let copy = atlas.clone().ok()?;
-    Box::new(alloc, copy).ok()
 }
 
 /// Fills a null handle with an atlas that equals this one, its ids and later answers too. The atlas stays, and shares

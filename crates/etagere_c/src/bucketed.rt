@@ -2,7 +2,7 @@
 //!
 //! Definitions: `Calls`, `Crossing`, `Statuses`, and those of `bucketed_model`.
 
-ghost use Rattle.std.specs.Prelude.{◌≡◌, ◌↔◌, ◌≢◌, ◌*◌, ◌-◌, [], ◌∷◌, None, Some, pos, true, false, Err, IsSome, IfErr, IfNone, IfOk, IfSome};
+ghost use Rattle.std.specs.Prelude.{◌≡◌, ◌↔◌, ◌≢◌, ◌*◌, ◌-◌, [], ◌∷◌, None, Some, pos, true, false, Err, IsSome, IfNone, IfSome};
 ghost use Rattle.std.specs.List.{list_all};
 ghost use Rattle.etagere_base.specs.Frames.{options_fault};
 ghost use Rattle.etagere_base.specs.declared.faults.OptionsFault.TheVariants as faults;
@@ -15,39 +15,19 @@ ghost use Rattle.bucketed_model.specs.Placing.{IsBucketRefused};
 ghost use Rattle.bucketed_model.specs.Returning.{bucket_returned, is_known};
 ghost use Rattle.bucketed_model.specs.Space as spaces;
 ghost use Rattle.bucketed_model.specs.State.{fresh, is_idle};
-ghost use Rattle.etagere_c.specs.Calls.{IsAmong, IsFlag, Leads};
+ghost use Rattle.c_answers.specs.Calls.{IsAmong, IsFlag, Leads};
 ghost use Rattle.etagere.specs.Plain.{allocation_in};
-ghost use Rattle.etagere_c.specs.Crossing.{options_in, size_in};
-ghost use Rattle.etagere_c.specs.Statuses as statuses;
+ghost use Rattle.c_answers.specs.Crossing.{options_in, size_in};
+ghost use Rattle.c_answers.specs.Statuses as statuses;
 
-use crate::bucketed_handle::EtagereBucketed;
-use crate::geometry::{EtagereAllocation, EtagereOptions, EtagereSize};
-use crate::statuses::{
-    HANDLE_IN_USE, MEMORY, NO_ROOM, NULL_HANDLE, OK, UNKNOWN_ID, bucketed_grow_refused,
-    options_refused,
+use c_answers::bucketed::{allocate, copied, made};
+use c_answers::geometry::{EtagereAllocation, EtagereOptions, EtagereSize};
+use c_answers::statuses::{
+    HANDLE_IN_USE, MEMORY, NULL_HANDLE, OK, UNKNOWN_ID, bucketed_grow_refused, options_refused,
 };
-use etagere::{AllocId, BucketedAtlasAllocator, OptionsFault};
+use c_handles::EtagereBucketed;
+use etagere::AllocId;
 use std::alloc::Global;
-
-/// A boxed atlas of this size and options.
-fn made(
-    alloc: Global,
-    size: EtagereSize,
-    options: &EtagereOptions,
-) -> Result<Box<BucketedAtlasAllocator>, OptionsFault>
-    ensures made { IfOk result (λ boxed. boxed.value
-        ≡ fresh (frames.bucketed_frame (size_in size) (options_in options.now))) }
-    ensures fault { IfSome (options_fault longest_bucketed_side (size_in size) (options_in options.now))
-        (λ fault. result ≡ Err fault) }
-    ensures promises { IfOk result (λ boxed. KeepsPromises boxed.value) }
-    ensures memory { IfErr result (λ fault. options_fault longest_bucketed_side (size_in size) (options_in options.now) ≡ None → fault ≡ faults.Memory) }
-{
-    let atlas = BucketedAtlasAllocator::with_options(alloc, size.size(), &options.options())?;
-    match Box::new(alloc, atlas) {
-        Ok(boxed) => Ok(boxed),
-        Err(_) => Err(OptionsFault::Memory),
-    }
-}
 
 /// Fills a null handle with an empty bucketed atlas.
 ///
@@ -91,31 +71,6 @@ pub extern "C" fn etagere_bucketed_delete(alloc: Global, atlas: &mut EtagereBuck
     match atlas.take(alloc) {
         Some(_) => OK,
         None => NULL_HANDLE,
-    }
-}
-
-/// Allocates a size, and says by a status how that went.
-pub(crate) fn allocate(
-    atlas: &mut BucketedAtlasAllocator,
-    size: EtagereSize,
-    allocation: &mut EtagereAllocation,
-) -> u32
-    ensures status { IsAmong (statuses.ok ∷ statuses.no_room ∷ statuses.out_of_memory ∷ []) result }
-    ensures placed { result ≡ statuses.ok
-        → Allocates atlas.old (size_in size) (allocation_in allocation.new) atlas.new }
-    ensures refused { result ≡ statuses.no_room → IsBucketRefused atlas.old (size_in size) }
-    ensures shelf { result ≡ statuses.out_of_memory → NeedsShelf atlas.old (size_in size) }
-    ensures stays { result ≢ statuses.ok → atlas.new ≡ atlas.old }
-    ensures unwritten { result ≢ statuses.ok → allocation.new ≡ allocation.old }
-    ensures promises { KeepsPromises atlas.new }
-{
-    match atlas.allocate(size.size()) {
-        Ok(Some(given)) => {
-            *allocation = EtagereAllocation::of(given);
-            OK
-        }
-        Ok(None) => NO_ROOM,
-        Err(_) => MEMORY,
     }
 }
 
@@ -282,14 +237,6 @@ pub extern "C" fn etagere_bucketed_grow(atlas: &mut EtagereBucketed, size: Etage
         Ok(()) => OK,
         Err(fault) => bucketed_grow_refused(fault),
     }
-}
-
-/// A boxed copy of an atlas, or none where there was no memory.
-fn copied(alloc: Global, atlas: &BucketedAtlasAllocator) -> Option<Box<BucketedAtlasAllocator>>
-    ensures { IfSome result (λ boxed. boxed.value ≡ atlas.now) }
-{
-    let copy = atlas.clone().ok()?;
-    Box::new(alloc, copy).ok()
 }
 
 /// Fills a null handle with an atlas that equals this one, its ids and later answers too. The atlas stays, and shares

@@ -2,8 +2,7 @@
 //!
 //! Definitions: `Calls`, `Crossing`, `Statuses`, and those of `glyph_shelf`.
 
-ghost use Rattle.std.specs.Prelude.{◌≡◌, ◌↔◌, ◌≢◌, ◌*◌, ◌-◌, ◌<◌, ◌≤◌, [], ◌∷◌, ◌++◌, None, Some, pos, false, length, take, drop, Err, IsSome, IfErr, IfNone, IfOk, IfSome};
-ghost use Rattle.std.specs.NonZero.{non_zero_usize_get};
+ghost use Rattle.std.specs.Prelude.{◌≡◌, ◌↔◌, ◌≢◌, ◌*◌, ◌-◌, ◌<◌, ◌≤◌, [], ◌∷◌, None, Some, pos, length, take, drop, Err, IsSome, IfNone, IfSome};
 ghost use Rattle.etagere_base.specs.Frames as frames;
 ghost use Rattle.etagere_base.specs.Frames.{longest_side, options_fault};
 ghost use Rattle.etagere_base.specs.declared.faults.OptionsFault.TheVariants as faults;
@@ -11,43 +10,17 @@ ghost use Rattle.shelf_model.specs.Space as spaces;
 ghost use Rattle.glyph_shelf.specs.Cache.{empty_cache, frame_uses, in_new_frame, rectangle_at, used, without_key};
 ghost use Rattle.glyph_shelf.specs.Placing.{IsFrameFull, IsNew, IsTooLarge, Places, RanOut};
 ghost use Rattle.glyph_shelf.specs.Promises.{KeepsCachePromises};
-ghost use Rattle.etagere_c.specs.Calls.{IsAmong, IsFlag, IsWritten, Leads};
-ghost use Rattle.etagere_c.specs.Evicted.{HasRoomFor, IsGone};
+ghost use Rattle.c_answers.specs.Calls.{IsAmong, IsFlag, Leads};
 ghost use Rattle.etagere.specs.Plain.{rectangle_in};
-ghost use Rattle.etagere_c.specs.Crossing.{options_in, size_in};
-ghost use Rattle.etagere_c.specs.Statuses as statuses;
+ghost use Rattle.c_answers.specs.Crossing.{options_in, size_in};
+ghost use Rattle.c_answers.specs.Statuses as statuses;
 
-use crate::buffers::write_keys;
-use crate::cache_handle::EtagereCache;
-use crate::geometry::{EtagereOptions, EtagereRectangle, EtagereSize};
-use crate::statuses::{
-    HANDLE_IN_USE, LENGTH, NULL_HANDLE, OK, UNKNOWN_KEY, cache_refused, options_refused,
-};
-use etagere::OptionsFault;
-use glyph_shelf::{GlyphCache, GlyphFault, Placed};
+use c_answers::cache::{made, write_placed};
+use c_answers::geometry::{EtagereOptions, EtagereRectangle, EtagereSize};
+use c_answers::statuses::{HANDLE_IN_USE, LENGTH, NULL_HANDLE, OK, UNKNOWN_KEY, options_refused};
+use c_handles::EtagereCache;
 use std::alloc::Global;
 use std::num::NonZeroUsize;
-
-/// A boxed cache of this size and options.
-fn made(
-    alloc: Global,
-    size: EtagereSize,
-    options: &EtagereOptions,
-    capacity: NonZeroUsize,
-) -> Result<Box<GlyphCache>, OptionsFault>
-    ensures made { IfOk result (λ boxed. boxed.value
-        ≡ empty_cache (frames.atlas_frame (size_in size) (options_in options.now)) (non_zero_usize_get capacity)) }
-    ensures fault { IfSome (options_fault longest_side (size_in size) (options_in options.now))
-        (λ fault. result ≡ Err fault) }
-    ensures promises { IfOk result (λ boxed. KeepsCachePromises boxed.value) }
-    ensures memory { IfErr result (λ fault. options_fault longest_side (size_in size) (options_in options.now) ≡ None → fault ≡ faults.Memory) }
-{
-    let cache = GlyphCache::new(alloc, size.size(), &options.options(), capacity)?;
-    match Box::new(alloc, cache) {
-        Ok(boxed) => Ok(boxed),
-        Err(_) => Err(OptionsFault::Memory),
-    }
-}
 
 /// Fills a null handle with an empty cache of at most `capacity` keys, over an atlas of this size.
 ///
@@ -97,35 +70,6 @@ pub extern "C" fn etagere_cache_delete(alloc: Global, cache: &mut EtagereCache) 
     match cache.take(alloc) {
         Some(_) => OK,
         None => NULL_HANDLE,
-    }
-}
-
-/// Writes what a placing gave, and says by a status how it went.
-fn write_placed(
-    placed: Result<Placed, GlyphFault>,
-    rectangle: &mut EtagereRectangle,
-    evicted: &mut [u64],
-    count: &mut usize,
-) -> u32
-    requires { HasRoomFor evicted.old placed }
-    ensures placed { IfOk placed (λ placed. (result ≡ statuses.ok) × (rectangle_in rectangle.new ≡ placed.rectangle)
-        × IsWritten placed.evicted.items evicted.old evicted.new count.new) }
-    ensures fault { IfErr placed (λ fault. result ≡ statuses.cache_refused fault) }
-    ensures gone { IfErr placed (λ fault. IsGone fault evicted.old evicted.new count.old count.new) }
-    ensures unwritten { result ≢ statuses.ok → rectangle.new ≡ rectangle.old }
-{
-    match placed {
-        Ok(placed) => {
-            *rectangle = EtagereRectangle::of(placed.rectangle);
-            *count = write_keys(placed.evicted.as_slice(), evicted);
-            OK
-        }
-        Err(fault) => {
-            if let GlyphFault::Memory(gone) = &fault {
-                *count = write_keys(gone.as_slice(), evicted);
-            }
-            cache_refused(&fault)
-        }
     }
 }
 

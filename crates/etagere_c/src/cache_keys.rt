@@ -2,18 +2,18 @@
 //!
 //! Definitions: `Calls`, `Crossing`, `Listed`, `Statuses`, and `Cache` of `glyph_shelf`.
 
-ghost use Rattle.std.specs.Prelude.{◌≡◌, ◌↔◌, ◌≢◌, ◌<◌, ◌≤◌, [], ◌∷◌, None, Some, length, IfSome};
+ghost use Rattle.std.specs.Prelude.{◌≡◌, ◌↔◌, ◌≢◌, ◌<◌, [], ◌∷◌, None, Some, length, IfSome};
 ghost use Rattle.glyph_shelf.specs.Cache.{listed, rectangle_at};
 ghost use Rattle.etagere.specs.Plain.{rectangle_in};
-ghost use Rattle.etagere_c.specs.Calls.{IsAmong};
-ghost use Rattle.etagere_c.specs.Crossing.{entry_in};
-ghost use Rattle.etagere_c.specs.Listed.{AreWritten};
-ghost use Rattle.etagere_c.specs.Statuses as statuses;
+ghost use Rattle.c_answers.specs.Calls.{IsAmong};
+ghost use Rattle.c_answers.specs.Crossing.{entry_in};
+ghost use Rattle.c_answers.specs.Listed.{AreWritten};
+ghost use Rattle.c_answers.specs.Statuses as statuses;
 
-use crate::cache_handle::EtagereCache;
-use crate::geometry::{EtagereEntry, EtagereRectangle};
-use crate::statuses::{LENGTH, NULL_HANDLE, OK, UNKNOWN_KEY};
-use glyph_shelf::GlyphCache;
+use c_answers::cache_keys::write_all_entries;
+use c_answers::geometry::{EtagereEntry, EtagereRectangle};
+use c_answers::statuses::{NULL_HANDLE, OK, UNKNOWN_KEY};
+use c_handles::EtagereCache;
 
 /// Gives the rectangle of a key, without using it. The cache stays, with the order of use.
 ///
@@ -41,34 +41,6 @@ pub extern "C" fn etagere_cache_peek(
         }
         None => UNKNOWN_KEY,
     }
-}
-
-/// Writes all keys with their rectangles to the front of a buffer that has room for them.
-fn write_each_entry(cache: &GlyphCache, entries: &mut [EtagereEntry])
-    requires { length (listed cache.now) ≤ length entries.old }
-    ensures { AreWritten entry_in (listed cache.now) entries.old entries.new }
-{
-    let mut written: usize = 0;
-    for entry in cache {
-        entries[written] = EtagereEntry::of(entry);
-        written += 1;
-    }
-}
-
-/// How many keys there are, and all of them where the buffer has room.
-fn write_all_entries(cache: &GlyphCache, entries: &mut [EtagereEntry], count: &mut usize) -> u32
-    ensures status { IsAmong (statuses.ok ∷ statuses.too_short ∷ []) result }
-    ensures counted { count.new ≡ length (listed cache.now) }
-    ensures short { (result ≡ statuses.too_short) ↔ (length entries.old < length (listed cache.now)) }
-    ensures written { result ≡ statuses.ok → AreWritten entry_in (listed cache.now) entries.old entries.new }
-    ensures unwritten { result ≢ statuses.ok → entries.new ≡ entries.old }
-{
-    *count = cache.len();
-    if entries.len() < *count {
-        return LENGTH;
-    }
-    write_each_entry(cache, entries);
-    OK
 }
 
 /// Gives all keys with their rectangles, the most recently used first: writes them to the front of the buffer, and how

@@ -7,14 +7,14 @@ ghost use Rattle.shelf_model.specs.Growing.{grow_fault, records_needed};
 ghost use Rattle.shelf_model.specs.declared.faults.AtlasGrowFault.TheVariants as grow_faults;
 ghost use Rattle.glyph_shelf.specs.Promises.{KeepsCachePromises};
 ghost use Rattle.glyph_shelf.specs.Sizing.{cache_grown, surplus, surplus_keys, with_capacity};
-ghost use Rattle.etagere_c.specs.Calls.{IsAmong, IsWritten, Leads};
-ghost use Rattle.etagere_c.specs.Crossing.{size_in};
-ghost use Rattle.etagere_c.specs.Statuses as statuses;
+ghost use Rattle.c_answers.specs.Calls.{IsAmong, IsWritten, Leads};
+ghost use Rattle.c_answers.specs.Crossing.{size_in};
+ghost use Rattle.c_answers.specs.Statuses as statuses;
 
-use crate::buffers::write_keys;
-use crate::cache_handle::EtagereCache;
-use crate::geometry::EtagereSize;
-use crate::statuses::{LENGTH, MEMORY, NULL_HANDLE, OK, grow_refused};
+use c_answers::buffers::write_keys;
+use c_answers::geometry::EtagereSize;
+use c_answers::statuses::{LENGTH, MEMORY, NULL_HANDLE, OK, grow_refused};
+use c_handles::EtagereCache;
 use std::num::NonZeroUsize;
 
 /// Makes the atlas larger. Each key keeps its place, and the order of use stays.

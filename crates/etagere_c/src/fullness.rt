@@ -8,121 +8,17 @@ ghost use Rattle.shelf_model.specs.Refusal as refusals;
 ghost use Rattle.shelf_model.specs.Usage as usages;
 ghost use Rattle.bucketed_model.specs.Refusal as bucketed_refusals;
 ghost use Rattle.bucketed_model.specs.Usage as bucketed_usages;
-ghost use Rattle.etagere_c.specs.Calls.{IsAmong};
-ghost use Rattle.etagere_c.specs.Crossing.{size_in};
-ghost use Rattle.etagere_c.specs.Fullness.{bucketed_told, bucketed_usage_in, told, usage_in};
-ghost use Rattle.etagere_c.specs.Statuses as statuses;
+ghost use Rattle.c_answers.specs.Calls.{IsAmong};
+ghost use Rattle.c_answers.specs.Crossing.{size_in};
+ghost use Rattle.c_answers.specs.Fullness.{bucketed_told, bucketed_usage_in, told, usage_in};
+ghost use Rattle.c_answers.specs.Statuses as statuses;
 
-use crate::atlas_handle::EtagereAtlas;
-use crate::bucketed_handle::EtagereBucketed;
-use crate::geometry::EtagereSize;
-use crate::statuses::{NULL_HANDLE, OK};
-use etagere::{BucketedRefusal, BucketedUsage, Refusal, Usage};
-
-/// Why a size has no place: the number of the reason, and how wide the widest is that has room, where that is the
-/// reason. Both are 0 where the size has a place.
-#[repr(C)]
-#[derive(Clone, Copy)]
-pub struct EtagereRefusal {
-    pub reason: u32,
-    pub widest: u32,
-}
-
-/// How full an atlas is.
-#[repr(C)]
-#[derive(Clone, Copy)]
-pub struct EtagereUsage {
-    pub shelves: u32,
-    pub empty_shelves: u32,
-    pub items: u32,
-    pub free_items: u32,
-    pub unused_records: u32,
-    pub largest_free: EtagereSize,
-}
-
-/// How full a bucketed atlas is.
-#[repr(C)]
-#[derive(Clone, Copy)]
-pub struct EtagereBucketedUsage {
-    pub shelves: u32,
-    pub idle_shelves: u32,
-    pub buckets: u32,
-    pub idle_buckets: u32,
-    pub items: u32,
-    pub unused_buckets: u32,
-    pub largest_free: EtagereSize,
-}
-
-/// A reason, to go out.
-fn told(refusal: Option<Refusal>) -> EtagereRefusal
-    ensures { result ≡ told refusal }
-{
-    let Some(refusal) = refusal else {
-        return EtagereRefusal {
-            reason: 0,
-            widest: 0,
-        };
-    };
-    EtagereRefusal {
-        reason: refusal.number(),
-        widest: match refusal {
-            Refusal::NoRoom { widest } => widest,
-            _ => 0,
-        },
-    }
-}
-
-/// A reason, to go out.
-fn bucketed_told(refusal: Option<BucketedRefusal>) -> EtagereRefusal
-    ensures { result ≡ bucketed_told refusal }
-{
-    let Some(refusal) = refusal else {
-        return EtagereRefusal {
-            reason: 0,
-            widest: 0,
-        };
-    };
-    EtagereRefusal {
-        reason: refusal.number(),
-        widest: match refusal {
-            BucketedRefusal::NoRoom { widest } => widest,
-            _ => 0,
-        },
-    }
-}
-
-impl EtagereUsage {
-    /// The same, to go out.
-    fn of(usage: Usage) -> EtagereUsage
-        ensures { usage_in result ≡ usage }
-    {
-        EtagereUsage {
-            shelves: usage.shelves,
-            empty_shelves: usage.empty_shelves,
-            items: usage.items,
-            free_items: usage.free_items,
-            unused_records: usage.unused_records,
-            largest_free: EtagereSize::of(usage.largest_free),
-        }
-    }
-}
-
-impl EtagereBucketedUsage {
-    /// The same, to go out.
-    fn of(usage: BucketedUsage) -> EtagereBucketedUsage
-        ensures { bucketed_usage_in result ≡ usage }
-    {
-        EtagereBucketedUsage {
-            shelves: usage.shelves,
-            idle_shelves: usage.idle_shelves,
-            buckets: usage.buckets,
-            idle_buckets: usage.idle_buckets,
-            items: usage.items,
-            unused_buckets: usage.unused_buckets,
-            largest_free: EtagereSize::of(usage.largest_free),
-        }
-    }
-}
+use c_answers::fullness::{
+    EtagereBucketedUsage, EtagereRefusal, EtagereUsage, bucketed_told, told,
+};
+use c_answers::geometry::EtagereSize;
+use c_answers::statuses::{NULL_HANDLE, OK};
+use c_handles::{EtagereAtlas, EtagereBucketed};
 
 /// Tells why the size has no place: refusal->reason is ETAGERE_REFUSAL_.., the first that holds, or 0 exactly where
 /// etagere_atlas_allocate has a place for it, memory aside. The atlas stays.

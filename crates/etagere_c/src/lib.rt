@@ -1,28 +1,22 @@
 //! The library that is called from C: the calls of both atlases and of the cache, over handles of one pointer.
 //!
-//! The header `include/etagere.h` has the same calls, with what a caller in C owes. `geometry` has what crosses by
-//! value, `statuses` the numbers that calls answer, `parts` and `atlas_handle` what a handle owns, and `atlas` the
-//! calls themselves.
+//! The header `include/etagere.h` has the same calls, with what a caller in C owes. `c_handles` has what a handle owns,
+//! and `c_answers` what crosses by value, the numbers that calls answer, and what they do to an atlas or a cache.
 #![tactic(auto)]
 
 mod atlas;
-mod atlas_handle;
 mod batches;
 mod bucketed;
-mod bucketed_handle;
-mod buffers;
 mod cache;
-mod cache_handle;
 mod cache_keys;
 mod cache_sizing;
 mod fullness;
-mod geometry;
 mod listing;
-mod parts;
+mod options;
 mod picture_parts;
 mod pictures;
+mod saved_caches;
 mod snapshots;
-mod statuses;
 
 pub use atlas::{
     etagere_atlas_allocate, etagere_atlas_allocated_space, etagere_atlas_clear,
@@ -31,7 +25,6 @@ pub use atlas::{
     etagere_atlas_get_index, etagere_atlas_grow, etagere_atlas_is_empty, etagere_atlas_new,
     etagere_atlas_size,
 };
-pub use atlas_handle::EtagereAtlas;
 pub use batches::{
     etagere_atlas_allocate_many, etagere_atlas_deallocate_many, etagere_bucketed_allocate_many,
     etagere_bucketed_deallocate_many,
@@ -42,26 +35,20 @@ pub use bucketed::{
     etagere_bucketed_free_space, etagere_bucketed_grow, etagere_bucketed_is_empty,
     etagere_bucketed_new, etagere_bucketed_size,
 };
-pub use bucketed_handle::EtagereBucketed;
 pub use cache::{
     etagere_cache_allocated_space, etagere_cache_begin_frame, etagere_cache_capacity,
     etagere_cache_clear, etagere_cache_delete, etagere_cache_free_space, etagere_cache_get,
     etagere_cache_is_empty, etagere_cache_len, etagere_cache_new, etagere_cache_place,
     etagere_cache_remove, etagere_cache_size, etagere_cache_used_in_frame,
 };
-pub use cache_handle::EtagereCache;
 pub use cache_keys::{etagere_cache_entries, etagere_cache_peek};
 pub use cache_sizing::{etagere_cache_grow, etagere_cache_set_capacity};
 pub use fullness::{
-    EtagereBucketedUsage, EtagereRefusal, EtagereUsage, etagere_atlas_largest_free,
-    etagere_atlas_refusal, etagere_atlas_usage, etagere_bucketed_largest_free,
-    etagere_bucketed_refusal, etagere_bucketed_usage,
-};
-pub use geometry::{
-    EtagereAllocation, EtagereEntry, EtagereOptions, EtagerePoint, EtagereRectangle, EtagereSize,
-    etagere_default_options,
+    etagere_atlas_largest_free, etagere_atlas_refusal, etagere_atlas_usage,
+    etagere_bucketed_largest_free, etagere_bucketed_refusal, etagere_bucketed_usage,
 };
 pub use listing::etagere_atlas_allocations;
+pub use options::etagere_default_options;
 pub use picture_parts::{
     etagere_atlas_picture_lines, etagere_atlas_picture_part, etagere_bucketed_picture_lines,
     etagere_bucketed_picture_part, etagere_cache_picture_lines, etagere_cache_picture_part,
@@ -70,6 +57,7 @@ pub use pictures::{
     etagere_atlas_picture, etagere_atlas_picture_length, etagere_bucketed_picture,
     etagere_bucketed_picture_length, etagere_cache_picture, etagere_cache_picture_length,
 };
+pub use saved_caches::{etagere_cache_restore, etagere_cache_snapshot};
 pub use snapshots::{
     etagere_atlas_restore, etagere_atlas_snapshot, etagere_bucketed_restore,
     etagere_bucketed_snapshot,

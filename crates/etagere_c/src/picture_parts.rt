@@ -2,43 +2,19 @@
 //!
 //! Definitions: `Calls`, `Crossing`, `Statuses`, and `Svg` of both atlases.
 
-ghost use Rattle.std.specs.Prelude.{◌≡◌, ◌≢◌, ◌↔◌, ◌<◌, [], ◌∷◌, None, Some, length, option_map, IfSome};
+ghost use Rattle.std.specs.Prelude.{◌≡◌, ◌≢◌, ◌↔◌, ◌<◌, [], ◌∷◌, None, Some, length, IfSome};
 ghost use Rattle.shelf_model.specs.Svg.{svg_into};
 ghost use Rattle.bucketed_model.specs.Svg as buckets;
-ghost use Rattle.etagere_c.specs.Calls.{IsAmong, IsWritten};
+ghost use Rattle.c_answers.specs.Calls.{IsAmong, IsWritten};
 ghost use Rattle.etagere.specs.Plain.{rectangle_in};
-ghost use Rattle.etagere_c.specs.Statuses as statuses;
+ghost use Rattle.c_answers.specs.Statuses as statuses;
 
-use crate::atlas_handle::EtagereAtlas;
-use crate::bucketed_handle::EtagereBucketed;
-use crate::buffers::hand_out;
-use crate::cache_handle::EtagereCache;
-use crate::geometry::EtagereRectangle;
-use crate::statuses::{MEMORY, NULL_HANDLE};
-use etagere::{AtlasAllocator, BucketedAtlasAllocator, Rectangle};
+use c_answers::buffers::hand_out;
+use c_answers::geometry::EtagereRectangle;
+use c_answers::picture_parts::{bucketed_lines_of, lines_of};
+use c_answers::statuses::{MEMORY, NULL_HANDLE};
+use c_handles::{EtagereAtlas, EtagereBucketed, EtagereCache};
 use std::alloc::Global;
-
-/// The lines of an atlas for another document; none where there was no memory.
-fn lines_of(alloc: Global, atlas: &AtlasAllocator, rectangle: Option<&Rectangle>) -> Option<Vec<u8>>
-    ensures { IfSome result (λ text. text.items ≡ svg_into atlas.now (option_map (λ rectangle. rectangle.now) rectangle.entry)) }
-{
-    let mut text = Vec::new(alloc);
-    atlas.dump_into_svg(rectangle, &mut text).ok()?;
-    Some(text)
-}
-
-/// The lines of an atlas for another document; none where there was no memory.
-fn bucketed_lines_of(
-    alloc: Global,
-    atlas: &BucketedAtlasAllocator,
-    rectangle: Option<&Rectangle>,
-) -> Option<Vec<u8>>
-    ensures { IfSome result (λ text. text.items ≡ buckets.svg_into atlas.now (option_map (λ rectangle. rectangle.now) rectangle.entry)) }
-{
-    let mut text = Vec::new(alloc);
-    atlas.dump_into_svg(rectangle, &mut text).ok()?;
-    Some(text)
-}
 
 /// Writes the rectangles of etagere_atlas_picture to the front of the buffer, as lines for another SVG document that show the atlas
 /// at its origin, and how long they are to *text_length. What is behind stays, and the atlas does.

@@ -5,34 +5,14 @@
 ghost use Rattle.std.specs.Prelude.{◌≡◌, ◌↔◌, ◌≢◌, ◌<◌, [], ◌∷◌, None, Some, length, IfSome};
 ghost use Rattle.shelf_model.specs.Svg.{svg};
 ghost use Rattle.bucketed_model.specs.Svg as buckets;
-ghost use Rattle.etagere_c.specs.Calls.{IsAmong, IsWritten};
-ghost use Rattle.etagere_c.specs.Statuses as statuses;
+ghost use Rattle.c_answers.specs.Calls.{IsAmong, IsWritten};
+ghost use Rattle.c_answers.specs.Statuses as statuses;
 
-use crate::atlas_handle::EtagereAtlas;
-use crate::bucketed_handle::EtagereBucketed;
-use crate::buffers::write_text;
-use crate::cache_handle::EtagereCache;
-use crate::statuses::{MEMORY, NULL_HANDLE, OK};
-use etagere::{AtlasAllocator, BucketedAtlasAllocator};
+use c_answers::buffers::write_text;
+use c_answers::pictures::{bucketed_picture_of, picture_of};
+use c_answers::statuses::{MEMORY, NULL_HANDLE, OK};
+use c_handles::{EtagereAtlas, EtagereBucketed, EtagereCache};
 use std::alloc::Global;
-
-/// The picture of an atlas; none where there was no memory.
-fn picture_of(alloc: Global, atlas: &AtlasAllocator) -> Option<Vec<u8>>
-    ensures { IfSome result (λ text. text.items ≡ svg atlas.now) }
-{
-    let mut text = Vec::new(alloc);
-    atlas.dump_svg(&mut text).ok()?;
-    Some(text)
-}
-
-/// The picture of an atlas; none where there was no memory.
-fn bucketed_picture_of(alloc: Global, atlas: &BucketedAtlasAllocator) -> Option<Vec<u8>>
-    ensures { IfSome result (λ text. text.items ≡ buckets.svg atlas.now) }
-{
-    let mut text = Vec::new(alloc);
-    atlas.dump_svg(&mut text).ok()?;
-    Some(text)
-}
 
 /// Gives the length in bytes of the picture of etagere_atlas_picture. The atlas stays.
 ///

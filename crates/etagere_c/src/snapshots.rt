@@ -2,67 +2,18 @@
 //!
 //! Definitions: `Calls`, `Saving`, `Statuses`.
 
-ghost use Rattle.std.specs.Prelude.{◌≡◌, ◌≢◌, ◌↔◌, ◌<◌, ◌⊎◌, [], ◌∷◌, None, length, IfErr, IfOk, IfSome, IsSome, IsSomeAnd};
+ghost use Rattle.std.specs.Prelude.{◌≡◌, ◌≢◌, ◌↔◌, ◌<◌, ◌⊎◌, [], ◌∷◌, None, length, IfSome, IsSome, IsSomeAnd};
 ghost use Rattle.shelf_model.specs.Atlas.{KeepsPromises};
 ghost use Rattle.bucketed_model.specs.Atlas as buckets;
-ghost use Rattle.etagere_c.specs.Calls.{IsAmong};
-ghost use Rattle.etagere_c.specs.Saving.{Breaks, BreaksBucketed, IsRestoreStatus, IsSavedBeyond, IsSavedIn, Saves, SavesBucketed};
-ghost use Rattle.etagere_c.specs.Statuses as statuses;
-ghost use Rattle.saved_json.specs.Snapshots.{Spells};
+ghost use Rattle.c_answers.specs.Calls.{IsAmong};
+ghost use Rattle.c_answers.specs.Saving.{Breaks, BreaksBucketed, IsRestoreStatus, IsSavedBeyond, IsSavedIn, Saves, SavesBucketed};
+ghost use Rattle.c_answers.specs.Statuses as statuses;
 
-use crate::atlas_handle::EtagereAtlas;
-use crate::bucketed_handle::EtagereBucketed;
-use crate::buffers::hand_out;
-use crate::statuses::{HANDLE_IN_USE, MEMORY, NULL_HANDLE, OK, UNREADABLE, restore_refused};
-use etagere::{AtlasAllocator, BucketedAtlasAllocator, RestoreFault};
-use saved_json::{ReadFault, Saved, read_saved, write_saved};
+use c_answers::buffers::hand_out;
+use c_answers::snapshots::{boxed, bucketed_made_of, bucketed_text_of, made_of, text_of};
+use c_answers::statuses::{HANDLE_IN_USE, MEMORY, NULL_HANDLE, OK};
+use c_handles::{EtagereAtlas, EtagereBucketed};
 use std::alloc::Global;
-
-/// The saved atlas that a text spells, or the status of that there is none.
-fn read(alloc: Global, text: &[u8]) -> Result<Saved, u32>
-    ensures saved { IfOk result (λ saved. Spells text.now saved) }
-    ensures status { IfErr result (λ status. IsAmong (statuses.unreadable ∷ statuses.restore_memory ∷ []) status) }
-{
-    match read_saved(alloc, text) {
-        Ok(saved) => Ok(saved),
-        Err(ReadFault::Unreadable) => Err(UNREADABLE),
-        Err(ReadFault::Memory) => Err(restore_refused(RestoreFault::Memory)),
-    }
-}
-
-/// A box of an atlas, or the status of that there was no memory.
-fn boxed<T: Drop>(alloc: Global, atlas: T) -> Result<Box<T>, u32>
-    ensures made { IfOk result (λ boxed. boxed.value ≡ atlas) }
-    ensures status { IfErr result (λ status. status ≡ statuses.restore_memory) }
-{
-    match Box::new(alloc, atlas) {
-        Ok(boxed) => Ok(boxed),
-        Err(_) => Err(restore_refused(RestoreFault::Memory)),
-    }
-}
-
-/// The text that an atlas is saved as; none where there was no memory.
-fn text_of(alloc: Global, atlas: &AtlasAllocator) -> Option<Vec<u8>>
-    ensures { IfSome result (λ text. Saves text.items atlas.now) }
-{
-    let snapshot = atlas.snapshot().ok()?;
-    write_saved(alloc, &Saved::Atlas(snapshot)).ok()
-}
-
-/// The boxed atlas that a text is saved as, or the status of that it isn't made.
-fn made_of(alloc: Global, text: &[u8]) -> Result<Box<AtlasAllocator>, u32>
-    ensures made { IfOk result (λ boxed. Saves text.now boxed.value × KeepsPromises boxed.value) }
-    ensures status { IfErr result (λ status. (status ≢ statuses.ok) × (status ≢ statuses.handle_in_use) × IsRestoreStatus status) }
-    ensures broken { IfErr result (λ status. statuses.unreadable < status → status < statuses.restore_memory → Breaks text.now status) }
-{
-    let Saved::Atlas(snapshot) = read(alloc, text)? else {
-        return Err(UNREADABLE);
-    };
-    match AtlasAllocator::restore(alloc, snapshot) {
-        Ok(atlas) => boxed(alloc, atlas),
-        Err(fault) => Err(restore_refused(fault)),
-    }
-}
 
 /// Writes what the atlas is saved as to the front of the buffer, and its length to *text_length: the JSON text of an
 /// object whose one key is "atlas", without a space or a zero behind it. What is behind stays, and the atlas does.
@@ -119,29 +70,6 @@ pub extern "C" fn etagere_atlas_restore(alloc: Global, atlas: &mut EtagereAtlas,
             OK
         }
         Err(status) => status,
-    }
-}
-
-/// The text that an atlas is saved as; none where there was no memory.
-fn bucketed_text_of(alloc: Global, atlas: &BucketedAtlasAllocator) -> Option<Vec<u8>>
-    ensures { IfSome result (λ text. SavesBucketed text.items atlas.now) }
-{
-    let snapshot = atlas.snapshot().ok()?;
-    write_saved(alloc, &Saved::Bucketed(snapshot)).ok()
-}
-
-/// The boxed atlas that a text is saved as, or the status of that it isn't made.
-fn bucketed_made_of(alloc: Global, text: &[u8]) -> Result<Box<BucketedAtlasAllocator>, u32>
-    ensures made { IfOk result (λ boxed. SavesBucketed text.now boxed.value × buckets.KeepsPromises boxed.value) }
-    ensures status { IfErr result (λ status. (status ≢ statuses.ok) × (status ≢ statuses.handle_in_use) × IsRestoreStatus status) }
-    ensures broken { IfErr result (λ status. statuses.unreadable < status → status < statuses.restore_memory → BreaksBucketed text.now status) }
-{
-    let Saved::Bucketed(snapshot) = read(alloc, text)? else {
-        return Err(UNREADABLE);
-    };
-    match BucketedAtlasAllocator::restore(alloc, snapshot) {
-        Ok(atlas) => boxed(alloc, atlas),
-        Err(fault) => Err(restore_refused(fault)),
     }
 }
 

@@ -1,5 +1,5 @@
 use Rattle.std.proofs.Common.{arith, refl}
-use Rattle.etagere_c.proofs.Evicted.{placed_fits}
+use Rattle.c_answers.proofs.Evicted.{placed_fits}
 use Rattle.etagere_c.proofs.cache.etagere_cache_place.Goals as goal
 
 pub write_placed-requires : goal.write_placed-requires

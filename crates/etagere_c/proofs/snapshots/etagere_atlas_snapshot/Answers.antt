@@ -1,6 +1,6 @@
 use Rattle.std.proofs.Common.{rules, length}
-use Rattle.etagere_c.specs.Saving.{Saves}
-use Rattle.etagere_c.proofs.Saving.{saved_beyond, saved_in}
+use Rattle.c_answers.specs.Saving.{Saves}
+use Rattle.c_answers.proofs.Saving.{saved_beyond, saved_in}
 use Rattle.etagere_c.proofs.snapshots.etagere_atlas_snapshot.Goals as goal
 
 pub returns-in-Some-text-clause-written : goal.returns-in-Some-text-clause-written

@@ -1,0 +1,5 @@
+mod BatchSteps
+mod Counting
+pub mod Evicted
+mod Restoring
+pub mod Saving

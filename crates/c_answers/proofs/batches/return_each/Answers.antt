@@ -1,0 +1,11 @@
+use Rattle.std.proofs.Common.{rules, arith, ◌≡◌, true}
+use Rattle.std.proofs.Math.Seq.{take-suc}
+use Rattle.shelf_model.specs.Places.{is_allocated}
+use Rattle.shelf_model.specs.Returning.{returned}
+use Rattle.c_answers.proofs.BatchSteps.{steps_on}
+use Rattle.c_answers.proofs.batches.return_each.Goals as goal
+
+pub loop-i-preserved : goal.loop-i-preserved
+loop-i-preserved c =
+    steps_on (λ before id after. (is_allocated before id ≡ true) × (after ≡ returned before id)) c.args.atlas.now c.args.ids.now c.loop-i.i c.loop-i.atlas _ c.deallocate.new.self
+    (omega arith) (take-suc c.args.ids.now c.loop-i.i 0 (omega arith)) c.loop-i.invariant (search rules)

@@ -1,0 +1,5 @@
+mod AtlasBox
+mod BucketedBox
+mod CacheBox
+mod HandleSteps
+mod Sending
