@@ -8,7 +8,7 @@ ghost use Rattle.std.specs.Io.KnownBytes.{Appends};
 ghost use Rattle.std.specs.List.{AllByRecursion};
 ghost use Rattle.std.specs.Option.{option_copied};
 ghost use Rattle.etagere_base.specs.Rectangles.{IsLarge};
-ghost use Rattle.etagere_base.specs.Sending.{AppendsBeginning};
+ghost use Rattle.pictures.specs.Sending.{AppendsBeginning};
 ghost use Rattle.shelf_model.specs.Places.{allocations};
 ghost use Rattle.shelf_model.specs.State.{AtlasState};
 ghost use Rattle.atlas_pages.specs.Choosing as choosing;

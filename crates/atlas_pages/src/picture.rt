@@ -8,8 +8,8 @@ ghost use Rattle.std.specs.Io.KnownBytes.{Appends};
 ghost use Rattle.std.specs.List.{AllByRecursion};
 ghost use Rattle.etagere_base.specs.Drawing.{document_begin, drawn_lines, part_begin};
 ghost use Rattle.etagere_base.specs.Frames.{longest_side};
-ghost use Rattle.etagere_base.specs.Gathering.{GathersMore, SendsBeginning};
-ghost use Rattle.etagere_base.specs.Sending.{AppendsBeginning};
+ghost use Rattle.pictures.specs.Gathering.{GathersMore, SendsBeginning};
+ghost use Rattle.pictures.specs.Sending.{AppendsBeginning};
 ghost use Rattle.shelf_model.specs.Atlas.{KeepsPromises};
 ghost use Rattle.shelf_model.specs.Svg.{picture};
 ghost use Rattle.atlas_pages.specs.Picture as spec;
@@ -17,7 +17,8 @@ ghost use Rattle.atlas_pages.specs.Picture.{page_area, page_left, pages_width};
 ghost use Rattle.atlas_pages.specs.Private.Pieces.{piece_text, text_of};
 
 use etagere::AtlasAllocator;
-use etagere_base::{Colour, Drawn, Frame, GatheredText, Pictured, push_drawn};
+use etagere_base::{Colour, Drawn, Frame};
+use pictures::{GatheredText, Pictured, push_drawn};
 use std::io::{self, Write};
 
 /// How many pixels stay free between two pages.

@@ -17,7 +17,8 @@ ghost use Rattle.atlas_pages.specs.Saved.{ArePagesBroken, EachStandsFor};
 use crate::faults::PagesRestoreFault;
 use crate::options::PageOptions;
 use etagere::{AtlasAllocator, AtlasSnapshot, RestoreFault};
-use etagere_base::{Frame, Pictured, atlas_frame};
+use etagere_base::{Frame, atlas_frame};
+use pictures::Pictured;
 use std::alloc::{AllocError, Global};
 
 /// Pages as they are saved, to be read by anyone and judged when they are restored.

@@ -6,7 +6,7 @@
 ghost use Rattle.std.specs.Prelude.{◌≡◌, OnOk, OnErr};
 ghost use Rattle.std.specs.List.{AllByRecursion, flat_map};
 ghost use Rattle.etagere_base.specs.Drawing.{drawn_lines};
-ghost use Rattle.etagere_base.specs.Gathering.{GathersMore, SendsBeginning};
+ghost use Rattle.pictures.specs.Gathering.{GathersMore, SendsBeginning};
 ghost use Rattle.bucketed_model.specs.Svg as svg;
 ghost use Rattle.bucketed_records.specs.Private.Store.{stored_state};
 ghost use Rattle.bucketed_store.specs.Private.DrawnRecords as recorded;
@@ -14,7 +14,8 @@ ghost use Rattle.bucketed_store.specs.Private.DrawnRecords.{AreKept, FitAlong, F
 
 use crate::store::Store;
 use bucketed_records::records::{KeptShelf, LinkedBucket, LinkedBucketShelf, MOST_BUCKETS};
-use etagere_base::{Colour, Drawn, Frame, GatheredText, Sides, drawn_at, push_drawn};
+use etagere_base::{Colour, Drawn, Frame, Sides};
+use pictures::{GatheredText, drawn_at, push_drawn};
 use std::io::{self, Write};
 
 /// The used part of a bucket of a shelf.

@@ -10,7 +10,7 @@ ghost use Rattle.etagere_base.specs.Frames as frames;
 ghost use Rattle.etagere_base.specs.Frames.{IsAccepted, longest_side, options_fault};
 ghost use Rattle.etagere_base.specs.Options.{default_options};
 ghost use Rattle.etagere_base.specs.declared.faults.OptionsFault.TheVariants as faults;
-ghost use Rattle.etagere_base.specs.Sending.{AppendsBeginning};
+ghost use Rattle.pictures.specs.Sending.{AppendsBeginning};
 ghost use Rattle.shelf_model.specs.Atlas.{Adds, Allocates, KeepsPromises, NeedsSplit, Restores, without_id};
 ghost use Rattle.shelf_model.specs.ById.{IsClear, KeepsRectangles, TakesAway, Undoes};
 ghost use Rattle.shelf_model.specs.Callers.{AreTied};
@@ -38,10 +38,10 @@ use crate::listing::Iter;
 use crate::plain::PlainAllocation;
 use crate::restored::restore_atlas;
 use etagere_base::{
-    AllocId, Allocation, AllocatorOptions, DEFAULT_OPTIONS, Frame, GatheredText, LONGEST_SIDE,
-    OptionsFault, Pictured, Rectangle, RestoreFault, Size, UnknownId, atlas_frame, grown_frame,
-    options_fault, send_document, send_into, side,
+    AllocId, Allocation, AllocatorOptions, DEFAULT_OPTIONS, Frame, LONGEST_SIDE, OptionsFault,
+    Rectangle, RestoreFault, Size, UnknownId, atlas_frame, grown_frame, options_fault, side,
 };
+use pictures::{GatheredText, Pictured, send_document, send_into};
 use shelf_heights::by_height::ShelvesByHeight;
 use shelf_links::Records;
 use shelf_model::faults::{AtlasGrowFault, Refusal};

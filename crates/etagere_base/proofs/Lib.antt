@@ -1,18 +1,15 @@
-mod Beginnings
 pub mod AcceptedFrames
 pub mod AlignedPlaces
 pub mod AskedSides
 pub mod Boxes
 pub mod ColumnTotals
 pub mod DecidingLemmas
-pub mod DecimalPairs
 pub mod EachLemmas
 pub mod FirstChanged
 pub mod FirstFound
 pub mod FirstPlace
 pub mod FrameSides
 pub mod GatheredLemmas
-pub mod GatheringLemmas
 pub mod GrownFrames
 pub mod Least
 pub mod ListEdits

@@ -1,9 +1,7 @@
 pub mod Deciding
-pub mod Digits
 pub mod Drawing
 pub mod Faults
 pub mod Frames
-pub mod Gathering
 pub mod Growing
 pub mod Hashing
 pub mod Ids
@@ -15,5 +13,4 @@ pub mod Options
 pub mod Places
 pub mod Rectangles
 pub mod RestoreFaults
-pub mod Sending
 pub mod Sides

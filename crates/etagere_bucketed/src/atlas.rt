@@ -10,7 +10,7 @@ ghost use Rattle.std.specs.List.{list_all};
 ghost use Rattle.etagere_base.specs.Frames.{IsAccepted, options_fault};
 ghost use Rattle.etagere_base.specs.Options.{default_options};
 ghost use Rattle.etagere_base.specs.Rectangles.{IsAligned, IsInside, IsLarge};
-ghost use Rattle.etagere_base.specs.Sending.{AppendsBeginning};
+ghost use Rattle.pictures.specs.Sending.{AppendsBeginning};
 ghost use Rattle.bucketed_model.specs.Atlas.{Allocates, Grows, KeepsPromises, NeedsBuckets, NeedsShelf};
 ghost use Rattle.bucketed_model.specs.Frames as frames;
 ghost use Rattle.bucketed_model.specs.Frames.{longest_bucketed_side};
@@ -47,10 +47,10 @@ use bucketed_store::returning::bucket_number;
 use bucketed_store::store::Store;
 use bucketed_store::usage;
 use etagere_base::{
-    AllocId, Allocation, AllocatorOptions, DEFAULT_OPTIONS, Frame, GatheredText, OptionsFault,
-    Pictured, Rectangle, RestoreFault, Size, UnknownId, asked, grown_frame, options_fault,
-    send_document, send_into,
+    AllocId, Allocation, AllocatorOptions, DEFAULT_OPTIONS, Frame, OptionsFault, Rectangle,
+    RestoreFault, Size, UnknownId, asked, grown_frame, options_fault,
 };
+use pictures::{GatheredText, Pictured, send_document, send_into};
 use std::alloc::{AllocError, Global};
 use std::io::{self, Write};
 use std::marker::Model;

@@ -1,7 +1,7 @@
 -- What a check writes for what it reads.
 use Rattle.std.specs.Prelude.{ℕ, List, [], ◌∷◌, ◌++◌, Option, Result, Ok, Err}
 use Rattle.std.specs.Io.KnownBytes.{Appends, Keeps}
-use Rattle.etagere_base.specs.Sending.{AppendsBeginning}
+use Rattle.pictures.specs.Sending.{AppendsBeginning}
 use Rattle.run_commands.specs.declared.faults.Checked.{Checked}
 use Rattle.run_commands.specs.declared.faults.ReplayFault.{ReplayFault}
 use Rattle.run_commands.specs.declared.faults.ReplayFault.TheVariants.{Read, Write, Memory}

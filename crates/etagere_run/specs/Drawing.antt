@@ -5,7 +5,7 @@ use Rattle.etagere_base.specs.declared.frames.Frame.{Frame}
 use Rattle.etagere_base.specs.declared.geometry.Size.{Size}
 use Rattle.etagere_base.specs.declared.options.AllocatorOptions.{AllocatorOptions}
 use Rattle.etagere_base.specs.Frames.{IsAccepted, atlas_frame}
-use Rattle.etagere_base.specs.Sending.{AppendsBeginning}
+use Rattle.pictures.specs.Sending.{AppendsBeginning}
 use Rattle.bucketed_model.specs.Frames.{bucketed_frame}
 use Rattle.bucketed_model.specs.Svg as buckets
 use Rattle.shelf_model.specs.Svg as shelves

@@ -7,7 +7,7 @@ use Rattle.etagere_base.specs.declared.options.AllocatorOptions.{AllocatorOption
 use Rattle.etagere_base.specs.Faults.{options_fault_number}
 use Rattle.etagere_base.specs.Frames.{IsAccepted, atlas_frame, options_fault, longest_side}
 use Rattle.bucketed_model.specs.Frames.{bucketed_frame, longest_bucketed_side}
-use Rattle.etagere_base.specs.Sending.{AppendsBeginning}
+use Rattle.pictures.specs.Sending.{AppendsBeginning}
 use Rattle.run_commands.specs.declared.commands.Reply.{Reply}
 use Rattle.run_commands.specs.declared.faults.Outcome.{Outcome}
 use Rattle.run_commands.specs.declared.faults.Outcome.TheVariants.{Done, BadLine, Options}

@@ -14,7 +14,7 @@ ghost use Rattle.etagere_run.specs.Private.ScriptStreaming.{StreamsScript};
 
 use crate::streaming::{stream_atlas, stream_bucketed};
 use etagere::OptionsFault;
-use etagere_base::send;
+use pictures::send;
 use run_commands::faults::{Outcome, ReplayFault, StreamFault};
 use run_scripts::reading::read_all;
 use run_scripts::script::{Commands, Script, ScriptFault, read_script};

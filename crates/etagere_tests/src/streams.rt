@@ -4,8 +4,8 @@
 
 use crate::assertions::{equal, equal_at, holds, holds_at};
 use crate::fake_streams::{End, FakeReader, FakeWriter, FewWrites, first_lines};
-use etagere_base::send;
 use etagere_run::{Outcome, ReplayFault, replay};
+use pictures::send;
 use std::io::ErrorKind;
 use std::process::Abort;
 use std::test::Fail;

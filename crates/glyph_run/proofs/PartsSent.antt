@@ -5,8 +5,8 @@ use Rattle.std.proofs.Math.Seq.{take-append-add}
 use Rattle.std.proofs.lemmas.Grind.{flat_map-append}
 use Rattle.std.proofs.lemmas.List.{append-nil, at_drop_more, length-append, take-append-drop, take-append-le, take_more}
 use Rattle.std.specs.Io.KnownBytes.{Appends}
-use Rattle.etagere_base.specs.Sending.{AppendsPart}
-use Rattle.etagere_base.proofs.GatheringLemmas.{appends-both}
+use Rattle.pictures.specs.Sending.{AppendsPart}
+use Rattle.pictures.proofs.GatheringLemmas.{appends-both}
 use Rattle.glyph_run.specs.ReplyText.{evicted_text, key_text, keys_text}
 
 -- a part went out of the first of two pieces

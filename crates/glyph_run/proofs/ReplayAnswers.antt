@@ -6,7 +6,7 @@ use Rattle.std.proofs.Math.Seq.{take-append-add}
 use Rattle.std.proofs.lemmas.List.{length-append, take_all}
 use Rattle.std.proofs.KnownBytes.{Keeps-trans}
 use Rattle.etagere_base.specs.Frames.{IsAccepted, atlas_frame, longest_side}
-use Rattle.etagere_base.specs.Sending.{AppendsBeginning}
+use Rattle.pictures.specs.Sending.{AppendsBeginning}
 use Rattle.run_commands.specs.declared.faults.Outcome.{Outcome}
 use Rattle.run_commands.specs.declared.faults.Outcome.TheVariants.{Done}
 use Rattle.run_commands.specs.declared.faults.ReplayFault.{ReplayFault}

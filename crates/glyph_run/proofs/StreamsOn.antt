@@ -3,8 +3,8 @@ use Rattle.std.proofs.Common.{◌≡◌, ℕ, ◌+◌, ◌<◌, ◌≤◌, Optio
 use Rattle.std.specs.Io.KnownBytes.{Appends}
 use Rattle.std.proofs.lemmas.List.{append-nil}
 use Rattle.etagere_base.specs.declared.frames.Frame.{Frame}
-use Rattle.etagere_base.specs.Sending.{AppendsPart}
-use Rattle.etagere_base.proofs.GatheringLemmas.{appends-both, appends-nothing}
+use Rattle.pictures.specs.Sending.{AppendsPart}
+use Rattle.pictures.proofs.GatheringLemmas.{appends-both, appends-nothing}
 use Rattle.glyph_shelf.specs.Cache.{CacheState, empty_cache}
 use Rattle.glyph_shelf.specs.Promises.{KeepsCachePromises}
 use Rattle.glyph_run.specs.declared.commands.GlyphCommand.{GlyphCommand}

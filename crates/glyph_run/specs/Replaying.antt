@@ -4,7 +4,7 @@ use Rattle.std.specs.Io.KnownBytes.{Appends, Keeps}
 use Rattle.etagere_base.specs.declared.faults.OptionsFault.{OptionsFault}
 use Rattle.etagere_base.specs.Faults.{options_fault_number}
 use Rattle.etagere_base.specs.Frames.{IsAccepted, atlas_frame, options_fault, longest_side}
-use Rattle.etagere_base.specs.Sending.{AppendsBeginning}
+use Rattle.pictures.specs.Sending.{AppendsBeginning}
 use Rattle.run_commands.specs.declared.faults.Outcome.{Outcome}
 use Rattle.run_commands.specs.declared.faults.Outcome.TheVariants.{Done, BadLine, Options}
 use Rattle.run_commands.specs.declared.faults.ReplayFault.{ReplayFault}

@@ -15,7 +15,7 @@ ghost use Rattle.glyph_run.specs.Streaming.{Streams};
 use crate::script::{Script, read_script};
 use crate::streaming::stream_cache;
 use etagere::OptionsFault;
-use etagere_base::send;
+use pictures::send;
 use run_commands::faults::{Outcome, ReplayFault, StreamFault};
 use run_scripts::reading::read_all;
 use run_scripts::script::ScriptFault;

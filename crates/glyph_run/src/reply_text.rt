@@ -4,7 +4,7 @@
 
 ghost use Rattle.std.specs.Prelude.{◌≡◌, ◌≤◌, ◌++◌, ◌∷◌, [], OnOk, OnErr, length};
 ghost use Rattle.std.specs.Io.KnownBytes.{Appends};
-ghost use Rattle.etagere_base.specs.Sending.{AppendsPart};
+ghost use Rattle.pictures.specs.Sending.{AppendsPart};
 ghost use Rattle.run_scripts.specs.Lines.{line_feed};
 ghost use Rattle.run_scripts.specs.ReplyText.{corners_text};
 ghost use Rattle.glyph_run.specs.ReplyText as spec;
@@ -12,8 +12,8 @@ ghost use Rattle.glyph_run.specs.ReplyText.{evicted_text, key_text, keys_text};
 
 use crate::commands::GlyphReply;
 use etagere::Rectangle;
-use etagere_base::send;
 use itoa::Buffer;
+use pictures::send;
 use run_scripts::reply_text::Line;
 use std::io::{self, Write};
 

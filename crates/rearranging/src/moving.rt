@@ -23,7 +23,7 @@ use crate::kept_options::options_of;
 use crate::moves::{Rearranged, place_next};
 use crate::order::sort_tallest_first;
 use etagere::{Allocation, AtlasAllocator, Iter, OptionsFault, Size};
-use etagere_base::Pictured;
+use pictures::Pictured;
 use std::alloc::{AllocError, Global};
 
 /// Places all that an atlas has allocated in a new atlas of this size in pixels, and so without the gaps that returns

@@ -4,8 +4,8 @@ use Rattle.std.proofs.Math.Seq.{take-add}
 use Rattle.std.proofs.lemmas.List.{length-drop}
 use Rattle.std.specs.Prelude.{Err, Ok, OnErr, Result}
 use Rattle.std.specs.Io.KnownBytes.{Appends}
-use Rattle.etagere_base.specs.Sending.{AppendsBeginning, AppendsPart}
-use Rattle.etagere_base.proofs.GatheringLemmas.{appends-both}
+use Rattle.pictures.specs.Sending.{AppendsBeginning, AppendsPart}
+use Rattle.pictures.proofs.GatheringLemmas.{appends-both}
 
 -- what follows from what holds where there is an error
 pub on-err-then : {T E P Q : Type 0} (result : Result T E) → (P → Q) → OnErr result P → OnErr result Q

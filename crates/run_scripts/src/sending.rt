@@ -4,9 +4,9 @@
 
 ghost use Rattle.std.specs.Prelude.{◌<◌, OnOk, OnErr, drop, length};
 ghost use Rattle.std.specs.Io.KnownBytes.{Appends};
-ghost use Rattle.etagere_base.specs.Sending.{AppendsBeginning, AppendsPart};
+ghost use Rattle.pictures.specs.Sending.{AppendsBeginning, AppendsPart};
 
-use etagere_base::send;
+use pictures::send;
 use std::io::{self, ErrorKind, Write};
 
 /// Writes a line that has bytes, as `send` does. Always inlined: a writer that takes all of it costs its own

@@ -1,7 +1,7 @@
 -- What drawing did, of which the contracts of private functions speak.
 use Rattle.std.specs.Prelude.{ℕ, List, Option, Result, Ok, Err}
 use Rattle.std.specs.Io.KnownBytes.{Appends, Keeps}
-use Rattle.etagere_base.specs.Sending.{AppendsBeginning}
+use Rattle.pictures.specs.Sending.{AppendsBeginning}
 use Rattle.etagere_run.specs.declared.drawing.DrawFault.{DrawFault}
 use Rattle.etagere_run.specs.declared.drawing.DrawFault.TheVariants as ends
 use Rattle.run_commands.specs.declared.faults.Checked.{Checked}

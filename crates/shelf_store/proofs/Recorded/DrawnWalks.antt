@@ -1,9 +1,9 @@
 -- Where a walk that draws each record it meets has come to, step by step.
 use Rattle.std.proofs.Common.{◌≡◌, ℕ, ◌+◌, ◌≤◌, Option, None, Some, List, length, arith}
 use Rattle.std.specs.List.{flat_map}
-use Rattle.etagere_base.specs.Gathering.{GathersMore, SendsBeginning}
+use Rattle.pictures.specs.Gathering.{GathersMore, SendsBeginning}
 use Rattle.etagere_base.specs.Lists.{times}
-use Rattle.etagere_base.proofs.GatheringLemmas.{GathersAlong, along-begins, along-begun, along-ends, along-passed}
+use Rattle.pictures.proofs.GatheringLemmas.{GathersAlong, along-begins, along-begun, along-ends, along-passed}
 use Rattle.etagere_links.specs.Edits.{link_at}
 use Rattle.etagere_links.proofs.ListEnds.{times-here}
 use Rattle.shelf_store.proofs.Searched.Following.{IsLeft, IsStep, all-left, none-left, step-left}

@@ -1,7 +1,7 @@
 use Rattle.std.proofs.Common.{◌++◌, length}
 use Rattle.std.proofs.lemmas.Result.{on_ok_weaker, on_err_weaker}
 use Rattle.std.specs.Prelude.{codes}
-use Rattle.etagere_base.proofs.GatheringLemmas.{begins-both, begins-more, gathers-both, on-err}
+use Rattle.pictures.proofs.GatheringLemmas.{begins-both, begins-more, gathers-both, on-err}
 use Rattle.etagere_base.specs.Drawing.{document_begin}
 use Rattle.atlas_pages.specs.Picture.{page_texts, pages_width}
 use Rattle.atlas_pages.proofs.picture.push_document.Goals as goal

@@ -1,6 +1,6 @@
 use Rattle.std.proofs.Common.{rules, ◌≡◌, List, ℕ, OnErr, OnOk, subst}
 use Rattle.etagere_base.specs.Drawing.{document_begin}
-use Rattle.etagere_base.specs.Gathering.{GathersMore, SendsBeginning}
+use Rattle.pictures.specs.Gathering.{GathersMore, SendsBeginning}
 use Rattle.atlas_pages.specs.Picture.{pages_width}
 use Rattle.atlas_pages.proofs.PictureLemmas.{document-begin}
 use Rattle.atlas_pages.proofs.picture.push_document_begin.Goals as goal

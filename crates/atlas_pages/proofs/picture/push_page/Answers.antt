@@ -1,10 +1,10 @@
 use Rattle.std.proofs.Common.{◌≤◌, List, ℕ, ◌++◌, OnErr, OnOk, subst, sym}
 use Rattle.std.proofs.lemmas.Result.{on_ok_weaker, on_err_weaker}
 use Rattle.std.specs.Prelude.{codes}
-use Rattle.etagere_base.proofs.GatheringLemmas.{begins-both, begins-more, gathers-both, on-err}
+use Rattle.pictures.proofs.GatheringLemmas.{begins-both, begins-more, gathers-both, on-err}
 use Rattle.etagere_base.specs.Drawing.{drawn_lines, part_begin}
 use Rattle.etagere_base.specs.Frames.{longest_side}
-use Rattle.etagere_base.specs.Gathering.{GathersMore, SendsBeginning}
+use Rattle.pictures.specs.Gathering.{GathersMore, SendsBeginning}
 use Rattle.etagere_base.specs.declared.frames.Frame.{Frame}
 use Rattle.shelf_model.specs.State.{AtlasState}
 use Rattle.shelf_model.specs.Svg.{picture}

@@ -1,7 +1,7 @@
 use Rattle.std.proofs.Common.{rules, ◌≡◌, List, [], ◌++◌, ℕ, OnErr, OnOk, ap, ◌∙◌, subst}
 use Rattle.std.specs.Prelude.{codes, decimal}
 use Rattle.etagere_base.specs.Drawing.{part_begin}
-use Rattle.etagere_base.specs.Gathering.{GathersMore, SendsBeginning}
+use Rattle.pictures.specs.Gathering.{GathersMore, SendsBeginning}
 use Rattle.etagere_base.specs.declared.frames.Frame.{Frame}
 use Rattle.atlas_pages.specs.Picture.{page_area, page_left}
 use Rattle.atlas_pages.proofs.PictureLemmas.{page-begin}

@@ -3,7 +3,7 @@ use Rattle.std.proofs.lemmas.List.{drop_all}
 use Rattle.std.proofs.lemmas.Option.{slice_get_read}
 use Rattle.std.specs.List.{enumerate_from}
 use Rattle.etagere_base.proofs.EachLemmas.{Each-get}
-use Rattle.etagere_base.proofs.GatheringLemmas.{along-begins, along-begun, along-ends, along-passed, on-err}
+use Rattle.pictures.proofs.GatheringLemmas.{along-begins, along-begun, along-ends, along-passed, on-err}
 use Rattle.shelf_model.specs.Atlas.{KeepsPromises}
 use Rattle.atlas_pages.proofs.PictureLemmas.{next-read}
 use Rattle.atlas_pages.specs.Picture.{page_text}

@@ -1,6 +1,6 @@
 use Rattle.std.proofs.Common.{drop}
 use Rattle.std.specs.List.{enumerate_from}
-use Rattle.etagere_base.proofs.GatheringLemmas.{GathersAlong}
+use Rattle.pictures.proofs.GatheringLemmas.{GathersAlong}
 use Rattle.atlas_pages.specs.Picture.{page_text}
 use Rattle.atlas_pages.proofs.picture.push_pages.Given as goal
 

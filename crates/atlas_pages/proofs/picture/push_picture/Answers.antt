@@ -1,8 +1,8 @@
 use Rattle.std.proofs.Common.{subst}
 use Rattle.std.proofs.lemmas.Result.{on_ok_weaker, on_err_weaker}
-use Rattle.etagere_base.proofs.GatheringLemmas.{begins-both, begins-more, gathers-both, on-err}
+use Rattle.pictures.proofs.GatheringLemmas.{begins-both, begins-more, gathers-both, on-err}
 use Rattle.etagere_base.specs.Drawing.{background, drawn_line, drawn_lines}
-use Rattle.etagere_base.specs.Gathering.{GathersMore, SendsBeginning}
+use Rattle.pictures.specs.Gathering.{GathersMore, SendsBeginning}
 use Rattle.etagere_base.specs.declared.frames.Frame.{Frame}
 use Rattle.shelf_model.specs.Svg.{drawn_items}
 use Rattle.atlas_pages.proofs.picture.push_picture.Goals as goal

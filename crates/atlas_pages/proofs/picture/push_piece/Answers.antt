@@ -1,5 +1,5 @@
 use Rattle.std.proofs.Common.{List, ℕ, OnErr, subst, sym}
-use Rattle.etagere_base.specs.Gathering.{SendsBeginning}
+use Rattle.pictures.specs.Gathering.{SendsBeginning}
 use Rattle.atlas_pages.specs.declared.picture.Piece.{Piece}
 use Rattle.atlas_pages.specs.Private.Pieces.{piece_text}
 use Rattle.atlas_pages.proofs.picture.push_piece.Goals as goal

@@ -1,6 +1,6 @@
 use Rattle.std.proofs.Common.{◌+◌, [], drop, get_or}
 use Rattle.std.proofs.lemmas.List.{drop_all}
-use Rattle.etagere_base.proofs.GatheringLemmas.{along-begins, along-begun, along-ends, along-passed, on-err}
+use Rattle.pictures.proofs.GatheringLemmas.{along-begins, along-begun, along-ends, along-passed, on-err}
 use Rattle.atlas_pages.proofs.PictureLemmas.{next-left}
 use Rattle.atlas_pages.specs.declared.picture.Piece.{Piece}
 use Rattle.atlas_pages.specs.declared.picture.Piece.TheVariants.{Text}

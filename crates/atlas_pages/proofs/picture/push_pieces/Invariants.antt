@@ -1,5 +1,5 @@
 use Rattle.std.proofs.Common.{drop}
-use Rattle.etagere_base.proofs.GatheringLemmas.{GathersAlong}
+use Rattle.pictures.proofs.GatheringLemmas.{GathersAlong}
 use Rattle.atlas_pages.specs.Private.Pieces.{piece_text}
 use Rattle.atlas_pages.proofs.picture.push_pieces.Given as goal
 

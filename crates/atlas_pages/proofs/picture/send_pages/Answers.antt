@@ -2,8 +2,8 @@
 use Rattle.std.proofs.Common.{List, ℕ, subst}
 use Rattle.std.proofs.lemmas.Result.{on_ok_weaker, on_err_weaker}
 use Rattle.atlas_pages.specs.Picture.{pages_document}
-use Rattle.etagere_base.specs.Gathering.{GathersMore, SendsBeginning}
-use Rattle.etagere_base.proofs.GatheringLemmas.{begins-all, begins-last, on-err, sends-all}
+use Rattle.pictures.specs.Gathering.{GathersMore, SendsBeginning}
+use Rattle.pictures.proofs.GatheringLemmas.{begins-all, begins-last, on-err, sends-all}
 use Rattle.atlas_pages.proofs.picture.send_pages.Goals as goal
 
 -- a beginning went out while the text was gathered

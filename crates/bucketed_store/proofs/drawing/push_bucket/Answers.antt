@@ -1,6 +1,6 @@
 -- The used part, and then the free one.
 use Rattle.std.proofs.lemmas.Result.{on_ok_weaker, on_err_weaker}
-use Rattle.etagere_base.proofs.GatheringLemmas.{begins-both, begins-more, gathers-both, on-err}
+use Rattle.pictures.proofs.GatheringLemmas.{begins-both, begins-more, gathers-both, on-err}
 use Rattle.bucketed_store.specs.Private.DrawnRecords.{free_line, used_line}
 use Rattle.bucketed_store.proofs.drawing.push_bucket.Goals as goal
 

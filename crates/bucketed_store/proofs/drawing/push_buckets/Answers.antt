@@ -2,7 +2,7 @@ use Rattle.std.proofs.Common.{◌≡◌, ◌+◌, ◌-◌, Some, ◌∷◌, leng
 use Rattle.std.proofs.lemmas.Option.{slice_get_past, slice_get_read}
 use Rattle.std.specs.Prelude.{slice_get}
 use Rattle.std.specs.List.{AllByRecursion}
-use Rattle.etagere_base.proofs.GatheringLemmas.{along-begun, along-ends, along-passed, on-err}
+use Rattle.pictures.proofs.GatheringLemmas.{along-begun, along-ends, along-passed, on-err}
 use Rattle.bucketed_model.specs.State.{most_buckets}
 use Rattle.bucketed_records.specs.declared.records.LinkedBucket.{LinkedBucket}
 use Rattle.bucketed_store.specs.Private.DrawnRecords.{FitsIn, bucket_lines, linked_buckets, linked_from}

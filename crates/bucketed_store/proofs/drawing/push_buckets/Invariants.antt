@@ -1,6 +1,6 @@
 use Rattle.std.proofs.Common.{◌-◌}
 use Rattle.std.specs.List.{AllByRecursion}
-use Rattle.etagere_base.proofs.GatheringLemmas.{GathersAlong}
+use Rattle.pictures.proofs.GatheringLemmas.{GathersAlong}
 use Rattle.bucketed_model.specs.State.{most_buckets}
 use Rattle.bucketed_store.specs.Private.DrawnRecords.{FitsIn, bucket_lines, linked_buckets, linked_from}
 use Rattle.bucketed_store.proofs.drawing.push_buckets.Given as goal

@@ -1,7 +1,7 @@
 use Rattle.std.proofs.Common.{◌≡◌, Bool, true, [], OnErr, rules, subst, sym}
 use Rattle.std.specs.Prelude.{nat_lt, if◌then◌else◌}
 use Rattle.etagere_base.specs.Drawing.{drawn_line}
-use Rattle.etagere_base.specs.Gathering.{SendsBeginning}
+use Rattle.pictures.specs.Gathering.{SendsBeginning}
 use Rattle.etagere_base.specs.declared.drawing.Drawn.{Drawn}
 use Rattle.bucketed_store.specs.Private.DrawnRecords.{recorded_free}
 use Rattle.bucketed_store.proofs.drawing.push_free.Goals as goal

@@ -1,7 +1,7 @@
 use Rattle.std.proofs.Common.{◌≡◌, ◌+◌, ◌∷◌, drop, subst, sym, ◌∙◌, ap}
 use Rattle.std.proofs.lemmas.List.{drop_more}
 use Rattle.std.specs.List.{AllByRecursion}
-use Rattle.etagere_base.proofs.GatheringLemmas.{along-begun, along-passed, on-err}
+use Rattle.pictures.proofs.GatheringLemmas.{along-begun, along-passed, on-err}
 use Rattle.bucketed_records.specs.declared.records.KeptShelf.{KeptShelf}
 use Rattle.bucketed_store.specs.Private.DrawnRecords.{FitAlong, shelf_lines}
 use Rattle.bucketed_store.proofs.drawing.push_shelves.Goals as goal

@@ -1,6 +1,6 @@
 use Rattle.std.proofs.Common.{drop}
 use Rattle.std.specs.List.{AllByRecursion}
-use Rattle.etagere_base.proofs.GatheringLemmas.{GathersAlong}
+use Rattle.pictures.proofs.GatheringLemmas.{GathersAlong}
 use Rattle.bucketed_store.specs.Private.DrawnRecords.{FitAlong, shelf_lines}
 use Rattle.bucketed_store.proofs.drawing.push_shelves.Given as goal
 

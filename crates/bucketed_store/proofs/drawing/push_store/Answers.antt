@@ -3,7 +3,7 @@ use Rattle.std.proofs.Common.{◌≡◌, List, ap, subst, sym, ◌∙◌}
 use Rattle.std.proofs.lemmas.Result.{on_ok_weaker, on_err_weaker}
 use Rattle.std.specs.List.{AllByRecursion, flat_map}
 use Rattle.etagere_base.specs.Drawing.{drawn_lines}
-use Rattle.etagere_base.specs.Gathering.{GathersMore, SendsBeginning}
+use Rattle.pictures.specs.Gathering.{GathersMore, SendsBeginning}
 use Rattle.etagere_base.specs.declared.frames.Frame.{Frame}
 use Rattle.bucketed_model.specs.Svg.{drawn_buckets}
 use Rattle.bucketed_records.specs.Private.Store.{Stored, stored_state}

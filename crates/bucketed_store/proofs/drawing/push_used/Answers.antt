@@ -1,6 +1,6 @@
 use Rattle.std.proofs.Common.{OnErr, OnOk, subst}
 use Rattle.etagere_base.specs.Drawing.{drawn_line}
-use Rattle.etagere_base.specs.Gathering.{GathersMore, SendsBeginning}
+use Rattle.pictures.specs.Gathering.{GathersMore, SendsBeginning}
 use Rattle.etagere_base.specs.declared.drawing.Drawn.{Drawn}
 use Rattle.bucketed_store.proofs.drawing.push_used.Goals as goal
 

@@ -1,7 +1,7 @@
 use Rattle.std.proofs.Common.{ℕ, ◌<◌, ◌≤◌, length, refl, arith, rules, subst}
 use Rattle.std.specs.Io.KnownBytes.{Appends}
-use Rattle.etagere_base.specs.Sending.{AppendsBeginning, AppendsPart}
-use Rattle.etagere_base.proofs.GatheringLemmas.{on-err}
+use Rattle.pictures.specs.Sending.{AppendsBeginning, AppendsPart}
+use Rattle.pictures.proofs.GatheringLemmas.{on-err}
 use Rattle.run_scripts.specs.ReplyText.{line_of}
 use Rattle.run_answers.specs.Private.Tables.{entries_of}
 use Rattle.run_answers.specs.Private.Tied.{IsAnswerOf}

@@ -1,5 +1,5 @@
 use Rattle.std.proofs.Common.{[], ◌∷◌}
-use Rattle.etagere_base.specs.Sending.{AppendsPart}
+use Rattle.pictures.specs.Sending.{AppendsPart}
 use Rattle.run_scripts.specs.Lines.{line_feed}
 use Rattle.glyph_run.specs.ReplyText.{evicted_text}
 use Rattle.glyph_run.proofs.PartsSent.{on-err-then, part-behind}

@@ -1,8 +1,8 @@
 use Rattle.std.proofs.Common.{◌<◌, length, arith, subst}
 use Rattle.std.proofs.lemmas.Bool.Decides.{nat_tests}
 use Rattle.std.specs.Prelude.{codes}
-use Rattle.etagere_base.specs.Sending.{AppendsPart}
-use Rattle.etagere_base.proofs.GatheringLemmas.{on-err}
+use Rattle.pictures.specs.Sending.{AppendsPart}
+use Rattle.pictures.proofs.GatheringLemmas.{on-err}
 use Rattle.glyph_run.specs.ReplyText.{keys_text}
 use Rattle.glyph_run.proofs.PartsSent.{evicted_text-some, on-err-then, part-behind, part-first}
 use Rattle.glyph_run.proofs.reply_text.send_evicted.Goals as goal

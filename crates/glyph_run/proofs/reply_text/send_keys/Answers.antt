@@ -1,7 +1,7 @@
 use Rattle.std.proofs.Common.{ℕ, ◌<◌, ◌≤◌, List, length, get_or, take, arith, subst}
 use Rattle.std.proofs.lemmas.List.{take_all}
 use Rattle.std.specs.Io.KnownBytes.{Appends}
-use Rattle.etagere_base.proofs.GatheringLemmas.{appends-both, appends-nothing, on-err}
+use Rattle.pictures.proofs.GatheringLemmas.{appends-both, appends-nothing, on-err}
 use Rattle.glyph_run.specs.ReplyText.{key_text, keys_text}
 use Rattle.glyph_run.proofs.PartsSent.{keys-more, keys-stopped}
 use Rattle.glyph_run.proofs.reply_text.send_keys.Goals as goal

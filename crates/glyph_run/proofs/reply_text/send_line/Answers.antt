@@ -1,6 +1,6 @@
 use Rattle.std.proofs.Common.{ℕ, List, [], ◌∷◌, ◌++◌, subst}
 use Rattle.std.specs.Io.KnownBytes.{Appends}
-use Rattle.etagere_base.specs.Sending.{AppendsPart}
+use Rattle.pictures.specs.Sending.{AppendsPart}
 use Rattle.run_scripts.specs.Lines.{line_feed}
 use Rattle.glyph_run.specs.ReplyText as spec
 use Rattle.glyph_run.specs.ReplyText.{evicted_text}

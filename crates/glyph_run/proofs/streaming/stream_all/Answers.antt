@@ -1,5 +1,5 @@
 use Rattle.std.proofs.Common.{◌<◌, ◌≤◌, length, arith}
-use Rattle.etagere_base.proofs.GatheringLemmas.{on-err}
+use Rattle.pictures.proofs.GatheringLemmas.{on-err}
 use Rattle.glyph_run.proofs.StreamsOn.{stream-ends, stream-goes_on, stream-starts, stream-stops_at}
 use Rattle.glyph_run.proofs.streaming.stream_all.Goals as goal
 

@@ -1,8 +1,8 @@
 use Rattle.std.proofs.Common.{ap, arith, length, subst, ◌∙◌}
 use Rattle.etagere_base.specs.Drawing.{drawn_line}
-use Rattle.etagere_base.specs.Gathering.{GathersMore, SendsBeginning}
+use Rattle.pictures.specs.Gathering.{GathersMore, SendsBeginning}
 use Rattle.etagere_base.specs.declared.drawing.Drawn.{Drawn}
-use Rattle.etagere_base.proofs.GatheringLemmas.{on-err}
+use Rattle.pictures.proofs.GatheringLemmas.{on-err}
 use Rattle.etagere_links.specs.Edits.{link_at}
 use Rattle.shelf_links.specs.RecordLists.{first_item_of, item_walk}
 use Rattle.shelf_links.specs.Records.{item_chain}

@@ -1,6 +1,6 @@
 use Rattle.std.proofs.Common.{ap, arith, length, subst, ◌∙◌}
-use Rattle.etagere_base.proofs.GatheringLemmas.{on-err}
-use Rattle.etagere_base.specs.Gathering.{GathersMore, SendsBeginning}
+use Rattle.pictures.proofs.GatheringLemmas.{on-err}
+use Rattle.pictures.specs.Gathering.{GathersMore, SendsBeginning}
 use Rattle.etagere_links.specs.Edits.{link_at}
 use Rattle.shelf_links.specs.RecordLists.{shelf_walk}
 use Rattle.shelf_links.specs.Records.{shelf_chain}

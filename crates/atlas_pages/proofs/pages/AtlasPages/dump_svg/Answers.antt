@@ -1,7 +1,7 @@
 use Rattle.std.proofs.Common.{List, OnErr, OnOk, subst}
 use Rattle.std.specs.Io.KnownBytes.{Appends}
 use Rattle.etagere_base.specs.declared.frames.Frame.{Frame}
-use Rattle.etagere_base.specs.Sending.{AppendsBeginning}
+use Rattle.pictures.specs.Sending.{AppendsBeginning}
 use Rattle.shelf_model.specs.State.{AtlasState}
 use Rattle.atlas_pages.specs.Pages.{PagesState}
 use Rattle.atlas_pages.specs.Picture.{pages_document, pages_svg}

@@ -1,7 +1,7 @@
 -- What an atlas draws: the lines of all that lies in it.
 use Rattle.std.proofs.Common.{OnErr, OnOk, subst}
 use Rattle.etagere_base.specs.Drawing.{drawn_lines}
-use Rattle.etagere_base.specs.Gathering.{GathersMore, SendsBeginning}
+use Rattle.pictures.specs.Gathering.{GathersMore, SendsBeginning}
 use Rattle.bucketed_model.specs.State.{BucketedState}
 use Rattle.bucketed_model.specs.Svg.{drawn_buckets}
 use Rattle.etagere_bucketed.proofs.atlas.BucketedAtlasAllocatorPictured.push_shown.Goals as goal

@@ -1,0 +1,3 @@
+mod Beginnings
+pub mod DecimalPairs
+pub mod GatheringLemmas
