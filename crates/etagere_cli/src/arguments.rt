@@ -172,19 +172,28 @@ fn subcommand<'a>(alloc: Global, entry: &Entry) -> Result<Command<'a>, AllocErro
 }
 
 fn given<'a>(alloc: Global, argument: &Argument) -> Arg<'a> {
-    let arg = Arg::new(alloc, argument.name).help(argument.help);
+    let arg = new_arg(alloc, argument);
     match argument.kind {
-        Kind::Word => arg.action(ArgAction::Set),
-        Kind::Needed => arg.action(ArgAction::Set).required(true),
-        Kind::Flag => arg.action(ArgAction::SetTrue).long(argument.name),
-        Kind::Option(value) => arg
-            .action(ArgAction::Set)
-            .long(argument.name)
-            .value_name(value),
-        Kind::Lettered(letter, value) => arg
-            .action(ArgAction::Set)
-            .short(letter)
-            .long(argument.name)
-            .value_name(value),
+        Kind::Word => arg,
+        Kind::Needed => arg.required(true),
+        Kind::Flag => arg.long(argument.name),
+        Kind::Option(value) => valued(arg, argument.name, value),
+        Kind::Lettered(letter, value) => valued(arg, argument.name, value).short(letter),
     }
+}
+
+/// An argument that is given by its place.
+fn new_arg<'a>(alloc: Global, argument: &Argument) -> Arg<'a> {
+    let action = match argument.kind {
+        Kind::Flag => ArgAction::SetTrue,
+        _ => ArgAction::Set,
+    };
+    Arg::new(alloc, argument.name)
+        .help(argument.help)
+        .action(action)
+}
+
+/// The argument, given by a name, with a value that is called this.
+fn valued<'a>(arg: Arg<'a>, name: &'static str, value: &'static str) -> Arg<'a> {
+    arg.long(name).value_name(value)
 }

@@ -1,22 +1,19 @@
 //! `etagere explain`: why commands were refused, a line is bad, or a snapshot is broken.
 
-use crate::bad_lines::script_in;
-use crate::broken_buckets::breach_of_buckets;
-use crate::broken_records::{Breach, breach_of};
-use crate::broken_rules::{bucket_rule, shelf_rule};
-use crate::ending::{Answer, Failure};
 use crate::input::snapshot_text;
-use crate::pieces::Piece::{Count, Words};
-use crate::pieces::push_pieces;
-use crate::places::{line_numbers, line_of_command};
-use crate::reasons::push_refused;
-use crate::record_walks::Record;
+use broken_snapshots::{Breach, Record, breach_of, breach_of_buckets, bucket_rule, shelf_rule};
 use etagere::{AtlasAllocator, BucketedAtlasAllocator, RestoreFault};
 use run_commands::faults::{ReplayFault, RunFault};
 use run_scripts::script::{Commands, Script};
 use saved_json::{ReadFault, Saved, read_saved};
 use std::alloc::{AllocError, Global};
-use traffic::going_on::Finding;
+use tool_answers::bad_lines::script_in;
+use tool_answers::ending::{Answer, Failure};
+use tool_answers::pieces::Piece::{Count, Words};
+use tool_answers::pieces::push_pieces;
+use tool_answers::places::{line_numbers, line_of_command};
+use tool_answers::reasons::{bucket_why, growth_why, push_largest, push_why, shelf_why};
+use traffic::going_on::{Finding, Reason, Refused};
 use traffic::refusals::{explain_atlas, explain_buckets};
 
 /// What is told of a script or a snapshot.
@@ -79,6 +76,20 @@ fn findings_text(
         text.push_str("no command was refused\n")?;
     }
     Ok(text)
+}
+
+/// Adds what is said of a refused command behind its line.
+fn push_refused(text: &mut String, refused: &Refused, is_vertical: bool) -> Result<(), AllocError> {
+    let why = match refused.reason {
+        Reason::OfGrowth(number) => {
+            text.push_str("growth to ")?;
+            return push_why(text, growth_why(number), refused.asked, false);
+        }
+        Reason::OfShelves(reason) => shelf_why(reason),
+        Reason::OfBuckets(reason) => bucket_why(reason),
+    };
+    push_why(text, why, refused.asked, is_vertical)?;
+    push_largest(text, refused.largest_free)
 }
 
 fn explain_snapshot(alloc: Global, text: &[u8]) -> Result<Answer, Failure> {

@@ -1,12 +1,12 @@
 //! What the program reads: a file or standard input, and whether that is a script or a snapshot.
 
-use crate::ending::Failure;
 use crate::progress::Progress;
 use clap::ArgMatches;
 use std::alloc::Global;
 use std::fs;
 use std::io::Read;
 use std::rt::{Clock, Files};
+use tool_answers::ending::Failure;
 
 /// How many bytes are asked of a reader at once.
 const CHUNK: usize = 4096;

@@ -6,52 +6,33 @@
 #![tactic(auto)]
 
 mod arguments;
-mod bad_lines;
-mod broken_buckets;
-mod broken_records;
-mod broken_rules;
-mod ending;
 mod explaining;
-mod heights;
 mod input;
 mod output;
-mod packing;
-mod packing_lines;
-mod packing_text;
-mod pieces;
-mod places;
-mod plot;
 mod progress;
-mod reasons;
-mod record_walks;
-mod report;
 mod resuming;
 mod saving;
-mod series;
 mod stats;
-mod stats_json;
-mod stats_text;
-mod watch_page;
-mod watching;
 
 use crate::arguments::program;
-use crate::ending::{Answer, Failure};
 use crate::explaining::explain;
 use crate::input::read_named;
 use crate::output::{Target, write_to};
-use crate::packing::{options_of, pack_list};
 use crate::progress::Progress;
 use crate::resuming::{resume, snapshot_of};
 use crate::saving::save;
-use crate::watching::watch;
+use atlas_pages::PageOptions;
 use clap::error::ErrorKind;
 use clap::{ArgMatches, Error};
+use packed_lists::{asked_pages, pack_list};
 use run_commands::faults::ReplayFault;
 use std::alloc::Global;
 use std::env;
 use std::io::IsTerminal;
 use std::process::{self, ExitCode};
 use std::rt::{Clock, Env, Files};
+use tool_answers::ending::{Answer, Failure};
+use traffic_pictures::watch;
 
 fn main(rt: HostRuntime) -> ExitCode {
     let host = Host {
@@ -134,7 +115,7 @@ fn answered<R: Clock + Eprint>(
             resume(alloc, snapshot, input.as_slice(), given.get_flag("live"))
         }
         "pack" => {
-            let options = options_of(given)?;
+            let options = pages_of(given)?;
             let input = read_named(rt, given, "FILE", progress)?;
             pack_list(alloc, &options, input.as_slice(), given.get_flag("json"))
         }
@@ -143,6 +124,17 @@ fn answered<R: Clock + Eprint>(
             told(alloc, name, given, input.as_slice())
         }
     }
+}
+
+/// The pages that the arguments ask for.
+fn pages_of(given: &ArgMatches<'_>) -> Result<PageOptions, Failure> {
+    let (width, height) = (given.get_str("W"), given.get_str("H"));
+    asked_pages(
+        width.unwrap_or(""),
+        height.unwrap_or(""),
+        given.get_str("pages"),
+    )
+    .ok_or(Failure::Misused("W, H and N are whole numbers of 32 bits, in digits"))
 }
 
 /// What the subcommand answers, where it takes one input.

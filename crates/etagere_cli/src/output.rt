@@ -1,10 +1,10 @@
 //! Where what was made goes: to standard output, or to a file, which then has all of it or is as it was.
 
-use crate::ending::Failure;
 use run_commands::faults::ReplayFault;
 use std::fs::{self, File};
 use std::io::{self, Write};
 use std::rt::Files;
+use tool_answers::ending::Failure;
 
 /// Where what was made goes: to the file at a path, by way of a new one beside it that has the number of this process in
 /// its name; to standard output where there is no path, or it is `-`.

@@ -1,15 +1,15 @@
 //! `etagere resume`: goes on from a snapshot of a shelf atlas.
 
-use crate::bad_lines::commands_in;
-use crate::ending::{Answer, Failure};
 use crate::input::snapshot_text;
-use crate::pieces::Piece::{Count, Number, Words};
-use crate::pieces::push_pieces;
 use etagere::{Allocation, AtlasSnapshot};
 use run_commands::commands::Reply;
 use run_scripts::reply_text::{Line, line_of};
 use saved_json::{Saved, read_saved};
 use std::alloc::{AllocError, Global};
+use tool_answers::bad_lines::commands_in;
+use tool_answers::ending::{Answer, Failure};
+use tool_answers::pieces::Piece::{Count, Number, Words};
+use tool_answers::pieces::push_pieces;
 use traffic::resuming::{Resumed, resume_atlas};
 
 /// The replies to the commands of an input, which go on from a snapshot.

@@ -1,12 +1,10 @@
 //! `etagere save`: the snapshot of the atlas that a script leaves.
 
-use crate::bad_lines::script_in;
-use crate::ending::{Answer, Failure};
-use run_commands::faults::RunFault;
-use run_scripts::script::{Commands, Script};
-use saved_json::{Saved, write_saved};
+use saved_json::write_saved;
 use std::alloc::Global;
-use traffic::saving::{save_atlas, save_buckets};
+use tool_answers::bad_lines::script_in;
+use tool_answers::ending::{Answer, Failure};
+use traffic_counts::saved_of;
 
 /// The JSON text of the snapshot that a script leaves.
 pub fn save(alloc: Global, input: &[u8]) -> Result<Answer, Failure> {
@@ -15,19 +13,4 @@ pub fn save(alloc: Global, input: &[u8]) -> Result<Answer, Failure> {
     let mut bytes = write_saved(alloc, &saved)?;
     bytes.push(b'\n')?;
     Ok(Answer::made(bytes))
-}
-
-/// The snapshot that a script leaves.
-pub fn saved_of(alloc: Global, script: &Script) -> Result<Saved, RunFault> {
-    let (size, options) = (script.size, &script.options);
-    match &script.commands {
-        Commands::OfShelves(commands) => {
-            let snapshot = save_atlas(alloc, size, options, commands.as_slice())?;
-            Ok(Saved::Atlas(snapshot))
-        }
-        Commands::OfBuckets(commands) => {
-            let snapshot = save_buckets(alloc, size, options, commands.as_slice())?;
-            Ok(Saved::Bucketed(snapshot))
-        }
-    }
 }

@@ -1,16 +1,13 @@
 //! `etagere stats`: what a script asks for, and how full it leaves the atlas; or how full a saved one is.
 
-use crate::bad_lines::script_in;
-use crate::ending::{Answer, Failure};
 use crate::input::snapshot_text;
-use crate::plot::plot_text;
-use crate::report::{report_of_saved, report_of_script};
-use crate::series::series_of;
-use crate::stats_json::json_text;
-use crate::stats_text::plain_text;
 use clap::ArgMatches;
 use saved_json::read_saved;
 use std::alloc::Global;
+use tool_answers::bad_lines::script_in;
+use tool_answers::ending::{Answer, Failure};
+use traffic_counts::{json_text, plain_text, report_of_saved, report_of_script};
+use traffic_pictures::{plot_text, series_of};
 
 /// What is told of a script or a snapshot, in the form that the arguments ask for.
 pub fn stats(alloc: Global, input: &[u8], given: &ArgMatches<'_>) -> Result<Answer, Failure> {

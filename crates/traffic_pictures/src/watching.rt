@@ -1,14 +1,14 @@
-//! `etagere watch`: a page that shows the atlas after each command of a script.
+//! A page for a browser, which shows the atlas after each command of a script.
 //!
 //! A script that runs has letters, digits, `-`, spaces and line feeds alone, and so have its replies: nothing of them has
 //! to be escaped in the page.
 
-use crate::bad_lines::bad_line;
-use crate::ending::{Answer, Failure};
 use crate::watch_page::{HEAD, MIDDLE, TAIL};
 use etagere_run::replay;
 use run_commands::faults::{Outcome, ReplayFault};
 use std::alloc::{AllocError, Global};
+use tool_answers::bad_lines::bad_line;
+use tool_answers::ending::{Answer, Failure};
 
 /// The page of a script.
 pub fn watch(alloc: Global, script: &[u8]) -> Result<Answer, Failure> {

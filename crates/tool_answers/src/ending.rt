@@ -1,8 +1,6 @@
 //! How the program ends: with bytes for standard output or a file, or a line for standard error, and a status.
 
-use crate::broken_rules::options_words;
-use etagere::{OptionsFault, RestoreFault};
-use page_runs::PageRunFault;
+use etagere_base::{OptionsFault, RestoreFault};
 use run_commands::faults::{Checked, Outcome, ReplayFault, RunFault};
 use saved_json::ReadFault;
 use std::alloc::{AllocError, AllocFailed};
@@ -120,15 +118,6 @@ impl From<RunFault> for Failure {
     }
 }
 
-impl From<PageRunFault> for Failure {
-    fn from(why: PageRunFault) -> Failure {
-        match why {
-            PageRunFault::Options(fault) => Failure::Options(fault.number()),
-            PageRunFault::Memory => Failure::Fault(ReplayFault::Memory),
-        }
-    }
-}
-
 impl From<ReadFault> for Failure {
     fn from(why: ReadFault) -> Failure {
         match why {
@@ -144,5 +133,17 @@ impl From<RestoreFault> for Failure {
             RestoreFault::Memory => Failure::Fault(ReplayFault::Memory),
             fault => Failure::Snapshot(Checked::Broken(fault.number())),
         }
+    }
+}
+
+/// The fault of options that has this number, in words.
+fn options_words(number: u32) -> &'static str {
+    match number {
+        1 => "a side of the size is out of range",
+        2 => "the area is too large",
+        3 => "an alignment is below 1",
+        4 => "the number of columns is below 1",
+        7 => "there may be no page",
+        _ => "a column, rounded down to the alignment, would be 0 wide",
     }
 }

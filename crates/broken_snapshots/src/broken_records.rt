@@ -1,8 +1,8 @@
-//! At which record the snapshot of a shelf atlas breaks a rule, and how. What is found is for people; whether a rule is
-//! broken is the library's to say.
+//! At which record the snapshot of a shelf atlas breaks a rule, and how.
 
 use crate::record_walks::{Chain, End, Record, Walk, walk_along};
-use etagere::{AtlasSnapshot, RestoreFault};
+use etagere_base::RestoreFault;
+use shelf_records::snapshots::AtlasSnapshot;
 use std::alloc::{AllocError, Global};
 
 /// A record, and what is wrong with it.
@@ -12,6 +12,7 @@ pub struct Breach {
     pub what: &'static str,
 }
 
+/// What is wrong with a record, as an answer.
 pub fn breach_at(record: Record, what: &'static str) -> Option<Breach> {
     Some(Breach { record, what })
 }

@@ -1,9 +1,9 @@
-//! What `etagere stats` writes for people.
+//! What is told, as text for people.
 
-use crate::pieces::Piece::{Count, Words};
-use crate::pieces::push_pieces;
 use crate::report::{Asked, Fullness, Report};
 use std::alloc::{AllocError, Global};
+use tool_answers::pieces::Piece::{Count, Words};
+use tool_answers::pieces::push_pieces;
 
 /// The whole text.
 pub fn plain_text(alloc: Global, report: &Report) -> Result<String, AllocError> {

@@ -1,36 +1,17 @@
-//! Why a command was refused, in words.
+//! Why a size was refused, in words.
 
 use crate::pieces::Piece::{Count, Number, Words};
 use crate::pieces::push_pieces;
 use etagere::{BucketedRefusal, Refusal, Size};
 use std::alloc::AllocError;
-use traffic::going_on::{Reason, Refused};
 
-/// Why a size has no place.
+/// Why a size is refused.
 #[derive(Clone, Copy)]
-enum Why {
+pub enum Why {
     /// For this reason.
     Told(&'static str),
     /// Since no shelf that is tall enough has room, and this is the widest that one has.
     NoRoom(u32),
-}
-
-/// Adds what is said of a refused command behind its line.
-pub fn push_refused(
-    text: &mut String,
-    refused: &Refused,
-    is_vertical: bool,
-) -> Result<(), AllocError> {
-    let why = match refused.reason {
-        Reason::OfGrowth(number) => {
-            text.push_str("growth to ")?;
-            return push_why(text, Why::Told(growth_words(number)), refused.asked, false);
-        }
-        Reason::OfShelves(reason) => shelf_why(reason),
-        Reason::OfBuckets(reason) => bucket_why(reason),
-    };
-    push_why(text, why, refused.asked, is_vertical)?;
-    push_largest(text, refused.largest_free)
 }
 
 /// Adds what is said of a size that no page has a place for, behind its line: what an empty page says of it, if it has
@@ -48,7 +29,12 @@ pub fn push_unplaced(
 }
 
 /// Adds why a size is refused, and what would have fitted: the widest that a shelf has, as tall as what was asked for.
-fn push_why(text: &mut String, why: Why, asked: Size, is_vertical: bool) -> Result<(), AllocError> {
+pub fn push_why(
+    text: &mut String,
+    why: Why,
+    asked: Size,
+    is_vertical: bool,
+) -> Result<(), AllocError> {
     let Size { width, height } = asked;
     push_pieces(
         text,
@@ -75,7 +61,7 @@ fn push_why(text: &mut String, why: Why, asked: Size, is_vertical: bool) -> Resu
 }
 
 /// Adds what the largest free item is.
-fn push_largest(text: &mut String, largest: Size) -> Result<(), AllocError> {
+pub fn push_largest(text: &mut String, largest: Size) -> Result<(), AllocError> {
     let Size { width, height } = largest;
     if width == 0 || height == 0 {
         return text.push_str("; no item is free");
@@ -91,7 +77,8 @@ fn push_largest(text: &mut String, largest: Size) -> Result<(), AllocError> {
     )
 }
 
-fn shelf_why(reason: Refusal) -> Why {
+/// Why a shelf atlas refuses a size.
+pub fn shelf_why(reason: Refusal) -> Why {
     Why::Told(match reason {
         Refusal::NotPositive => "a side is below 1",
         Refusal::TooLong => "a side is above 65535",
@@ -102,7 +89,8 @@ fn shelf_why(reason: Refusal) -> Why {
     })
 }
 
-fn bucket_why(reason: BucketedRefusal) -> Why {
+/// Why a bucketed atlas refuses a size.
+pub fn bucket_why(reason: BucketedRefusal) -> Why {
     Why::Told(match reason {
         BucketedRefusal::NotPositive => "a side is below 1",
         BucketedRefusal::TooLong => "a side is above 65535",
@@ -118,11 +106,12 @@ fn bucket_why(reason: BucketedRefusal) -> Why {
     })
 }
 
-fn growth_words(number: u32) -> &'static str {
-    match number {
+/// Why an atlas doesn't grow to a size, which is the fault of this number.
+pub fn growth_why(number: u32) -> Why {
+    Why::Told(match number {
         1 => "a side is out of range",
         2 => "a side is below the present one",
         3 => "the area is too large",
         _ => "there would be more than 65535 items",
-    }
+    })
 }

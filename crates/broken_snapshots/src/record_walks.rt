@@ -1,6 +1,6 @@
 //! The lists of a saved shelf atlas, walked record by record.
 
-use etagere::AtlasSnapshot;
+use shelf_records::snapshots::AtlasSnapshot;
 use std::alloc::{AllocError, Global};
 
 /// The link to no record.

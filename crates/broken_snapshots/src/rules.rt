@@ -1,4 +1,4 @@
-//! What the rules of a snapshot say, and what the faults of options are, in words.
+//! What the rules of a snapshot say, in words.
 
 /// The rule of this number for snapshots of a shelf atlas, in words.
 pub fn shelf_rule(number: u32) -> &'static str {
@@ -30,17 +30,5 @@ pub fn bucket_rule(number: u32) -> &'static str {
         8 => "sharing: each record is in one list, once, or unused, and every list ends",
         9 => "unused: no unused bucket has anything live",
         _ => "space: allocated_space is the area that buckets have used",
-    }
-}
-
-/// The fault of options that has this number, in words.
-pub fn options_words(number: u32) -> &'static str {
-    match number {
-        1 => "a side of the size is out of range",
-        2 => "the area is too large",
-        3 => "an alignment is below 1",
-        4 => "the number of columns is below 1",
-        7 => "there may be no page",
-        _ => "a column, rounded down to the alignment, would be 0 wide",
     }
 }

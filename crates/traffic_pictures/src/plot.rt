@@ -1,9 +1,9 @@
-//! What `etagere stats --plot` writes: a picture of fill, live and refusals over the commands.
+//! A plot of fill, live and refusals over the commands of a run, as SVG.
 
-use crate::pieces::Piece::{Count, Words};
-use crate::pieces::push_pieces;
 use crate::series::Moment;
 use std::alloc::{AllocError, Global};
+use tool_answers::pieces::Piece::{Count, Words};
+use tool_answers::pieces::push_pieces;
 
 /// How wide and how tall a curve is.
 const WIDTH: u64 = 1000;

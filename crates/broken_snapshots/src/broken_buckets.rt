@@ -4,7 +4,8 @@ ghost use Rattle.std.specs.Prelude.{◌≤◌};
 
 use crate::broken_records::{Breach, breach_at};
 use crate::record_walks::{End, Record};
-use etagere::{BucketedSnapshot, RestoreFault};
+use bucketed_records::snapshots::BucketedSnapshot;
+use etagere_base::RestoreFault;
 use std::alloc::{AllocError, Global};
 
 /// What a walk along a list of buckets meets, what leads to the first, and how it ends.

@@ -1,19 +1,18 @@
-//! `etagere pack`: places for a list of sizes, on as many pages as it takes.
+//! Places for a list of sizes, on as many pages as it takes.
 
-use crate::ending::{Answer, Failure};
 use crate::packing_lines::{Wanted, wanted_in};
 use crate::packing_text::{json_text, plain_text};
-use crate::pieces::Piece::{Count, Words};
-use crate::pieces::push_pieces;
-use crate::reasons::push_unplaced;
 use atlas_pages::{PageChoice, PageOptions};
-use clap::ArgMatches;
-use etagere::{AtlasAllocator, DEFAULT_OPTIONS, Size, size2};
-use page_runs::{PageReply, pack};
+use etagere::{AtlasAllocator, DEFAULT_OPTIONS, Refusal, Size, size2};
+use page_runs::{PageReply, PageRunFault, pack};
 use run_commands::faults::ReplayFault;
 use run_scripts::numbers::{number_of, position_of};
 use run_scripts::script::ScriptFault;
 use std::alloc::{AllocError, Global};
+use tool_answers::ending::{Answer, Failure};
+use tool_answers::pieces::Piece::{Count, Words};
+use tool_answers::pieces::push_pieces;
+use tool_answers::reasons::push_unplaced;
 
 /// The places of the sizes that are wanted on the lines of an input; or which sizes have none, and why.
 pub fn pack_list(
@@ -24,7 +23,7 @@ pub fn pack_list(
 ) -> Result<Answer, Failure> {
     let wanted = list_in(alloc, input)?;
     let sizes: Vec<Size> = wanted.iter().map(|one| one.size).collect(alloc)?;
-    let replies = pack(alloc, options, sizes.as_slice())?;
+    let replies = replies_of(alloc, options, sizes.as_slice())?;
     let (wanted, replies) = (wanted.as_slice(), replies.as_slice());
     let unplaced = unplaced_text(alloc, options, wanted, replies)?;
     if !unplaced.is_empty() {
@@ -50,16 +49,12 @@ fn list_in(alloc: Global, input: &[u8]) -> Result<Vec<Wanted<'_>>, Failure> {
     }
 }
 
-/// The pages that the arguments ask for.
-pub fn options_of(given: &ArgMatches<'_>) -> Result<PageOptions, Failure> {
-    asked_pages(given).ok_or(Failure::Misused("W, H and N are whole numbers of 32 bits, in digits"))
-}
-
-/// The pages that are asked for; none where one of the numbers isn't one.
-fn asked_pages(given: &ArgMatches<'_>) -> Option<PageOptions> {
-    let width = number_of(given.get_str("W")?.as_bytes())?;
-    let height = number_of(given.get_str("H")?.as_bytes())?;
-    let most_pages = match given.get_str("pages") {
+/// The pages of these sides, at most so many, or any number where none is named; none where one of the words isn't a
+/// number.
+pub fn asked_pages(width: &str, height: &str, most: Option<&str>) -> Option<PageOptions> {
+    let width = number_of(width.as_bytes())?;
+    let height = number_of(height.as_bytes())?;
+    let most_pages = match most {
         Some(number) => u32::try_from(position_of(number.as_bytes())?).ok()?,
         None => u32::MAX,
     };
@@ -79,9 +74,7 @@ fn unplaced_text(
     wanted: &[Wanted<'_>],
     replies: &[PageReply],
 ) -> Result<String, AllocError> {
-    let Ok(empty) = AtlasAllocator::with_options(alloc, options.size, &options.atlas) else {
-        return Err(AllocError);
-    };
+    let empty = empty_page(alloc, options)?;
     let mut text = String::new(alloc);
     for (one, reply) in wanted.iter().zip(replies) {
         match reply {
@@ -97,10 +90,35 @@ fn unplaced_text(
                         Words(": "),
                     ],
                 )?;
-                push_unplaced(&mut text, empty.refusal(one.size), one.size)?;
+                push_unplaced(&mut text, refusal_of(&empty, one.size), one.size)?;
             }
             _ => {}
         }
     }
     Ok(text)
+}
+
+// What these calls promise ends in functions that promise nothing, so that it isn't gone through in what uses them.
+
+fn replies_of(
+    alloc: Global,
+    options: &PageOptions,
+    sizes: &[Size],
+) -> Result<Vec<PageReply>, Failure> {
+    match pack(alloc, options, sizes) {
+        Ok(replies) => Ok(replies),
+        Err(PageRunFault::Options(fault)) => Err(Failure::Options(fault.number())),
+        Err(PageRunFault::Memory) => Err(Failure::Fault(ReplayFault::Memory)),
+    }
+}
+
+fn empty_page(alloc: Global, options: &PageOptions) -> Result<AtlasAllocator, AllocError> {
+    match AtlasAllocator::with_options(alloc, options.size, &options.atlas) {
+        Ok(empty) => Ok(empty),
+        Err(_) => Err(AllocError),
+    }
+}
+
+fn refusal_of(empty: &AtlasAllocator, size: Size) -> Option<Refusal> {
+    empty.refusal(size)
 }

@@ -1,10 +1,10 @@
-//! What `etagere stats --json` writes for programs: one object on one line.
+//! What is told, as JSON for programs: one object on one line.
 
-use crate::pieces::Piece::{Count, Words};
-use crate::pieces::push_pieces;
 use crate::report::{Asked, Fullness, Report};
 use crate::stats_text::natural;
 use std::alloc::{AllocError, Global};
+use tool_answers::pieces::Piece::{Count, Words};
+use tool_answers::pieces::push_pieces;
 
 /// The whole text.
 pub fn json_text(alloc: Global, report: &Report) -> Result<String, AllocError> {

@@ -1,12 +1,17 @@
-//! What `etagere stats` tells, of an atlas of either kind, after a script or of a snapshot.
+//! What is told of an atlas of either kind, after a script or of a snapshot.
 
-use crate::ending::Failure;
 use crate::heights::{SameHeight, heights_of};
 use crate::saving::saved_of;
-use etagere::{AtlasAllocator, BucketedAtlasAllocator, BucketedUsage, Size, Usage};
+use etagere::{
+    AtlasAllocator, AtlasSnapshot, BucketedAtlasAllocator, BucketedSnapshot, BucketedUsage,
+    RestoreFault, Size, Usage,
+};
+use run_commands::commands::{AtlasCommand, BucketedCommand};
+use run_commands::faults::RunFault;
 use run_scripts::script::{Commands, Script};
 use saved_json::Saved;
 use std::alloc::Global;
+use tool_answers::ending::Failure;
 use traffic::stats::{atlas_stats, bucketed_stats};
 use traffic::tallies::Tally;
 
@@ -43,22 +48,13 @@ pub struct Fullness {
 
 /// What a script asks, and how full it leaves the atlas.
 pub fn report_of_script(alloc: Global, script: &Script) -> Result<Report, Failure> {
-    let (size, options) = (script.size, &script.options);
     let heights = heights_of(alloc, &saved_of(alloc, script)?)?;
-    let (tally, space, fullness) = match &script.commands {
-        Commands::OfShelves(commands) => {
-            let stats = atlas_stats(alloc, size, options, commands.as_slice())?;
-            let fullness = of_usage(stats.allocated, stats.free, &stats.usage);
-            (stats.tally, stats.asked, fullness)
-        }
-        Commands::OfBuckets(commands) => {
-            let stats = bucketed_stats(alloc, size, options, commands.as_slice())?;
-            let fullness = of_bucketed_usage(stats.allocated, stats.free, &stats.usage);
-            (stats.tally, stats.asked, fullness)
-        }
+    let (asked, fullness) = match &script.commands {
+        Commands::OfShelves(commands) => of_shelves(alloc, script, commands.as_slice())?,
+        Commands::OfBuckets(commands) => of_buckets(alloc, script, commands.as_slice())?,
     };
     Ok(Report {
-        asked: Some(Asked { tally, space }),
+        asked: Some(asked),
         fullness,
         heights,
     })
@@ -68,20 +64,55 @@ pub fn report_of_script(alloc: Global, script: &Script) -> Result<Report, Failur
 pub fn report_of_saved(alloc: Global, saved: Saved) -> Result<Report, Failure> {
     let heights = heights_of(alloc, &saved)?;
     let fullness = match saved {
-        Saved::Atlas(snapshot) => {
-            let atlas = AtlasAllocator::restore(alloc, snapshot)?;
-            of_usage(atlas.allocated_space(), atlas.free_space(), &atlas.usage())
-        }
-        Saved::Bucketed(snapshot) => {
-            let atlas = BucketedAtlasAllocator::restore(alloc, snapshot)?;
-            of_bucketed_usage(atlas.allocated_space(), atlas.free_space(), &atlas.usage())
-        }
+        Saved::Atlas(snapshot) => of_atlas(alloc, snapshot)?,
+        Saved::Bucketed(snapshot) => of_bucketed_atlas(alloc, snapshot)?,
     };
     Ok(Report {
         asked: None,
         fullness,
         heights,
     })
+}
+
+// What these calls promise ends in functions that promise nothing, so that it isn't gone through in what uses them.
+
+fn of_shelves(
+    alloc: Global,
+    script: &Script,
+    commands: &[AtlasCommand],
+) -> Result<(Asked, Fullness), RunFault> {
+    let stats = atlas_stats(alloc, script.size, &script.options, commands)?;
+    let asked = Asked {
+        tally: stats.tally,
+        space: stats.asked,
+    };
+    Ok((asked, of_usage(stats.allocated, stats.free, &stats.usage)))
+}
+
+fn of_buckets(
+    alloc: Global,
+    script: &Script,
+    commands: &[BucketedCommand],
+) -> Result<(Asked, Fullness), RunFault> {
+    let stats = bucketed_stats(alloc, script.size, &script.options, commands)?;
+    let asked = Asked {
+        tally: stats.tally,
+        space: stats.asked,
+    };
+    Ok((
+        asked,
+        of_bucketed_usage(stats.allocated, stats.free, &stats.usage),
+    ))
+}
+
+fn of_atlas(alloc: Global, snapshot: AtlasSnapshot) -> Result<Fullness, RestoreFault> {
+    let atlas = AtlasAllocator::restore(alloc, snapshot)?;
+    Ok(of_usage(atlas.allocated_space(), atlas.free_space(), &atlas.usage()))
+}
+
+fn of_bucketed_atlas(alloc: Global, snapshot: BucketedSnapshot) -> Result<Fullness, RestoreFault> {
+    let atlas = BucketedAtlasAllocator::restore(alloc, snapshot)?;
+    Ok(of_bucketed_usage(atlas.allocated_space(), atlas.free_space(), &atlas.usage()))
 }
 
 fn of_usage(allocated: i32, free: i32, usage: &Usage) -> Fullness {

@@ -1,0 +1,22 @@
+//! The snapshot of the atlas that a script leaves.
+
+use run_commands::faults::RunFault;
+use run_scripts::script::{Commands, Script};
+use saved_json::Saved;
+use std::alloc::Global;
+use traffic::saving::{save_atlas, save_buckets};
+
+/// The snapshot that a script leaves. The error comes where its options have a fault, or there is no memory.
+pub fn saved_of(alloc: Global, script: &Script) -> Result<Saved, RunFault> {
+    let (size, options) = (script.size, &script.options);
+    match &script.commands {
+        Commands::OfShelves(commands) => {
+            let snapshot = save_atlas(alloc, size, options, commands.as_slice())?;
+            Ok(Saved::Atlas(snapshot))
+        }
+        Commands::OfBuckets(commands) => {
+            let snapshot = save_buckets(alloc, size, options, commands.as_slice())?;
+            Ok(Saved::Bucketed(snapshot))
+        }
+    }
+}
