@@ -4,7 +4,7 @@ ghost use Rattle.std.specs.Prelude.{◌≤◌};
 
 use crate::broken_records::{Breach, breach_at};
 use crate::record_walks::{End, Record};
-use bucketed_records::snapshots::BucketedSnapshot;
+use bucketed_snapshots::BucketedSnapshot;
 use etagere_base::RestoreFault;
 use std::alloc::{AllocError, Global};
 

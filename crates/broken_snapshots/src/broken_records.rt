@@ -2,7 +2,7 @@
 
 use crate::record_walks::{Chain, End, Record, Walk, walk_along};
 use etagere_base::RestoreFault;
-use shelf_records::snapshots::AtlasSnapshot;
+use shelf_snapshots::AtlasSnapshot;
 use std::alloc::{AllocError, Global};
 
 /// A record, and what is wrong with it.

@@ -24,7 +24,7 @@ use crate::saving::save;
 use atlas_pages::PageOptions;
 use clap::error::ErrorKind;
 use clap::{ArgMatches, Error};
-use packed_lists::{asked_pages, pack_list};
+use tool_answers::{asked_pages, pack_list};
 use run_commands::faults::ReplayFault;
 use std::alloc::Global;
 use std::env;
@@ -32,7 +32,7 @@ use std::io::IsTerminal;
 use std::process::{self, ExitCode};
 use std::rt::{Clock, Env, Files};
 use tool_answers::ending::{Answer, Failure};
-use traffic_pictures::watch;
+use tool_answers::watch;
 
 fn main(rt: HostRuntime) -> ExitCode {
     let host = Host {

@@ -9,10 +9,10 @@ use run_commands::faults::ReplayFault;
 use run_scripts::numbers::{number_of, position_of};
 use run_scripts::script::ScriptFault;
 use std::alloc::{AllocError, Global};
-use tool_answers::ending::{Answer, Failure};
-use tool_answers::pieces::Piece::{Count, Words};
-use tool_answers::pieces::push_pieces;
-use tool_answers::reasons::push_unplaced;
+use crate::ending::{Answer, Failure};
+use crate::pieces::Piece::{Count, Words};
+use crate::pieces::push_pieces;
+use crate::reasons::push_unplaced;
 
 /// The places of the sizes that are wanted on the lines of an input; or which sizes have none, and why.
 pub fn pack_list(

@@ -2,8 +2,8 @@
 
 use crate::series::Moment;
 use std::alloc::{AllocError, Global};
-use tool_answers::pieces::Piece::{Count, Words};
-use tool_answers::pieces::push_pieces;
+use crate::pieces::Piece::{Count, Words};
+use crate::pieces::push_pieces;
 
 /// How wide and how tall a curve is.
 const WIDTH: u64 = 1000;

@@ -6,8 +6,8 @@ use etagere::Size;
 use page_runs::PageReply;
 use std::alloc::{AllocError, Global};
 use std::fmt::Write;
-use tool_answers::pieces::Piece::{Count, Number, Words};
-use tool_answers::pieces::push_pieces;
+use crate::pieces::Piece::{Count, Number, Words};
+use crate::pieces::push_pieces;
 
 /// A line for each size: its page, its first corner, what was asked for, and its name if it has one.
 pub fn plain_text(

@@ -7,8 +7,8 @@ use crate::watch_page::{HEAD, MIDDLE, TAIL};
 use etagere_run::replay;
 use run_commands::faults::{Outcome, ReplayFault};
 use std::alloc::{AllocError, Global};
-use tool_answers::bad_lines::bad_line;
-use tool_answers::ending::{Answer, Failure};
+use crate::bad_lines::bad_line;
+use crate::ending::{Answer, Failure};
 
 /// The page of a script.
 pub fn watch(alloc: Global, script: &[u8]) -> Result<Answer, Failure> {
