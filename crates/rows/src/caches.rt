@@ -2,6 +2,7 @@
 
 use crate::atlases::of_options;
 use crate::lines::{numbers, say, say_fault, say_if, say_number, say_rectangle, size_of};
+use crate::moved_caches;
 use crate::places::{Called, NotMade};
 use etagere::{AllocId, AllocatorOptions, DEFAULT_OPTIONS, OptionsFault, Rectangle, Size, size2};
 use glyph_shelf::laws::saved_and_restored;
@@ -57,6 +58,8 @@ impl Called for GlyphCache {
             "capacity" => say_number(rt, capacity(self)),
             "empty" => say_if(rt, is_empty(self), "yes", "no"),
             "allocated" => say_number(rt, allocated(self)),
+            "moved" => moved_caches::say_moved(self, rt, words),
+            "rearrange" => moved_caches::rearrange(self, rt, words),
             "with_capacity" | "with_key" | "with_id" | "with_space" | "without_last" => {
                 say_restored(rt, &changed(self, rt.alloc(), call, key_of(words)))
             }
@@ -65,7 +68,7 @@ impl Called for GlyphCache {
     }
 }
 
-fn key_of(word: &str) -> u64 {
+pub fn key_of(word: &str) -> u64 {
     word.parse().unwrap_or(0)
 }
 
@@ -87,7 +90,7 @@ fn place(cache: &mut GlyphCache, rt: &impl Print, words: &str) -> io::Result<()>
 }
 
 /// Ends a line with the keys that were evicted.
-fn say_evicted(rt: &impl Print, evicted: &[u64]) -> io::Result<()> {
+pub fn say_evicted(rt: &impl Print, evicted: &[u64]) -> io::Result<()> {
     rt.print(" evicts")?;
     for key in evicted {
         print!(rt; " {key}")?;

@@ -1,7 +1,7 @@
 //! Makes the calls of standard input, one a line, and writes a line for each answer. `tests/rows/run` writes the calls of
 //! its rows here, and compares the answers.
 //!
-//! The argument is the kind of what is called: `atlas`, `bucketed`, `cache`, `pages` or `padded`. There are two places for
+//! The argument is the kind of what is called: `atlas`, `bucketed`, `cache`, `pages`, `padded` or `padded_cache`. There are two places for
 //! such a one, and a line is the number of a place, 0 or 1, the call, and its words. With `run` or `stream` standard input
 //! is a script.
 //!
@@ -12,7 +12,9 @@ mod atlases;
 mod buckets;
 mod caches;
 mod lines;
+mod moved_caches;
 mod padded;
+mod padded_caches;
 mod pages;
 mod places;
 mod runs;
@@ -23,6 +25,7 @@ use anyhow::{Context, Result, bail};
 use atlas_pages::{AtlasPages, PaddedPages};
 use etagere::{AtlasAllocator, BucketedAtlasAllocator};
 use glyph_shelf::GlyphCache;
+use padded_cache::PaddedCache;
 use std::env;
 use std::io::{BufRead, BufReader};
 
@@ -34,6 +37,7 @@ fn main(rt: HostRuntime) -> Result<()> {
         "cache" => answer_all::<GlyphCache, _>(&rt),
         "pages" => answer_all::<AtlasPages, _>(&rt),
         "padded" => answer_all::<PaddedPages, _>(&rt),
+        "padded_cache" => answer_all::<PaddedCache, _>(&rt),
         "run" => runs::run(&rt),
         "stream" => runs::stream(&rt),
         _ => bail!("no such kind"),

@@ -1,0 +1,72 @@
+//! Moves of a cache of glyphs into a new atlas.
+
+use crate::lines::{say, say_fault, size_of};
+use cache_moves::{KeyMove, RearrangedCache, UnplacedKey, rearranged_cache};
+use etagere::{OptionsFault, Rectangle, Size};
+use glyph_shelf::GlyphCache;
+use std::alloc::Global;
+use std::io;
+
+/// Writes a line for each key that moves into a new atlas, with its rectangles before and after, one for each that finds
+/// no place, and one that ends them.
+pub fn say_moved(
+    cache: &GlyphCache,
+    rt: &(impl Print + AllocGlobal),
+    words: &str,
+) -> io::Result<()> {
+    match moved(rt.alloc(), cache, size_of(words)) {
+        Ok(done) => say_keys(rt, &done),
+        Err(fault) => say_refused(rt, fault),
+    }
+}
+
+/// Puts the new cache in place of the old one, and writes how many keys are in it and how many found no place.
+pub fn rearrange(
+    cache: &mut GlyphCache,
+    rt: &(impl Print + AllocGlobal),
+    words: &str,
+) -> io::Result<()> {
+    match moved(rt.alloc(), cache, size_of(words)) {
+        Ok(done) => {
+            println!(rt; "moved {} left {}", done.moves.len(), done.unplaced.len())?;
+            *cache = done.cache;
+            Ok(())
+        }
+        Err(fault) => say_refused(rt, fault),
+    }
+}
+
+fn say_keys(rt: &impl Print, done: &RearrangedCache) -> io::Result<()> {
+    for KeyMove { key, before, after } in &done.moves {
+        print!(rt; "{key} from ")?;
+        say_corners(rt, before)?;
+        rt.print(" to ")?;
+        say_corners(rt, after)?;
+        say(rt, "")?;
+    }
+    for UnplacedKey { key, rectangle } in &done.unplaced {
+        print!(rt; "left {key} ")?;
+        say_corners(rt, rectangle)?;
+        say(rt, "")?;
+    }
+    say(rt, "end")
+}
+
+/// Writes a corner of a rectangle and the one past its last, within a line.
+pub fn say_corners(rt: &impl Print, rectangle: &Rectangle) -> io::Result<()> {
+    let Rectangle { min, max } = rectangle;
+    print!(rt; "({},{})-({},{})", min.x, min.y, max.x, max.y)
+}
+
+fn say_refused(rt: &impl Print, fault: OptionsFault) -> io::Result<()> {
+    match fault {
+        OptionsFault::Memory => say(rt, "no memory"),
+        _ => say_fault(rt, fault.number()),
+    }
+}
+
+// What this call promises ends in a function that promises nothing, so that it isn't gone through in what uses it.
+
+fn moved(alloc: Global, cache: &GlyphCache, size: Size) -> Result<RearrangedCache, OptionsFault> {
+    rearranged_cache(alloc, cache, size)
+}
