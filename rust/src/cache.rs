@@ -236,15 +236,15 @@ impl GlyphCache {
     ///
     /// use etagere::{size2, GlyphCache, DEFAULT_OPTIONS};
     ///
-    /// let capacity = NonZeroUsize::new(64).unwrap();
-    /// let mut cache = GlyphCache::new(size2(16, 16), &DEFAULT_OPTIONS, capacity)?;
+    /// let capacity = NonZeroUsize::new(2).unwrap();
+    /// let mut cache = GlyphCache::new(size2(32, 32), &DEFAULT_OPTIONS, capacity)?;
     /// for key in 1..=2 {
-    ///     cache.place(key, size2(16, 8))?;
+    ///     cache.place(key, size2(32, 8))?;
     /// }
     ///
     /// let mut restored = GlyphCache::from_json(&cache.to_json()?)?;
     /// assert_eq!(restored.entries(), cache.entries());
-    /// assert_eq!(restored.place(3, size2(16, 8))?.evicted, [1]);
+    /// assert_eq!(restored.place(3, size2(32, 8))?.evicted, [1]);
     /// # Ok::<(), Box<dyn std::error::Error>>(())
     /// ```
     pub fn to_json(&self) -> Result<Vec<u8>, AllocError> {

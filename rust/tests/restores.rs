@@ -115,9 +115,9 @@ fn each_rule_of_buckets() {
 /// A saved cache of two keys, the second of which is the greatest and was used last.
 fn saved_cache() -> String {
     let capacity = NonZeroUsize::new(2).expect("not 0");
-    let mut cache = GlyphCache::new(size2(16, 16), &DEFAULT_OPTIONS, capacity).expect("good options");
+    let mut cache = GlyphCache::new(size2(32, 32), &DEFAULT_OPTIONS, capacity).expect("good options");
     for key in [1, u64::MAX] {
-        cache.place(key, size2(16, 8)).expect("room");
+        cache.place(key, size2(32, 8)).expect("room");
     }
     saved(cache.to_json().expect("memory"))
 }
@@ -125,13 +125,13 @@ fn saved_cache() -> String {
 #[test]
 fn each_rule_of_a_cache() {
     let text = saved_cache();
-    assert!(text.starts_with("{\"capacity\":2,\"atlas\":{\"width\":16,"), "{text}");
+    assert!(text.starts_with("{\"capacity\":2,\"atlas\":{\"width\":32,"), "{text}");
     assert!(
         text.ends_with(",\"keys\":[{\"key\":18446744073709551615,\"id\":65537},{\"key\":1,\"id\":65536}]}"),
         "{text}"
     );
     let rules: [(CacheRestoreFault, Changes<'_>); 6] = [
-        (CacheRestoreFault::Atlas(RestoreFault::Space), &[("\"allocated_space\":256", "\"allocated_space\":255")]),
+        (CacheRestoreFault::Atlas(RestoreFault::Space), &[("\"allocated_space\":512", "\"allocated_space\":511")]),
         (CacheRestoreFault::NoCapacity, &[("\"capacity\":2", "\"capacity\":0")]),
         (CacheRestoreFault::TooManyKeys, &[("\"capacity\":2", "\"capacity\":1")]),
         (CacheRestoreFault::KeyTwice, &[("\"key\":1,", "\"key\":18446744073709551615,")]),
@@ -146,6 +146,6 @@ fn each_rule_of_a_cache() {
         assert_eq!(GlyphCache::from_json(unreadable.as_bytes()).err(), Some(JsonFault::Unreadable));
     }
     let mut cache = GlyphCache::from_json(text.as_bytes()).expect("sound");
-    assert_eq!(cache.place(2, size2(16, 16)).map(|placed| placed.evicted), Ok(vec![1, u64::MAX]));
+    assert_eq!(cache.place(2, size2(32, 32)).map(|placed| placed.evicted), Ok(vec![1, u64::MAX]));
     assert_eq!((CacheRestoreFault::Memory.number(), CacheRestoreFault::NoKey.number()), (11, 16));
 }

@@ -266,7 +266,7 @@ static void glyph_cache(void) {
     CHECK(etagere_cache_delete(&cache) == ETAGERE_OK);
 }
 
-/* The text of a cache of 10x16 for two keys, 1 and 2. */
+/* The text of a cache of 32x32 for two keys, 1 and 2. */
 static void take_two_keys(void) {
     EtagereCache cache = ETAGERE_NULL;
     EtagereOptions options = ETAGERE_DEFAULT_OPTIONS;
@@ -274,9 +274,9 @@ static void take_two_keys(void) {
     uint64_t key, evicted[2];
     size_t count;
 
-    CHECK(etagere_cache_new(&cache, size2(10, 16), &options, 2) == ETAGERE_OK);
+    CHECK(etagere_cache_new(&cache, size2(32, 32), &options, 2) == ETAGERE_OK);
     for (key = 1; key <= 2; key += 1) {
-        CHECK(etagere_cache_place(&cache, key, size2(10, 8), &rectangle, evicted, 2, &count) == ETAGERE_OK && count == 0);
+        CHECK(etagere_cache_place(&cache, key, size2(32, 8), &rectangle, evicted, 2, &count) == ETAGERE_OK && count == 0);
     }
     CHECK(etagere_cache_snapshot(&cache, (uint8_t *)text, MOST_TEXT - 1, &length) == ETAGERE_OK);
     text[length] = 0;
