@@ -1,0 +1,13 @@
+//! Saved pages as JSON text.
+//!
+//! `reading` and `writing` have the calls, `texts` what serde reads and writes, and `pages` what a JSON value has to say
+//! of pages.
+#![tactic(auto)]
+
+mod pages;
+mod reading;
+mod texts;
+mod writing;
+
+pub use reading::read_saved_pages;
+pub use writing::write_saved_pages;
