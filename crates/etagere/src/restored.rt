@@ -18,11 +18,11 @@ use crate::atlas::AtlasAllocator;
 use etagere_base::{Frame, RestoreFault};
 use shelf_heights::by_height::ShelvesByHeight;
 use shelf_links::Records;
-use shelf_snapshots::AtlasSnapshot;
 use shelf_restoring::judging::WalkedShelf;
 use shelf_restoring::loaded_atlas::LoadedAtlas;
 use shelf_restoring::rules::judge_rules;
 use shelf_restoring::walking::walk_records;
+use shelf_snapshots::AtlasSnapshot;
 use shelf_store::starting::newly_bounded;
 use std::alloc::{AllocError, Global};
 

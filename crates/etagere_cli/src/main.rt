@@ -24,7 +24,6 @@ use crate::saving::save;
 use atlas_pages::PageOptions;
 use clap::error::ErrorKind;
 use clap::{ArgMatches, Error};
-use tool_answers::{asked_pages, pack_list};
 use run_commands::faults::ReplayFault;
 use std::alloc::Global;
 use std::env;
@@ -32,7 +31,7 @@ use std::io::IsTerminal;
 use std::process::{self, ExitCode};
 use std::rt::{Clock, Env, Files};
 use tool_answers::ending::{Answer, Failure};
-use tool_answers::watch;
+use tool_answers::{asked_pages, pack_list, watch};
 
 fn main(rt: HostRuntime) -> ExitCode {
     let host = Host {

@@ -6,8 +6,8 @@ use saved_json::read_saved;
 use std::alloc::Global;
 use tool_answers::bad_lines::script_in;
 use tool_answers::ending::{Answer, Failure};
-use traffic_counts::{json_text, plain_text, report_of_saved, report_of_script};
 use tool_answers::{plot_text, series_of};
+use traffic_counts::{json_text, plain_text, report_of_saved, report_of_script};
 
 /// What is told of a script or a snapshot, in the form that the arguments ask for.
 pub fn stats(alloc: Global, input: &[u8], given: &ArgMatches<'_>) -> Result<Answer, Failure> {

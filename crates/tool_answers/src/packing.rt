@@ -1,7 +1,11 @@
 //! Places for a list of sizes, on as many pages as it takes.
 
+use crate::ending::{Answer, Failure};
 use crate::packing_lines::{Wanted, wanted_in};
 use crate::packing_text::{json_text, plain_text};
+use crate::pieces::Piece::{Count, Words};
+use crate::pieces::push_pieces;
+use crate::reasons::push_unplaced;
 use atlas_pages::{PageChoice, PageOptions};
 use etagere::{AtlasAllocator, DEFAULT_OPTIONS, Refusal, Size, size2};
 use page_runs::{PageReply, PageRunFault, pack};
@@ -9,10 +13,6 @@ use run_commands::faults::ReplayFault;
 use run_scripts::numbers::{number_of, position_of};
 use run_scripts::script::ScriptFault;
 use std::alloc::{AllocError, Global};
-use crate::ending::{Answer, Failure};
-use crate::pieces::Piece::{Count, Words};
-use crate::pieces::push_pieces;
-use crate::reasons::push_unplaced;
 
 /// The places of the sizes that are wanted on the lines of an input; or which sizes have none, and why.
 pub fn pack_list(

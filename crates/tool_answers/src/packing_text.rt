@@ -1,13 +1,13 @@
 //! The place of each size of a list, as text for people or JSON for programs.
 
 use crate::packing_lines::Wanted;
+use crate::pieces::Piece::{Count, Number, Words};
+use crate::pieces::push_pieces;
 use atlas_pages::PagePlace;
 use etagere::Size;
 use page_runs::PageReply;
 use std::alloc::{AllocError, Global};
 use std::fmt::Write;
-use crate::pieces::Piece::{Count, Number, Words};
-use crate::pieces::push_pieces;
 
 /// A line for each size: its page, its first corner, what was asked for, and its name if it has one.
 pub fn plain_text(

@@ -1,9 +1,9 @@
 //! A plot of fill, live and refusals over the commands of a run, as SVG.
 
-use crate::series::Moment;
-use std::alloc::{AllocError, Global};
 use crate::pieces::Piece::{Count, Words};
 use crate::pieces::push_pieces;
+use crate::series::Moment;
+use std::alloc::{AllocError, Global};
 
 /// How wide and how tall a curve is.
 const WIDTH: u64 = 1000;

@@ -3,12 +3,12 @@
 //! A script that runs has letters, digits, `-`, spaces and line feeds alone, and so have its replies: nothing of them has
 //! to be escaped in the page.
 
+use crate::bad_lines::bad_line;
+use crate::ending::{Answer, Failure};
 use crate::watch_page::{HEAD, MIDDLE, TAIL};
 use etagere_run::replay;
 use run_commands::faults::{Outcome, ReplayFault};
 use std::alloc::{AllocError, Global};
-use crate::bad_lines::bad_line;
-use crate::ending::{Answer, Failure};
 
 /// The page of a script.
 pub fn watch(alloc: Global, script: &[u8]) -> Result<Answer, Failure> {
