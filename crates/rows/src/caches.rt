@@ -7,6 +7,7 @@ use crate::places::{Called, NotMade};
 use etagere::{AllocId, AllocatorOptions, DEFAULT_OPTIONS, OptionsFault, Rectangle, Size, size2};
 use glyph_shelf::laws::saved_and_restored;
 use glyph_shelf::{CacheRestoreFault, CacheSnapshot, GlyphCache, GlyphFault, Placed, SavedKey};
+use saved_caches::{read_saved_cache, write_saved_cache};
 use std::alloc::Global;
 use std::io;
 use std::num::NonZeroUsize;
@@ -28,12 +29,13 @@ impl Called for GlyphCache {
         copy_of(alloc, self).map_err(|_| NotMade::NoMemory)
     }
 
-    fn saved(&self, _alloc: Global) -> Option<String> {
-        None
+    fn saved(&self, alloc: Global) -> Option<String> {
+        text_of(alloc, self)
     }
 
-    fn restored(_alloc: Global, _text: &str) -> Result<GlyphCache, NotMade> {
-        Err(NotMade::Unread)
+    fn restored(alloc: Global, text: &str) -> Result<GlyphCache, NotMade> {
+        let saved = read(alloc, text).ok_or(NotMade::Unread)?;
+        restored_of(alloc, saved).map_err(not_restored)
     }
 
     fn steps(_alloc: Global, _text: &str) -> Result<u64, NotMade> {
@@ -146,6 +148,26 @@ fn copy_of(alloc: Global, cache: &GlyphCache) -> Result<GlyphCache, CacheRestore
     saved_and_restored(alloc, cache)
 }
 
+fn text_of(alloc: Global, cache: &GlyphCache) -> Option<String> {
+    let saved = cache.snapshot().ok()?;
+    String::from_utf8(write_saved_cache(alloc, &saved).ok()?).ok()
+}
+
+fn read(alloc: Global, text: &str) -> Option<CacheSnapshot> {
+    read_saved_cache(alloc, text.as_bytes()).ok()
+}
+
+fn restored_of(alloc: Global, saved: CacheSnapshot) -> Result<GlyphCache, CacheRestoreFault> {
+    GlyphCache::restore(alloc, saved)
+}
+
+fn not_restored(fault: CacheRestoreFault) -> NotMade {
+    match fault {
+        CacheRestoreFault::Memory => NotMade::NoMemory,
+        _ => NotMade::Fault(fault.number()),
+    }
+}
+
 /// What is restored of what is saved with a change.
 fn changed(
     cache: &GlyphCache,
@@ -155,7 +177,7 @@ fn changed(
 ) -> Result<GlyphCache, CacheRestoreFault> {
     let mut saved = cache.snapshot().map_err(|_| CacheRestoreFault::Memory)?;
     change(&mut saved, call, number);
-    GlyphCache::restore(alloc, saved)
+    restored_of(alloc, saved)
 }
 
 fn placed(cache: &mut GlyphCache, key: u64, size: Size) -> Result<Placed, GlyphFault> {
