@@ -10,12 +10,12 @@ mod bucketed;
 mod cache;
 mod cache_keys;
 mod cache_sizing;
+mod cache_snapshots;
+mod drawings;
 mod fullness;
 mod listing;
 mod options;
 mod picture_parts;
-mod pictures;
-mod saved_caches;
 mod snapshots;
 
 pub use atlas::{
@@ -43,6 +43,11 @@ pub use cache::{
 };
 pub use cache_keys::{etagere_cache_entries, etagere_cache_peek};
 pub use cache_sizing::{etagere_cache_grow, etagere_cache_set_capacity};
+pub use cache_snapshots::{etagere_cache_restore, etagere_cache_snapshot};
+pub use drawings::{
+    etagere_atlas_picture, etagere_atlas_picture_length, etagere_bucketed_picture,
+    etagere_bucketed_picture_length, etagere_cache_picture, etagere_cache_picture_length,
+};
 pub use fullness::{
     etagere_atlas_largest_free, etagere_atlas_refusal, etagere_atlas_usage,
     etagere_bucketed_largest_free, etagere_bucketed_refusal, etagere_bucketed_usage,
@@ -53,11 +58,6 @@ pub use picture_parts::{
     etagere_atlas_picture_lines, etagere_atlas_picture_part, etagere_bucketed_picture_lines,
     etagere_bucketed_picture_part, etagere_cache_picture_lines, etagere_cache_picture_part,
 };
-pub use pictures::{
-    etagere_atlas_picture, etagere_atlas_picture_length, etagere_bucketed_picture,
-    etagere_bucketed_picture_length, etagere_cache_picture, etagere_cache_picture_length,
-};
-pub use saved_caches::{etagere_cache_restore, etagere_cache_snapshot};
 pub use snapshots::{
     etagere_atlas_restore, etagere_atlas_snapshot, etagere_bucketed_restore,
     etagere_bucketed_snapshot,

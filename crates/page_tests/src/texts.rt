@@ -8,7 +8,8 @@ use std::process::Abort;
 use std::test::Fail;
 
 /// A page of 10 by 10 pixels that is full, of three at most.
-const ONE_FULL_PAGE: &str = r#"{"width":10,"height":10,"alignment_width":1,"alignment_height":1,"vertical_shelves":false,"num_columns":1,"most_pages":3,"choice":"first_fit","pages":[{"width":10,"height":10,"alignment_width":1,"alignment_height":1,"vertical_shelves":false,"shelf_width":10,"first_shelf":0,"free_items":65535,"free_shelves":65535,"allocated_space":100,"shelves":[{"x":0,"y":0,"height":10,"prev":65535,"next":65535,"first_item":0,"first_unallocated":65535,"is_empty":false}],"items":[{"x":0,"width":10,"prev":65535,"next":65535,"prev_unallocated":65535,"next_unallocated":65535,"shelf":0,"allocated":true,"generation":1}]}]}"#;
+const ONE_FULL_PAGE: &str =
+    r#"{"width":10,"height":10,"alignment_width":1,"alignment_height":1,"vertical_shelves":false,"num_columns":1,"most_pages":3,"choice":"first_fit","pages":[{"width":10,"height":10,"alignment_width":1,"alignment_height":1,"vertical_shelves":false,"shelf_width":10,"first_shelf":0,"free_items":65535,"free_shelves":65535,"allocated_space":100,"shelves":[{"x":0,"y":0,"height":10,"prev":65535,"next":65535,"first_item":0,"first_unallocated":65535,"is_empty":false}],"items":[{"x":0,"width":10,"prev":65535,"next":65535,"prev_unallocated":65535,"next_unallocated":65535,"shelf":0,"allocated":true,"generation":1}]}]}"#;
 
 /// What one full page is saved as, if there is memory.
 fn one_full_page(alloc: Global) -> Option<PagesSnapshot> {

@@ -3,7 +3,7 @@ use Rattle.glyph_shelf.specs.Saved.{CacheStandsFor, without_frame}
 use Rattle.saved_caches.specs.Caches.{SpellsCache}
 use Rattle.c_answers.specs.Saving.{SavesUnframed}
 use Rattle.c_answers.proofs.Saving.{ok_is, some_of}
-use Rattle.c_answers.proofs.saved_caches.cache_text_of.Goals as goal
+use Rattle.c_answers.proofs.cache_snapshots.cache_text_of.Goals as goal
 
 pub returns : goal.returns
 returns c =

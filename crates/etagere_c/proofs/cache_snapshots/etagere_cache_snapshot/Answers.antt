@@ -1,7 +1,7 @@
 use Rattle.std.proofs.Common.{rules, length}
 use Rattle.c_answers.specs.Saving.{SavesUnframed}
 use Rattle.c_answers.proofs.Saving.{saved_beyond, saved_in}
-use Rattle.etagere_c.proofs.saved_caches.etagere_cache_snapshot.Goals as goal
+use Rattle.etagere_c.proofs.cache_snapshots.etagere_cache_snapshot.Goals as goal
 
 pub returns-in-Some-text-clause-written : goal.returns-in-Some-text-clause-written
 returns-in-Some-text-clause-written c ok =

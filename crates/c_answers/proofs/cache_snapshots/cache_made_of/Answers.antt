@@ -4,7 +4,7 @@ use Rattle.c_answers.specs.Saving.{SavesCache}
 use Rattle.c_answers.specs.Statuses.{restore_memory}
 use Rattle.c_answers.proofs.Restoring.{is_cache_rule}
 use Rattle.c_answers.proofs.Saving.{ok_on}
-use Rattle.c_answers.proofs.saved_caches.cache_made_of.Goals as goal
+use Rattle.c_answers.proofs.cache_snapshots.cache_made_of.Goals as goal
 
 pub returns-in-Ok-clause-made : goal.returns-in-Ok-clause-made
 returns-in-Ok-clause-made c =

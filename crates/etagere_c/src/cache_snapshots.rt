@@ -9,7 +9,7 @@ ghost use Rattle.c_answers.specs.Saving.{BreaksCache, IsCacheRestoreStatus, IsSa
 ghost use Rattle.c_answers.specs.Statuses as statuses;
 
 use c_answers::buffers::hand_out;
-use c_answers::saved_caches::{cache_made_of, cache_text_of};
+use c_answers::cache_snapshots::{cache_made_of, cache_text_of};
 use c_answers::statuses::{HANDLE_IN_USE, MEMORY, NULL_HANDLE, OK};
 use c_handles::EtagereCache;
 use std::alloc::Global;

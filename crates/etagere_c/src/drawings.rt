@@ -9,7 +9,7 @@ ghost use Rattle.c_answers.specs.Calls.{IsAmong, IsWritten};
 ghost use Rattle.c_answers.specs.Statuses as statuses;
 
 use c_answers::buffers::write_text;
-use c_answers::pictures::{bucketed_picture_of, picture_of};
+use c_answers::drawings::{bucketed_picture_of, picture_of};
 use c_answers::statuses::{MEMORY, NULL_HANDLE, OK};
 use c_handles::{EtagereAtlas, EtagereBucketed, EtagereCache};
 use std::alloc::Global;
