@@ -48,7 +48,7 @@ enum {
     ETAGERE_NO_ROOM = 3,
     /* A buffer is too short, or a capacity is 0. */
     ETAGERE_LENGTH = 4,
-    /* The bytes aren't the text of a saved atlas of the kind, or memory ran out while they were read. */
+    /* The bytes aren't the text of what is saved of the kind, or memory ran out while they were read. */
     ETAGERE_UNREADABLE = 5,
     /* There was no memory. */
     ETAGERE_MEMORY = 6,
@@ -114,6 +114,16 @@ enum {
     ETAGERE_RESTORE_SPACE = 410,
     /* There was no memory. */
     ETAGERE_RESTORE_MEMORY = 411,
+    /* There may be no key. */
+    ETAGERE_CACHE_RESTORE_NO_CAPACITY = 412,
+    /* There are more keys than there may be. */
+    ETAGERE_CACHE_RESTORE_TOO_MANY_KEYS = 413,
+    /* A key stands twice. */
+    ETAGERE_CACHE_RESTORE_KEY_TWICE = 414,
+    /* A key has an id under which nothing is allocated, or which another key has too. */
+    ETAGERE_CACHE_RESTORE_WRONG_ID = 415,
+    /* Something is allocated for no key. */
+    ETAGERE_CACHE_RESTORE_NO_KEY = 416,
 
     /* Nothing is allocated under the id. */
     ETAGERE_UNKNOWN_ID = 501,
@@ -665,6 +675,23 @@ EtagereStatus etagere_cache_picture_lines(
  * is written too, and nothing else; ETAGERE_MEMORY. Takes memory for the text, and goes through all items. */
 EtagereStatus etagere_cache_picture_part(
     EtagereCache *cache, EtagereRectangle rectangle, uint8_t *buffer, size_t buffer_length, size_t *text_length);
+
+/* Writes what the cache is saved as to the front of the buffer, and its length to *text_length: the JSON text of an
+ * object with the keys "capacity", "atlas" and "keys", without a space or a zero behind it; the frame isn't saved. What
+ * is behind stays, and the cache does.
+ * Answers ETAGERE_OK; ETAGERE_NULL_HANDLE; ETAGERE_LENGTH where the buffer is shorter than the text: then *text_length
+ * is written too, and nothing else; ETAGERE_MEMORY. Takes memory for all records and keys, for the text, and for the
+ * text as a JSON value, and goes through all of these. */
+EtagereStatus etagere_cache_snapshot(EtagereCache *cache, uint8_t *buffer, size_t buffer_length, size_t *text_length);
+
+/* Fills a null handle with the cache that a text is saved as, whoever wrote it: what etagere_cache_snapshot gives, or
+ * the same with its keys in another order, others that are passed over, or spaces between. No frame has begun.
+ * Answers ETAGERE_OK; ETAGERE_HANDLE_IN_USE where the handle isn't null; ETAGERE_UNREADABLE where the bytes are no such
+ * text, or there was no memory for what they say; ETAGERE_RESTORE_.. or ETAGERE_CACHE_RESTORE_.., the number of a rule
+ * that the snapshot breaks, or ETAGERE_RESTORE_MEMORY where there was no memory for the cache. Takes memory for the
+ * snapshot, for the text as a JSON value, and for the cache with a copy of its atlas; goes through all of these, and
+ * takes each rectangle of the copy back as etagere_atlas_deallocate does. */
+EtagereStatus etagere_cache_restore(EtagereCache *cache, const uint8_t *text, size_t text_length);
 
 #ifdef __cplusplus
 }
