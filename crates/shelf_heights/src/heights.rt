@@ -64,9 +64,9 @@ fn comes_before(shelves: &[LinkedShelf], shelf: usize, height: u32, place: u32) 
 {
     let record = &shelves[shelf];
     let own = u32::from(record.height);
-    let here = chain_order(record.x, record.y);
+    let (along, across) = (record.x, record.y);
     if own == height {
-        here < place
+        chain_order(along, across) < place
     } else {
         own < height
     }

@@ -1,8 +1,8 @@
 -- Lists of which a part is written, as one that moves up by one: what is read where.
-use Rattle.std.proofs.Common.{◌≡◌, ◌≢◌, ℕ, ◌+◌, ◌-◌, ◌<◌, ◌≤◌, Bool, true, false, List, [], ◌∷◌, ◌++◌, drop, get_or, length, set, take, ap, arith, refl, sym, ◌∙◌}
+use Rattle.std.proofs.Common.{◌≡◌, ◌≢◌, ℕ, zero, suc, ◌+◌, ◌-◌, ◌<◌, ◌≤◌, Bool, true, false, List, [], ◌∷◌, ◌++◌, drop, get_or, length, set, take, ap, arith, refl, sym, ◌∙◌}
 use Rattle.std.proofs.lemmas.Bool.Decides.{nat_tests}
 use Rattle.std.proofs.Math.Seq.{get_or-append_right}
-use Rattle.std.specs.Prelude.{insert, nat_lt}
+use Rattle.std.specs.Prelude.{insert, nat_lt, remove}
 use Rattle.std.proofs.lemmas.List.{ext_get_or, get_or-drop, get_or-set_other, get_or-set_same, get_or-take, get_or_append_left, length-append, length-drop, length-set, length-take-le}
 use Rattle.std.proofs.lemmas.List.Edits.{get_or-insert_above, get_or-insert_at, get_or-insert_below, length-insert}
 use borrow.Rule.Slice.PartMut.{mid_of, post_of, put_mid}
@@ -141,3 +141,19 @@ shifted-insert old shifted index number within longer below above =
             ∙ get_or_append_left old (number ∷ []) 0 (n - 1) size
             ∙ sym (get_or-insert_above old index number 0 (n - 1) (omega (arith, more)) within)
             ∙ ap (λ m. get_or (insert old index number) m 0) (sym next)
+
+-- what was moved behind the others is left out
+pub moved-out : (xs : List ℕ) (number last : ℕ) → last ≡ length xs → take last (insert xs last number) ≡ xs
+moved-out [] number zero is = refl
+moved-out [] number (suc last) is = absurd (omega (arith, is))
+moved-out (x ∷ xs) number zero is = absurd (omega (arith, is))
+moved-out (x ∷ xs) number (suc last) is = ap (λ (l : List ℕ). x ∷ l) (moved-out xs number last (omega (arith, is)))
+
+-- and so is the last one
+pub without-last : (xs : List ℕ) (index last : ℕ) → index ≡ last → last + 1 ≡ length xs → take last xs ≡ remove xs index
+without-last [] index last same is = absurd (omega (arith, is))
+without-last (x ∷ []) zero zero same is = refl
+without-last (x ∷ y ∷ xs) zero zero same is = absurd (omega (arith, is))
+without-last (x ∷ xs) zero (suc last) same is = absurd (omega (arith, same))
+without-last (x ∷ xs) (suc index) zero same is = absurd (omega (arith, same))
+without-last (x ∷ xs) (suc index) (suc last) same is = ap (λ (l : List ℕ). x ∷ l) (without-last xs index last (omega (arith, same)) (omega (arith, is)))
