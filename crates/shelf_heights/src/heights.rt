@@ -23,6 +23,13 @@ pub struct Start {
     pub probes: u32,
 }
 
+/// Two positions, between which something is looked for.
+#[derive(Clone, Copy)]
+struct Between {
+    from: usize,
+    end: usize,
+}
+
 /// A shelf of this number, below 65535, with this bound.
 pub fn bounded(shelf: usize, widest: u16) -> BoundedShelf
     requires { shelf < no_link }
@@ -124,7 +131,7 @@ fn start_of(shelves: &[LinkedShelf], by_height: &ShelvesByHeight, shelf: usize) 
     first_from(shelves, by_height, u32::from(record.height), place)
 }
 
-/// Where the shelves begin that don't come before this one, among all but the one at a position, near which the search
+/// Where the shelves begin that don't come before this one, among all but the one at a position, beside which the search
 /// starts.
 fn start_beside(
     shelves: &[LinkedShelf],
@@ -141,18 +148,65 @@ fn start_beside(
     ensures after { AllByRecursion (λ one. spec.order_of shelves.now shelf ≤ spec.order_of shelves.now one.shelf)
         (drop result (remove by_height.now.items left_out)) }
 {
-    let order = order_of(shelves, shelf);
-    let mut from = 0;
-    let mut end = by_height.len() - 1;
-    while from < end {
-        let middle = probed_near(left_out, from, end);
-        if order_of(shelves, shelf_beside(by_height, left_out, middle)) < order {
-            from = middle + 1;
+    let record = &shelves[shelf];
+    let height = u32::from(record.height);
+    let place = chain_order(record.x, record.y);
+    let mut between = between_beside(shelves, by_height, left_out, height, place);
+    while between.from < between.end {
+        let middle = between.from + (between.end - between.from) / 2;
+        let beside = shelf_beside(by_height, left_out, middle);
+        if comes_before(shelves, beside, height, place) {
+            between.from = middle + 1;
         } else {
-            end = middle;
+            between.end = middle;
         }
     }
-    from
+    between.from
+}
+
+/// Between which positions those begin that don't come before a height and place, among all but the one at a position.
+/// What stands beside that tells: most shelves stay where they are.
+fn between_beside(
+    shelves: &[LinkedShelf],
+    by_height: &ShelvesByHeight,
+    left_out: usize,
+    height: u32,
+    place: u32,
+) -> Between
+    requires order { AreInOrder shelves.now (remove by_height.now.items left_out) }
+    requires left_out { left_out < length by_height.now.items }
+    ensures few { length by_height.now.items < 2 ^ 64 }
+    ensures bounds { result.from ≤ result.end }
+    ensures within { result.end ≤ length (remove by_height.now.items left_out) }
+    ensures before { AllByRecursion (λ one. spec.order_of shelves.now one.shelf < spec.order_at height place)
+        (take result.from (remove by_height.now.items left_out)) }
+    ensures after { AllByRecursion (λ one. spec.order_at height place ≤ spec.order_of shelves.now one.shelf)
+        (drop result.end (remove by_height.now.items left_out)) }
+{
+    let end = by_height.len() - 1;
+    if left_out < end {
+        let behind = shelf_beside(by_height, left_out, left_out);
+        if comes_before(shelves, behind, height, place) {
+            return Between {
+                from: left_out + 1,
+                end,
+            };
+        }
+    }
+    if left_out == 0 {
+        return Between { from: 0, end: 0 };
+    }
+    let front = shelf_beside(by_height, left_out, left_out - 1);
+    if comes_before(shelves, front, height, place) {
+        return Between {
+            from: left_out,
+            end: left_out,
+        };
+    }
+    Between {
+        from: 0,
+        end: left_out - 1,
+    }
 }
 
 /// Where the shelves begin that don't come before this one, by a search that starts near a position.

@@ -1,6 +1,8 @@
 -- Where a shelf stands in the list of shelves by height, as halving finds it, and what an edit there makes of the list.
-use Rattle.std.proofs.Common.{◌≡◌, ◌≢◌, ℕ, zero, suc, ◌+◌, ◌<◌, ◌≤◌, Bool, true, false, List, [], ◌∷◌, length, map, get_or, set, take, drop, refl, ap, arith, sym}
+use Rattle.std.proofs.Common.{◌≡◌, ◌≢◌, ℕ, zero, suc, ◌+◌, ◌<◌, ◌≤◌, Bool, true, false, List, [], ◌∷◌, length, map, get_or, set, take, drop, refl, ap, arith, subst, sym}
 use Rattle.std.proofs.Math.Nat.{pow-suc}
+use Rattle.std.proofs.Math.ListN.{drop_of_length-le}
+use Rattle.std.proofs.lemmas.Bool.Decides.{nat_tests}
 use Rattle.std.specs.Prelude.{insert, nat_lt, remove, ◌*◌, ◌^◌, ◌==◌}
 use Rattle.std.specs.List.{AllByRecursion}
 use Rattle.etagere_base.specs.Lists.{times}
@@ -197,3 +199,22 @@ stands-there shelf (suc index) (one ∷ others) once within is =
   where
     other : 1 ≤ times shelf (numbers_by_height others) → one.shelf ≢ shelf
     other later same = absurd (grind (arith, later))
+
+-- what the number of a shelf that was read tells of where it comes
+pub tells-before : (shelves : List LinkedShelf) (number order : ℕ) (one : BoundedShelf) → number ≡ one.shelf → true ≡ nat_lt (order_of shelves number) order
+    → order_of shelves one.shelf < order
+tells-before shelves number order one at is =
+    let less : order_of shelves number < order = grind (arith, nat_tests) in
+    omega (arith, less, ap (order_of shelves) at)
+
+pub tells-after : (shelves : List LinkedShelf) (number order : ℕ) (one : BoundedShelf) → number ≡ one.shelf → false ≡ nat_lt (order_of shelves number) order
+    → order ≤ order_of shelves one.shelf
+tells-after shelves number order one at is =
+    let more : order ≤ order_of shelves number = grind (arith, nat_tests) in
+    omega (arith, more, ap (order_of shelves) at)
+
+-- none stands behind the end
+pub none-behind : (shelves : List LinkedShelf) (order n : ℕ) (by_height : List BoundedShelf) → length by_height ≤ n
+    → AllByRecursion (λ (one : BoundedShelf). order ≤ order_of shelves one.shelf) (drop n by_height)
+none-behind shelves order n by_height few =
+    subst (AllByRecursion (λ (one : BoundedShelf). order ≤ order_of shelves one.shelf)) (sym (drop_of_length-le by_height few)) tt

@@ -1,69 +1,87 @@
-use Rattle.std.proofs.Common.{◌≡◌, ℕ, suc, ◌+◌, ◌<◌, ◌≤◌, List, drop, length, ap, arith, subst, sym, take}
-use Rattle.std.specs.Prelude.{remove}
+use Rattle.std.proofs.Common.{◌≡◌, ℕ, suc, ◌+◌, ◌-◌, ◌<◌, ◌≤◌, List, drop, length, ap, arith, subst, sym, take, ◌∙◌}
+use Rattle.std.specs.Prelude.{remove, slice_index_or, ◌*◌, ◌/◌}
 use Rattle.std.specs.List.{AllByRecursion}
-use Rattle.shelf_heights.specs.Private.ByHeight.{order_of, bounded_at}
+use Rattle.shelf_links.specs.declared.records.LinkedShelf.{LinkedShelf}
+use Rattle.shelf_records.specs.AtlasRecords.{across_of, along_of, height_of}
+use Rattle.shelf_records.proofs.Recorded.RecordsOfIds.{field_at-read}
+use Rattle.shelf_heights.specs.Private.ByHeight.{order_at, order_of, bounded_at}
 use Rattle.shelf_heights.specs.declared.by_height.BoundedShelf.{BoundedShelf}
-use Rattle.shelf_heights.proofs.ByHeight.Positions.{after-probed, before-probed, read-number}
+use Rattle.shelf_heights.proofs.ByHeight.Positions.{after-probed, before-probed, read-number, tells-after, tells-before}
 use Rattle.shelf_heights.proofs.heights.start_beside.Goals as goal
 
 -- a shelf of zeros
 abbrev none : BoundedShelf
 none = record { widest = 0; shelf = 0 }
 
-pub order_of-requires : goal.order_of-requires
-order_of-requires c =
-    let from : ℕ = c.loop-from.from in
-    let end : ℕ = c.loop-from.end in
-    let others : List BoundedShelf = remove c.args.by_height.now.items c.args.left_out in
-    subst (λ (n : ℕ). n < length c.args.shelves.now) (sym c.shelf_beside.ensures)
-    (read-number (λ n. n < length c.args.shelves.now) c.probed_near-middle.result others none (omega (arith, c.probed_near-middle.ensures.end, c.loop-from.invariant.within)) c.requires.order.within)
+-- the middle is before the end
+below : (from end : ℕ) → from < end → from + (end - from) / 2 < end
+below from end less = omega (arith, less)
 
-pub loop-from-preserved-then-order_of-order : goal.loop-from-preserved-then-order_of-order
-loop-from-preserved-then-order_of-order c =
-    let from : ℕ = c.loop-from.from in
-    let end : ℕ = c.loop-from.end in
-    let middle : ℕ = c.probed_near-middle.result in
+-- the order of a record that was read
+order-read : (shelves : List LinkedShelf) (shelf height place : ℕ) (one : LinkedShelf) → shelf < length shelves → one ≡ slice_index_or shelves shelf one
+    → height ≡ one.height → place ≡ one.x * 65536 + one.y → order_at height place ≡ order_of shelves shelf
+order-read shelves shelf height place one within is high here =
+    let own : height_of shelves shelf ≡ one.height = field_at-read (λ (s : LinkedShelf). s.height) 0 shelves shelf one within is in
+    let along : along_of shelves shelf ≡ one.x = field_at-read (λ (s : LinkedShelf). s.x) 0 shelves shelf one within is in
+    let across : across_of shelves shelf ≡ one.y = field_at-read (λ (s : LinkedShelf). s.y) 0 shelves shelf one within is in
+    omega (arith, own, along, across, high, here)
+
+pub comes_before-requires : goal.comes_before-requires
+comes_before-requires c =
+    let from : ℕ = c.loop-between.between.from in
+    let end : ℕ = c.loop-between.between.end in
     let others : List BoundedShelf = remove c.args.by_height.now.items c.args.left_out in
-    let order : ℕ = c.order_of-order.result in
-    let within : middle < length others = omega (arith, c.probed_near-middle.ensures.end, c.loop-from.invariant.within) in
-    let less : order_of c.args.shelves.now (bounded_at others middle).shelf < order =
-    omega (arith, c.if-order_of-order.true, c.order_of.ensures, ap (order_of c.args.shelves.now) c.shelf_beside.ensures) in
+    subst (λ (n : ℕ). n < length c.args.shelves.now) (sym c.shelf_beside-beside.ensures)
+    (read-number (λ n. n < length c.args.shelves.now) (from + (end - from) / 2) others none
+    (omega (arith, below from end c.loop-between-test.true, c.loop-between.invariant.within)) c.requires.order.within)
+
+pub loop-between-preserved-then-comes_before : goal.loop-between-preserved-then-comes_before
+loop-between-preserved-then-comes_before c =
+    let from : ℕ = c.loop-between.between.from in
+    let end : ℕ = c.loop-between.between.end in
+    let middle : ℕ = from + (end - from) / 2 in
+    let others : List BoundedShelf = remove c.args.by_height.now.items c.args.left_out in
+    let order : ℕ = order_at c.from-height.result c.chain_order-place.result in
+    let within : middle < length others = omega (arith, below from end c.loop-between-test.true, c.loop-between.invariant.within) in
     let next : suc middle ≡ middle + 1 = omega arith in
     record {
-      bounds = omega (arith, c.probed_near-middle.ensures.end);
-      few = c.loop-from.invariant.few;
-      within = c.loop-from.invariant.within;
+      bounds = omega (arith, below from end c.loop-between-test.true);
+      few = c.loop-between.invariant.few;
+      within = c.loop-between.invariant.within;
       before = subst (λ (n : ℕ). AllByRecursion (λ (one : BoundedShelf). order_of c.args.shelves.now one.shelf < order) (take n others)) next
-          (before-probed c.args.shelves.now 0 order middle others none within c.requires.order.rising less);
-      after = c.loop-from.invariant.after;
+          (before-probed c.args.shelves.now 0 order middle others none within c.requires.order.rising
+          (tells-before c.args.shelves.now c.shelf_beside-beside.result order (bounded_at others middle) c.shelf_beside-beside.ensures c.if-comes_before.ensures));
+      after = c.loop-between.invariant.after;
     }
 
-pub loop-from-preserved : goal.loop-from-preserved
-loop-from-preserved c =
-    let from : ℕ = c.loop-from.from in
-    let end : ℕ = c.loop-from.end in
-    let middle : ℕ = c.probed_near-middle.result in
+pub loop-between-preserved : goal.loop-between-preserved
+loop-between-preserved c =
+    let from : ℕ = c.loop-between.between.from in
+    let end : ℕ = c.loop-between.between.end in
+    let middle : ℕ = from + (end - from) / 2 in
     let others : List BoundedShelf = remove c.args.by_height.now.items c.args.left_out in
-    let order : ℕ = c.order_of-order.result in
-    let within : middle < length others = omega (arith, c.probed_near-middle.ensures.end, c.loop-from.invariant.within) in
-    let more : order ≤ order_of c.args.shelves.now (bounded_at others middle).shelf =
-    omega (arith, c.if-order_of-order.false, c.order_of.ensures, ap (order_of c.args.shelves.now) c.shelf_beside.ensures) in
+    let order : ℕ = order_at c.from-height.result c.chain_order-place.result in
+    let within : middle < length others = omega (arith, below from end c.loop-between-test.true, c.loop-between.invariant.within) in
     record {
-      bounds = c.probed_near-middle.ensures.from;
-      few = c.loop-from.invariant.few;
+      bounds = omega arith;
+      few = c.loop-between.invariant.few;
       within = omega (arith, within);
-      before = c.loop-from.invariant.before;
-      after = after-probed c.args.shelves.now 0 order middle others none within c.requires.order.rising more;
+      before = c.loop-between.invariant.before;
+      after = after-probed c.args.shelves.now 0 order middle others none within c.requires.order.rising
+          (tells-after c.args.shelves.now c.shelf_beside-beside.result order (bounded_at others middle) c.shelf_beside-beside.ensures c.if-comes_before.ensures);
     }
 
 pub returns-clause-before : goal.returns-clause-before
 returns-clause-before c =
-    subst (λ (n : ℕ). AllByRecursion (λ (one : BoundedShelf). order_of c.args.shelves.now one.shelf < n) (take c.loop-from.from (remove c.args.by_height.now.items c.args.left_out)))
-    c.order_of-order.ensures c.loop-from.invariant.before
+    subst (λ (n : ℕ). AllByRecursion (λ (one : BoundedShelf). order_of c.args.shelves.now one.shelf < n) (take c.loop-between.between.from (remove c.args.by_height.now.items c.args.left_out)))
+    (order-read c.args.shelves.now c.args.shelf c.from-height.result c.chain_order-place.result c.index-shelves-shelf.result c.requires.within c.index-shelves-shelf.is c.from-height.ensures c.chain_order-place.ensures)
+    c.loop-between.invariant.before
 
 pub returns-clause-after : goal.returns-clause-after
 returns-clause-after c =
-    let same : c.loop-from.end ≡ c.loop-from.from = omega (arith, c.loop-from.invariant.bounds, c.loop-from-test.false) in
-    subst (λ (n : ℕ). AllByRecursion (λ (one : BoundedShelf). n ≤ order_of c.args.shelves.now one.shelf) (drop c.loop-from.from (remove c.args.by_height.now.items c.args.left_out)))
-    c.order_of-order.ensures
-    (subst (λ (n : ℕ). AllByRecursion (λ (one : BoundedShelf). c.order_of-order.result ≤ order_of c.args.shelves.now one.shelf) (drop n (remove c.args.by_height.now.items c.args.left_out))) same c.loop-from.invariant.after)
+    let others : List BoundedShelf = remove c.args.by_height.now.items c.args.left_out in
+    let same : c.loop-between.between.end ≡ c.loop-between.between.from = omega (arith, c.loop-between.invariant.bounds, c.loop-between-test.false) in
+    subst (λ (n : ℕ). AllByRecursion (λ (one : BoundedShelf). n ≤ order_of c.args.shelves.now one.shelf) (drop c.loop-between.between.from others))
+    (order-read c.args.shelves.now c.args.shelf c.from-height.result c.chain_order-place.result c.index-shelves-shelf.result c.requires.within c.index-shelves-shelf.is c.from-height.ensures c.chain_order-place.ensures)
+    (subst (λ (n : ℕ). AllByRecursion (λ (one : BoundedShelf). order_at c.from-height.result c.chain_order-place.result ≤ order_of c.args.shelves.now one.shelf) (drop n others)) same
+    c.loop-between.invariant.after)

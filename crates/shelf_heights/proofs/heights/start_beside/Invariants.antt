@@ -1,19 +1,19 @@
 use Rattle.std.proofs.Common.{◌-◌, ◌<◌, ◌≤◌, length, take, drop}
 use Rattle.std.specs.Prelude.{◌^◌, remove}
 use Rattle.std.specs.List.{AllByRecursion}
-use Rattle.shelf_heights.specs.Private.ByHeight.{order_of}
+use Rattle.shelf_heights.specs.Private.ByHeight.{order_at, order_of}
 use Rattle.shelf_heights.specs.declared.by_height.BoundedShelf.{BoundedShelf}
 use Rattle.shelf_heights.proofs.heights.start_beside.Given as goal
 
 -- those before the first come before the order, and those from the end on don't
-abbrev pub invariant-loop-from : goal.invariant-loop-from
-invariant-loop-from l = record {
-  bounds : l.from ≤ l.end;
+abbrev pub invariant-loop-between : goal.invariant-loop-between
+invariant-loop-between l = record {
+  bounds : l.between.from ≤ l.between.end;
   few : length l.by_height.items < 2 ^ 64;
-  within : l.end ≤ length (remove l.by_height.items l.left_out);
-  before : AllByRecursion (λ (one : BoundedShelf). order_of l.shelves one.shelf < l.order) (take l.from (remove l.by_height.items l.left_out));
-  after : AllByRecursion (λ (one : BoundedShelf). l.order ≤ order_of l.shelves one.shelf) (drop l.end (remove l.by_height.items l.left_out));
+  within : l.between.end ≤ length (remove l.by_height.items l.left_out);
+  before : AllByRecursion (λ (one : BoundedShelf). order_of l.shelves one.shelf < order_at l.height l.place) (take l.between.from (remove l.by_height.items l.left_out));
+  after : AllByRecursion (λ (one : BoundedShelf). order_at l.height l.place ≤ order_of l.shelves one.shelf) (drop l.between.end (remove l.by_height.items l.left_out));
 }
 
-abbrev pub decreases-loop-from : goal.decreases-loop-from
-decreases-loop-from l = l.end - l.from
+abbrev pub decreases-loop-between : goal.decreases-loop-between
+decreases-loop-between l = l.between.end - l.between.from
