@@ -43,7 +43,7 @@ pub some-same : {X : Type 0} (o : Option X) (x y : X) → o ≡ Some x → o ≡
 some-same o x y h k = cc
 
 -- what is read from a list of which one element was changed
-read-changed : {X P : Type 0} (change : X → X) (xs : List X) (i j : ℕ) (y : X) → slice_get (changed_by (Some i) change xs) j ≡ Some y → ((z : X) → slice_get xs i ≡ Some z → j ≡ i → y ≡ change z → P)
+pub read-changed : {X P : Type 0} (change : X → X) (xs : List X) (i j : ℕ) (y : X) → slice_get (changed_by (Some i) change xs) j ≡ Some y → ((z : X) → slice_get xs i ≡ Some z → j ≡ i → y ≡ change z → P)
     → ((j ≡ i → ⊥) → slice_get xs j ≡ Some y → P) → P
 read-changed {X} {P} change xs i j y read here there = by_number (j == i) refl
   where

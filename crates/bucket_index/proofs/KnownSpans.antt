@@ -1,9 +1,9 @@
 -- What is known of spans: after a record was changed or made, and of records that a search passes.
-use Rattle.std.proofs.Common.{◌≡◌, ℕ, zero, suc, ◌+◌, ◌<◌, ◌≤◌, Bool, true, false, cond, Option, None, Some, List, [], ◌∷◌, ◌++◌, length, max, refl, ap, sym, subst, ◌∙◌, arith, ◌==◌}
+use Rattle.std.proofs.Common.{◌≡◌, ℕ, zero, suc, ◌+◌, ◌-◌, ◌/◌, ◌<◌, ◌≤◌, Bool, true, false, cond, Option, None, Some, List, [], ◌∷◌, ◌++◌, length, max, refl, ap, sym, subst, ◌∙◌, arith, ◌==◌}
 use Rattle.std.proofs.lemmas.Bool.{eqb-true, leb-true}
 use Rattle.std.proofs.lemmas.Option.{slice_get_within}
 use Rattle.std.specs.Option.{option_map_or}
-use Rattle.std.specs.Prelude.{nat_le, nat_lt, option_and_then, replicate, slice_get, slice_set, ◌&&◌}
+use Rattle.std.specs.Prelude.{nat_le, nat_lt, option_and_then, replicate, slice_get, ◌&&◌}
 use Rattle.etagere_links.specs.Edits.{changed_by}
 use Rattle.etagere_links.proofs.RecordChanges.{get-changed_by-other, length-changed_by, link_at-same, map-changed_by}
 use Rattle.bucketed_records.specs.BucketRecords.{next_of}
@@ -14,8 +14,10 @@ use Rattle.bucket_index.specs.declared.spans.Span.{Span}
 use Rattle.bucket_index.specs.declared.searching.Wanted.{Wanted}
 use Rattle.bucket_index.specs.declared.searching.Wanted.TheVariants.{Roomy, Exact, Wide}
 use Rattle.bucket_index.specs.Private.Searching.{first_from, is_wanted, needed_room, widest_from}
-use Rattle.bucket_index.specs.Private.Spans.{AreOtherSpans, AreSpans, AreSpansBut, IsAhead, IsSpan, IsSpanBut, IsWithin, IsWithinBut, Lead, block_of, room_at, span_of}
-use Rattle.bucket_index.proofs.KnownBlocks.{read-set}
+use Rattle.bucket_index.specs.Private.Spans.{AreOtherSpans, AreOtherSpansOf, AreSpans, AreSpansBut, AreSpansButOf, AreSpansOf, IsKnownSpan, IsKnownSpanBut, IsPassed, IsPassedSpan, IsSpan, IsSpanBut, IsWithin, IsWithinBut, Lead, block_of, joined, no_span, room_at, span_of, whole_of, widened}
+use Rattle.etagere_links.specs.Links.{link_of, no_link}
+use Rattle.bucket_index.specs.declared.spans.Spans.{Spans}
+use Rattle.bucket_index.proofs.KnownBlocks.{read-changed}
 use Rattle.bucket_index.proofs.WidestRooms.{widest-at}
 
 -- a number is another one, or it isn't
@@ -69,105 +71,209 @@ lead-first : (steps : ℕ) (Is : ℕ → Type 0) (xs : List LinkedBucket) (n : �
 lead-first zero Is xs n behind some lead = absurd (omega arith)
 lead-first (suc steps) Is xs n behind some lead = (lead.0, lead.1)
 
+-- links lead on where others end
+pub lead-append : (some more : ℕ) (Is : ℕ → Type 0) (xs : List LinkedBucket) (at mid behind : Option ℕ) → Lead some Is xs at mid → Lead more Is xs mid behind → Lead (some + more) Is xs at behind
+lead-append zero more Is xs at mid behind first then =
+    let none : more ≡ 0 + more = omega arith in
+    subst (λ (k : ℕ). Lead k Is xs at behind) none (subst (λ (a : Option ℕ). Lead more Is xs a behind) (sym first) then)
+lead-append (suc some) more Is xs None mid behind first then = absurd first
+lead-append (suc some) more Is xs (Some n) mid behind first then =
+    let one : suc (some + more) ≡ suc some + more = omega arith in
+    subst (λ (k : ℕ). Lead k Is xs (Some n) behind) one (first.0, first.1, lead-append some more Is xs (next_of xs n) mid behind first.2 then)
+
 -- a span with one record more
-pub span-longer : (block n : ℕ) (span : Span) (bs : List LinkedBucket) (b : LinkedBucket) → slice_get bs n ≡ Some b → block_of n ≡ block → span.behind ≡ Some n → IsSpan block span bs → IsSpan block (record { first = span.first; steps = span.steps + 1; behind = b.next; widest_room = max span.widest_room (record_room b) }) bs
-span-longer block n span bs b at same ends is =
-    let wide : ℕ = max span.widest_room (record_room b) in
-    let before = lead-still span.steps (IsWithin block span.widest_room bs) (IsWithin block wide bs) bs bs span.first span.behind (omega arith) (λ k low in_. refl)
-    (λ k low in_. (in_.0, omega (arith, in_.1))) is.lead in
-    let next = lead-more span.steps (IsWithin block wide bs) bs span.first n (slice_get_within bs n b at) (same, omega (arith, room-at bs n b at))
-    (subst (λ (link : Option ℕ). Lead span.steps (IsWithin block wide bs) bs span.first link) ends before) in
-    let more : suc span.steps ≡ span.steps + 1 = omega arith in
-    record {
-      some = omega arith;
-      lead = subst (λ (k : ℕ). Lead k (IsWithin block wide bs) bs span.first b.next) more
-          (subst (λ (link : Option ℕ). Lead (suc span.steps) (IsWithin block wide bs) bs span.first link) (next-at bs n b at) next);
-    }
+pub span-longer : (numbered : ℕ → ℕ) (block n : ℕ) (link : Option ℕ) (room : ℕ) (first steps : ℕ) (bs : List LinkedBucket) (b : LinkedBucket) → slice_get bs n ≡ Some b → numbered n ≡ block → link ≡ Some n
+    → Lead steps (IsWithin numbered block room bs) bs (Some first) link → Lead (steps + 1) (IsWithin numbered block (max room (record_room b)) bs) bs (Some first) b.next
+span-longer numbered block n link room first steps bs b at same ends lead =
+    let wide : ℕ = max room (record_room b) in
+    let before = lead-still steps (IsWithin numbered block room bs) (IsWithin numbered block wide bs) bs bs (Some first) link (omega arith) (λ k low in_. refl)
+    (λ k low in_. (in_.0, omega (arith, in_.1))) lead in
+    let next = lead-more steps (IsWithin numbered block wide bs) bs (Some first) n (slice_get_within bs n b at) (same, omega (arith, room-at bs n b at))
+    (subst (λ (l : Option ℕ). Lead steps (IsWithin numbered block wide bs) bs (Some first) l) ends before) in
+    let more : suc steps ≡ steps + 1 = omega arith in
+    subst (λ (k : ℕ). Lead k (IsWithin numbered block wide bs) bs (Some first) b.next) more
+    (subst (λ (l : Option ℕ). Lead (suc steps) (IsWithin numbered block wide bs) bs (Some first) l) (next-at bs n b at) next)
 
 -- a span of which a record may have this room
-pub span-widened : (one block room : ℕ) (span : Span) (bs : List LinkedBucket) → room_at bs one ≤ room → IsSpanBut one block span bs → IsSpan block (record span { widest_room = max span.widest_room room }) bs
-span-widened one block room span bs narrow is = record {
-  some = is.some;
-  lead = lead-still span.steps (IsWithinBut one block span.widest_room bs) (IsWithin block (max span.widest_room room) bs) bs bs span.first span.behind (omega arith) (λ k low in_. refl)
-      (λ k low in_. (in_.0, either k one (λ same. omega (arith, narrow, ap (room_at bs) same)) (λ other. omega (arith, in_.1 other)))) is.lead;
+pub span-widened : (one : ℕ) (numbered : ℕ → ℕ) (block room : ℕ) (span : Span) (bs : List LinkedBucket) → room_at bs one ≤ room → IsKnownSpanBut one numbered block span bs → IsKnownSpan numbered block (widened room span) bs
+span-widened one numbered block room span bs narrow is known = record {
+  some = (is known).some;
+  lead = lead-still span.steps (IsWithinBut one numbered block span.widest_room bs) (IsWithin numbered block (max span.widest_room room) bs) bs bs (Some span.first) (link_of span.behind) (omega arith) (λ k low in_. refl)
+      (λ k low in_. (in_.0, either k one (λ same. omega (arith, narrow, ap (room_at bs) same)) (λ other. omega (arith, in_.1 other)))) (is known).lead;
 }
 
 -- where a span begins
-pub but-first : (one block : ℕ) (span : Span) (bs : List LinkedBucket) (n : ℕ) → span.first ≡ Some n → IsSpanBut one block span bs → (n < length bs) × (block_of n ≡ block)
-but-first one block span bs n first is =
-    let begins = lead-first span.steps (IsWithinBut one block span.widest_room bs) bs n span.behind is.some
-    (subst (λ (link : Option ℕ). Lead span.steps (IsWithinBut one block span.widest_room bs) bs link span.behind) first is.lead) in
+pub but-first : (one : ℕ) (numbered : ℕ → ℕ) (block : ℕ) (span : Span) (bs : List LinkedBucket) → IsSpanBut one numbered block span bs → (span.first < length bs) × (numbered span.first ≡ block)
+but-first one numbered block span bs is =
+    let begins = lead-first span.steps (IsWithinBut one numbered block span.widest_room bs) bs span.first (link_of span.behind) is.some is.lead in
     (begins.0, begins.1.0)
 
--- no span begins with no record
-pub but-none : (one block : ℕ) (span : Span) (bs : List LinkedBucket) → span.first ≡ None → IsSpanBut one block span bs → ⊥
-but-none one block span bs first is =
-    none span.steps is.some (subst (λ (link : Option ℕ). Lead span.steps (IsWithinBut one block span.widest_room bs) bs link span.behind) first is.lead)
+-- a span that is known in a block that is numbered the same
+pub known-block : (numbered : ℕ → ℕ) (one block : ℕ) (span : Span) (bs : List LinkedBucket) → one ≡ block → IsKnownSpan numbered one span bs → IsKnownSpan numbered block span bs
+known-block numbered one block span bs same is = subst (λ (k : ℕ). IsKnownSpan numbered k span bs) same is
+
+-- a span of a part of a block, and the one behind it
+pub span-joined : (scale block : ℕ) (span next : Span) (bs : List LinkedBucket) → link_of span.behind ≡ Some next.first → IsSpan (whole_of scale) block span bs → IsSpan (whole_of scale) block next bs
+    → IsSpan (whole_of scale) block (joined span next) bs
+span-joined scale block span next bs ends is on =
+    let wide : ℕ = max span.widest_room next.widest_room in
+    let one = lead-still span.steps (IsWithin (whole_of scale) block span.widest_room bs) (IsWithin (whole_of scale) block wide bs) bs bs (Some span.first) (link_of span.behind) (omega arith) (λ k low in_. refl)
+    (λ k low in_. (in_.0, omega (arith, in_.1))) is.lead in
+    let other = lead-still next.steps (IsWithin (whole_of scale) block next.widest_room bs) (IsWithin (whole_of scale) block wide bs) bs bs (Some next.first) (link_of next.behind) (omega arith) (λ k low in_. refl)
+    (λ k low in_. (in_.0, omega (arith, in_.1))) on.lead in
+    record {
+      some = omega (arith, is.some);
+      lead = lead-append span.steps next.steps (IsWithin (whole_of scale) block wide bs) bs (Some span.first) (link_of span.behind) (link_of next.behind) one
+          (subst (λ (l : Option ℕ). Lead next.steps (IsWithin (whole_of scale) block wide bs) bs l (link_of next.behind)) (sym ends) other);
+    }
+
+-- a span of a part is one of the block
+pub span-part : (scale n : ℕ) (span : Span) (bs : List LinkedBucket) → IsSpan (block_of scale) (block_of scale n) span bs → IsSpan (whole_of scale) (whole_of scale n) span bs
+span-part scale n span bs is = record {
+  some = is.some;
+  lead = lead-still span.steps (IsWithin (block_of scale) (block_of scale n) span.widest_room bs) (IsWithin (whole_of scale) (whole_of scale n) span.widest_room bs) bs bs (Some span.first) (link_of span.behind) (omega arith)
+      (λ k low in_. refl) (λ k low in_. (ap (λ (part : ℕ). part / 8) in_.0, in_.1)) is.lead;
+}
+
+-- what is known of a block is what stands there, if something is known
+pub known-read : {P : Type 0} (spans : List Span) (block : ℕ) (span : Span) → span_of spans block ≡ span → span.first < no_link → (slice_get spans block ≡ Some span → P) → P
+known-read {P} spans block span is known found = by_found (slice_get spans block) refl
   where
-    none : (steps : ℕ) → 1 ≤ steps → Lead steps (IsWithinBut one block span.widest_room bs) bs None span.behind → ⊥
-    none zero some lead = absurd (omega arith)
-    none (suc steps) some lead = lead
+    by_found : (r : Option Span) → slice_get spans block ≡ r → P
+    by_found None e =
+        let none : span_of spans block ≡ no_span = ap (λ (o : Option Span). option_map_or (λ (s : Span). s) o no_span) e in
+        absurd (omega (arith, known, ap (λ (s : Span). s.first) (sym is ∙ none)))
+    by_found (Some s) e =
+        let some : span_of spans block ≡ s = ap (λ (o : Option Span). option_map_or (λ (x : Span). x) o no_span) e in
+        found (e ∙ ap (λ (x : Span). Some x) (sym some ∙ is))
+
+-- the span of a block is one of it
+pub span-of : (numbered : ℕ → ℕ) (spans : List Span) (block : ℕ) (span : Span) (bs : List LinkedBucket) → span_of spans block ≡ span → AreSpansOf numbered spans bs → IsKnownSpan numbered block span bs
+span-of numbered spans block span bs is are known = known-read spans block span is known (λ at. are block span at known)
+
+-- the same where nothing is said of the room of one record
+pub span-of-but : (one : ℕ) (numbered : ℕ → ℕ) (spans : List Span) (block : ℕ) (span : Span) (bs : List LinkedBucket) → span_of spans block ≡ span → AreSpansButOf one numbered spans bs → IsKnownSpanBut one numbered block span bs
+span-of-but one numbered spans block span bs is are known = known-read spans block span is known (λ at. are block span at known)
 
 -- the spans of other blocks, where nothing is said of the room of one record
-pub but-others : (one : ℕ) (spans : List (Option Span)) (bs : List LinkedBucket) → AreSpansBut one spans bs → AreOtherSpans one spans bs
-but-others one spans bs but block span apart at =
-    let is = but block span at in
+pub but-others : (one : ℕ) (numbered : ℕ → ℕ) (spans : List Span) (bs : List LinkedBucket) → AreSpansButOf one numbered spans bs → AreOtherSpansOf one numbered spans bs
+but-others one numbered spans bs but block span apart at known =
+    let is = but block span at known in
     record {
       some = is.some;
-      lead = lead-still span.steps (IsWithinBut one block span.widest_room bs) (IsWithin block span.widest_room bs) bs bs span.first span.behind (omega arith) (λ k low in_. refl)
-          (λ k low in_. (in_.0, in_.1 (λ same. apart (sym in_.0 ∙ ap block_of same)))) is.lead;
+      lead = lead-still span.steps (IsWithinBut one numbered block span.widest_room bs) (IsWithin numbered block span.widest_room bs) bs bs (Some span.first) (link_of span.behind) (omega arith) (λ k low in_. refl)
+          (λ k low in_. (in_.0, in_.1 (λ same. apart (sym in_.0 ∙ ap numbered same)))) is.lead;
     }
 
 -- the spans of other blocks are known where all are
-pub spans-others : (one : ℕ) (spans : List (Option Span)) (bs : List LinkedBucket) → AreSpans spans bs → AreOtherSpans one spans bs
-spans-others one spans bs are block span apart at = are block span at
+pub spans-others : (one : ℕ) (numbered : ℕ → ℕ) (spans : List Span) (bs : List LinkedBucket) → AreSpansOf numbered spans bs → AreOtherSpansOf one numbered spans bs
+spans-others one numbered spans bs are block span apart at = are block span at
 
 -- where nothing is known there is no span
-pub no-span : (count block : ℕ) (span : Span) → slice_get (replicate count None) block ≡ Some (Some span) → ⊥
-no-span zero block span at = cc
-no-span (suc count) zero span at = cc
-no-span (suc count) (suc block) span at = no-span count block span at
+pub no-spans : (numbered : ℕ → ℕ) (count : ℕ) (bs : List LinkedBucket) → AreSpansOf numbered (replicate count no_span) bs
+no-spans numbered zero bs block span at known = absurd (cc)
+no-spans numbered (suc count) bs zero span at known = absurd (omega (arith, known, first at))
+  where
+    first : Some no_span ≡ Some span → 65535 ≡ span.first
+    first h = cc
+no-spans numbered (suc count) bs (suc block) span at known = shifted (no-spans (λ n. numbered n) count bs)
+  where
+    shifted : AreSpansOf numbered (replicate count no_span) bs → IsSpan numbered (suc block) span bs
+    shifted h = absurd (none count block at)
+      where
+        none : (c k : ℕ) → slice_get (replicate c no_span) k ≡ Some span → ⊥
+        none zero k e = cc
+        none (suc c) zero e = omega (arith, known, first_ e)
+          where
+            first_ : Some no_span ≡ Some span → 65535 ≡ span.first
+            first_ h = cc
+        none (suc c) (suc k) e = none c k e
 
 -- all are known where one more is
-pub spans-set : (one : ℕ) (fresh : Span) (spans : List (Option Span)) (bs : List LinkedBucket) → IsSpan (block_of one) fresh bs → AreOtherSpans one spans bs → AreSpans (slice_set spans (block_of one) (Some fresh)) bs
-spans-set one fresh spans bs is others block span at =
-    read-set spans (block_of one) block (Some fresh) (Some span) at
-    (λ z stood same set_. subst (λ (k : ℕ). IsSpan k span bs) (sym same) (subst (λ (s : Span). IsSpan (block_of one) s bs) (inner set_) is))
+pub spans-set : (one : ℕ) (numbered : ℕ → ℕ) (fresh : Span) (spans : List Span) (bs : List LinkedBucket) → IsKnownSpan numbered (numbered one) fresh bs → AreOtherSpansOf one numbered spans bs
+    → AreSpansOf numbered (changed_by (Some (numbered one)) (λ _. fresh) spans) bs
+spans-set one numbered fresh spans bs is others block span at =
+    read-changed (λ _. fresh) spans (numbered one) block span at
+    (λ z stood same set_. subst (λ (k : ℕ). IsKnownSpan numbered k span bs) (sym same) (subst (λ (s : Span). IsKnownSpan numbered (numbered one) s bs) (sym set_) is))
     (λ apart stood. others block span apart stood)
-  where
-    inner : Some span ≡ Some fresh → fresh ≡ span
-    inner h = cc
 
--- all are known where one is forgotten
-pub spans-forgotten : (one : ℕ) (spans : List (Option Span)) (bs : List LinkedBucket) → AreOtherSpans one spans bs → AreSpans (slice_set spans (block_of one) None) bs
-spans-forgotten one spans bs others block span at =
-    read-set spans (block_of one) block None (Some span) at (λ z stood same set_. absurd (cc)) (λ apart stood. others block span apart stood)
+-- all are known where the one of a record's block may have the record's room
+pub spans-raised : (one : ℕ) (numbered : ℕ → ℕ) (room : ℕ) (spans : List Span) (bs : List LinkedBucket) → room_at bs one ≤ room → AreSpansButOf one numbered spans bs
+    → AreSpansOf numbered (changed_by (Some (numbered one)) (widened room) spans) bs
+spans-raised one numbered room spans bs narrow but block span at =
+    read-changed (widened room) spans (numbered one) block span at
+    (λ z stood same set_. subst (λ (s : Span). IsKnownSpan numbered block s bs) (sym set_) (span-widened one numbered block room z bs narrow (but block z (ap (slice_get spans) same ∙ stood))))
+    (λ apart stood. but-others one numbered spans bs but block span apart stood)
 
--- a block without a span
-pub spans-none : (one : ℕ) (spans : List (Option Span)) (bs : List LinkedBucket) → span_of one spans ≡ None → AreSpansBut one spans bs → AreSpans spans bs
-spans-none one spans bs none but block span at =
-    but-others one spans bs but block span (λ same. absurd (has (ap (slice_get spans) (sym same) ∙ at))) at
-  where
-    has : slice_get spans (block_of one) ≡ Some (Some span) → ⊥
-    has h = let is : span_of one spans ≡ Some span = ap (λ (r : Option (Option Span)). option_map_or (λ (s : Option Span). s) r None) h in absurd (cc)
+-- no span is known
+pub known-none : (numbered : ℕ → ℕ) (block : ℕ) (bs : List LinkedBucket) → IsKnownSpan numbered block no_span bs
+known-none numbered block bs known = absurd (omega (arith, known))
 
--- the span of a block that has one
-pub span-read : (one : ℕ) (spans : List (Option Span)) (span : Span) → span_of one spans ≡ Some span → slice_get spans (block_of one) ≡ Some (Some span)
-span-read one spans span is = by_found (slice_get spans (block_of one)) refl is
-  where
-    by_found : (r : Option (Option Span)) → slice_get spans (block_of one) ≡ r → option_map_or (λ (s : Option Span). s) r None ≡ Some span → slice_get spans (block_of one) ≡ Some (Some span)
-    by_found None e h = absurd (cc)
-    by_found (Some s) e h = e ∙ ap (λ (o : Option Span). Some o) h
+-- all are known where one more is known of the block of a record
+pub fresh-known : (one : ℕ) (numbered : ℕ → ℕ) (block : ℕ) (fresh : Span) (spans news : List Span) (bs : List LinkedBucket) → news ≡ changed_by (Some block) (λ _. fresh) spans → block ≡ numbered one
+    → IsKnownSpan numbered (numbered one) fresh bs → AreOtherSpansOf one numbered spans bs → AreSpansOf numbered news bs
+fresh-known one numbered block fresh spans news bs set_ same is others =
+    subst (λ (xs : List Span). AreSpansOf numbered xs bs) (sym (set_ ∙ ap (λ (k : ℕ). changed_by (Some k) (λ _. fresh) spans) same)) (spans-set one numbered fresh spans bs is others)
+
+-- the others are known where the span of a record's block is forgotten
+pub forgotten : (one : ℕ) (numbered : ℕ → ℕ) (block : ℕ) (none : Span) (spans news : List Span) (bs : List LinkedBucket) → news ≡ changed_by (Some block) (λ _. none) spans → block ≡ numbered one → none ≡ no_span
+    → AreOtherSpansOf one numbered spans bs → AreSpansOf numbered news bs
+forgotten one numbered block none spans news bs set_ same is others =
+    fresh-known one numbered block none spans news bs set_ same (subst (λ (s : Span). IsKnownSpan numbered (numbered one) s bs) (sym is) (known-none numbered (numbered one) bs)) others
+
+-- all are known where the span of a record's block may have the record's room
+pub raised-known : (one : ℕ) (numbered : ℕ → ℕ) (block room : ℕ) (spans news : List Span) (bs : List LinkedBucket) → news ≡ changed_by (Some block) (widened room) spans → block ≡ numbered one → room_at bs one ≤ room
+    → AreSpansButOf one numbered spans bs → AreSpansOf numbered news bs
+raised-known one numbered block room spans news bs set_ same narrow but =
+    subst (λ (xs : List Span). AreSpansOf numbered xs bs) (sym (set_ ∙ ap (λ (k : ℕ). changed_by (Some k) (widened room) spans) same)) (spans-raised one numbered room spans bs narrow but)
+
+-- where blocks are numbered the same, the same is known
+same-numbered : (numbered as_ : ℕ → ℕ) (spans : List Span) (bs : List LinkedBucket) → ((n : ℕ) → numbered n ≡ as_ n) → AreSpansOf numbered spans bs → AreSpansOf as_ spans bs
+same-numbered numbered as_ spans bs same are block span at known =
+    let is = are block span at known in
+    record {
+      some = is.some;
+      lead = lead-still span.steps (IsWithin numbered block span.widest_room bs) (IsWithin as_ block span.widest_room bs) bs bs (Some span.first) (link_of span.behind) (omega arith) (λ k low in_. refl)
+          (λ k low in_. (sym (same k) ∙ in_.0, in_.1)) is.lead;
+    }
+
+same-numbered-but : (one : ℕ) (numbered as_ : ℕ → ℕ) (spans : List Span) (bs : List LinkedBucket) → ((n : ℕ) → numbered n ≡ as_ n) → AreSpansButOf one numbered spans bs → AreSpansButOf one as_ spans bs
+same-numbered-but one numbered as_ spans bs same are block span at known =
+    let is = are block span at known in
+    record {
+      some = is.some;
+      lead = lead-still span.steps (IsWithinBut one numbered block span.widest_room bs) (IsWithinBut one as_ block span.widest_room bs) bs bs (Some span.first) (link_of span.behind) (omega arith) (λ k low in_. refl)
+          (λ k low in_. (sym (same k) ∙ in_.0, in_.1)) is.lead;
+    }
+
+-- middle blocks are gathered from small ones, and large ones from these
+pub middle-wholes : (spans : List Span) (bs : List LinkedBucket) → AreSpansOf (whole_of 1) spans bs → AreSpansOf (block_of 8) spans bs
+middle-wholes spans bs are = same-numbered (whole_of 1) (block_of 8) spans bs (λ n. omega arith) are
+
+pub wholes-middle : (spans : List Span) (bs : List LinkedBucket) → AreSpansOf (block_of 8) spans bs → AreSpansOf (whole_of 1) spans bs
+wholes-middle spans bs are = same-numbered (block_of 8) (whole_of 1) spans bs (λ n. omega arith) are
+
+pub wholes-middle-but : (one : ℕ) (spans : List Span) (bs : List LinkedBucket) → AreSpansButOf one (block_of 8) spans bs → AreSpansButOf one (whole_of 1) spans bs
+wholes-middle-but one spans bs are = same-numbered-but one (block_of 8) (whole_of 1) spans bs (λ n. omega arith) are
+
+pub large-wholes : (spans : List Span) (bs : List LinkedBucket) → AreSpansOf (whole_of 8) spans bs → AreSpansOf (block_of 64) spans bs
+large-wholes spans bs are = same-numbered (whole_of 8) (block_of 64) spans bs (λ n. omega arith) are
+
+pub wholes-large : (spans : List Span) (bs : List LinkedBucket) → AreSpansOf (block_of 64) spans bs → AreSpansOf (whole_of 8) spans bs
+wholes-large spans bs are = same-numbered (block_of 64) (whole_of 8) spans bs (λ n. omega arith) are
+
+pub wholes-large-but : (one : ℕ) (spans : List Span) (bs : List LinkedBucket) → AreSpansButOf one (block_of 64) spans bs → AreSpansButOf one (whole_of 8) spans bs
+wholes-large-but one spans bs are = same-numbered-but one (block_of 64) (whole_of 8) spans bs (λ n. omega arith) are
 
 -- where the record of a number was changed, and links to the same
-pub spans-changed-room : (one : ℕ) (change : LinkedBucket → LinkedBucket) (spans : List (Option Span)) (xs : List LinkedBucket) → ((b : LinkedBucket) → (change b).next ≡ b.next) → AreSpans spans xs
-    → AreSpansBut one spans (changed_by (Some one) change xs)
-spans-changed-room one change spans xs links are block span at =
-    let is = are block span at in
+of-changed-room : (one : ℕ) (change : LinkedBucket → LinkedBucket) (numbered : ℕ → ℕ) (spans : List Span) (xs : List LinkedBucket) → ((b : LinkedBucket) → (change b).next ≡ b.next) → AreSpansOf numbered spans xs
+    → AreSpansButOf one numbered spans (changed_by (Some one) change xs)
+of-changed-room one change numbered spans xs links are block span at known =
+    let is = are block span at known in
     let ys = changed_by (Some one) change xs in
     record {
       some = is.some;
-      lead = lead-still span.steps (IsWithin block span.widest_room xs) (IsWithinBut one block span.widest_room ys) xs ys span.first span.behind (omega (arith, length-changed_by change xs (Some one)))
+      lead = lead-still span.steps (IsWithin numbered block span.widest_room xs) (IsWithinBut one numbered block span.widest_room ys) xs ys (Some span.first) (link_of span.behind) (omega (arith, length-changed_by change xs (Some one)))
           (λ k low in_. link_at-same (λ (b : LinkedBucket). b.next) xs ys k (map-changed_by (λ (b : LinkedBucket). b.next) change xs (Some one) links))
           (λ k low in_. (in_.0, λ other. omega (arith, in_.1, ap (λ (r : Option LinkedBucket). option_map_or record_room r 0) (get-changed_by-other change xs (Some one) k (λ (h : Some one ≡ Some k). other (inner k h)))))) is.lead;
     }
@@ -175,23 +281,42 @@ spans-changed-room one change spans xs links are block span at =
     inner : (k : ℕ) → Some one ≡ Some k → k ≡ one
     inner k h = cc
 
+pub spans-changed-room : (one : ℕ) (change : LinkedBucket → LinkedBucket) (spans : Spans) (xs : List LinkedBucket) → ((b : LinkedBucket) → (change b).next ≡ b.next) → AreSpans spans xs
+    → AreSpansBut one spans (changed_by (Some one) change xs)
+spans-changed-room one change spans xs links are learned =
+    let known = are learned in
+    record {
+      small = of-changed-room one change (block_of 1) spans.small xs links known.small;
+      middle = of-changed-room one change (block_of 8) spans.middle xs links known.middle;
+      large = of-changed-room one change (block_of 64) spans.large xs links known.large;
+    }
+
 -- where the record of a number was changed
-pub spans-changed : (one : ℕ) (change : LinkedBucket → LinkedBucket) (spans : List (Option Span)) (xs : List LinkedBucket) → AreSpans spans xs → AreOtherSpans one spans (changed_by (Some one) change xs)
-spans-changed one change spans xs are block span apart at =
-    let is = are block span at in
+of-changed : (one : ℕ) (change : LinkedBucket → LinkedBucket) (numbered : ℕ → ℕ) (spans : List Span) (xs : List LinkedBucket) → AreSpansOf numbered spans xs → AreOtherSpansOf one numbered spans (changed_by (Some one) change xs)
+of-changed one change numbered spans xs are block span apart at known =
+    let is = are block span at known in
     let ys = changed_by (Some one) change xs in
     record {
       some = is.some;
-      lead = lead-still span.steps (IsWithin block span.widest_room xs) (IsWithin block span.widest_room ys) xs ys span.first span.behind (omega (arith, length-changed_by change xs (Some one)))
+      lead = lead-still span.steps (IsWithin numbered block span.widest_room xs) (IsWithin numbered block span.widest_room ys) xs ys (Some span.first) (link_of span.behind) (omega (arith, length-changed_by change xs (Some one)))
           (λ k low in_. ap (option_and_then (λ (b : LinkedBucket). b.next)) (stays k in_.0))
           (λ k low in_. (in_.0, omega (arith, in_.1, ap (λ (r : Option LinkedBucket). option_map_or record_room r 0) (stays k in_.0)))) is.lead;
     }
   where
-    stays : (k : ℕ) → block_of k ≡ block → slice_get (changed_by (Some one) change xs) k ≡ slice_get xs k
-    stays k same = get-changed_by-other change xs (Some one) k (λ (h : Some one ≡ Some k). apart (sym same ∙ ap block_of (inner h)))
+    stays : (k : ℕ) → numbered k ≡ block → slice_get (changed_by (Some one) change xs) k ≡ slice_get xs k
+    stays k same = get-changed_by-other change xs (Some one) k (λ (h : Some one ≡ Some k). apart (sym same ∙ ap numbered (inner h)))
       where
         inner : Some one ≡ Some k → k ≡ one
         inner h = cc
+
+pub spans-changed : (one : ℕ) (change : LinkedBucket → LinkedBucket) (spans : Spans) (xs : List LinkedBucket) → AreSpans spans xs → AreOtherSpans one spans (changed_by (Some one) change xs)
+spans-changed one change spans xs are learned =
+    let known = are learned in
+    record {
+      small = of-changed one change (block_of 1) spans.small xs known.small;
+      middle = of-changed one change (block_of 8) spans.middle xs known.middle;
+      large = of-changed one change (block_of 64) spans.large xs known.large;
+    }
 
 -- a record before those that were added
 before-added : (xs ys : List LinkedBucket) (n : ℕ) → n < length xs → slice_get (xs ++ ys) n ≡ slice_get xs n
@@ -204,36 +329,50 @@ longer-added [] ys = omega arith
 longer-added (x ∷ xs) ys = omega (arith, longer-added xs ys)
 
 -- where records were added
-pub spans-added : (spans : List (Option Span)) (xs ys : List LinkedBucket) → AreSpans spans xs → AreSpans spans (xs ++ ys)
-spans-added spans xs ys are block span at =
-    let is = are block span at in
+of-added : (numbered : ℕ → ℕ) (spans : List Span) (xs ys : List LinkedBucket) → AreSpansOf numbered spans xs → AreSpansOf numbered spans (xs ++ ys)
+of-added numbered spans xs ys are block span at known =
+    let is = are block span at known in
     record {
       some = is.some;
-      lead = lead-still span.steps (IsWithin block span.widest_room xs) (IsWithin block span.widest_room (xs ++ ys)) xs (xs ++ ys) span.first span.behind (longer-added xs ys)
+      lead = lead-still span.steps (IsWithin numbered block span.widest_room xs) (IsWithin numbered block span.widest_room (xs ++ ys)) xs (xs ++ ys) (Some span.first) (link_of span.behind) (longer-added xs ys)
           (λ k low in_. ap (option_and_then (λ (b : LinkedBucket). b.next)) (before-added xs ys k low))
           (λ k low in_. (in_.0, omega (arith, in_.1, ap (λ (r : Option LinkedBucket). option_map_or record_room r 0) (before-added xs ys k low)))) is.lead;
     }
 
--- a search that goes on behind a span
-pub ahead-span : (number width left : ℕ) (spans : List (Option Span)) (bs : List LinkedBucket) (span : Span) → AreSpans spans bs → span_of number spans ≡ Some span → span.first ≡ Some number → span.widest_room < width
-    → span.steps ≤ left → IsAhead number width left bs (record { at = span.behind; steps = span.steps })
-ahead-span number width left spans bs span are is first narrow few =
-    let known = are (block_of number) span (span-read number spans span is) in
+pub spans-added : (spans : Spans) (xs ys : List LinkedBucket) → AreSpans spans xs → AreSpans spans (xs ++ ys)
+spans-added spans xs ys are learned =
+    let known = are learned in
     record {
-      some = known.some;
-      within = few;
-      lead = subst (λ (link : Option ℕ). Lead span.steps (λ other. (other ≡ number → ⊥) → room_at bs other < width) bs link span.behind) first
-          (lead-still span.steps (IsWithin (block_of number) span.widest_room bs) (λ other. (other ≡ number → ⊥) → room_at bs other < width) bs bs span.first span.behind (omega arith)
-          (λ k low in_. refl) (λ k low in_ apart. omega (arith, in_.1, narrow)) known.lead);
+      small = of-added (block_of 1) spans.small xs ys known.small;
+      middle = of-added (block_of 8) spans.middle xs ys known.middle;
+      large = of-added (block_of 64) spans.large xs ys known.large;
     }
 
--- a search that goes on behind one record
-pub ahead-one : (number width left : ℕ) (bs : List LinkedBucket) (b : LinkedBucket) → slice_get bs number ≡ Some b → 1 ≤ left → IsAhead number width left bs (record { at = b.next; steps = 1 })
-ahead-one number width left bs b at some = record {
-  some = omega arith;
-  within = some;
-  lead = lead-one (λ other. (other ≡ number → ⊥) → room_at bs other < width) bs number b at (λ apart. absurd (apart refl));
+-- a search that stays where it is
+pub passed-none : (width : ℕ) (bs : List LinkedBucket) (at : Option ℕ) (left : ℕ) → IsPassed width bs at left (record { at = at; left = left })
+passed-none width bs at left = record { steps = 0; passed = omega arith; lead = refl }
+
+-- a search that goes on from where another one stands
+pub passed-on : (width : ℕ) (bs : List LinkedBucket) (at : Option ℕ) (left : ℕ) (one other : Ahead) → IsPassed width bs at left one → IsPassed width bs one.at one.left other → IsPassed width bs at left other
+passed-on width bs at left one other is on = record {
+  steps = is.steps + on.steps;
+  passed = omega (arith, is.passed, on.passed);
+  lead = lead-append is.steps on.steps (λ number. room_at bs number < width) bs at one.at other.at is.lead on.lead;
 }
+
+-- a search that goes on behind a span
+pub passed-span : (width : ℕ) (numbered : ℕ → ℕ) (block : ℕ) (span : Span) (bs : List LinkedBucket) (at : Option ℕ) (number left : ℕ) → at ≡ Some number → number < no_link → IsPassedSpan number width left span
+    → IsKnownSpan numbered block span bs → IsPassed width bs at left (record { at = link_of span.behind; left = left - span.steps })
+passed-span width numbered block span bs at number left names small passed known =
+    let is = known (omega (arith, passed.first, small)) in
+    let link : Some span.first ≡ at = ap (λ (n : ℕ). Some n) passed.first ∙ sym names in
+    record {
+      steps = span.steps;
+      passed = omega (arith, passed.few);
+      lead = subst (λ (l : Option ℕ). Lead span.steps (λ n. room_at bs n < width) bs l (link_of span.behind)) link
+          (lead-still span.steps (IsWithin numbered block span.widest_room bs) (λ n. room_at bs n < width) bs bs (Some span.first) (link_of span.behind) (omega arith) (λ k low in_. refl)
+          (λ k low in_. omega (arith, in_.1, passed.narrow)) is.lead);
+    }
 
 -- what a step finds at a link
 pub first-at : (wanted : Wanted) (buckets : List LinkedBucket) (left fewer number : ℕ) (at : Option ℕ) (found : Option LinkedBucket) → at ≡ Some number → left ≡ suc fewer → slice_get buckets number ≡ found
@@ -281,18 +420,13 @@ first-passed (suc steps) left wanted bs (Some n) behind lead =
     ∙ ap (first_from (steps + left) wanted bs) (sym (next-at bs n b here))
     ∙ first-passed steps left wanted bs (next_of bs n) behind lead.2)
 
--- what is sought from a record that isn't wanted is sought where the search goes on
-pub first-ahead : (number width left fewer : ℕ) (wanted : Wanted) (bs : List LinkedBucket) (b : LinkedBucket) (ahead : Ahead) → slice_get bs number ≡ Some b → is_wanted wanted b ≡ false → width ≡ needed_room wanted
-    → left ≡ ahead.steps + fewer → IsAhead number width left bs ahead → first_from left wanted bs (Some number) ≡ first_from fewer wanted bs ahead.at
-first-ahead number width left fewer wanted bs b ahead here unwanted needs rest is =
-    ap (λ (n : ℕ). first_from n wanted bs (Some number)) rest
-    ∙ first-passed ahead.steps fewer wanted bs (Some number) ahead.at
-    (lead-still ahead.steps (λ other. (other ≡ number → ⊥) → room_at bs other < width) (λ n. (x : LinkedBucket) → slice_get bs n ≡ Some x → is_wanted wanted x ≡ false) bs bs (Some number) ahead.at (omega arith)
-    (λ k low in_. refl)
-    (λ k low in_ x at. either k number (λ same. ap (is_wanted wanted) (one k x same at) ∙ unwanted) (λ other. not-wanted wanted x (omega (arith, in_ other, needs, room-at bs k x at)))) is.lead)
-  where
-    one : (k : ℕ) (x : LinkedBucket) → k ≡ number → slice_get bs k ≡ Some x → x ≡ b
-    one k x same at = let here_ : slice_get bs number ≡ Some x = ap (slice_get bs) (sym same) ∙ at in cc
+-- what is sought from a link on is sought from where the search goes on
+pub first-ahead : (width left : ℕ) (wanted : Wanted) (bs : List LinkedBucket) (at : Option ℕ) (ahead : Ahead) → width ≡ needed_room wanted → IsPassed width bs at left ahead → first_from left wanted bs at ≡ first_from ahead.left wanted bs ahead.at
+first-ahead width left wanted bs at ahead needs is =
+    ap (λ (n : ℕ). first_from n wanted bs at) is.passed
+    ∙ first-passed is.steps ahead.left wanted bs at ahead.at
+    (lead-still is.steps (λ n. room_at bs n < width) (λ n. (x : LinkedBucket) → slice_get bs n ≡ Some x → is_wanted wanted x ≡ false) bs bs at ahead.at (omega arith) (λ k low in_. refl)
+    (λ k low in_ x here. not-wanted wanted x (omega (arith, in_, needs, room-at bs k x here))) is.lead)
 
 -- records of which none is wider are passed
 widest-passed : (steps left most : ℕ) (bs : List LinkedBucket) (at behind : Option ℕ) → Lead steps (λ n. room_at bs n ≤ most) bs at behind → max most (widest_from (steps + left) bs at) ≡ max most (widest_from left bs behind)
@@ -306,11 +440,9 @@ widest-passed (suc steps) left most bs (Some n) behind lead =
     let own = widest-at bs (suc steps + left) (steps + left) n (Some n) (Some b) refl (omega arith) here in
     omega (arith, own, later, lead.1, room-at bs n b here, ap (widest_from (steps + left) bs) (next-at bs n b here)))
 
--- the widest from a record on is no wider than it, or one of where the search goes on
-pub widest-ahead : (number most left fewer : ℕ) (bs : List LinkedBucket) (ahead : Ahead) → room_at bs number ≤ most → left ≡ ahead.steps + fewer → IsAhead number (most + 1) left bs ahead
-    → max most (widest_from left bs (Some number)) ≡ max most (widest_from fewer bs ahead.at)
-widest-ahead number most left fewer bs ahead own rest is =
-    ap (λ (n : ℕ). max most (widest_from n bs (Some number))) rest
-    ∙ widest-passed ahead.steps fewer most bs (Some number) ahead.at
-    (lead-still ahead.steps (λ other. (other ≡ number → ⊥) → room_at bs other < most + 1) (λ n. room_at bs n ≤ most) bs bs (Some number) ahead.at (omega arith)
-    (λ k low in_. refl) (λ k low in_. either k number (λ same. omega (arith, own, ap (room_at bs) same)) (λ other. omega (arith, in_ other))) is.lead)
+-- the widest from a link on is no wider than what was found, or one of where the search goes on
+pub widest-ahead : (most left : ℕ) (bs : List LinkedBucket) (at : Option ℕ) (ahead : Ahead) → IsPassed (most + 1) bs at left ahead → max most (widest_from left bs at) ≡ max most (widest_from ahead.left bs ahead.at)
+widest-ahead most left bs at ahead is =
+    ap (λ (n : ℕ). max most (widest_from n bs at)) is.passed
+    ∙ widest-passed is.steps ahead.left most bs at ahead.at
+    (lead-still is.steps (λ n. room_at bs n < most + 1) (λ n. room_at bs n ≤ most) bs bs at ahead.at (omega arith) (λ k low in_. refl) (λ k low in_. omega (arith, in_)) is.lead)

@@ -89,7 +89,7 @@ pub fn first_wanted(
     spans: &Spans,
     first: Link,
 ) -> Option<usize>
-    requires { AreSpans spans.now.each buckets.now }
+    requires { AreSpans spans.now buckets.now }
     ensures number { result ≡ spec.first_from most_buckets wanted buckets.now first }
     ensures within { IfSome result (λ number. number < length buckets.now) }
 {
@@ -128,7 +128,7 @@ fn first_by_spans(
     spans: &Spans,
     first: Link,
 ) -> Option<usize>
-    requires { AreSpans spans.now.each buckets.now }
+    requires { AreSpans spans.now buckets.now }
     ensures number { result ≡ spec.first_from most_buckets wanted buckets.now first }
     ensures within { IfSome result (λ number. number < length buckets.now) }
 {
@@ -136,10 +136,11 @@ fn first_by_spans(
     let mut at = first;
     let mut left = MOST_BUCKETS;
     for _step in 0..MOST_BUCKETS {
-        if left == 0 {
+        let ahead = spans.ahead(at, left, needed);
+        if ahead.left == 0 {
             return None;
         }
-        let Some(number) = at.number() else {
+        let Some(number) = ahead.at.number() else {
             return None;
         };
         if number >= buckets.len() {
@@ -149,9 +150,8 @@ fn first_by_spans(
         if is_wanted(wanted, bucket) {
             return Some(number);
         }
-        let ahead = spans.ahead(buckets, number, needed, left);
-        at = ahead.at;
-        left -= ahead.steps;
+        at = bucket.next;
+        left = ahead.left - 1;
     }
     None
 }
@@ -159,7 +159,7 @@ fn first_by_spans(
 /// The greatest width that a bucket can give to one item, by the links from this one on, where none can give more
 /// than this one.
 pub fn widest_room(buckets: &[LinkedBucket], spans: &Spans, first: Link, most: u16) -> u16
-    requires spans { AreSpans spans.now.each buckets.now }
+    requires spans { AreSpans spans.now buckets.now }
     requires most { spec.widest_from most_buckets buckets.now first ≤ most }
     ensures { result ≡ spec.widest_from most_buckets buckets.now first }
 {
@@ -167,10 +167,11 @@ pub fn widest_room(buckets: &[LinkedBucket], spans: &Spans, first: Link, most: u
     let mut at = first;
     let mut left = MOST_BUCKETS;
     for _step in 0..MOST_BUCKETS {
-        if left == 0 {
+        let ahead = spans.ahead(at, left, u32::from(widest) + 1);
+        if ahead.left == 0 {
             break;
         }
-        let Some(number) = at.number() else {
+        let Some(number) = ahead.at.number() else {
             break;
         };
         if number >= buckets.len() {
@@ -181,9 +182,8 @@ pub fn widest_room(buckets: &[LinkedBucket], spans: &Spans, first: Link, most: u
         }
         let bucket = &buckets[number];
         widest = wider(widest, record_room(bucket));
-        let ahead = spans.ahead(buckets, number, u32::from(widest) + 1, left);
-        at = ahead.at;
-        left -= ahead.steps;
+        at = bucket.next;
+        left = ahead.left - 1;
     }
     widest
 }
@@ -314,7 +314,7 @@ fn exact_from(
 ) -> Option<Found>
     requires from { from ≤ length shelves.now }
     requires known { AreKnown blocks.now shelves.now }
-    requires spans { AreSpans spans.now.each buckets.now }
+    requires spans { AreSpans spans.now buckets.now }
     ensures { result ≡ spec.exact_from sides.now buckets.now from (drop from shelves.now) }
 {
     let mut at = from;
@@ -348,7 +348,7 @@ fn exact_between(
 ) -> Option<Found>
     requires from { from ≤ length shelves.now }
     requires end { from ≤ end }
-    requires spans { AreSpans spans.now.each buckets.now }
+    requires spans { AreSpans spans.now buckets.now }
     ensures { or_else result (spec.exact_from sides.now buckets.now end (drop end shelves.now))
         ≡ spec.exact_from sides.now buckets.now from (drop from shelves.now) }
 {
@@ -368,7 +368,7 @@ fn exact_in(
     spans: &Spans,
     number: usize,
 ) -> Option<Found>
-    requires { AreSpans spans.now.each buckets.now }
+    requires { AreSpans spans.now buckets.now }
     ensures { result ≡ spec.exact_in sides.now buckets.now number kept.now }
 {
     if u32::from(kept.shelf.height) != sides.across || u32::from(kept.widest_room) < sides.along {
@@ -398,7 +398,7 @@ fn exact_or_found(
     bucket: usize,
 ) -> Found
     requires known { AreKnown blocks.now shelves.now }
-    requires spans { AreSpans spans.now.each buckets.now }
+    requires spans { AreSpans spans.now buckets.now }
     requires shelf { least.number < length shelves.now }
     requires bucket { bucket < length buckets.now }
     ensures { result ≡ spec.exact_or_found sides.now shelves.now buckets.now least bucket }
@@ -423,7 +423,7 @@ pub fn pick(
     spans: &Spans,
 ) -> Option<Found>
     requires known { AreKnown blocks.now shelves.now }
-    requires spans { AreSpans spans.now.each buckets.now }
+    requires spans { AreSpans spans.now buckets.now }
     ensures { result ≡ spec.picked adds sides.now shelves.now buckets.now }
 {
     let least = least_waste(adds, sides, shelves, blocks)?;

@@ -1,10 +1,12 @@
 //! What is known of neighbouring bucket records together, so that a search along the links passes over many of them at
 //! once: where the links lead through records of one block of numbers, and how much room the widest of these may have.
+//! A small block has 8 records, a middle one 8 small ones, and a large one 8 of those.
 //!
 //! Definitions: `Private/Spans`. Of a block nothing need be known; then a search looks at each record. Rows of a few
 //! buckets are never gone over for it.
 
-ghost use Rattle.std.specs.Prelude.{◌≡◌, ◌<◌, ◌≤◌, IsTrue, Some, List, length, max};
+ghost use Rattle.std.specs.Prelude.{◌≡◌, ◌+◌, ◌<◌, ◌≤◌, IsTrue, Some, List, length, max, true};
+ghost use Rattle.etagere_links.specs.Edits.{changed_by};
 ghost use Rattle.etagere_links.specs.Links.{no_link};
 ghost use Rattle.bucketed_records.specs.declared.records.LinkedBucket.{LinkedBucket};
 ghost use Rattle.bucket_index.specs.Private.Spans as spec;
@@ -12,53 +14,119 @@ ghost use Rattle.bucket_index.specs.Private.Spans as spec;
 use bucketed_records::records::{LinkedBucket, MOST_BUCKETS, record_room, wider};
 use etagere_links::Link;
 
-/// How many records stand in a block, by their numbers.
-pub const RECORDS_OF_BLOCK: usize = 64;
+/// How many records stand in a small block, by their numbers.
+const RECORDS_OF_BLOCK: usize = 8;
 
-/// Of how many blocks something may be known: enough for the most records that there can be.
-const MOST_BLOCKS: usize = 64;
+/// How many blocks stand in one of the next size.
+const PARTS_OF_BLOCK: usize = 8;
+
+/// Of how many small blocks something may be known: enough for the most records that there can be.
+const MOST_SMALL: usize = 512;
+
+/// Of how many middle blocks.
+const MOST_MIDDLE: usize = 64;
+
+/// Of how many large blocks.
+const MOST_LARGE: usize = 8;
+
+/// How many small blocks stand in a small one.
+const SMALL: usize = 1;
+
+/// How many stand in a middle one.
+const MIDDLE: usize = 8;
+
+/// How many stand in a large one.
+const LARGE: usize = 64;
 
 /// Records of one block through which the links lead, from the first one on.
 #[derive(Clone, Copy)]
 pub struct Span {
-    /// The link to the first of them.
-    pub first: Link,
+    /// The number of the first of them; 65535 where nothing is known.
+    pub first: u16,
     /// How many they are.
     pub steps: u16,
-    /// The link of the last of them.
-    pub behind: Link,
+    /// The bits of the link of the last of them.
+    pub behind: u16,
     /// None of them has more room.
     pub widest_room: u16,
 }
 
-/// A span for some of the blocks of an atlas's records.
+/// The spans of an atlas's records, in three sizes. Before a long row was learned nothing is known.
 #[derive(Clone, Copy)]
 pub struct Spans {
-    pub each: [Option<Span>; MOST_BLOCKS],
+    pub are_learned: bool,
+    pub small: [Span; MOST_SMALL],
+    pub middle: [Span; MOST_MIDDLE],
+    pub large: [Span; MOST_LARGE],
 }
 
-/// Where a search goes on, and how many records it passed.
+/// Where a search goes on, and how many records it may still look at.
 #[derive(Clone, Copy)]
 pub struct Ahead {
     pub at: Link,
-    pub steps: u32,
+    pub left: u32,
 }
 
-/// The number of the block of a record.
-fn block_of(number: usize) -> usize
-    ensures value { result ≡ spec.block_of number }
-    ensures small { result < 64 }
+/// What a record's room was and is.
+#[derive(Clone, Copy)]
+pub struct Change {
+    pub number: usize,
+    pub before: u16,
+    pub room: u16,
+}
+
+/// What is known of a block of which nothing is known.
+fn no_span() -> Span
+    ensures { result ≡ spec.no_span }
 {
-    number / RECORDS_OF_BLOCK % MOST_BLOCKS
+    Span {
+        first: u16::MAX,
+        steps: u16::MAX,
+        behind: u16::MAX,
+        widest_room: u16::MAX,
+    }
+}
+
+/// The number of the block of a record, among blocks of so many small ones.
+#[inline(always)]
+fn block_of(scale: usize, number: usize) -> usize
+    requires { 0 < scale }
+    ensures value { result ≡ spec.block_of scale number }
+    ensures small { result < 512 }
+{
+    number / RECORDS_OF_BLOCK % MOST_SMALL / scale
+}
+
+/// What is known of a block.
+#[inline(always)]
+fn span_of(spans: &[Span], block: usize) -> Span
+    ensures { result ≡ spec.span_of spans.now block }
+{
+    if block < spans.len() {
+        spans[block]
+    } else {
+        no_span()
+    }
+}
+
+/// Knows something else of a block.
+#[inline(always)]
+fn set_span(spans: &mut [Span], block: usize, fresh: Span)
+    ensures { spans.new ≡ changed_by (Some block) (λ _. fresh) spans.old }
+{
+    if block < spans.len() {
+        let span = &mut spans[block];
+        *span = fresh;
+    }
 }
 
 /// The span that begins with the record of a number and leads on as far as the records are of its block.
 fn span_from(buckets: &[LinkedBucket], first: usize) -> Span
     requires within { first < length buckets.now }
     requires small { first < no_link }
-    ensures { spec.IsSpan (spec.block_of first) result buckets.now }
+    ensures { spec.IsSpan (spec.block_of 1) (spec.block_of 1 first) result buckets.now }
 {
-    let block = block_of(first);
+    let block = block_of(SMALL, first);
     let mut steps = 1;
     let mut behind = buckets[first].next;
     let mut widest = record_room(&buckets[first]);
@@ -69,7 +137,7 @@ fn span_from(buckets: &[LinkedBucket], first: usize) -> Span
         if number >= buckets.len() {
             break;
         }
-        if block_of(number) != block {
+        if block_of(SMALL, number) != block {
             break;
         }
         let bucket = &buckets[number];
@@ -78,11 +146,65 @@ fn span_from(buckets: &[LinkedBucket], first: usize) -> Span
         widest = wider(widest, record_room(bucket));
     }
     Span {
-        first: Link::to(first),
+        first: first as u16,
         steps,
-        behind,
+        behind: behind.bits(),
         widest_room: widest,
     }
+}
+
+/// Whether a span begins with the record of a number.
+#[inline(always)]
+fn begins_with(span: Span, number: usize) -> bool
+    ensures { IsTrue result → span.first ≡ number }
+{
+    usize::from(span.first) == number
+}
+
+/// A span and the one behind it as one span.
+fn joined(span: Span, next: Span) -> Span
+    requires { span.steps + next.steps < 65536 }
+    ensures { result ≡ spec.joined span next }
+{
+    Span {
+        first: span.first,
+        steps: span.steps + next.steps,
+        behind: next.behind,
+        widest_room: wider(span.widest_room, next.widest_room),
+    }
+}
+
+/// Whether a span goes on with the next one, which begins with the record of a number.
+fn goes_on(span: Span, next: Span, number: usize) -> bool
+    ensures { IsTrue result → (next.first ≡ number) × (span.steps + next.steps < 65536) }
+{
+    begins_with(next, number) && u32::from(span.steps) + u32::from(next.steps) <= MOST_BUCKETS
+}
+
+/// The span that begins with the record of a number, and leads on by those of the parts of its block.
+#[inline(always)]
+fn gathered(parts: &[Span], scale: usize, first: usize) -> Span
+    requires { 0 < scale }
+    ensures { (buckets : List LinkedBucket) → spec.AreSpansOf (spec.block_of scale) parts.now buckets
+        → spec.IsKnownSpan (spec.whole_of scale) (spec.whole_of scale first) result buckets }
+{
+    let whole = block_of(scale, first) / PARTS_OF_BLOCK;
+    let mut span = span_of(parts, block_of(scale, first));
+    if !begins_with(span, first) {
+        return no_span();
+    }
+    for _part in 1..PARTS_OF_BLOCK {
+        let Some(number) = Link::from_bits(span.behind).number() else {
+            break;
+        };
+        let part = block_of(scale, number);
+        let next = span_of(parts, part);
+        if part / PARTS_OF_BLOCK != whole || !goes_on(span, next, number) {
+            break;
+        }
+        span = joined(span, next);
+    }
+    span
 }
 
 /// How many records `stays_wide` looks at.
@@ -92,13 +214,13 @@ const FEW_RECORDS: u32 = 4;
 fn stays_wide(buckets: &[LinkedBucket], number: usize, room: u16) -> bool
     requires { number < length buckets.now }
 {
-    let block = block_of(number);
+    let block = block_of(SMALL, number);
     let mut at = buckets[number].next;
     for _step in 0..FEW_RECORDS {
         let Some(next) = at.number() else {
             return false;
         };
-        if next >= buckets.len() || block_of(next) != block {
+        if next >= buckets.len() || block_of(SMALL, next) != block {
             return false;
         }
         if room <= record_room(&buckets[next]) {
@@ -110,177 +232,310 @@ fn stays_wide(buckets: &[LinkedBucket], number: usize, room: u16) -> bool
 }
 
 /// A span whose widest room is at least this.
-fn widened(span: &Span, room: u16) -> Span
-    ensures { result ≡ record span.now { widest_room = max span.now.widest_room room } }
+fn widened(span: Span, room: u16) -> Span
+    ensures { result ≡ spec.widened room span }
 {
     Span {
         widest_room: wider(span.widest_room, room),
-        ..*span
+        ..span
     }
 }
 
-/// A span gone over again, from its first record on.
-fn recounted(buckets: &[LinkedBucket], span: &Span) -> Span
-    ensures { (one block : spec.ℕ) → spec.IsSpanBut one block span.now buckets.now
-        → spec.IsSpan block result buckets.now }
+/// A span of a small block gone over again, from its first record on.
+fn recounted(buckets: &[LinkedBucket], span: Span) -> Span
+    ensures { (one block : spec.ℕ)
+        → spec.IsKnownSpanBut one (spec.block_of 1) block span buckets.now
+        → spec.IsKnownSpan (spec.block_of 1) block result buckets.now }
 {
-    let Some(first) = span.first.number() else {
-        return *span;
-    };
-    if first >= buckets.len() {
-        return *span;
+    let first = usize::from(span.first);
+    if span.first == u16::MAX || first >= buckets.len() {
+        return span;
     }
     span_from(buckets, first)
 }
 
-/// A span of the block of the record of a number, which had this room before. It is gone over where it may have less
-/// room now.
-fn followed(buckets: &[LinkedBucket], span: &Span, number: usize, before: u16) -> Span
-    requires { number < length buckets.now }
-    ensures { (block : spec.ℕ) → spec.IsSpanBut number block span.now buckets.now
-        → spec.IsSpan block result buckets.now }
+/// A span of the small block of a record whose room changed. It is gone over where it may have less room now.
+fn followed(buckets: &[LinkedBucket], span: Span, change: &Change) -> Span
+    requires number { change.now.number < length buckets.now }
+    requires room { spec.room_at buckets.now change.now.number ≤ change.now.room }
+    ensures { (block : spec.ℕ)
+        → spec.IsKnownSpanBut change.now.number (spec.block_of 1) block span buckets.now
+        → spec.IsKnownSpan (spec.block_of 1) block result buckets.now }
 {
-    let room = record_room(&buckets[number]);
-    let narrows = room < before && span.widest_room <= before;
-    if narrows && !stays_wide(buckets, number, before) {
+    let narrows = change.room < change.before && span.widest_room <= change.before;
+    if narrows && !stays_wide(buckets, change.number, change.before) {
         recounted(buckets, span)
     } else {
-        widened(span, room)
+        widened(span, change.room)
     }
 }
 
-/// Whether a search for this width passes a span from the record of a number on, where so many steps are left.
-fn is_passed(span: &Span, number: usize, width: u32, left: u32) -> bool
-    ensures { IsTrue result → spec.IsPassed number width left span.now }
+/// A span gathered again from those of the parts of its block.
+#[inline(always)]
+fn gathered_again(parts: &[Span], scale: usize, span: Span) -> Span
+    requires { 0 < scale }
+    ensures { (one block : spec.ℕ) (buckets : List LinkedBucket)
+        → spec.AreSpansOf (spec.block_of scale) parts.now buckets
+        → spec.IsKnownSpanBut one (spec.whole_of scale) block span buckets
+        → spec.IsKnownSpan (spec.whole_of scale) block result buckets }
 {
-    u32::from(span.widest_room) < width
-        && u32::from(span.steps) <= left
-        && begins_with(span, number)
+    if span.first == u16::MAX {
+        return span;
+    }
+    gathered(parts, scale, usize::from(span.first))
 }
 
-/// Whether a span begins with the record of a number.
-fn begins_with(span: &Span, number: usize) -> bool
-    ensures { IsTrue result → span.now.first ≡ Some number }
+/// Knows again the span of the block of a record whose room changed, where those of the block's parts are known.
+#[inline(always)]
+fn gather_again(parts: &[Span], scale: usize, wholes: &mut [Span], number: usize)
+    requires { 0 < scale }
+    ensures { (buckets : List LinkedBucket) → spec.AreSpansOf (spec.block_of scale) parts.now buckets
+        → spec.AreSpansButOf number (spec.whole_of scale) wholes.old buckets
+        → spec.AreSpansOf (spec.whole_of scale) wholes.new buckets }
 {
-    match span.first.number() {
-        Some(first) => first == number,
-        None => false,
+    let whole = block_of(scale, number) / PARTS_OF_BLOCK;
+    let span = span_of(wholes, whole);
+    set_span(wholes, whole, gathered_again(parts, scale, span));
+}
+
+/// Knows that the span of a block may have so much room.
+#[inline(always)]
+fn raise_span(spans: &mut [Span], block: usize, room: u16)
+    ensures { spans.new ≡ changed_by (Some block) (spec.widened room) spans.old }
+{
+    if block < spans.len() {
+        let span = &mut spans[block];
+        *span = widened(*span, room);
+    }
+}
+
+/// Whether a search for this width passes a span from the record of a number on, where so many may still be looked at.
+#[inline(always)]
+fn is_passed(span: Span, number: usize, width: u32, left: u32) -> bool
+    ensures { IsTrue result → spec.IsPassedSpan number width left span }
+{
+    let widest = u32::from(span.widest_room);
+    let steps = u32::from(span.steps);
+    begins_with(span, number) && widest < width && steps <= left
+}
+
+/// Where a search for this width that has come to a link goes on: behind spans of one size in which no record has so
+/// much room.
+#[inline(always)]
+fn behind_narrow(spans: &[Span], scale: usize, from: Link, most: u32, width: u32) -> Ahead
+    requires { 0 < scale }
+    ensures { (buckets : List LinkedBucket) → spec.AreSpansOf (spec.block_of scale) spans.now buckets
+        → spec.IsPassed width buckets from most result }
+{
+    let mut at = from;
+    let mut left = most;
+    for _span in 0..MOST_BUCKETS {
+        let Some(number) = at.number() else {
+            break;
+        };
+        let span = span_of(spans, block_of(scale, number));
+        if !is_passed(span, number, width, left) {
+            break;
+        }
+        at = Link::from_bits(span.behind);
+        left -= u32::from(span.steps);
+    }
+    Ahead { at, left }
+}
+
+/// Knows spans gathered from those of the parts of their blocks, along the links from this one on.
+fn gather(parts: &[Span], scale: usize, wholes: &mut [Span], first: Link)
+    requires { 0 < scale }
+    ensures { (buckets : List LinkedBucket) → spec.AreSpansOf (spec.block_of scale) parts.now buckets
+        → spec.AreSpansOf (spec.whole_of scale) wholes.old buckets
+        → spec.AreSpansOf (spec.whole_of scale) wholes.new buckets }
+{
+    let mut at = first;
+    for _span in 0..MOST_BUCKETS {
+        let Some(number) = at.number() else {
+            break;
+        };
+        let span = gathered(parts, scale, number);
+        set_span(wholes, block_of(scale, number) / PARTS_OF_BLOCK, span);
+        at = Link::from_bits(span.behind);
     }
 }
 
 impl Spans {
     /// None is known.
     pub fn new() -> Spans
-        ensures { (buckets : List LinkedBucket) → spec.AreSpans result.each buckets }
+        ensures { (buckets : List LinkedBucket) → spec.AreSpans result buckets }
     {
         Spans {
-            each: [None; MOST_BLOCKS],
+            are_learned: false,
+            ..Spans::unknown()
         }
     }
 
-    /// The span of the block of a record, where it has one.
-    pub fn of(&self, number: usize) -> Option<Span>
-        ensures { result ≡ spec.span_of number self.now.each }
+    /// None is known of any block.
+    fn unknown() -> Spans
+        ensures { (buckets : List LinkedBucket) → spec.AreKnownSpans result buckets }
     {
-        let block = block_of(number);
-        self.each[block]
+        let none = no_span();
+        Spans {
+            are_learned: true,
+            small: [none; MOST_SMALL],
+            middle: [none; MOST_MIDDLE],
+            large: [none; MOST_LARGE],
+        }
     }
 
-    /// Whether the block of the record that a link names has a span.
+    /// Forgets all.
+    pub fn forget_all(&mut self)
+        ensures { (buckets : List LinkedBucket) → spec.AreSpans self.new buckets }
+    {
+        self.are_learned = false;
+    }
+
+    /// Whether something is known of the small block of the record of a number.
+    pub fn knows_block(&self, number: usize) -> bool {
+        self.are_learned && self.small[block_of(SMALL, number)].first != u16::MAX
+    }
+
+    /// Whether something is known of the small block of the record that a link names.
     pub fn knows(&self, link: Link) -> bool {
         match link.number() {
-            Some(number) => self.of(number).is_some(),
+            Some(number) => self.knows_block(number),
             None => false,
         }
     }
 
-    /// Where a search for this width goes on behind the record of a number, which isn't what is sought: behind the
-    /// span that begins with it, where none of its records has so much room, else behind the record alone.
-    pub fn ahead(&self, buckets: &[LinkedBucket], number: usize, width: u32, left: u32) -> Ahead
-        requires known { spec.AreSpans self.now.each buckets.now }
-        requires within { number < length buckets.now }
-        requires left { 1 ≤ left }
-        ensures { spec.IsAhead number width left buckets.now result }
+    /// Whether a span begins with the record that a link names.
+    #[inline(always)]
+    fn begin_with(&self, link: Link) -> bool
+        ensures { IsTrue result → self.now.are_learned ≡ true }
     {
-        if let Some(span) = self.of(number) {
-            if is_passed(&span, number, width, left) {
-                return Ahead {
-                    at: span.behind,
-                    steps: u32::from(span.steps),
-                };
+        match link.number() {
+            Some(number) => {
+                self.are_learned && begins_with(self.small[block_of(SMALL, number)], number)
             }
-        }
-        Ahead {
-            at: buckets[number].next,
-            steps: 1,
+            None => false,
         }
     }
 
-    /// Knows a span of the block of the record of a number.
-    fn know(&mut self, buckets: &[LinkedBucket], number: usize, span: Span)
-        requires span { spec.IsSpan (spec.block_of number) span buckets.now }
-        requires others { spec.AreOtherSpans number self.old.each buckets.now }
-        ensures { spec.AreSpans self.new.each buckets.now }
+    /// Where a search for this width goes on that has come to a link, and may look at so many records: there, or behind
+    /// spans in which no record has so much room.
+    #[inline(always)]
+    pub fn ahead(&self, at: Link, left: u32, width: u32) -> Ahead
+        ensures { (buckets : List LinkedBucket) → spec.AreSpans self.now buckets
+            → spec.IsPassed width buckets at left result }
     {
-        let block = block_of(number);
-        self.each[block] = Some(span);
+        if !self.begin_with(at) {
+            return Ahead { at, left };
+        }
+        let large = behind_narrow(&self.large, LARGE, at, left, width);
+        let middle = behind_narrow(&self.middle, MIDDLE, large.at, large.left, width);
+        behind_narrow(&self.small, SMALL, middle.at, middle.left, width)
     }
 
-    /// Forgets the span of the block of the record of a number, which may have become another record.
+    /// Forgets the spans of the blocks of the record of a number, which may have become another record.
     pub fn forget(&mut self, buckets: &[LinkedBucket], number: usize)
-        requires { spec.AreOtherSpans number self.old.each buckets.now }
-        ensures { spec.AreSpans self.new.each buckets.now }
+        requires { spec.AreOtherSpans number self.old buckets.now }
+        ensures { spec.AreSpans self.new buckets.now }
     {
-        let block = block_of(number);
-        self.each[block] = None;
+        if !self.are_learned {
+            return;
+        }
+        set_span(&mut self.small, block_of(SMALL, number), no_span());
+        set_span(&mut self.middle, block_of(MIDDLE, number), no_span());
+        set_span(&mut self.large, block_of(LARGE, number), no_span());
     }
 
-    /// Knows the record of a number, which had this room before. Its span is gone over where it may have less room
+    /// Knows the record of a number, which had this room before. Its spans are gone over where they may have less room
     /// now.
     pub fn track(&mut self, buckets: &[LinkedBucket], number: usize, before: u16)
         requires within { number < length buckets.now }
-        requires others { spec.AreSpansBut number self.old.each buckets.now }
-        ensures { spec.AreSpans self.new.each buckets.now }
+        requires others { spec.AreSpansBut number self.old buckets.now }
+        ensures { spec.AreSpans self.new buckets.now }
     {
-        let Some(span) = self.of(number) else {
-            return;
-        };
-        let fresh = followed(buckets, &span, number, before);
-        self.know(buckets, number, fresh);
+        if self.are_learned {
+            let room = record_room(&buckets[number]);
+            let change = Change {
+                number,
+                before,
+                room,
+            };
+            self.track_change(buckets, &change);
+        }
+    }
+
+    /// Knows a record whose room changed.
+    fn track_change(&mut self, buckets: &[LinkedBucket], change: &Change)
+        requires number { change.now.number < length buckets.now }
+        requires room { spec.room_at buckets.now change.now.number ≤ change.now.room }
+        requires others { spec.AreKnownSpansBut change.now.number self.old buckets.now }
+        ensures { spec.AreKnownSpans self.new buckets.now }
+    {
+        let number = change.number;
+        let before = span_of(&self.small, block_of(SMALL, number));
+        let small = followed(buckets, before, change);
+        set_span(&mut self.small, block_of(SMALL, number), small);
+        if change.room < change.before && small.widest_room < change.before {
+            gather_again(&self.small, SMALL, &mut self.middle, number);
+            gather_again(&self.middle, MIDDLE, &mut self.large, number);
+        } else {
+            raise_span(&mut self.middle, block_of(MIDDLE, number), change.room);
+            raise_span(&mut self.large, block_of(LARGE, number), change.room);
+        }
     }
 
     /// Knows spans of the records to which the links lead from this one on.
     pub fn learn(&mut self, buckets: &[LinkedBucket], first: Link)
-        requires { spec.AreSpans self.old.each buckets.now }
-        ensures { spec.AreSpans self.new.each buckets.now }
+        requires { spec.AreSpans self.old buckets.now }
+        ensures { spec.AreSpans self.new buckets.now }
     {
-        let mut at = first;
-        for _span in 0..MOST_BUCKETS {
-            let Some(number) = at.number() else {
-                break;
-            };
-            if number >= buckets.len() {
-                break;
-            }
-            at = self.learn_from(buckets, number);
-        }
+        self.begin_to_learn();
+        learn_small(&mut self.small, buckets, first);
+        gather(&self.small, SMALL, &mut self.middle, first);
+        gather(&self.middle, MIDDLE, &mut self.large, first);
     }
 
-    /// Knows the span that begins with the record of a number, if it isn't known yet, and answers the link behind it.
-    fn learn_from(&mut self, buckets: &[LinkedBucket], number: usize) -> Link
-        requires known { spec.AreSpans self.old.each buckets.now }
-        requires within { number < length buckets.now }
-        requires small { number < no_link }
-        ensures { spec.AreSpans self.new.each buckets.now }
+    /// Knows no more than before, and of each block what is known of it.
+    fn begin_to_learn(&mut self)
+        ensures { (buckets : List LinkedBucket) → spec.AreSpans self.old buckets
+            → spec.AreKnownSpans self.new buckets }
     {
-        if let Some(span) = self.of(number) {
-            if begins_with(&span, number) {
-                return span.behind;
-            }
+        if !self.are_learned {
+            *self = Spans::unknown();
         }
-        let span = span_from(buckets, number);
-        let behind = span.behind;
-        self.know(buckets, number, span);
-        behind
     }
+}
+
+/// Knows spans of small blocks of the records to which the links lead from this one on.
+fn learn_small(spans: &mut [Span], buckets: &[LinkedBucket], first: Link)
+    ensures { spec.AreSpansOf (spec.block_of 1) spans.old buckets.now
+        → spec.AreSpansOf (spec.block_of 1) spans.new buckets.now }
+{
+    let mut at = first;
+    for _span in 0..MOST_BUCKETS {
+        let Some(number) = at.number() else {
+            break;
+        };
+        if number >= buckets.len() {
+            break;
+        }
+        at = learn_from(spans, buckets, number);
+    }
+}
+
+/// Knows the span that begins with the record of a number, if it isn't known yet, and answers the link behind it.
+fn learn_from(spans: &mut [Span], buckets: &[LinkedBucket], number: usize) -> Link
+    requires within { number < length buckets.now }
+    requires small { number < no_link }
+    ensures { spec.AreSpansOf (spec.block_of 1) spans.old buckets.now
+        → spec.AreSpansOf (spec.block_of 1) spans.new buckets.now }
+{
+    let block = block_of(SMALL, number);
+    let known = span_of(spans, block);
+    if begins_with(known, number) {
+        return Link::from_bits(known.behind);
+    }
+    let span = span_from(buckets, number);
+    set_span(spans, block, span);
+    Link::from_bits(span.behind)
 }

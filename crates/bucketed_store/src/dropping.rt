@@ -72,11 +72,11 @@ fn put_row_aside(
     first: Link,
 ) -> u32
     requires few { length buckets.old ≤ most_buckets }
-    requires spans { AreSpans spans.old.each buckets.old }
+    requires spans { AreSpans spans.old buckets.old }
     ensures buckets { buckets.new ≡ spec.row_aside first unused.old buckets.old }
     ensures unused { unused.new ≡ or_else first unused.old }
     ensures count { result ≡ spec.row_count buckets.old first }
-    ensures spans { AreSpans spans.new.each buckets.new }
+    ensures spans { AreSpans spans.new buckets.new }
     ensures small { result ≤ most_buckets + 1 }
 {
     let Some(number) = first.number() else {
@@ -98,12 +98,12 @@ pub(crate) fn drop_idle_end(
 ) -> u32
     requires shelves { vec_len shelves.old ≤ most_buckets }
     requires buckets { length buckets.old ≤ most_buckets }
-    requires spans { AreSpans spans.old.each buckets.old }
+    requires spans { AreSpans spans.old buckets.old }
     ensures dropped { spec.dropping_of shelves.new.items buckets.new unused.new result
         ≡ spec.end_dropped (vec_len shelves.old)
         (spec.dropping_of shelves.old.items buckets.old unused.old 0) }
     ensures capacity { vec_capacity shelves.new ≡ vec_capacity shelves.old }
-    ensures spans { AreSpans spans.new.each buckets.new }
+    ensures spans { AreSpans spans.new buckets.new }
 {
     let mut dropped = 0;
     for _shelf in 0..shelves.len() {

@@ -98,14 +98,14 @@ fn widen_shelf(
         ≤ vec_capacity buckets.old }
     requires few { vec_len buckets.old + count ≤ no_link }
     requires narrow { place + count * width_of shelves.old number < 2 ^ 16 }
-    requires spans { AreSpans spans.old.each buckets.old.items }
+    requires spans { AreSpans spans.old buckets.old.items }
     ensures stored { spec.stored_of shelves.new buckets.new.items unused.new
         ≡ spec.shelf_widened number place count
         (spec.stored_of shelves.old buckets.old.items unused.old) }
     ensures length { length shelves.new ≡ length shelves.old }
     ensures used { vec_len buckets.new ≤ vec_len buckets.old + count }
     ensures capacity { vec_capacity buckets.old ≤ vec_capacity buckets.new }
-    ensures spans { AreSpans spans.new.each buckets.new.items }
+    ensures spans { AreSpans spans.new buckets.new.items }
 {
     let row = NewBuckets {
         shelf: number as u16,
@@ -135,12 +135,12 @@ pub(crate) fn widen_shelves(
     requires few { vec_len buckets.old + (left - spec.left_after added left shelves.old)
         ≤ no_link }
     requires narrow { place + added < 2 ^ 16 }
-    requires spans { AreSpans spans.old.each buckets.old.items }
+    requires spans { AreSpans spans.old buckets.old.items }
     ensures stored { spec.stored_of shelves.new buckets.new.items unused.new
         ≡ spec.shelves_widened (length shelves.old) 0 place added left
         (spec.stored_of shelves.old buckets.old.items unused.old) }
     ensures capacity { vec_capacity buckets.old ≤ vec_capacity buckets.new }
-    ensures spans { AreSpans spans.new.each buckets.new.items }
+    ensures spans { AreSpans spans.new buckets.new.items }
 {
     let mut left = left;
     for number in 0..shelves.len() {

@@ -62,7 +62,7 @@ fn make_bucket(
         (record { buckets = buckets.old.items; unused = unused.old; first = first })).buckets
         ≤ vec_capacity buckets.old }
     requires few { vec_len buckets.old < no_link }
-    requires spans { AreSpans spans.old.each buckets.old.items }
+    requires spans { AreSpans spans.old buckets.old.items }
     ensures buckets { buckets.new.items
         ≡ (spec.made_one new.now
         (record { buckets = buckets.old.items; unused = unused.old; first = first })).buckets }
@@ -74,7 +74,7 @@ fn make_bucket(
         (record { buckets = buckets.old.items; unused = unused.old; first = first })).first }
     ensures length { vec_len buckets.new ≤ vec_len buckets.old + 1 }
     ensures capacity { vec_capacity buckets.old ≤ vec_capacity buckets.new }
-    ensures spans { AreSpans spans.new.each buckets.new.items }
+    ensures spans { AreSpans spans.new buckets.new.items }
 {
     if let Some(number) = unused.number() {
         if number < buckets.len() {
@@ -105,7 +105,7 @@ pub(crate) fn make_buckets(
         ≤ vec_capacity buckets.old }
     requires few { vec_len buckets.old + count ≤ no_link }
     requires narrow { new.now.x + count * new.now.width < 2 ^ 16 }
-    requires spans { AreSpans spans.old.each buckets.old.items }
+    requires spans { AreSpans spans.old buckets.old.items }
     ensures buckets { buckets.new.items
         ≡ (spec.made_many count new.now
         (record { buckets = buckets.old.items; unused = unused.old; first = first })).buckets }
@@ -117,7 +117,7 @@ pub(crate) fn make_buckets(
         (record { buckets = buckets.old.items; unused = unused.old; first = first })).first }
     ensures length { vec_len buckets.new ≤ vec_len buckets.old + count }
     ensures capacity { vec_capacity buckets.old ≤ vec_capacity buckets.new }
-    ensures spans { AreSpans spans.new.each buckets.new.items }
+    ensures spans { AreSpans spans.new buckets.new.items }
 {
     let mut first = first;
     let mut here = *new;

@@ -76,7 +76,7 @@ fn place_among(
     requires across { (0 < sides.now.across) × (sides.now.across < 2 ^ 31) }
     requires column { left.now.column < 2 ^ 31 }
     requires known { AreKnown blocks.now shelves.now }
-    requires spans { AreSpans spans.now.each buckets.now }
+    requires spans { AreSpans spans.now buckets.now }
     ensures { option_map spec.place_seen result
         ≡ spec.kept_place frame.now left.now sides.now shelves.now buckets.now }
 {

@@ -32,7 +32,7 @@ pub(crate) fn widest_among(shelves: &[KeptShelf], height: u32) -> u16
 
 /// Whether a shelf is tall enough, and a bucket of it has the width left.
 fn has_width(sides: &Sides, kept: &KeptShelf, buckets: &[LinkedBucket], spans: &Spans) -> bool
-    requires { AreSpans spans.now.each buckets.now }
+    requires { AreSpans spans.now buckets.now }
     ensures { result ≡ spec.kept_has_width sides.now buckets.now kept.now }
 {
     let wanted = Wanted::Wide(sides.along);
@@ -47,7 +47,7 @@ fn any_has_width(
     buckets: &[LinkedBucket],
     spans: &Spans,
 ) -> bool
-    requires { AreSpans spans.now.each buckets.now }
+    requires { AreSpans spans.now buckets.now }
     ensures { result ≡ list_any (spec.kept_has_width sides.now buckets.now) shelves.now }
 {
     for kept in shelves {
@@ -68,7 +68,7 @@ fn shelves_refusal(
     spans: &Spans,
 ) -> BucketedRefusal
     requires column { left.now.column < 2 ^ 31 }
-    requires spans { AreSpans spans.now.each buckets.now }
+    requires spans { AreSpans spans.now buckets.now }
     ensures { result
         ≡ spec.kept_shelves_refusal frame.now left.now sides.now shelves.now buckets.now }
 {

@@ -28,7 +28,7 @@ use crate::placing::Place;
 use crate::returning::{is_known, return_item, returned_area, shelf_number};
 use bucket_index::blocks::Blocks;
 use bucket_index::searching::{Found, has_room, widest_room};
-use bucket_index::spans::{RECORDS_OF_BLOCK, Spans};
+use bucket_index::spans::Spans;
 use bucketed_model::adding::{NewShelf, NewShelves, width_of_share};
 use bucketed_records::records::{
     KeptShelf, LinkedBucket, LinkedBucketShelf, MOST_BUCKETS, record_room,
@@ -70,7 +70,7 @@ impl Model for Store {
     } };
 
     ghost invariant = { λ store. AreKnown store.blocks store.shelves.items
-        × AreSpans store.spans.each store.buckets.items };
+        × AreSpans store.spans store.buckets.items };
 }
 
 /// Where the next shelf in the column at a place begins across.
@@ -121,7 +121,7 @@ impl Store {
         self.buckets.clear();
         self.unused = Link::none();
         self.blocks = Blocks::new();
-        self.spans = Spans::new();
+        self.spans.forget_all();
     }
 
     /// Makes the new shelves, with their buckets, where so many are in use. Takes memory for the records
@@ -475,7 +475,7 @@ fn add_shelf(
     new: &NewShelf,
 )
     requires known { AreKnown blocks.old shelves.old.items }
-    requires spans { AreSpans spans.old.each buckets.old.items }
+    requires spans { AreSpans spans.old buckets.old.items }
     requires frame { IsBucketedFrame frame.now }
     requires new { spec.IsNewShelf frame.now new.now }
     requires short { spec.IsShort frame.now shelves.old.items }
@@ -516,7 +516,7 @@ fn add_shelf(
     ensures bucket_length { vec_len buckets.new ≤ vec_len buckets.old + new.now.count }
     ensures bucket_capacity { vec_capacity buckets.old ≤ vec_capacity buckets.new }
     ensures known { AreKnown blocks.new shelves.new.items }
-    ensures spans { AreSpans spans.new.each buckets.new.items }
+    ensures spans { AreSpans spans.new buckets.new.items }
 {
     let width = width_of_share(frame, new.count) as u16;
     let x = (new.column * frame.column_width) as u16;
@@ -583,7 +583,7 @@ fn place_at(buckets: &[LinkedBucket], number: usize) -> u32
     }
 }
 
-/// Whether a search along the buckets of a shelf goes over more than a block of them, of which nothing is known: up to
+/// Whether a search along the buckets of a shelf goes far over buckets of which nothing is known: up to
 /// the one that was found, which had this room before it gave an item, or up to the end.
 fn goes_far(
     shelves: &[KeptShelf],
@@ -602,14 +602,17 @@ fn goes_far(
     };
     let begin = place_at(buckets, first);
     is_far(u32::from(shelf.x), begin, shelf.bucket_width)
-        && !(spans.knows(shelf.first_bucket) && spans.of(found.bucket).is_some())
+        && !(spans.knows(shelf.first_bucket) && spans.knows_block(found.bucket))
         && (is_far(place_at(buckets, found.bucket), begin, shelf.bucket_width)
             || !keeps_widest(shelves, buckets, found, room))
 }
 
-/// Whether more than a block of buckets this wide lie between two places.
+/// Beyond so many buckets a search is worth spans.
+const FAR: u32 = 64;
+
+/// Whether more buckets this wide than a search is worth lie between two places.
 fn is_far(from: u32, to: u32, width: u16) -> bool {
-    u32::from(width) < to.saturating_sub(from) / RECORDS_OF_BLOCK as u32
+    u32::from(width) < to.saturating_sub(from) / FAR
 }
 
 /// Learns spans of the buckets of a shelf, where a search along them goes far.
@@ -623,8 +626,8 @@ fn learn_row(
     requires shelf { found.now.shelf < length shelves.now }
     requires widest { spec.IsWidestKept found.now.shelf found.now.bucket room shelves.now
         buckets.now }
-    requires spans { AreSpans spans.old.each buckets.now }
-    ensures { AreSpans spans.new.each buckets.now }
+    requires spans { AreSpans spans.old buckets.now }
+    ensures { AreSpans spans.new buckets.now }
 {
     if goes_far(shelves, buckets, spans, found, room) {
         spans.learn(buckets, first_bucket(shelves, found.shelf));
@@ -659,7 +662,7 @@ fn widest_after(
     requires number { found.now.shelf < length shelves.now }
     requires widest { spec.IsWidestKept found.now.shelf found.now.bucket room shelves.now
         buckets.now }
-    requires spans { AreSpans spans.now.each buckets.now }
+    requires spans { AreSpans spans.now buckets.now }
     ensures { result
         ≡ searching.widest_from most_buckets buckets.now
         (spec.first_bucket_of shelves.now found.now.shelf) }
@@ -684,7 +687,7 @@ fn give_from(
     requires few { spec.live_items_of shelves.old found.now.shelf + 1 < 2 ^ 32 }
     requires widest { spec.IsWidestKept found.now.shelf found.now.bucket room shelves.old
         buckets.now }
-    requires spans { AreSpans spans.now.each buckets.now }
+    requires spans { AreSpans spans.now buckets.now }
     ensures { shelves.new ≡ spec.shelves_given found.now.shelf shelves.old buckets.now }
 {
     let widest = widest_after(shelves, buckets, spans, found, room);

@@ -1,17 +1,23 @@
 -- Where links lead through records of one block of numbers, and how much room these have.
 pub use Rattle.std.specs.Prelude.{ℕ}
-use Rattle.std.specs.Prelude.{zero, suc, ◌≡◌, ◌<◌, ◌≤◌, ◌/◌, ◌%◌, Option, None, Some, List, length, slice_get}
+use Rattle.std.specs.Prelude.{zero, suc, ◌≡◌, ◌<◌, ◌≤◌, ◌+◌, ◌/◌, ◌%◌, max, true, Option, None, Some, List, length, slice_get}
 use Rattle.std.specs.Option.{option_map_or}
 use Rattle.etagere_links.specs.Edits.{field_at}
 use Rattle.bucketed_records.specs.BucketRecords.{next_of}
 use Rattle.bucketed_records.specs.Private.Store.{record_room}
 use Rattle.bucketed_records.specs.declared.records.LinkedBucket.{LinkedBucket}
+use Rattle.etagere_links.specs.Links.{link_of, no_link}
 use Rattle.bucket_index.specs.declared.spans.Ahead.{Ahead}
-use Rattle.bucket_index.specs.declared.spans.Span.{Span}
+pub use Rattle.bucket_index.specs.declared.spans.Span.{Span}
+use Rattle.bucket_index.specs.declared.spans.Spans.{Spans}
 
--- the number of the block of a record, of which there are 64
-abbrev pub block_of : ℕ → ℕ
-block_of number = number / 64 % 64
+-- the number of the block of a record, among blocks of so many small ones, which have 8 records
+abbrev pub block_of : ℕ → ℕ → ℕ
+block_of scale number = number / 8 % 512 / scale
+
+-- the number of the next larger block, of which that is a part
+abbrev pub whole_of : ℕ → ℕ → ℕ
+whole_of scale number = block_of scale number / 8
 
 -- the width that the record of a number can give
 abbrev pub room_at : List LinkedBucket → ℕ → ℕ
@@ -25,61 +31,119 @@ Lead (suc steps) IsSuch buckets (Some number) behind =
     (number < length buckets) × IsSuch number
     × Lead steps IsSuch buckets (next_of buckets number) behind
 
--- a record stands in this block and has at most this room
-abbrev pub IsWithin : ℕ → ℕ → List LinkedBucket → ℕ → Type 0
-IsWithin block room buckets number = (block_of number ≡ block) × (room_at buckets number ≤ room)
+-- a record stands in this block, where blocks are numbered so, and has at most this room
+abbrev pub IsWithin : (ℕ → ℕ) → ℕ → ℕ → List LinkedBucket → ℕ → Type 0
+IsWithin numbered block room buckets number =
+    (numbered number ≡ block) × (room_at buckets number ≤ room)
 
 -- the same of all records but one, of whose room nothing is said
-abbrev pub IsWithinBut : ℕ → ℕ → ℕ → List LinkedBucket → ℕ → Type 0
-IsWithinBut one block room buckets number =
-    (block_of number ≡ block) × ((number ≡ one → ⊥) → room_at buckets number ≤ room)
+abbrev pub IsWithinBut : ℕ → (ℕ → ℕ) → ℕ → ℕ → List LinkedBucket → ℕ → Type 0
+IsWithinBut one numbered block room buckets number =
+    (numbered number ≡ block) × ((number ≡ one → ⊥) → room_at buckets number ≤ room)
 
 -- the links lead through a span's records, which stand in this block and have no more room than it
 -- says
-pub record IsSpan (block : ℕ) (span : Span) (buckets : List LinkedBucket) : Type 0 where
+pub record IsSpan (numbered : ℕ → ℕ) (block : ℕ) (span : Span) (buckets : List LinkedBucket)
+    : Type 0 where
   pub some : 1 ≤ span.steps
-  pub lead : Lead span.steps (IsWithin block span.widest_room buckets) buckets span.first span.behind
+  pub lead : Lead span.steps (IsWithin numbered block span.widest_room buckets) buckets
+      (Some span.first) (link_of span.behind)
 
 -- the same where nothing is said of the room of one record
-pub record IsSpanBut (one block : ℕ) (span : Span) (buckets : List LinkedBucket) : Type 0 where
+pub record IsSpanBut (one : ℕ) (numbered : ℕ → ℕ) (block : ℕ) (span : Span)
+    (buckets : List LinkedBucket) : Type 0 where
   pub some : 1 ≤ span.steps
-  pub lead : Lead span.steps (IsWithinBut one block span.widest_room buckets) buckets span.first
-      span.behind
+  pub lead : Lead span.steps (IsWithinBut one numbered block span.widest_room buckets) buckets
+      (Some span.first) (link_of span.behind)
 
--- each span is one of its block
-abbrev pub AreSpans : List (Option Span) → List LinkedBucket → Type 0
-AreSpans spans buckets =
-    (block : ℕ) (span : Span) → slice_get spans block ≡ Some (Some span)
-    → IsSpan block span buckets
+-- a span is one of its block, where something is known of it
+abbrev pub IsKnownSpan : (ℕ → ℕ) → ℕ → Span → List LinkedBucket → Type 0
+IsKnownSpan numbered block span buckets =
+    span.first < no_link → IsSpan numbered block span buckets
 
--- each span is one of its block, where nothing is said of the room of one record
-abbrev pub AreSpansBut : ℕ → List (Option Span) → List LinkedBucket → Type 0
-AreSpansBut one spans buckets =
-    (block : ℕ) (span : Span) → slice_get spans block ≡ Some (Some span)
-    → IsSpanBut one block span buckets
+-- the same where nothing is said of the room of one record
+abbrev pub IsKnownSpanBut : ℕ → (ℕ → ℕ) → ℕ → Span → List LinkedBucket → Type 0
+IsKnownSpanBut one numbered block span buckets =
+    span.first < no_link → IsSpanBut one numbered block span buckets
+
+-- what is known of a block of which nothing is known
+abbrev pub no_span : Span
+no_span = record { first = no_link; steps = 65535; behind = 65535; widest_room = 65535 }
+
+-- what is known of a block
+abbrev pub span_of : List Span → ℕ → Span
+span_of spans block = option_map_or (λ (span : Span). span) (slice_get spans block) no_span
+
+-- a span and the one behind it as one span
+abbrev pub joined : Span → Span → Span
+joined span next =
+    record {
+      first = span.first;
+      steps = span.steps + next.steps;
+      behind = next.behind;
+      widest_room = max span.widest_room next.widest_room;
+    }
+
+-- a span that may have so much room
+abbrev pub widened : ℕ → Span → Span
+widened room span = record span { widest_room = max span.widest_room room }
+
+-- each span of blocks that are numbered so is one of its block
+abbrev pub AreSpansOf : (ℕ → ℕ) → List Span → List LinkedBucket → Type 0
+AreSpansOf numbered spans buckets =
+    (block : ℕ) (span : Span) → slice_get spans block ≡ Some span
+    → IsKnownSpan numbered block span buckets
+
+-- the same where nothing is said of the room of one record
+abbrev pub AreSpansButOf : ℕ → (ℕ → ℕ) → List Span → List LinkedBucket → Type 0
+AreSpansButOf one numbered spans buckets =
+    (block : ℕ) (span : Span) → slice_get spans block ≡ Some span
+    → IsKnownSpanBut one numbered block span buckets
 
 -- each span of another block than that of this record is one of its block
-abbrev pub AreOtherSpans : ℕ → List (Option Span) → List LinkedBucket → Type 0
-AreOtherSpans one spans buckets =
-    (block : ℕ) (span : Span) → (block ≡ block_of one → ⊥) → slice_get spans block ≡ Some (Some span)
-    → IsSpan block span buckets
+abbrev pub AreOtherSpansOf : ℕ → (ℕ → ℕ) → List Span → List LinkedBucket → Type 0
+AreOtherSpansOf one numbered spans buckets =
+    (block : ℕ) (span : Span) → (block ≡ numbered one → ⊥) → slice_get spans block ≡ Some span
+    → IsKnownSpan numbered block span buckets
 
--- the span of the block of a record, where it has one
-abbrev pub span_of : ℕ → List (Option Span) → Option Span
-span_of number spans = option_map_or (λ (span : Option Span). span) (slice_get spans (block_of number)) None
+-- spans of each size are such
+pub record AreSpansWhere (Are : (ℕ → ℕ) → List Span → List LinkedBucket → Type 0) (spans : Spans)
+    (buckets : List LinkedBucket) : Type 0 where
+  pub small : Are (block_of 1) spans.small buckets
+  pub middle : Are (block_of 8) spans.middle buckets
+  pub large : Are (block_of 64) spans.large buckets
+
+-- each span is one of its block
+abbrev pub AreKnownSpans : Spans → List LinkedBucket → Type 0
+AreKnownSpans spans buckets = AreSpansWhere AreSpansOf spans buckets
+
+-- each span is one of its block, where nothing is said of the room of one record
+abbrev pub AreKnownSpansBut : ℕ → Spans → List LinkedBucket → Type 0
+AreKnownSpansBut one spans buckets = AreSpansWhere (AreSpansButOf one) spans buckets
+
+-- where spans were learned, each is one of its block
+abbrev pub AreSpans : Spans → List LinkedBucket → Type 0
+AreSpans spans buckets = spans.are_learned ≡ true → AreKnownSpans spans buckets
+
+-- the same where nothing is said of the room of one record
+abbrev pub AreSpansBut : ℕ → Spans → List LinkedBucket → Type 0
+AreSpansBut one spans buckets = spans.are_learned ≡ true → AreKnownSpansBut one spans buckets
+
+-- the same of each span of another block than that of this record
+abbrev pub AreOtherSpans : ℕ → Spans → List LinkedBucket → Type 0
+AreOtherSpans one spans buckets =
+    spans.are_learned ≡ true → AreSpansWhere (AreOtherSpansOf one) spans buckets
 
 -- a span begins with the record of this number, has less room than this width, and no more records
 -- than are left
-pub record IsPassed (number width left : ℕ) (span : Span) : Type 0 where
-  pub first : span.first ≡ Some number
+pub record IsPassedSpan (number width left : ℕ) (span : Span) : Type 0 where
+  pub first : span.first ≡ number
   pub narrow : span.widest_room < width
   pub few : span.steps ≤ left
 
--- a search that goes on there has passed no more records than are left, of which all but the one of
--- this number have less room than this width
-pub record IsAhead (number width left : ℕ) (buckets : List LinkedBucket) (ahead : Ahead)
+-- a search that goes on there has passed records that have less room than this width
+pub record IsPassed (width : ℕ) (buckets : List LinkedBucket) (at : Option ℕ) (left : ℕ) (ahead : Ahead)
     : Type 0 where
-  pub some : 1 ≤ ahead.steps
-  pub within : ahead.steps ≤ left
-  pub lead : Lead ahead.steps
-      (λ other. (other ≡ number → ⊥) → room_at buckets other < width) buckets (Some number) ahead.at
+  pub steps : ℕ
+  pub passed : left ≡ steps + ahead.left
+  pub lead : Lead steps (λ number. room_at buckets number < width) buckets at ahead.at

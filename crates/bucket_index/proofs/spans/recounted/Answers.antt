@@ -1,17 +1,11 @@
-use Rattle.std.proofs.Common.{sym, subst, ◌∙◌, arith}
-use Rattle.bucket_index.specs.Private.Spans.{IsSpan}
-use Rattle.bucket_index.proofs.KnownSpans.{but-first, but-none}
+use Rattle.std.proofs.Common.{ap, ◌∙◌, arith, ◌<◌}
+use Rattle.etagere_links.specs.Links.{no_link}
+use Rattle.bucket_index.specs.Private.Spans.{block_of}
+use Rattle.bucket_index.proofs.KnownSpans.{but-first, known-block}
 use Rattle.bucket_index.proofs.spans.recounted.Goals as goal
 
-pub returns-in_default : goal.returns-in_default
-returns-in_default c one block is = absurd (but-none one block c.args.span.now c.args.buckets.now (sym c.number.ensures.value ∙ c.in_default.is) is)
-
-pub returns-then-first-buckets : goal.returns-then-first-buckets
-returns-then-first-buckets c one block is =
-    let begins = but-first one block c.args.span.now c.args.buckets.now c.in-Some.first (sym c.number.ensures.value ∙ c.in-Some.is) is in
-    absurd (omega (arith, begins.0))
-
 pub returns : goal.returns
-returns c one block is =
-    let begins = but-first one block c.args.span.now c.args.buckets.now c.in-Some.first (sym c.number.ensures.value ∙ c.in-Some.is) is in
-    subst (λ b. IsSpan b c.span_from.result c.args.buckets.now) begins.1 c.span_from.ensures
+returns c one block but known =
+    let begun : c.args.span.first < no_link = omega (arith, c.if-span-eq65535.false, c.if-first-buckets.false) in
+    let begins = but-first one (block_of 1) block c.args.span c.args.buckets.now (but begun) in
+    known-block (block_of 1) (block_of 1 c.from-first.result) block c.span_from.result c.args.buckets.now (ap (block_of 1) c.from-first.ensures ∙ begins.1) (λ _. c.span_from.ensures) known

@@ -11,5 +11,5 @@ invariant-loop-shelf l = record {
   small : l.dropped ≤ l._shelf * 4096;
   few : length l.buckets ≤ 4095;
   capacity : vec_capacity l.shelves ≡ vec_capacity l.fn.shelves;
-  spans : AreSpans l.spans.each l.buckets;
+  spans : AreSpans l.spans l.buckets;
 }

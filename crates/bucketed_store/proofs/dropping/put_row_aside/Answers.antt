@@ -4,4 +4,4 @@ use Rattle.bucketed_store.proofs.dropping.put_row_aside.Goals as goal
 
 pub forget-requires : goal.forget-requires
 forget-requires c =
-    rw c.link_to.ensures (spans-changed c.row_end-end.result.last (spec.linked_to c.args.unused.now) c.args.spans.now.each c.args.buckets.now c.requires.spans)
+    rw c.link_to.ensures (spans-changed c.row_end-end.result.last (spec.linked_to c.args.unused.now) c.args.spans.now c.args.buckets.now c.requires.spans)

@@ -13,5 +13,5 @@ invariant-loop-number l = record {
   length : length l.shelves ≡ length l.fn.shelves;
   few : vec_len l.buckets + (l.left - spec.left_after l.added l.left (drop l.number l.shelves)) ≤ no_link;
   capacity : vec_capacity l.fn.buckets ≤ vec_capacity l.buckets;
-  spans : AreSpans l.spans.each l.buckets.items;
+  spans : AreSpans l.spans l.buckets.items;
 }

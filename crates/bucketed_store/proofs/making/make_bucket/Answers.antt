@@ -84,11 +84,11 @@ forget-requires c =
     let r = c.new_record.result in
     let written : c.deref.result.now ≡ changed_by (Some number) (λ (_ : LinkedBucket). r) items =
     c.deref.ensures.value ∙ set-changed (λ (_ : LinkedBucket). r) items number r (omega (arith, c.if-number-len.true, c.len.ensures)) in
-    subst (AreOtherSpans number c.args.spans.now.each) (sym written) (spans-changed number (λ (_ : LinkedBucket). r) c.args.spans.now.each items c.requires.spans)
+    subst (AreOtherSpans number c.args.spans.now) (sym written) (spans-changed number (λ (_ : LinkedBucket). r) c.args.spans.now items c.requires.spans)
 
 pub returns-then-number-len-clause-spans : goal.returns-then-number-len-clause-spans
-returns-then-number-len-clause-spans c = subst (AreSpans c.forget.new.self.each) c.deref.ensures.value c.forget.ensures
+returns-then-number-len-clause-spans c = subst (AreSpans c.forget.new.self) c.deref.ensures.value c.forget.ensures
 
 pub returns-clause-spans : goal.returns-clause-spans
 returns-clause-spans c =
-    subst (AreSpans c.args.spans.now.each) (sym (rw c.unwrap.ensures at c.push.ensures.items)) (spans-added c.args.spans.now.each c.args.buckets.now.items _ c.requires.spans)
+    subst (AreSpans c.args.spans.now) (sym (rw c.unwrap.ensures at c.push.ensures.items)) (spans-added c.args.spans.now c.args.buckets.now.items _ c.requires.spans)

@@ -13,5 +13,5 @@ invariant-loop-made l = record {
   room : length (made_many (l.count - l._made) l.here (record { buckets = l.buckets.items; unused = l.unused; first = l.first })).buckets ≤ vec_capacity l.buckets;
   length : vec_len l.buckets ≤ vec_len l.fn.buckets + l._made;
   capacity : vec_capacity l.fn.buckets ≤ vec_capacity l.buckets;
-  spans : AreSpans l.spans.each l.buckets.items;
+  spans : AreSpans l.spans l.buckets.items;
 }

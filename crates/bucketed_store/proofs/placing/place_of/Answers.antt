@@ -11,7 +11,7 @@ pub place_among-requires-clause-known : goal.place_among-requires-clause-known
 place_among-requires-clause-known c = subst (λ (shelves : List KeptShelf). AreKnown c.store.inside.blocks shelves) (sym c.deref.ensures.value) c.store.invariant.0
 
 pub place_among-requires-clause-spans : goal.place_among-requires-clause-spans
-place_among-requires-clause-spans c = subst (AreSpans c.store.inside.spans.each) (sym c.deref-2.ensures.value) c.store.invariant.1
+place_among-requires-clause-spans c = subst (AreSpans c.store.inside.spans) (sym c.deref-2.ensures.value) c.store.invariant.1
 
 pub returns : goal.returns
 returns c =

@@ -37,7 +37,7 @@ invariant_of-self c = (subst (AreKnown c.self.inside.blocks) (sym c.reserve.ensu
 
 pub invariant_of-self-in_err-reserve_records : goal.invariant_of-self-in_err-reserve_records
 invariant_of-self-in_err-reserve_records c =
-    (subst (AreKnown c.self.inside.blocks) (sym c.reserve.ensures.items) c.self.invariant.0, subst (AreSpans c.self.inside.spans.each) (sym c.reserve_records.ensures.same) c.self.invariant.1)
+    (subst (AreKnown c.self.inside.blocks) (sym c.reserve.ensures.items) c.self.invariant.0, subst (AreSpans c.self.inside.spans) (sym c.reserve_records.ensures.same) c.self.invariant.1)
 
 pub add_shelf-requires-clause-known : goal.add_shelf-requires-clause-known
 add_shelf-requires-clause-known c = subst (AreKnown c.self.inside.blocks) (sym c.reserve.ensures.items) c.self.invariant.0
@@ -50,11 +50,11 @@ add_shelf-requires-2-clause-known c =
     ]
 
 pub add_shelf-requires-clause-spans : goal.add_shelf-requires-clause-spans
-add_shelf-requires-clause-spans c = subst (AreSpans c.self.inside.spans.each) (sym c.in_ok-reserve_records.ensures.same) c.self.invariant.1
+add_shelf-requires-clause-spans c = subst (AreSpans c.self.inside.spans) (sym c.in_ok-reserve_records.ensures.same) c.self.invariant.1
 
 pub add_shelf-requires-2-clause-spans : goal.add_shelf-requires-2-clause-spans
 add_shelf-requires-2-clause-spans c =
     elim c.match-news.branch [
-      | in-Some w ↦ subst (λ (inside : Inside). AreSpans inside.spans.each inside.buckets.items) (sym w.self-inside-is) w.add_shelf.ensures.spans
-      | in_default w ↦ subst (λ (inside : Inside). AreSpans inside.spans.each inside.buckets.items) (sym w.self-inside-is) (subst (AreSpans c.self.inside.spans.each) (sym c.in_ok-reserve_records.ensures.same) c.self.invariant.1)
+      | in-Some w ↦ subst (λ (inside : Inside). AreSpans inside.spans inside.buckets.items) (sym w.self-inside-is) w.add_shelf.ensures.spans
+      | in_default w ↦ subst (λ (inside : Inside). AreSpans inside.spans inside.buckets.items) (sym w.self-inside-is) (subst (AreSpans c.self.inside.spans) (sym c.in_ok-reserve_records.ensures.same) c.self.invariant.1)
     ]

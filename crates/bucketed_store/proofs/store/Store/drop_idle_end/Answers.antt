@@ -9,7 +9,7 @@ use Rattle.bucketed_store.proofs.KnownShelves.{some-dropped}
 use Rattle.bucketed_store.proofs.store.Store.drop_idle_end.Goals as goal
 
 pub drop_idle_end-requires-clause-spans : goal.drop_idle_end-requires-clause-spans
-drop_idle_end-requires-clause-spans c = subst (AreSpans c.self.inside.spans.each) (sym c.deref_mut.ensures.value) c.self.invariant.1
+drop_idle_end-requires-clause-spans c = subst (AreSpans c.self.inside.spans) (sym c.deref_mut.ensures.value) c.self.invariant.1
 
 pub invariant_of-self : goal.invariant_of-self
 invariant_of-self c =
@@ -19,5 +19,5 @@ invariant_of-self c =
     with_items_is inside.buckets c.drop_idle_end.new.buckets (omega (arith, c.drop_idle_end.auto.buckets, c.deref_mut.ensures.len)) in (
       subst (AreKnown inside.blocks) (sym left)
           (known-some inside.blocks inside.shelves.items _ (some-dropped (vec_len inside.shelves) (dropping_of inside.shelves.items c.deref_mut.result.now inside.unused 0)) c.self.invariant.0),
-      subst (AreSpans c.drop_idle_end.new.spans.each) (sym items) c.drop_idle_end.ensures.spans,
+      subst (AreSpans c.drop_idle_end.new.spans) (sym items) c.drop_idle_end.ensures.spans,
     )

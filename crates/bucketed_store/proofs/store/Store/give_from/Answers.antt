@@ -13,10 +13,10 @@ use Rattle.bucketed_store.specs.Private.StoreEdits.{first_bucket_of, given_from,
 use Rattle.bucketed_store.proofs.store.Store.give_from.Goals as goal
 
 pub learn_row-requires-clause-spans : goal.learn_row-requires-clause-spans
-learn_row-requires-clause-spans c = subst (AreSpans c.self.inside.spans.each) (sym c.deref-2.ensures.value) c.self.invariant.1
+learn_row-requires-clause-spans c = subst (AreSpans c.self.inside.spans) (sym c.deref-2.ensures.value) c.self.invariant.1
 
 pub give_from-requires-clause-spans : goal.give_from-requires-clause-spans
-give_from-requires-clause-spans c = subst (AreSpans c.learn_row.new.spans.each) (c.deref-2.ensures.value ∙ sym c.deref-3.ensures.value) c.learn_row.ensures
+give_from-requires-clause-spans c = subst (AreSpans c.learn_row.new.spans) (c.deref-2.ensures.value ∙ sym c.deref-3.ensures.value) c.learn_row.ensures
 
 pub returns : goal.returns
 returns c =
@@ -46,4 +46,4 @@ follow-requires-clause-others c =
 
 pub invariant_of-self : goal.invariant_of-self
 invariant_of-self c =
-    (subst (AreKnown c.follow.new.self) c.deref-4.ensures.value c.follow.ensures, subst (AreSpans c.learn_row.new.spans.each) c.deref-2.ensures.value c.learn_row.ensures)
+    (subst (AreKnown c.follow.new.self) c.deref-4.ensures.value c.follow.ensures, subst (AreSpans c.learn_row.new.spans) c.deref-2.ensures.value c.learn_row.ensures)

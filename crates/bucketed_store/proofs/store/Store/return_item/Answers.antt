@@ -30,8 +30,8 @@ track-requires-clause-others c =
     with_items_is inside.buckets c.return_item.new.buckets (omega (arith, c.return_item.auto.buckets, c.deref_mut-2.ensures.len)) in
     let returned : c.return_item.new.buckets ≡ changed_by (Some number) (returned_record width) inside.buckets.items =
     c.return_item.ensures.buckets ∙ ap (λ (bs : List LinkedBucket). changed_by (Some number) (returned_record width) bs) c.deref_mut-2.ensures.value in
-    subst (AreSpansBut number inside.spans.each) (sym (c.deref-5.ensures.value ∙ items ∙ returned))
-    (spans-changed-room number (returned_record width) inside.spans.each inside.buckets.items (links-same width) c.self.invariant.1)
+    subst (AreSpansBut number inside.spans) (sym (c.deref-5.ensures.value ∙ items ∙ returned))
+    (spans-changed-room number (returned_record width) inside.spans inside.buckets.items (links-same width) c.self.invariant.1)
 
 pub follow-requires-clause-others : goal.follow-requires-clause-others
 follow-requires-clause-others c =
@@ -52,4 +52,4 @@ follow-requires-clause-others c =
 
 pub invariant_of-self : goal.invariant_of-self
 invariant_of-self c =
-    (subst (AreKnown c.follow.new.self) c.deref-6.ensures.value c.follow.ensures, subst (AreSpans c.track.new.self.each) c.deref-5.ensures.value c.track.ensures)
+    (subst (AreKnown c.follow.new.self) c.deref-6.ensures.value c.follow.ensures, subst (AreSpans c.track.new.self) c.deref-5.ensures.value c.track.ensures)

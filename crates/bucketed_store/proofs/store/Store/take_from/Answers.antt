@@ -17,8 +17,8 @@ track-requires-clause-others c =
     with_items_is inside.buckets c.take_from.new.buckets (omega (arith, c.take_from.auto.buckets, c.deref_mut.ensures.len)) in
     let taken : c.take_from.new.buckets ≡ changed_by (Some bucket) change inside.buckets.items =
     c.take_from.ensures ∙ ap (λ (bs : List LinkedBucket). changed_by (Some bucket) change bs) c.deref_mut.ensures.value in
-    subst (AreSpansBut bucket inside.spans.each) (sym (c.deref-2.ensures.value ∙ items ∙ taken))
-    (spans-changed-room bucket change inside.spans.each inside.buckets.items (λ b. refl) c.self.invariant.1)
+    subst (AreSpansBut bucket inside.spans) (sym (c.deref-2.ensures.value ∙ items ∙ taken))
+    (spans-changed-room bucket change inside.spans inside.buckets.items (λ b. refl) c.self.invariant.1)
 
 pub invariant_of-self : goal.invariant_of-self
-invariant_of-self c = (c.self.invariant.0, subst (AreSpans c.track.new.self.each) c.deref-2.ensures.value c.track.ensures)
+invariant_of-self c = (c.self.invariant.0, subst (AreSpans c.track.new.self) c.deref-2.ensures.value c.track.ensures)

@@ -17,7 +17,7 @@ copied (x ∷ xs) (y ∷ ys) same = ap (λ z. z ∷ ys) same.0 ∙ ap (λ zs. x 
 pub invariant_of-result : goal.invariant_of-result
 invariant_of-result c = (
   subst (AreKnown c.self.inside.blocks) (sym (copied c.self.inside.shelves.items c.in_ok-clone.field-0.items c.in_ok-clone.ensures.cases.0)) c.self.invariant.0,
-  subst (AreSpans c.self.inside.spans.each) (sym (copied c.self.inside.buckets.items c.in_ok-clone-2.field-0.items c.in_ok-clone-2.ensures.cases.0)) c.self.invariant.1,
+  subst (AreSpans c.self.inside.spans) (sym (copied c.self.inside.buckets.items c.in_ok-clone-2.field-0.items c.in_ok-clone-2.ensures.cases.0)) c.self.invariant.1,
 )
 
 pub returns : goal.returns
