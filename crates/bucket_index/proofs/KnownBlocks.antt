@@ -10,7 +10,7 @@ use Rattle.bucketed_records.specs.declared.records.KeptShelf.{KeptShelf}
 use Rattle.bucketed_records.specs.Private.Store.{is_kept_idle}
 use Rattle.bucket_index.specs.declared.blocks.Block.{Block}
 use Rattle.bucket_index.specs.declared.blocks.Blocks.{Blocks}
-use Rattle.bucket_index.specs.Private.Blocks.{AreFirstKnown, AreKnown, AreKnownOf, AreKnownWhere, AreOthersKnown, IsKnown, IsPart, block_of, joined, may_be_idle, may_give, raised, with_shelf}
+use Rattle.bucket_index.specs.Private.Blocks.{AreFirstKnown, AreKnown, AreKnownOf, AreKnownWhere, AreOthersKnown, IsKnown, IsKnownAt, IsKnownOf, IsPart, block_of, joined, may_be_idle, may_give, raised, with_shelf}
 
 -- what is read from a list after a write to one place: what was written, or else what was there
 pub read-set : {X P : Type 0} (xs : List X) (i j : ℕ) (v y : X) → slice_get (slice_set xs i v) j ≡ Some y → ((z : X) → slice_get xs i ≡ Some z → j ≡ i → y ≡ v → P)
@@ -280,3 +280,35 @@ known-same blocks xs ys same known =
       there = was;
       known = λ block is. record { room = omega (arith, is.room, room); idle = λ idle. is.idle (ap (λ (n : ℕ). n == 0) (sym live) ∙ idle) };
     })) known
+
+-- a shelf is known to its blocks where all are known
+pub known-at : (k : ℕ) (before : KeptShelf) (blocks : Blocks) (shelves : List KeptShelf) → slice_get shelves k ≡ Some before → AreKnown blocks shelves → IsKnownAt k before blocks
+known-at k before blocks shelves at known = record {
+  small = λ block stood. known.small k before block tt at stood;
+  middle = λ block stood. known.middle k before block tt at stood;
+  large = λ block stood. known.large k before block tt at stood;
+}
+
+-- a busy shelf with no more room than it had is known where it was, and all are where the others are
+pub known-stays : (k : ℕ) (before one : KeptShelf) (blocks : Blocks) (shelves : List KeptShelf) → slice_get shelves k ≡ Some one → one.widest_room ≤ before.widest_room → is_kept_idle one ≡ false → IsKnownAt k before blocks → AreOthersKnown k blocks shelves
+    → AreKnown blocks shelves
+known-stays k before one blocks shelves here narrow busy own others = record {
+  small = of_size 8 blocks.small own.small others.small;
+  middle = of_size 64 blocks.middle own.middle others.middle;
+  large = of_size 512 blocks.large own.large others.large;
+}
+  where
+    stays : (kept : KeptShelf) (block : Block) → one ≡ kept → IsKnown before block → IsKnown kept block
+    stays kept block same known = subst (λ (shelf : KeptShelf). IsKnown shelf block) same (record { room = omega (arith, known.room, narrow); idle = λ idle. absurd (cc) })
+
+    of_size : (size : ℕ) (bs : List Block) → IsKnownOf size k before bs → AreKnownOf (λ number. number ≡ k → ⊥) size bs shelves → AreKnownOf (λ number. Unit {0}) size bs shelves
+    of_size size bs is rest number kept block any at in_block = by_number (number == k) refl
+      where
+        apart : number ≡ k → (number == k) ≡ false → ⊥
+        apart same h = grind arith
+
+        by_number : (t : Bool) → (number == k) ≡ t → IsKnown kept block
+        by_number true e =
+            let same = eqb-true number k e in
+            stays kept block (some-same (slice_get shelves k) one kept here (ap (slice_get shelves) (sym same) ∙ at)) (is block (ap (λ (n : ℕ). slice_get bs (block_of size n)) (sym same) ∙ in_block))
+        by_number false e = rest number kept block (λ same. apart same e) at in_block

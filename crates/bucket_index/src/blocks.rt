@@ -219,6 +219,7 @@ impl Blocks {
     }
 
     /// Knows the blocks of the shelf of a number anew.
+    #[inline(never)]
     fn recount(&mut self, shelves: &[KeptShelf], number: usize)
         requires within { number < length shelves.now }
         requires others { spec.AreOthersKnown number self.old shelves.now }
@@ -235,10 +236,12 @@ impl Blocks {
         set_block(&mut self.large, large, fresh_large);
     }
 
-    /// Knows the shelf of a number, which was this one before. Its blocks are looked at where less may be known of
-    /// it now.
+    /// Knows the shelf of a number, which was this one before. Its blocks are looked at where more is to be known of it
+    /// now, or less may be.
+    #[inline(always)]
     pub fn follow(&mut self, shelves: &[KeptShelf], number: usize, before: &KeptShelf)
         requires within { number < length shelves.now }
+        requires before { spec.IsKnownAt number before.now self.old }
         requires others { spec.AreOthersKnown number self.old shelves.now }
         ensures { spec.AreKnown self.new shelves.now }
     {
@@ -248,7 +251,7 @@ impl Blocks {
             && !may_give(&self.small, number / SHELVES_OF_BLOCK, wider);
         if narrows || before.is_idle() && !kept.is_idle() {
             self.recount(shelves, number);
-        } else {
+        } else if before.widest_room < kept.widest_room || kept.is_idle() {
             self.raise(number, kept);
         }
     }

@@ -122,6 +122,7 @@ fn first_by_links(wanted: Wanted, buckets: &[LinkedBucket], first: Link) -> Opti
 }
 
 /// The same, by spans where none of their buckets has the room.
+#[inline(never)]
 fn first_by_spans(
     wanted: Wanted,
     buckets: &[LinkedBucket],

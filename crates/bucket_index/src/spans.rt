@@ -448,6 +448,7 @@ impl Spans {
 
     /// Knows the record of a number, which had this room before. Its spans are gone over where they may have less room
     /// now.
+    #[inline(always)]
     pub fn track(&mut self, buckets: &[LinkedBucket], number: usize, before: u16)
         requires within { number < length buckets.now }
         requires others { spec.AreSpansBut number self.old buckets.now }
@@ -465,6 +466,7 @@ impl Spans {
     }
 
     /// Knows a record whose room changed.
+    #[inline(never)]
     fn track_change(&mut self, buckets: &[LinkedBucket], change: &Change)
         requires number { change.now.number < length buckets.now }
         requires room { spec.room_at buckets.now change.now.number ≤ change.now.room }

@@ -36,6 +36,17 @@ pub record IsKnown (kept : KeptShelf) (block : Block) : Type 0 where
   pub room : kept.widest_room ≤ block.widest_room
   pub idle : is_kept_idle kept ≡ true → block.has_idle ≡ true
 
+-- the shelf of a number is known to its block of this size, if there is one of it
+abbrev pub IsKnownOf : ℕ → ℕ → KeptShelf → List Block → Type 0
+IsKnownOf size number kept blocks =
+    (block : Block) → slice_get blocks (block_of size number) ≡ Some block → IsKnown kept block
+
+-- the shelf of a number is known to its blocks of each size
+pub record IsKnownAt (number : ℕ) (kept : KeptShelf) (blocks : Blocks) : Type 0 where
+  pub small : IsKnownOf 8 number kept blocks.small
+  pub middle : IsKnownOf 64 number kept blocks.middle
+  pub large : IsKnownOf 512 number kept blocks.large
+
 -- what is known of a block is known of a larger one
 pub record IsPart (block whole : Block) : Type 0 where
   pub room : block.widest_room ≤ whole.widest_room

@@ -1,5 +1,7 @@
-use Rattle.std.proofs.Common.{◌≡◌, List, ap, subst, sym, ◌∙◌, arith}
+use Rattle.std.proofs.Common.{◌≡◌, List, Some, length, ap, subst, sym, ◌∙◌, arith}
 use Rattle.std.proofs.lemmas.List.{with_items_is}
+use Rattle.std.proofs.lemmas.Option.{slice_get-get_or}
+use Rattle.std.specs.Prelude.{slice_get}
 use Rattle.std.specs.Vec.{with_items}
 use Rattle.bucketed_model.specs.State.{most_buckets}
 use Rattle.bucketed_records.specs.declared.records.LinkedBucket.{LinkedBucket}
@@ -8,7 +10,7 @@ use Rattle.bucketed_records.specs.Private.Store.{Stored}
 use Rattle.bucket_index.specs.Private.Blocks.{AreKnown, AreOthersKnown}
 use Rattle.bucket_index.specs.Private.Searching.{widest_from}
 use Rattle.bucket_index.specs.Private.Spans.{AreSpans}
-use Rattle.bucket_index.proofs.KnownBlocks.{known-others}
+use Rattle.bucket_index.proofs.KnownBlocks.{known-at, known-others}
 use Rattle.bucketed_store.specs.Private.StoreEdits.{first_bucket_of, given_from, shelves_given}
 use Rattle.bucketed_store.proofs.store.Store.give_from.Goals as goal
 
@@ -30,6 +32,15 @@ returns c =
     ∙ ap (λ (bs : List LinkedBucket). shelves_given c.args.found.now.shelf shelves.items bs) c.deref-3.ensures.value in
     ap (λ (xs : List KeptShelf). let stored : Stored = record { shelves = xs; buckets = c.self.inside.buckets.items; unused = c.self.inside.unused } in stored) given
     ∙ ap (λ (stored : Stored). record stored { shelves = shelves_given c.args.found.now.shelf stored.shelves stored.buckets }) c.self.view_is
+
+pub follow-requires-clause-before : goal.follow-requires-clause-before
+follow-requires-clause-before c =
+    let shelves = c.self.inside.shelves.items in
+    let shelf = c.args.found.now.shelf in
+    let before = c.index.result.now in
+    let there : slice_get shelves shelf ≡ Some before =
+    slice_get-get_or shelves shelf before (omega (arith, c.requires.shelf, ap (λ (stored : Stored). length stored.shelves) c.self.view_is)) ∙ ap (λ (kept : KeptShelf). Some kept) (sym c.index.ensures) in
+    known-at shelf before c.self.inside.blocks shelves there c.self.invariant.0
 
 pub follow-requires-clause-others : goal.follow-requires-clause-others
 follow-requires-clause-others c =

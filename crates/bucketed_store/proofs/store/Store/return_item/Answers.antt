@@ -1,14 +1,16 @@
-use Rattle.std.proofs.Common.{◌≡◌, ℕ, List, Bool, true, false, Some, ap, cond, refl, subst, sym, ◌∙◌, arith}
+use Rattle.std.proofs.Common.{◌≡◌, ℕ, ◌<◌, List, Bool, true, false, Some, length, ap, cond, refl, subst, sym, ◌∙◌, arith}
 use Rattle.std.proofs.lemmas.List.{with_items_is}
-use Rattle.std.specs.Prelude.{nat_le}
+use Rattle.std.proofs.lemmas.Option.{slice_get-get_or}
+use Rattle.std.specs.Prelude.{nat_le, slice_get}
 use Rattle.std.specs.Vec.{with_items}
 use Rattle.etagere_links.specs.Edits.{changed_by}
 use Rattle.bucketed_records.specs.declared.records.LinkedBucket.{LinkedBucket}
 use Rattle.bucketed_records.specs.declared.records.KeptShelf.{KeptShelf}
 use Rattle.bucketed_records.specs.StandsFor.{live_of, shelf_of}
+use Rattle.bucketed_records.specs.Private.Store.{Stored}
 use Rattle.bucket_index.specs.Private.Blocks.{AreKnown, AreOthersKnown}
 use Rattle.bucket_index.specs.Private.Spans.{AreSpans, AreSpansBut}
-use Rattle.bucket_index.proofs.KnownBlocks.{known-others}
+use Rattle.bucket_index.proofs.KnownBlocks.{known-at, known-others}
 use Rattle.bucket_index.proofs.KnownSpans.{spans-changed-room}
 use Rattle.bucketed_store.specs.Private.Returns.{emptied_record, lessened_record, returned_kept, returned_record, width_of}
 use Rattle.bucketed_store.proofs.store.Store.return_item.Goals as goal
@@ -32,6 +34,18 @@ track-requires-clause-others c =
     c.return_item.ensures.buckets ∙ ap (λ (bs : List LinkedBucket). changed_by (Some number) (returned_record width) bs) c.deref_mut-2.ensures.value in
     subst (AreSpansBut number inside.spans) (sym (c.deref-5.ensures.value ∙ items ∙ returned))
     (spans-changed-room number (returned_record width) inside.spans inside.buckets.items (links-same width) c.self.invariant.1)
+
+pub follow-requires-clause-before : goal.follow-requires-clause-before
+follow-requires-clause-before c =
+    let inside = c.self.inside in
+    let shelves = inside.shelves.items in
+    let shelf = c.shelf_number-shelf.result in
+    let before = c.index.result.now in
+    let same : shelf ≡ shelf_of inside.buckets.items c.args.number = c.shelf_number-shelf.ensures ∙ ap (λ (bs : List LinkedBucket). shelf_of bs c.args.number) c.deref-3.ensures.value in
+    let within : shelf_of inside.buckets.items c.args.number < length shelves =
+    subst (λ (stored : Stored). shelf_of stored.buckets c.args.number < length stored.shelves) (sym c.self.view_is) c.requires.shelf in
+    let there : slice_get shelves shelf ≡ Some before = slice_get-get_or shelves shelf before (omega (arith, same, within)) ∙ ap (λ (kept : KeptShelf). Some kept) (sym c.index.ensures) in
+    known-at shelf before inside.blocks shelves there c.self.invariant.0
 
 pub follow-requires-clause-others : goal.follow-requires-clause-others
 follow-requires-clause-others c =
