@@ -14,7 +14,7 @@ use Rattle.bucket_index.specs.declared.spans.Span.{Span}
 use Rattle.bucket_index.specs.declared.searching.Wanted.{Wanted}
 use Rattle.bucket_index.specs.declared.searching.Wanted.TheVariants.{Roomy, Exact, Wide}
 use Rattle.bucket_index.specs.Private.Searching.{first_from, is_wanted, needed_room, widest_from}
-use Rattle.bucket_index.specs.Private.Spans.{AreOtherSpans, AreOtherSpansOf, AreSpans, AreSpansBut, AreSpansButOf, AreSpansOf, IsKnownSpan, IsKnownSpanBut, IsPassed, IsPassedSpan, IsSpan, IsSpanBut, IsWithin, IsWithinBut, Lead, block_of, joined, no_span, room_at, span_of, whole_of, widened}
+use Rattle.bucket_index.specs.Private.Spans.{AreBounds, AreOthers, AreOtherSpans, AreOtherSpansOf, AreSpans, AreSpansBut, AreSpansButOf, AreSpansOf, IsBoundOf, IsKnownSpan, IsKnownSpanBut, IsPassed, IsPassedSpan, IsSpan, IsSpanBut, IsWithin, IsWithinBut, Lead, block_of, bounded, no_span, room_at, span_of, whole_of, widened}
 use Rattle.etagere_links.specs.Links.{link_of, no_link}
 use Rattle.bucket_index.specs.declared.spans.Spans.{Spans}
 use Rattle.bucket_index.proofs.KnownBlocks.{read-changed}
@@ -112,19 +112,18 @@ but-first one numbered block span bs is =
 pub known-block : (numbered : ℕ → ℕ) (one block : ℕ) (span : Span) (bs : List LinkedBucket) → one ≡ block → IsKnownSpan numbered one span bs → IsKnownSpan numbered block span bs
 known-block numbered one block span bs same is = subst (λ (k : ℕ). IsKnownSpan numbered k span bs) same is
 
--- a span of a part of a block, and the one behind it
-pub span-joined : (scale block : ℕ) (span next : Span) (bs : List LinkedBucket) → link_of span.behind ≡ Some next.first → IsSpan (whole_of scale) block span bs → IsSpan (whole_of scale) block next bs
-    → IsSpan (whole_of scale) block (joined span next) bs
-span-joined scale block span next bs ends is on =
-    let wide : ℕ = max span.widest_room next.widest_room in
-    let one = lead-still span.steps (IsWithin (whole_of scale) block span.widest_room bs) (IsWithin (whole_of scale) block wide bs) bs bs (Some span.first) (link_of span.behind) (omega arith) (λ k low in_. refl)
-    (λ k low in_. (in_.0, omega (arith, in_.1))) is.lead in
-    let other = lead-still next.steps (IsWithin (whole_of scale) block next.widest_room bs) (IsWithin (whole_of scale) block wide bs) bs bs (Some next.first) (link_of next.behind) (omega arith) (λ k low in_. refl)
+-- a span of a block, and the one behind it
+pub span-joined : (numbered : ℕ → ℕ) (block first steps behind widest : ℕ) (next : Span) (bs : List LinkedBucket) → link_of behind ≡ Some next.first → IsSpan numbered block (record { first = first; steps = steps; behind = behind; widest_room = widest }) bs
+    → IsSpan numbered block next bs → IsSpan numbered block (record { first = first; steps = steps + next.steps; behind = next.behind; widest_room = max widest next.widest_room }) bs
+span-joined numbered block first steps behind widest next bs ends is on =
+    let wide : ℕ = max widest next.widest_room in
+    let one = lead-still steps (IsWithin numbered block widest bs) (IsWithin numbered block wide bs) bs bs (Some first) (link_of behind) (omega arith) (λ k low in_. refl) (λ k low in_. (in_.0, omega (arith, in_.1))) is.lead in
+    let other = lead-still next.steps (IsWithin numbered block next.widest_room bs) (IsWithin numbered block wide bs) bs bs (Some next.first) (link_of next.behind) (omega arith) (λ k low in_. refl)
     (λ k low in_. (in_.0, omega (arith, in_.1))) on.lead in
     record {
       some = omega (arith, is.some);
-      lead = lead-append span.steps next.steps (IsWithin (whole_of scale) block wide bs) bs (Some span.first) (link_of span.behind) (link_of next.behind) one
-          (subst (λ (l : Option ℕ). Lead next.steps (IsWithin (whole_of scale) block wide bs) bs l (link_of next.behind)) (sym ends) other);
+      lead = lead-append steps next.steps (IsWithin numbered block wide bs) bs (Some first) (link_of behind) (link_of next.behind) one
+          (subst (λ (l : Option ℕ). Lead next.steps (IsWithin numbered block wide bs) bs l (link_of next.behind)) (sym ends) other);
     }
 
 -- a span of a part is one of the block
@@ -227,6 +226,46 @@ pub raised-known : (one : ℕ) (numbered : ℕ → ℕ) (block room : ℕ) (span
 raised-known one numbered block room spans news bs set_ same narrow but =
     subst (λ (xs : List Span). AreSpansOf numbered xs bs) (sym (set_ ∙ ap (λ (k : ℕ). changed_by (Some k) (widened room) spans) same)) (spans-raised one numbered room spans bs narrow but)
 
+-- all are known where the span of a record's block has at most what others have or the record
+pub bounded-known : (one : ℕ) (numbered : ℕ → ℕ) (block bound room wide : ℕ) (spans news : List Span) (bs : List LinkedBucket) → news ≡ changed_by (Some block) (bounded wide) spans → block ≡ numbered one → wide ≡ max bound room
+    → room_at bs one ≤ room → AreSpansButOf one numbered spans bs → IsBoundOf numbered bound one spans bs → AreSpansOf numbered news bs
+bounded-known one numbered block bound room wide spans news bs set_ same is narrow but others =
+    subst (λ (xs : List Span). AreSpansOf numbered xs bs)
+    (sym (set_ ∙ ap (λ (k : ℕ). changed_by (Some k) (bounded wide) spans) same ∙ ap (λ (w : ℕ). changed_by (Some (numbered one)) (bounded w) spans) is)) all
+  where
+    all : AreSpansOf numbered (changed_by (Some (numbered one)) (bounded (max bound room)) spans) bs
+    all b span at =
+        read-changed (bounded (max bound room)) spans (numbered one) b span at
+        (λ z stood here set__. subst (λ (k : ℕ). IsKnownSpan numbered k span bs) (sym here) (subst (λ (s : Span). IsKnownSpan numbered (numbered one) s bs) (sym set__) (span-widened one numbered (numbered one) room (bounded bound z) bs narrow (others z stood))))
+        (λ apart stood. but-others one numbered spans bs but b span apart stood)
+
+-- what others have stays known where the span's own bound was changed
+pub bound-kept : (one : ℕ) (numbered : ℕ → ℕ) (block bound wide : ℕ) (spans news : List Span) (bs : List LinkedBucket) → news ≡ changed_by (Some block) (bounded wide) spans → block ≡ numbered one → IsBoundOf numbered bound one spans bs
+    → IsBoundOf numbered bound one news bs
+bound-kept one numbered block bound wide spans news bs set_ same others =
+    subst (λ (xs : List Span). IsBoundOf numbered bound one xs bs) (sym (set_ ∙ ap (λ (k : ℕ). changed_by (Some k) (bounded wide) spans) same)) all
+  where
+    all : IsBoundOf numbered bound one (changed_by (Some (numbered one)) (bounded wide) spans) bs
+    all span at =
+        read-changed (bounded wide) spans (numbered one) (numbered one) span at
+        (λ z stood here set__. subst (λ (s : Span). IsKnownSpanBut one numbered (numbered one) (bounded bound s) bs) (sym set__) (others z stood)) (λ apart stood. absurd (apart refl))
+
+-- what others have is what was known before a record was widened
+pub bound-widened : (one : ℕ) (numbered : ℕ → ℕ) (block room bound : ℕ) (before : Span) (spans news : List Span) (bs : List LinkedBucket) → news ≡ changed_by (Some block) (widened room) spans → block ≡ numbered one → before ≡ span_of spans block
+    → bound ≡ before.widest_room → AreSpansButOf one numbered spans bs → IsBoundOf numbered bound one news bs
+bound-widened one numbered block room bound before spans news bs set_ same read is but =
+    subst (λ (xs : List Span). IsBoundOf numbered bound one xs bs) (sym (set_ ∙ ap (λ (k : ℕ). changed_by (Some k) (widened room) spans) same)) all
+  where
+    all : IsBoundOf numbered bound one (changed_by (Some (numbered one)) (widened room) spans) bs
+    all span at =
+        read-changed (widened room) spans (numbered one) (numbered one) span at
+        (λ z stood here set__.
+        let found : before ≡ z = read ∙ ap (span_of spans) same ∙ ap (λ (o : Option Span). option_map_or (λ (s : Span). s) o no_span) stood in
+        let wide : bound ≡ z.widest_room = is ∙ ap (λ (s : Span). s.widest_room) found in
+        subst (λ (s : Span). IsKnownSpanBut one numbered (numbered one) (bounded bound s) bs) (sym set__)
+        (subst (λ (w : ℕ). IsKnownSpanBut one numbered (numbered one) (bounded w z) bs) (sym wide) (but (numbered one) z stood)))
+        (λ apart stood. absurd (apart refl))
+
 -- where blocks are numbered the same, the same is known
 same-numbered : (numbered as_ : ℕ → ℕ) (spans : List Span) (bs : List LinkedBucket) → ((n : ℕ) → numbered n ≡ as_ n) → AreSpansOf numbered spans bs → AreSpansOf as_ spans bs
 same-numbered numbered as_ spans bs same are block span at known =
@@ -281,14 +320,46 @@ of-changed-room one change numbered spans xs links are block span at known =
     inner : (k : ℕ) → Some one ≡ Some k → k ≡ one
     inner k h = cc
 
+bound-changed-room : (one : ℕ) (change : LinkedBucket → LinkedBucket) (numbered : ℕ → ℕ) (room : ℕ) (spans : List Span) (xs : List LinkedBucket) → ((b : LinkedBucket) → (change b).next ≡ b.next) → IsBoundOf numbered room one spans xs
+    → IsBoundOf numbered room one spans (changed_by (Some one) change xs)
+bound-changed-room one change numbered room spans xs links are span at known =
+    let is = are span at known in
+    let ys = changed_by (Some one) change xs in
+    record {
+      some = is.some;
+      lead = lead-still span.steps (IsWithinBut one numbered (numbered one) room xs) (IsWithinBut one numbered (numbered one) room ys) xs ys (Some span.first) (link_of span.behind) (omega (arith, length-changed_by change xs (Some one)))
+          (λ k low in_. link_at-same (λ (b : LinkedBucket). b.next) xs ys k (map-changed_by (λ (b : LinkedBucket). b.next) change xs (Some one) links))
+          (λ k low in_. (in_.0, λ other. omega (arith, in_.1 other, ap (λ (r : Option LinkedBucket). option_map_or record_room r 0) (get-changed_by-other change xs (Some one) k (λ (h : Some one ≡ Some k). other (inner k h)))))) is.lead;
+    }
+  where
+    inner : (k : ℕ) → Some one ≡ Some k → k ≡ one
+    inner k h = cc
+
+-- what is known of others stays right where the record was changed alone
+others-changed-room : (one : ℕ) (change : LinkedBucket → LinkedBucket) (spans : Spans) (xs : List LinkedBucket) → ((b : LinkedBucket) → (change b).next ≡ b.next) → AreOthers spans xs → spans.others.number ≡ one
+    → AreOthers spans (changed_by (Some one) change xs)
+others-changed-room one change spans xs links others same known =
+    subst (λ (k : ℕ). AreBounds spans (changed_by (Some k) change xs)) same (
+    let bounds = others known in
+    let number = spans.others.number in
+    record {
+      small = bound-changed-room number change (block_of 1) spans.others.small spans.small xs links bounds.small;
+      middle = bound-changed-room number change (block_of 8) spans.others.middle spans.middle xs links bounds.middle;
+      large = bound-changed-room number change (block_of 64) spans.others.large spans.large xs links bounds.large;
+    }
+    )
+
 pub spans-changed-room : (one : ℕ) (change : LinkedBucket → LinkedBucket) (spans : Spans) (xs : List LinkedBucket) → ((b : LinkedBucket) → (change b).next ≡ b.next) → AreSpans spans xs
     → AreSpansBut one spans (changed_by (Some one) change xs)
 spans-changed-room one change spans xs links are learned =
-    let known = are learned in
+    let known = (are learned).known in
     record {
-      small = of-changed-room one change (block_of 1) spans.small xs links known.small;
-      middle = of-changed-room one change (block_of 8) spans.middle xs links known.middle;
-      large = of-changed-room one change (block_of 64) spans.large xs links known.large;
+      known = record {
+        small = of-changed-room one change (block_of 1) spans.small xs links known.small;
+        middle = of-changed-room one change (block_of 8) spans.middle xs links known.middle;
+        large = of-changed-room one change (block_of 64) spans.large xs links known.large;
+      };
+      others = λ same. others-changed-room one change spans xs links (are learned).others same;
     }
 
 -- where the record of a number was changed
@@ -311,7 +382,7 @@ of-changed one change numbered spans xs are block span apart at known =
 
 pub spans-changed : (one : ℕ) (change : LinkedBucket → LinkedBucket) (spans : Spans) (xs : List LinkedBucket) → AreSpans spans xs → AreOtherSpans one spans (changed_by (Some one) change xs)
 spans-changed one change spans xs are learned =
-    let known = are learned in
+    let known = (are learned).known in
     record {
       small = of-changed one change (block_of 1) spans.small xs known.small;
       middle = of-changed one change (block_of 8) spans.middle xs known.middle;
@@ -339,13 +410,31 @@ of-added numbered spans xs ys are block span at known =
           (λ k low in_. (in_.0, omega (arith, in_.1, ap (λ (r : Option LinkedBucket). option_map_or record_room r 0) (before-added xs ys k low)))) is.lead;
     }
 
+bound-added : (numbered : ℕ → ℕ) (room one : ℕ) (spans : List Span) (xs ys : List LinkedBucket) → IsBoundOf numbered room one spans xs → IsBoundOf numbered room one spans (xs ++ ys)
+bound-added numbered room one spans xs ys are span at known =
+    let is = are span at known in
+    record {
+      some = is.some;
+      lead = lead-still span.steps (IsWithinBut one numbered (numbered one) room xs) (IsWithinBut one numbered (numbered one) room (xs ++ ys)) xs (xs ++ ys) (Some span.first) (link_of span.behind) (longer-added xs ys)
+          (λ k low in_. ap (option_and_then (λ (b : LinkedBucket). b.next)) (before-added xs ys k low))
+          (λ k low in_. (in_.0, λ other. omega (arith, in_.1 other, ap (λ (r : Option LinkedBucket). option_map_or record_room r 0) (before-added xs ys k low)))) is.lead;
+    }
+
 pub spans-added : (spans : Spans) (xs ys : List LinkedBucket) → AreSpans spans xs → AreSpans spans (xs ++ ys)
 spans-added spans xs ys are learned =
-    let known = are learned in
+    let known = (are learned).known in
+    let number = spans.others.number in
     record {
-      small = of-added (block_of 1) spans.small xs ys known.small;
-      middle = of-added (block_of 8) spans.middle xs ys known.middle;
-      large = of-added (block_of 64) spans.large xs ys known.large;
+      known = record {
+        small = of-added (block_of 1) spans.small xs ys known.small;
+        middle = of-added (block_of 8) spans.middle xs ys known.middle;
+        large = of-added (block_of 64) spans.large xs ys known.large;
+      };
+      others = λ some. record {
+        small = bound-added (block_of 1) spans.others.small number spans.small xs ys ((are learned).others some).small;
+        middle = bound-added (block_of 8) spans.others.middle number spans.middle xs ys ((are learned).others some).middle;
+        large = bound-added (block_of 64) spans.others.large number spans.large xs ys ((are learned).others some).large;
+      };
     }
 
 -- a search that stays where it is

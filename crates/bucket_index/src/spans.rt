@@ -51,10 +51,22 @@ pub struct Span {
     pub widest_room: u16,
 }
 
+/// How much room others have in the spans of the blocks of a record.
+#[derive(Clone, Copy)]
+pub struct Others {
+    /// The number of the record; 65535 where nothing is known.
+    pub number: usize,
+    pub small: u16,
+    pub middle: u16,
+    pub large: u16,
+}
+
 /// The spans of an atlas's records, in three sizes. Before a long row was learned nothing is known.
 #[derive(Clone, Copy)]
 pub struct Spans {
     pub are_learned: bool,
+    /// Those of the record that was widened last, so that it narrows again without a search.
+    pub others: Others,
     pub small: [Span; MOST_SMALL],
     pub middle: [Span; MOST_MIDDLE],
     pub large: [Span; MOST_LARGE],
@@ -84,6 +96,18 @@ fn no_span() -> Span
         steps: u16::MAX,
         behind: u16::MAX,
         widest_room: u16::MAX,
+    }
+}
+
+/// Nothing is known of others.
+fn no_others() -> Others
+    ensures { result.number ≡ no_link }
+{
+    Others {
+        number: usize::from(u16::MAX),
+        small: 0,
+        middle: 0,
+        large: 0,
     }
 }
 
@@ -155,30 +179,18 @@ fn span_from(buckets: &[LinkedBucket], first: usize) -> Span
 
 /// Whether a span begins with the record of a number.
 #[inline(always)]
-fn begins_with(span: Span, number: usize) -> bool
-    ensures { IsTrue result → span.first ≡ number }
+fn begins_with(span: &Span, number: usize) -> bool
+    ensures { IsTrue result → span.now.first ≡ number }
 {
     usize::from(span.first) == number
 }
 
-/// A span and the one behind it as one span.
-fn joined(span: Span, next: Span) -> Span
-    requires { span.steps + next.steps < 65536 }
-    ensures { result ≡ spec.joined span next }
+/// Whether a span of so many records goes on with the next one, which begins with the record of a number.
+#[inline(always)]
+fn goes_on(steps: u16, next: &Span, number: usize) -> bool
+    ensures { IsTrue result → (next.now.first ≡ number) × (steps + next.now.steps < 65536) }
 {
-    Span {
-        first: span.first,
-        steps: span.steps + next.steps,
-        behind: next.behind,
-        widest_room: wider(span.widest_room, next.widest_room),
-    }
-}
-
-/// Whether a span goes on with the next one, which begins with the record of a number.
-fn goes_on(span: Span, next: Span, number: usize) -> bool
-    ensures { IsTrue result → (next.first ≡ number) × (span.steps + next.steps < 65536) }
-{
-    begins_with(next, number) && u32::from(span.steps) + u32::from(next.steps) <= MOST_BUCKETS
+    begins_with(next, number) && u32::from(steps) + u32::from(next.steps) <= MOST_BUCKETS
 }
 
 /// The span that begins with the record of a number, and leads on by those of the parts of its block.
@@ -189,22 +201,35 @@ fn gathered(parts: &[Span], scale: usize, first: usize) -> Span
         → spec.IsKnownSpan (spec.whole_of scale) (spec.whole_of scale first) result buckets }
 {
     let whole = block_of(scale, first) / PARTS_OF_BLOCK;
-    let mut span = span_of(parts, block_of(scale, first));
-    if !begins_with(span, first) {
+    let begin = span_of(parts, block_of(scale, first));
+    if !begins_with(&begin, first) {
         return no_span();
     }
+    let mut steps = begin.steps;
+    let mut behind = begin.behind;
+    let mut widest = begin.widest_room;
     for _part in 1..PARTS_OF_BLOCK {
-        let Some(number) = Link::from_bits(span.behind).number() else {
+        let Some(number) = Link::from_bits(behind).number() else {
             break;
         };
         let part = block_of(scale, number);
-        let next = span_of(parts, part);
-        if part / PARTS_OF_BLOCK != whole || !goes_on(span, next, number) {
+        if part >= parts.len() || part / PARTS_OF_BLOCK != whole {
             break;
         }
-        span = joined(span, next);
+        let next = &parts[part];
+        if !goes_on(steps, next, number) {
+            break;
+        }
+        steps += next.steps;
+        behind = next.behind;
+        widest = wider(widest, next.widest_room);
     }
-    span
+    Span {
+        first: begin.first,
+        steps,
+        behind,
+        widest_room: widest,
+    }
 }
 
 /// How many records `stays_wide` looks at.
@@ -309,14 +334,25 @@ fn raise_span(spans: &mut [Span], block: usize, room: u16)
     }
 }
 
+/// Knows that the span of a block has at most so much room.
+#[inline(always)]
+fn bound_span(spans: &mut [Span], block: usize, room: u16)
+    ensures { spans.new ≡ changed_by (Some block) (spec.bounded room) spans.old }
+{
+    if block < spans.len() {
+        let span = &mut spans[block];
+        span.widest_room = room;
+    }
+}
+
 /// Whether a search for this width passes a span from the record of a number on, where so many may still be looked at.
 #[inline(always)]
-fn is_passed(span: Span, number: usize, width: u32, left: u32) -> bool
-    ensures { IsTrue result → spec.IsPassedSpan number width left span }
+fn is_passed(span: &Span, number: usize, width: u32, left: u32) -> bool
+    ensures { IsTrue result → spec.IsPassedSpan number width left span.now }
 {
-    let widest = u32::from(span.widest_room);
-    let steps = u32::from(span.steps);
-    begins_with(span, number) && widest < width && steps <= left
+    begins_with(span, number)
+        && u32::from(span.widest_room) < width
+        && u32::from(span.steps) <= left
 }
 
 /// Where a search for this width that has come to a link goes on: behind spans of one size in which no record has so
@@ -333,7 +369,11 @@ fn behind_narrow(spans: &[Span], scale: usize, from: Link, most: u32, width: u32
         let Some(number) = at.number() else {
             break;
         };
-        let span = span_of(spans, block_of(scale, number));
+        let block = block_of(scale, number);
+        if block >= spans.len() {
+            break;
+        }
+        let span = &spans[block];
         if !is_passed(span, number, width, left) {
             break;
         }
@@ -379,6 +419,7 @@ impl Spans {
         let none = no_span();
         Spans {
             are_learned: true,
+            others: no_others(),
             small: [none; MOST_SMALL],
             middle: [none; MOST_MIDDLE],
             large: [none; MOST_LARGE],
@@ -412,7 +453,7 @@ impl Spans {
     {
         match link.number() {
             Some(number) => {
-                self.are_learned && begins_with(self.small[block_of(SMALL, number)], number)
+                self.are_learned && begins_with(&self.small[block_of(SMALL, number)], number)
             }
             None => false,
         }
@@ -441,6 +482,7 @@ impl Spans {
         if !self.are_learned {
             return;
         }
+        self.others = no_others();
         set_span(&mut self.small, block_of(SMALL, number), no_span());
         set_span(&mut self.middle, block_of(MIDDLE, number), no_span());
         set_span(&mut self.large, block_of(LARGE, number), no_span());
@@ -470,14 +512,77 @@ impl Spans {
     fn track_change(&mut self, buckets: &[LinkedBucket], change: &Change)
         requires number { change.now.number < length buckets.now }
         requires room { spec.room_at buckets.now change.now.number ≤ change.now.room }
+        requires others { spec.AreLearnedBut change.now.number self.old buckets.now }
+        ensures { spec.AreLearned self.new buckets.now }
+    {
+        if change.before <= change.room {
+            self.widen(change);
+        } else if self.was_widened(change.number) {
+            self.narrow_again(change);
+        } else {
+            self.narrow(buckets, change);
+        }
+    }
+
+    /// Whether the record of a number was widened last.
+    fn was_widened(&self, number: usize) -> bool
+        ensures { IsTrue result → (self.now.others.number ≡ number) × (number < no_link) }
+    {
+        number == self.others.number && number < usize::from(u16::MAX)
+    }
+
+    /// Knows a record that may have more room now.
+    fn widen(&mut self, change: &Change)
+        ensures { (buckets : List LinkedBucket)
+            → spec.room_at buckets change.now.number ≤ change.now.room
+            → spec.AreKnownSpansBut change.now.number self.old buckets
+            → spec.AreLearned self.new buckets }
+    {
+        let small = block_of(SMALL, change.number);
+        let middle = block_of(MIDDLE, change.number);
+        let large = block_of(LARGE, change.number);
+        self.others = Others {
+            number: change.number,
+            small: span_of(&self.small, small).widest_room,
+            middle: span_of(&self.middle, middle).widest_room,
+            large: span_of(&self.large, large).widest_room,
+        };
+        raise_span(&mut self.small, small, change.room);
+        raise_span(&mut self.middle, middle, change.room);
+        raise_span(&mut self.large, large, change.room);
+    }
+
+    /// Knows the record that was widened last, which may have less room now: what others have is known.
+    fn narrow_again(&mut self, change: &Change)
+        requires last { self.old.others.number ≡ change.now.number }
+        requires some { change.now.number < no_link }
+        ensures { (buckets : List LinkedBucket)
+            → spec.room_at buckets change.now.number ≤ change.now.room
+            → spec.AreKnownSpansBut change.now.number self.old buckets
+            → spec.AreOthers self.old buckets → spec.AreLearned self.new buckets }
+    {
+        let room = change.room;
+        let small = wider(self.others.small, room);
+        let middle = wider(self.others.middle, room);
+        let large = wider(self.others.large, room);
+        bound_span(&mut self.small, block_of(SMALL, change.number), small);
+        bound_span(&mut self.middle, block_of(MIDDLE, change.number), middle);
+        bound_span(&mut self.large, block_of(LARGE, change.number), large);
+    }
+
+    /// Knows a record that may have less room now.
+    fn narrow(&mut self, buckets: &[LinkedBucket], change: &Change)
+        requires number { change.now.number < length buckets.now }
+        requires room { spec.room_at buckets.now change.now.number ≤ change.now.room }
         requires others { spec.AreKnownSpansBut change.now.number self.old buckets.now }
-        ensures { spec.AreKnownSpans self.new buckets.now }
+        ensures { spec.AreLearned self.new buckets.now }
     {
         let number = change.number;
         let before = span_of(&self.small, block_of(SMALL, number));
         let small = followed(buckets, before, change);
+        self.others = no_others();
         set_span(&mut self.small, block_of(SMALL, number), small);
-        if change.room < change.before && small.widest_room < change.before {
+        if small.widest_room < change.before {
             gather_again(&self.small, SMALL, &mut self.middle, number);
             gather_again(&self.middle, MIDDLE, &mut self.large, number);
         } else {
@@ -495,6 +600,7 @@ impl Spans {
         learn_small(&mut self.small, buckets, first);
         gather(&self.small, SMALL, &mut self.middle, first);
         gather(&self.middle, MIDDLE, &mut self.large, first);
+        self.others = no_others();
     }
 
     /// Knows no more than before, and of each block what is known of it.
@@ -534,7 +640,7 @@ fn learn_from(spans: &mut [Span], buckets: &[LinkedBucket], number: usize) -> Li
 {
     let block = block_of(SMALL, number);
     let known = span_of(spans, block);
-    if begins_with(known, number) {
+    if begins_with(&known, number) {
         return Link::from_bits(known.behind);
     }
     let span = span_from(buckets, number);

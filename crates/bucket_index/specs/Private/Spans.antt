@@ -74,19 +74,13 @@ no_span = record { first = no_link; steps = 65535; behind = 65535; widest_room =
 abbrev pub span_of : List Span → ℕ → Span
 span_of spans block = option_map_or (λ (span : Span). span) (slice_get spans block) no_span
 
--- a span and the one behind it as one span
-abbrev pub joined : Span → Span → Span
-joined span next =
-    record {
-      first = span.first;
-      steps = span.steps + next.steps;
-      behind = next.behind;
-      widest_room = max span.widest_room next.widest_room;
-    }
-
 -- a span that may have so much room
 abbrev pub widened : ℕ → Span → Span
 widened room span = record span { widest_room = max span.widest_room room }
+
+-- a span that has at most so much room
+abbrev pub bounded : ℕ → Span → Span
+bounded room span = record span { widest_room = room }
 
 -- each span of blocks that are numbered so is one of its block
 abbrev pub AreSpansOf : (ℕ → ℕ) → List Span → List LinkedBucket → Type 0
@@ -121,15 +115,41 @@ AreKnownSpans spans buckets = AreSpansWhere AreSpansOf spans buckets
 abbrev pub AreKnownSpansBut : ℕ → Spans → List LinkedBucket → Type 0
 AreKnownSpansBut one spans buckets = AreSpansWhere (AreSpansButOf one) spans buckets
 
--- where spans were learned, each is one of its block
+-- no other record in the span of a record's block has more room than this
+abbrev pub IsBoundOf : (ℕ → ℕ) → ℕ → ℕ → List Span → List LinkedBucket → Type 0
+IsBoundOf numbered room one spans buckets =
+    (span : Span) → slice_get spans (numbered one) ≡ Some span
+    → IsKnownSpanBut one numbered (numbered one) (bounded room span) buckets
+
+-- how much room others have in the spans of the record that was widened last
+pub record AreBounds (spans : Spans) (buckets : List LinkedBucket) : Type 0 where
+  pub small : IsBoundOf (block_of 1) spans.others.small spans.others.number spans.small buckets
+  pub middle : IsBoundOf (block_of 8) spans.others.middle spans.others.number spans.middle buckets
+  pub large : IsBoundOf (block_of 64) spans.others.large spans.others.number spans.large buckets
+
+-- the same where one was
+abbrev pub AreOthers : Spans → List LinkedBucket → Type 0
+AreOthers spans buckets = spans.others.number < no_link → AreBounds spans buckets
+
+-- each span is one of its block, and what is known of others is right
+pub record AreLearned (spans : Spans) (buckets : List LinkedBucket) : Type 0 where
+  pub known : AreKnownSpans spans buckets
+  pub others : AreOthers spans buckets
+
+-- the same where nothing is said of the room of one record
+pub record AreLearnedBut (one : ℕ) (spans : Spans) (buckets : List LinkedBucket) : Type 0 where
+  pub known : AreKnownSpansBut one spans buckets
+  pub others : spans.others.number ≡ one → AreOthers spans buckets
+
+-- where spans were learned, they are right
 abbrev pub AreSpans : Spans → List LinkedBucket → Type 0
-AreSpans spans buckets = spans.are_learned ≡ true → AreKnownSpans spans buckets
+AreSpans spans buckets = spans.are_learned ≡ true → AreLearned spans buckets
 
 -- the same where nothing is said of the room of one record
 abbrev pub AreSpansBut : ℕ → Spans → List LinkedBucket → Type 0
-AreSpansBut one spans buckets = spans.are_learned ≡ true → AreKnownSpansBut one spans buckets
+AreSpansBut one spans buckets = spans.are_learned ≡ true → AreLearnedBut one spans buckets
 
--- the same of each span of another block than that of this record
+-- where spans were learned, each of another block than that of this record is one of its block
 abbrev pub AreOtherSpans : ℕ → Spans → List LinkedBucket → Type 0
 AreOtherSpans one spans buckets =
     spans.are_learned ≡ true → AreSpansWhere (AreOtherSpansOf one) spans buckets

@@ -1,3 +1,4 @@
+use Rattle.std.proofs.Common.{arith}
 use Rattle.bucket_index.specs.Private.Spans.{block_of}
 use Rattle.bucket_index.proofs.KnownSpans.{forgotten}
 use Rattle.bucket_index.proofs.spans.Spans.forget.Goals as goal
@@ -9,7 +10,10 @@ returns c learned =
     let buckets = c.args.buckets.now in
     let others = c.requires learned in
     record {
-      small = forgotten number (block_of 1) c.block_of.result c.no_span.result self.small c.set_span.new.spans buckets c.set_span.ensures c.block_of.ensures.value c.no_span.ensures others.small;
-      middle = forgotten number (block_of 8) c.block_of-2.result c.no_span-2.result self.middle c.set_span-2.new.spans buckets c.set_span-2.ensures c.block_of-2.ensures.value c.no_span-2.ensures others.middle;
-      large = forgotten number (block_of 64) c.block_of-3.result c.no_span-3.result self.large c.set_span-3.new.spans buckets c.set_span-3.ensures c.block_of-3.ensures.value c.no_span-3.ensures others.large;
+      known = record {
+        small = forgotten number (block_of 1) c.block_of.result c.no_span.result self.small c.set_span.new.spans buckets c.set_span.ensures c.block_of.ensures.value c.no_span.ensures others.small;
+        middle = forgotten number (block_of 8) c.block_of-2.result c.no_span-2.result self.middle c.set_span-2.new.spans buckets c.set_span-2.ensures c.block_of-2.ensures.value c.no_span-2.ensures others.middle;
+        large = forgotten number (block_of 64) c.block_of-3.result c.no_span-3.result self.large c.set_span-3.new.spans buckets c.set_span-3.ensures c.block_of-3.ensures.value c.no_span-3.ensures others.large;
+      };
+      others = λ some. absurd (omega (arith, some, c.no_others-self.ensures));
     }

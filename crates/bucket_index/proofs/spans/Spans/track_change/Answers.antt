@@ -1,39 +1,6 @@
-use Rattle.std.proofs.Common.{◌≡◌, ℕ, List, Some, ap, sym, ◌∙◌}
-use Rattle.etagere_links.specs.Edits.{changed_by}
-use Rattle.bucketed_records.specs.declared.records.LinkedBucket.{LinkedBucket}
-use Rattle.bucket_index.specs.Private.Spans.{AreSpansButOf, AreSpansOf, IsKnownSpan, IsKnownSpanBut, Span, block_of, span_of}
-use Rattle.bucket_index.proofs.KnownSpans.{but-others, fresh-known, large-wholes, middle-wholes, raised-known, span-of-but, wholes-large-but, wholes-middle-but}
 use Rattle.bucket_index.proofs.spans.Spans.track_change.Goals as goal
 
--- small blocks are known with the one of the record
-small : (number block other : ℕ) (before fresh : Span) (spans news : List Span) (buckets : List LinkedBucket) → news ≡ changed_by (Some other) (λ _. fresh) spans → block ≡ block_of 1 number → other ≡ block_of 1 number → before ≡ span_of spans block
-    → ((k : ℕ) → IsKnownSpanBut number (block_of 1) k before buckets → IsKnownSpan (block_of 1) k fresh buckets) → AreSpansButOf number (block_of 1) spans buckets → AreSpansOf (block_of 1) news buckets
-small number block other before fresh spans news buckets set_ here there read follows but =
-    let is : span_of spans (block_of 1 number) ≡ before = ap (span_of spans) (sym here) ∙ sym read in
-    fresh-known number (block_of 1) other fresh spans news buckets set_ there (follows (block_of 1 number) (span-of-but number (block_of 1) spans (block_of 1 number) before buckets is but)) (but-others number (block_of 1) spans buckets but)
-
-pub returns-then-small-change : goal.returns-then-small-change
-returns-then-small-change c =
-    let number = c.args.change.now.number in
-    let self = c.args.self.now in
-    let buckets = c.args.buckets.now in
-    let middle = middle-wholes c.gather_again.new.wholes buckets (c.gather_again.ensures buckets (small c.args.change.now.number c.block_of.result c.block_of-2.result c.span_of-before.result c.followed-small.result c.args.self.now.small c.set_span.new.spans c.args.buckets.now c.set_span.ensures c.block_of.ensures.value c.block_of-2.ensures.value c.span_of-before.ensures c.followed-small.ensures c.requires.others.small) (wholes-middle-but number self.middle buckets c.requires.others.middle)) in
-    record {
-      small = (small c.args.change.now.number c.block_of.result c.block_of-2.result c.span_of-before.result c.followed-small.result c.args.self.now.small c.set_span.new.spans c.args.buckets.now c.set_span.ensures c.block_of.ensures.value c.block_of-2.ensures.value c.span_of-before.ensures c.followed-small.ensures c.requires.others.small);
-      middle = middle;
-      large = large-wholes c.gather_again-then-small-change.new.wholes buckets
-          (c.gather_again-then-small-change.ensures buckets middle (wholes-large-but number self.large buckets c.requires.others.large));
-    }
-
-pub returns-else-change : goal.returns-else-change
-returns-else-change c =
-    let number = c.args.change.now.number in
-    let room = c.args.change.now.room in
-    let self = c.args.self.now in
-    let buckets = c.args.buckets.now in
-    record {
-      small = (small c.args.change.now.number c.block_of.result c.block_of-2.result c.span_of-before.result c.followed-small.result c.args.self.now.small c.set_span.new.spans c.args.buckets.now c.set_span.ensures c.block_of.ensures.value c.block_of-2.ensures.value c.span_of-before.ensures c.followed-small.ensures c.requires.others.small);
-      middle = raised-known number (block_of 8) c.block_of-else-change.result room self.middle c.raise_span.new.spans buckets c.raise_span.ensures c.block_of-else-change.ensures.value c.requires.room c.requires.others.middle;
-      large = raised-known number (block_of 64) c.block_of-else-change-2.result room self.large c.raise_span-else-change.new.spans buckets c.raise_span-else-change.ensures c.block_of-else-change-2.ensures.value c.requires.room
-          c.requires.others.large;
-    }
+pub returns-then-was_widened : goal.returns-then-was_widened
+returns-then-was_widened c =
+    let last = c.was_widened.ensures c.if-was_widened.true in
+    c.narrow_again.ensures c.args.buckets.now c.requires.room c.requires.others.known (c.requires.others.others last.0)
