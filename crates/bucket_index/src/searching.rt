@@ -83,6 +83,7 @@ fn needed_room(wanted: Wanted) -> u32
 }
 
 /// The number of the first bucket that is wanted, by the links from this one on.
+#[inline(always)]
 pub fn first_wanted(
     wanted: Wanted,
     buckets: &[LinkedBucket],

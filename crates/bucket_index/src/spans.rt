@@ -310,9 +310,10 @@ fn gathered_again(parts: &[Span], scale: usize, span: Span) -> Span
     gathered(parts, scale, usize::from(span.first))
 }
 
-/// Knows again the span of the block of a record whose room changed, where those of the block's parts are known.
+/// Knows again the span of the block of a record whose room changed, where those of the block's parts are known, and
+/// answers the room that it may have.
 #[inline(always)]
-fn gather_again(parts: &[Span], scale: usize, wholes: &mut [Span], number: usize)
+fn gather_again(parts: &[Span], scale: usize, wholes: &mut [Span], number: usize) -> u16
     requires { 0 < scale }
     ensures { (buckets : List LinkedBucket) → spec.AreSpansOf (spec.block_of scale) parts.now buckets
         → spec.AreSpansButOf number (spec.whole_of scale) wholes.old buckets
@@ -320,7 +321,9 @@ fn gather_again(parts: &[Span], scale: usize, wholes: &mut [Span], number: usize
 {
     let whole = block_of(scale, number) / PARTS_OF_BLOCK;
     let span = span_of(wholes, whole);
-    set_span(wholes, whole, gathered_again(parts, scale, span));
+    let fresh = gathered_again(parts, scale, span);
+    set_span(wholes, whole, fresh);
+    fresh.widest_room
 }
 
 /// Knows that the span of a block may have so much room.
@@ -582,12 +585,16 @@ impl Spans {
         let small = followed(buckets, before, change);
         self.others = no_others();
         set_span(&mut self.small, block_of(SMALL, number), small);
-        if small.widest_room < change.before {
-            gather_again(&self.small, SMALL, &mut self.middle, number);
-            gather_again(&self.middle, MIDDLE, &mut self.large, number);
-        } else {
+        if change.before <= small.widest_room {
             raise_span(&mut self.middle, block_of(MIDDLE, number), change.room);
             raise_span(&mut self.large, block_of(LARGE, number), change.room);
+            return;
+        }
+        let middle = gather_again(&self.small, SMALL, &mut self.middle, number);
+        if change.before <= middle {
+            raise_span(&mut self.large, block_of(LARGE, number), change.room);
+        } else {
+            gather_again(&self.middle, MIDDLE, &mut self.large, number);
         }
     }
 

@@ -636,6 +636,7 @@ fn learn_row(
 
 /// Whether a shelf still has a bucket as wide as its widest was, after the one that was found gave an item, and had this
 /// room before: it had less, or one of the next few has as much.
+#[inline(always)]
 fn keeps_widest(shelves: &[KeptShelf], buckets: &[LinkedBucket], found: &Found, room: u16) -> bool
     requires shelf { found.now.shelf < length shelves.now }
     requires widest { spec.IsWidestKept found.now.shelf found.now.bucket room shelves.now

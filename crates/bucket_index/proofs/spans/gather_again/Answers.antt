@@ -10,6 +10,6 @@ returns c buckets are but =
     let wholes = c.args.wholes.now in
     let whole : c.block_of-whole.result / 8 ≡ numbered number = ap (λ (part : ℕ). part / 8) c.block_of-whole.ensures.value in
     let is : span_of wholes (numbered number) ≡ c.span_of-span.result = ap (span_of wholes) (sym whole) ∙ sym c.span_of-span.ensures in
-    fresh-known number numbered (c.block_of-whole.result / 8) c.gathered_again.result wholes c.set_span.new.spans buckets c.set_span.ensures whole
-    (c.gathered_again.ensures number (numbered number) buckets are (span-of-but number numbered wholes (numbered number) c.span_of-span.result buckets is but))
+    fresh-known number numbered (c.block_of-whole.result / 8) c.gathered_again-fresh.result wholes c.set_span.new.spans buckets c.set_span.ensures whole
+    (c.gathered_again-fresh.ensures number (numbered number) buckets are (span-of-but number numbered wholes (numbered number) c.span_of-span.result buckets is but))
     (but-others number numbered wholes buckets but)

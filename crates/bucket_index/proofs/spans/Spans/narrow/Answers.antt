@@ -12,34 +12,56 @@ small number block other before fresh spans news buckets set_ here there read fo
     let is : span_of spans (block_of 1 number) ≡ before = ap (span_of spans) (sym here) ∙ sym read in
     fresh-known number (block_of 1) other fresh spans news buckets set_ there (follows (block_of 1 number) (span-of-but number (block_of 1) spans (block_of 1 number) before buckets is but)) (but-others number (block_of 1) spans buckets but)
 
-pub returns-then-small-change : goal.returns-then-small-change
-returns-then-small-change c =
-    let number = c.args.change.now.number in
-    let self = c.args.self.now in
-    let buckets = c.args.buckets.now in
-    let middle = middle-wholes c.gather_again.new.wholes buckets (c.gather_again.ensures buckets (small c.args.change.now.number c.block_of.result c.block_of-2.result c.span_of-before.result c.followed-small.result c.args.self.now.small c.set_span.new.spans c.args.buckets.now c.set_span.ensures c.block_of.ensures.value c.block_of-2.ensures.value c.span_of-before.ensures c.followed-small.ensures c.requires.others.small) (wholes-middle-but number self.middle buckets c.requires.others.middle)) in
-    record {
-      known = record {
-        small = (small c.args.change.now.number c.block_of.result c.block_of-2.result c.span_of-before.result c.followed-small.result c.args.self.now.small c.set_span.new.spans c.args.buckets.now c.set_span.ensures c.block_of.ensures.value c.block_of-2.ensures.value c.span_of-before.ensures c.followed-small.ensures c.requires.others.small);
-        middle = middle;
-        large = large-wholes c.gather_again-then-small-change.new.wholes buckets
-            (c.gather_again-then-small-change.ensures buckets middle (wholes-large-but number self.large buckets c.requires.others.large));
-      };
-      others = λ some. absurd (omega (arith, some, c.no_others-self.ensures));
-    }
-
-pub returns-else-small-change : goal.returns-else-small-change
-returns-else-small-change c =
+pub returns-then-change-small : goal.returns-then-change-small
+returns-then-change-small c =
     let number = c.args.change.now.number in
     let room = c.args.change.now.room in
     let self = c.args.self.now in
     let buckets = c.args.buckets.now in
+    let small_ = small number c.block_of.result c.block_of-2.result c.span_of-before.result c.followed-small.result self.small c.set_span.new.spans buckets c.set_span.ensures c.block_of.ensures.value c.block_of-2.ensures.value
+    c.span_of-before.ensures c.followed-small.ensures c.requires.others.small in
     record {
       known = record {
-        small = (small c.args.change.now.number c.block_of.result c.block_of-2.result c.span_of-before.result c.followed-small.result c.args.self.now.small c.set_span.new.spans c.args.buckets.now c.set_span.ensures c.block_of.ensures.value c.block_of-2.ensures.value c.span_of-before.ensures c.followed-small.ensures c.requires.others.small);
-        middle = raised-known number (block_of 8) c.block_of-else-small-change.result room self.middle c.raise_span.new.spans buckets c.raise_span.ensures c.block_of-else-small-change.ensures.value c.requires.room c.requires.others.middle;
-        large = raised-known number (block_of 64) c.block_of-else-small-change-2.result room self.large c.raise_span-else-small-change.new.spans buckets c.raise_span-else-small-change.ensures c.block_of-else-small-change-2.ensures.value c.requires.room
+        small = small_;
+        middle = raised-known number (block_of 8) c.block_of-then-change-small.result room self.middle c.raise_span.new.spans buckets c.raise_span.ensures c.block_of-then-change-small.ensures.value c.requires.room c.requires.others.middle;
+        large = raised-known number (block_of 64) c.block_of-then-change-small-2.result room self.large c.raise_span-then-change-small.new.spans buckets c.raise_span-then-change-small.ensures c.block_of-then-change-small-2.ensures.value c.requires.room
             c.requires.others.large;
+      };
+      others = λ some. absurd (omega (arith, some, c.no_others-self.ensures));
+    }
+
+pub returns-then-change-middle : goal.returns-then-change-middle
+returns-then-change-middle c =
+    let number = c.args.change.now.number in
+    let room = c.args.change.now.room in
+    let self = c.args.self.now in
+    let buckets = c.args.buckets.now in
+    let small_ = small number c.block_of.result c.block_of-2.result c.span_of-before.result c.followed-small.result self.small c.set_span.new.spans buckets c.set_span.ensures c.block_of.ensures.value c.block_of-2.ensures.value
+    c.span_of-before.ensures c.followed-small.ensures c.requires.others.small in
+    let middle = middle-wholes c.gather_again-middle.new.wholes buckets (c.gather_again-middle.ensures buckets small_ (wholes-middle-but number self.middle buckets c.requires.others.middle)) in
+    record {
+      known = record {
+        small = small_;
+        middle = middle;
+        large = raised-known number (block_of 64) c.block_of-then-change-middle.result room self.large c.raise_span-then-change-middle.new.spans buckets c.raise_span-then-change-middle.ensures c.block_of-then-change-middle.ensures.value c.requires.room
+            c.requires.others.large;
+      };
+      others = λ some. absurd (omega (arith, some, c.no_others-self.ensures));
+    }
+
+pub returns-else-change-middle : goal.returns-else-change-middle
+returns-else-change-middle c =
+    let number = c.args.change.now.number in
+    let self = c.args.self.now in
+    let buckets = c.args.buckets.now in
+    let small_ = small number c.block_of.result c.block_of-2.result c.span_of-before.result c.followed-small.result self.small c.set_span.new.spans buckets c.set_span.ensures c.block_of.ensures.value c.block_of-2.ensures.value
+    c.span_of-before.ensures c.followed-small.ensures c.requires.others.small in
+    let middle = middle-wholes c.gather_again-middle.new.wholes buckets (c.gather_again-middle.ensures buckets small_ (wholes-middle-but number self.middle buckets c.requires.others.middle)) in
+    record {
+      known = record {
+        small = small_;
+        middle = middle;
+        large = large-wholes c.gather_again.new.wholes buckets (c.gather_again.ensures buckets middle (wholes-large-but number self.large buckets c.requires.others.large));
       };
       others = λ some. absurd (omega (arith, some, c.no_others-self.ensures));
     }
