@@ -1,5 +1,5 @@
 -- The ends of a list.
-use Rattle.std.proofs.Common.{◌≡◌, ℕ, ◌+◌, ◌≤◌, Option, None, Some, List, [], ◌∷◌, ◌++◌, refl, arith}
+use Rattle.std.proofs.Common.{◌≡◌, ℕ, ◌≤◌, Option, None, Some, List, [], ◌∷◌, ◌++◌, refl, arith}
 use Rattle.etagere_base.specs.Lists.{times}
 pub use Rattle.etagere_base.proofs.TimesLemmas.{times-here, times-other}
 use Rattle.etagere_links.specs.Lists.{first_or, last_or}

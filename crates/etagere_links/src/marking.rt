@@ -2,15 +2,17 @@
 //!
 //! Definitions: `Marks`, and `WalkFaults` for what a walk is refused for.
 
-ghost use Rattle.std.specs.Prelude.{◌≡◌, ℕ, ◌+◌, ◌^◌, ◌++◌, ◌<◌, ◌≤◌, false, List, [], IsTrue, IfOk, IfErr, OnOk, length};
+ghost use Rattle.std.specs.Prelude.{◌≡◌, ◌≢◌, ℕ, ◌+◌, ◌^◌, ◌++◌, ◌<◌, ◌≤◌, false, List, [], IsTrue, IfOk, IfErr, OnOk, length};
 ghost use Rattle.std.specs.List.{AllByRecursion};
+ghost use Rattle.etagere_base.specs.Lists.{times};
 ghost use Rattle.etagere_links.specs.Links.{no_link};
+ghost use Rattle.etagere_links.specs.declared.marking.WalkFault.TheVariants as faults;
 ghost use Rattle.etagere_links.specs.Marks.{HasTwice, IsMarkedBy};
 ghost use Rattle.etagere_links.specs.Lists.{HasEachOnce};
 ghost use Rattle.etagere_links.specs.WalkFaults.{BreaksOff, IsFirst, first_fault, links_by};
 ghost use Rattle.etagere_links.specs.Walks as spec;
 
-use crate::walking::WalkRoom;
+use crate::walking::{WalkRoom, behind};
 use std::alloc::{AllocError, Global};
 
 /// Why what a walk meets is no list of records of its own.
@@ -26,12 +28,9 @@ pub enum WalkFault {
     Memory,
 }
 
-/// Follows links from `start` on and marks what it meets, which is a list of records that ends at none and
-/// of which none was marked before. Adds the links that were read to `steps`, also where the walk is refused.
+/// Follows links from `start` on and marks what it meets, as `mark_onto` does, and returns the records that were met.
 ///
-/// Returns the first fault, in the order of `WalkFault`, where what was met is no such list; then the marks
-/// are of no use. `Memory` comes only where there was none, and then no link was read. Takes two bytes of memory for
-/// each record met. The time is linear in their number.
+/// Takes two bytes of memory for each record met.
 pub fn walk_marking(
     alloc: Global,
     room: &mut WalkRoom,
@@ -61,21 +60,91 @@ pub fn walk_marking(
         (λ fault. steps.new ≡ steps.old + links_by (spec.walk links.now start) fault) }
     ensures bound { steps.new ≤ steps.old + length links.now }
 {
-    let Ok(walk) = room.walk(alloc, links, start) else {
+    let mut met = Vec::new(alloc);
+    match mark_onto(room, marks, &mut met, links, start, steps) {
+        Ok(()) => Ok(met),
+        Err(fault) => Err(fault),
+    }
+}
+
+/// Follows links from `start` on and marks what it meets, which is a list of records that ends at none and
+/// of which none was marked before. Puts them behind those in `met`, and adds the links that were read to `steps`, also
+/// where the walk is refused.
+///
+/// Returns the first fault, in the order of `WalkFault`, where what was met is no such list; then the marks and `met`
+/// are of no use. `Memory` comes only where there was none, and then no link was read. Takes memory only where `met` has
+/// too little room. The time is linear in the number of records met.
+pub fn mark_onto(
+    room: &mut WalkRoom,
+    marks: &mut [bool],
+    met: &mut Vec<u16>,
+    links: &[u16],
+    start: u16,
+    steps: &mut u64,
+) -> Result<(), WalkFault>
+    requires few { length links.now ≤ no_link }
+    requires room { length links.now ≤ room.old }
+    requires marks { length marks.old ≡ length links.now }
+    requires steps { steps.old < 2 ^ 32 }
+    ensures room { room.new ≡ room.old }
+    ensures met { OnOk result (met.new.items ≡ met.old.items ++ (spec.walk links.now start).met) }
+    ensures end { OnOk result ((spec.walk links.now start).end ≡ no_link) }
+    ensures marked { OnOk result ((numbers : List ℕ) → IsMarkedBy marks.old numbers →
+        IsMarkedBy marks.new (numbers ++ (spec.walk links.now start).met)) }
+    ensures none { OnOk result
+        (first_fault marks.old (length links.now) (spec.walk links.now start) ≡ None) }
+    ensures first { IfErr result
+        (IsFirst marks.old (length links.now) (spec.walk links.now start)) }
+    ensures fault { IfErr result
+        (BreaksOff marks.old (length links.now) (spec.walk links.now start)) }
+    ensures steps { OnOk result
+        (steps.new ≡ steps.old + length (spec.walk links.now start).met) }
+    ensures read { IfErr result
+        (λ fault. steps.new ≡ steps.old + links_by (spec.walk links.now start) fault) }
+    ensures bound { steps.new ≤ steps.old + length links.now }
+{
+    let before = met.len();
+    let Ok(end) = room.walk_onto(met, links, start) else {
         return Err(WalkFault::Memory);
     };
-    *steps += u64::from(walk.steps);
-    let end = usize::from(walk.end);
-    if walk.end != u16::MAX && links.len() <= end {
+    mark_walked(marks, behind(met, before), end, steps)
+}
+
+/// Marks what a walk met that stopped at this link, and adds to `steps` how many that were.
+fn mark_walked(
+    marks: &mut [bool],
+    walked: &[u16],
+    end: u16,
+    steps: &mut u64,
+) -> Result<(), WalkFault>
+    requires steps { steps.old < 2 ^ 32 }
+    requires few { length marks.old ≤ no_link }
+    requires short { length walked.now ≤ length marks.old }
+    requires within { AllByRecursion (λ number. number < length marks.old) walked.now }
+    requires once { (number : ℕ) → times number walked.now ≤ 1 }
+    ensures end { OnOk result (end ≡ no_link) }
+    ensures marked { OnOk result ((numbers : List ℕ) → IsMarkedBy marks.old numbers →
+        IsMarkedBy marks.new (numbers ++ walked.now)) }
+    ensures none { OnOk result
+        (first_fault marks.old (length marks.old) (record { met = walked.now; end = end }) ≡ None) }
+    ensures first { IfErr result
+        (IsFirst marks.old (length marks.old) (record { met = walked.now; end = end })) }
+    ensures fault { IfErr result
+        (BreaksOff marks.old (length marks.old) (record { met = walked.now; end = end })) }
+    ensures steps { steps.new ≡ steps.old + length walked.now }
+    ensures memory { IfErr result (λ fault. fault ≢ faults.Memory) }
+{
+    *steps += walked.len() as u64;
+    if end != u16::MAX && marks.len() <= usize::from(end) {
         return Err(WalkFault::OutOfRange);
     }
-    if !mark_all(marks, &walk.met) {
+    if !mark_all(marks, walked) {
         return Err(WalkFault::Marked);
     }
-    if walk.end != u16::MAX {
+    if end != u16::MAX {
         return Err(WalkFault::Circular);
     }
-    Ok(walk.met)
+    Ok(())
 }
 
 /// No marks, for so many records. Takes a byte of memory for each.

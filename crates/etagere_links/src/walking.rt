@@ -3,7 +3,7 @@
 //! Definitions: `Walks`, and `Marks` for what many walks met. A `WalkRoom` is never cleared: what an earlier
 //! walk left in it is told apart by what the present one has met.
 
-ghost use Rattle.std.specs.Prelude.{◌≡◌, ◌<◌, ◌≤◌, ◌==◌, IfOk, length, vec_len};
+ghost use Rattle.std.specs.Prelude.{◌≡◌, ◌+◌, ◌<◌, ◌≤◌, ◌==◌, ◌++◌, IfOk, OnOk, drop, length, vec_len};
 ghost use Rattle.std.specs.List.{list_any};
 ghost use Rattle.etagere_links.specs.Links.{no_link};
 ghost use Rattle.etagere_links.specs.Walks as spec;
@@ -52,7 +52,34 @@ impl WalkRoom {
         ensures steps { IfOk result (λ walk. walk.steps ≡ vec_len walk.met) }
         ensures bound { IfOk result (λ walk. walk.steps ≤ length links.now) }
     {
-        walk_within(alloc, &mut self.positions, links, start)
+        let mut met = Vec::new(alloc);
+        let end = self.walk_onto(&mut met, links, start)?;
+        Ok(Walk {
+            steps: met.len() as u32,
+            met,
+            end,
+        })
+    }
+
+    /// Follows links from `start` on, as `walk` does, and puts the records that it meets behind those in `met`. Returns
+    /// the link at which it stopped.
+    ///
+    /// Takes memory only where `met` has too little room. The error comes only where there was none, and then `met` has
+    /// some of the records more. The time is linear in the number of records met.
+    pub fn walk_onto(
+        &mut self,
+        met: &mut Vec<u16>,
+        links: &[u16],
+        start: u16,
+    ) -> Result<u16, AllocError>
+        requires few { length links.now ≤ no_link }
+        requires room { length links.now ≤ self.old }
+        ensures room { self.new ≡ self.old }
+        ensures met { OnOk result (met.new.items ≡ met.old.items ++ (spec.walk links.now start).met) }
+        ensures end { IfOk result (λ end. end ≡ (spec.walk links.now start).end) }
+        ensures bound { OnOk result (length met.new.items ≤ length met.old.items + length links.now) }
+    {
+        walk_within(&mut self.positions, met, links, start)
     }
 }
 
@@ -81,34 +108,38 @@ fn is_met(positions: &[u16], met: &[u16], at: u16) -> bool
     position < met.len() && met[position] == at
 }
 
-/// Follows links from `start` on as `WalkRoom::walk` does, and notes in `positions` where in the walk each record was met.
+/// What stands in a list behind so many.
+pub fn behind(met: &[u16], before: usize) -> &[u16]
+    requires { before ≤ length met.now }
+    ensures { result.now ≡ drop before met.now }
+{
+    &met[before..]
+}
+
+/// Follows links from `start` on as `WalkRoom::walk_onto` does, and notes in `positions` where in the walk each record was
+/// met.
 fn walk_within(
-    alloc: Global,
     positions: &mut [u16],
+    met: &mut Vec<u16>,
     links: &[u16],
     start: u16,
-) -> Result<Walk, AllocError>
+) -> Result<u16, AllocError>
     requires few { length links.now ≤ no_link }
     requires room { length links.now ≤ length positions.old }
-    ensures met { IfOk result (λ walk. walk.met.items ≡ (spec.walk links.now start).met) }
-    ensures end { IfOk result (λ walk. walk.end ≡ (spec.walk links.now start).end) }
-    ensures steps { IfOk result (λ walk. walk.steps ≡ vec_len walk.met) }
-    ensures bound { IfOk result (λ walk. walk.steps ≤ length links.now) }
+    ensures met { OnOk result (met.new.items ≡ met.old.items ++ (spec.walk links.now start).met) }
+    ensures end { IfOk result (λ end. end ≡ (spec.walk links.now start).end) }
+    ensures bound { OnOk result (length met.new.items ≤ length met.old.items + length links.now) }
 {
-    let mut met = Vec::new(alloc);
+    let before = met.len();
     let mut at = start;
     for step in 0..links.len() {
         let number = usize::from(at);
-        if number >= links.len() || is_met(positions, &met, at) {
+        if number >= links.len() || is_met(positions, behind(met, before), at) {
             break;
         }
         positions[number] = step as u16;
         met.push(at)?;
         at = links[number];
     }
-    Ok(Walk {
-        steps: met.len() as u32,
-        met,
-        end: at,
-    })
+    Ok(at)
 }

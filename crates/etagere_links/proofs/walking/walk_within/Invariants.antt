@@ -1,11 +1,13 @@
-use Rattle.std.proofs.Common.{◌≡◌, ◌-◌, length, vec_len}
+use Rattle.std.proofs.Common.{◌≡◌, ◌+◌, ◌-◌, ◌++◌, drop, length}
 use Rattle.etagere_links.specs.Private.Positions.{ArePositions}
 use Rattle.etagere_links.specs.Walks.{walk, walked_from}
 use Rattle.etagere_links.proofs.walking.walk_within.Given as goal
 
 abbrev pub invariant-loop-step : goal.invariant-loop-step
 invariant-loop-step l = record {
-  rest : walked_from (length l.links - l.step) l.links l.met.items l.at ≡ walk l.links l.start;
-  count : vec_len l.met ≡ l.step;
-  at_positions : ArePositions l.positions l.met.items;
+  before : l.before ≡ length l.fn.met.items;
+  whole : l.met.items ≡ l.fn.met.items ++ drop l.before l.met.items;
+  rest : walked_from (length l.links - l.step) l.links (drop l.before l.met.items) l.at ≡ walk l.links l.start;
+  count : length l.met.items ≡ l.before + l.step;
+  at_positions : ArePositions l.positions (drop l.before l.met.items);
 }
