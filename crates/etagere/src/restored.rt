@@ -3,12 +3,14 @@
 //! Definitions: `Snapshots`, and `StandsFor` for the rules. Steps are linear in the number of records, and so is the
 //! time, but for a sort of the shelves in use.
 
-ghost use Rattle.std.specs.Prelude.{◌≡◌, ◌+◌, ◌*◌, ◌<◌, ◌≤◌, ◌^◌, IfErr, IfOk, OnOk, length};
+ghost use Rattle.std.specs.Prelude.{◌≡◌, ◌+◌, ◌*◌, ◌≤◌, IfErr, IfOk, OnOk, length};
 ghost use Rattle.etagere_base.specs.Frames.{HasAllColumns, IsFrame, longest_side};
-ghost use Rattle.shelf_links.specs.RecordLists.{item_numbers, shelf_numbers, shelf_walk};
+ghost use Rattle.shelf_links.specs.RecordLists.{shelf_walk};
 ghost use Rattle.shelf_model.specs.Atlas.{KeepsPromises};
 ghost use Rattle.shelf_heights.specs.Private.ByHeight.{AreByHeight};
+ghost use Rattle.shelf_records.specs.AtlasRecords.{walked_entries};
 ghost use Rattle.shelf_records.specs.Private.Kept.{AreKept};
+ghost use Rattle.shelf_records.specs.Private.Restoring.{HasLists, IsWalked};
 ghost use Rattle.shelf_restoring.specs.RestoringSteps.{IsFollowed, StopsAfter, links_followed, links_of_all};
 ghost use Rattle.shelf_records.specs.Snapshots.{IsBroken, snapshot_records, state_spelled};
 ghost use Rattle.shelf_records.specs.StandsFor.{HasCounts, StandsFor};
@@ -18,61 +20,84 @@ use crate::atlas::AtlasAllocator;
 use etagere_base::{Frame, RestoreFault};
 use shelf_heights::by_height::ShelvesByHeight;
 use shelf_links::Records;
-use shelf_restoring::judging::WalkedShelf;
 use shelf_restoring::loaded_atlas::LoadedAtlas;
 use shelf_restoring::rules::judge_rules;
-use shelf_restoring::walking::walk_records;
+use shelf_restoring::walked_lists::walked_shelves;
+use shelf_restoring::walking::{WalkedRecords, walk_records};
 use shelf_snapshots::AtlasSnapshot;
 use shelf_store::starting::newly_bounded;
 use std::alloc::{AllocError, Global};
-
-/// How many items these shelves have.
-fn count_items(shelves: &[WalkedShelf]) -> u32
-    requires { length (item_numbers shelves.now) < 2 ^ 31 }
-    ensures { result ≡ length (item_numbers shelves.now) }
-{
-    let mut count = 0;
-    for shelf in shelves {
-        count += shelf.items.len() as u32;
-    }
-    count
-}
 
 /// The shelves in use, by height, where walks have met them.
 fn shelves_by_height(
     alloc: Global,
     frame: &Frame,
     records: &Records,
-    shelves: &[WalkedShelf],
+    numbers: &[u16],
 ) -> Result<ShelvesByHeight, AllocError>
     requires kept { AreKept frame.now records.now }
-    requires met { shelf_numbers shelves.now ≡ (shelf_walk records.now).met }
+    requires met { numbers.now ≡ (shelf_walk records.now).met }
     ensures by_height { IfOk result (λ by_height. AreByHeight frame.now records.now by_height.items) }
     ensures room { IfOk result (λ by_height. length records.now.shelves ≤ by_height.capacity) }
 {
     let mut by_height = ShelvesByHeight::with_room(alloc, records.shelves().len())?;
-    for shelf in shelves {
-        by_height.push(newly_bounded(frame, usize::from(shelf.number)));
+    for number in numbers {
+        by_height.push(newly_bounded(frame, usize::from(*number)));
     }
     by_height.sort(records.shelves());
     Ok(by_height)
 }
 
-/// Follows all links of an atlas and judges its rules; returns the shelves in use that walks have met.
+/// Judges the rules of an atlas over what walks have met.
+fn judge_walked(
+    alloc: Global,
+    atlas: &LoadedAtlas,
+    walked: &WalkedRecords,
+) -> Result<(), RestoreFault>
+    requires frame { IsFrame longest_side atlas.now.frame }
+    requires columns { HasAllColumns atlas.now.frame }
+    requires counts { HasCounts atlas.now }
+    requires walked { IsWalked atlas.now (walked_entries atlas.now) walked.now.unused.items }
+    requires lists { HasLists atlas.now walked.now.shelves.items walked.now.items.met.items
+        walked.now.items.counts.items walked.now.free_lists.met.items walked.now.free_lists.counts.items }
+    ensures ok { OnOk result (StandsFor atlas.now (state_spelled atlas.now)) }
+    ensures fault { IfErr result (IsBroken atlas.now) }
+{
+    let Ok(entries) = walked_shelves(
+        alloc,
+        atlas,
+        &walked.shelves,
+        &walked.items,
+        &walked.free_lists,
+    ) else {
+        return Err(RestoreFault::Memory);
+    };
+    judge_rules(
+        alloc,
+        &atlas.frame,
+        atlas.records.shelves(),
+        atlas.records.items(),
+        &entries,
+        &walked.unused,
+        atlas.allocated_space,
+    )
+}
+
+/// Follows all links of an atlas and judges its rules; returns what walks have met.
 fn judge_atlas(
     alloc: Global,
     atlas: &LoadedAtlas,
     steps: &mut u64,
-) -> Result<Vec<WalkedShelf>, RestoreFault>
+) -> Result<WalkedRecords, RestoreFault>
     requires frame { IsFrame longest_side atlas.now.frame }
     requires columns { HasAllColumns atlas.now.frame }
     requires counts { HasCounts atlas.now }
     requires steps { steps.old ≡ 0 }
     ensures ok { OnOk result (StandsFor atlas.now (state_spelled atlas.now)) }
     ensures kept { OnOk result (AreKept atlas.now.frame atlas.now.records) }
-    ensures met { IfOk result (λ shelves. shelf_numbers shelves.items ≡ (shelf_walk atlas.now.records).met) }
+    ensures met { IfOk result (λ walked. walked.shelves.items ≡ (shelf_walk atlas.now.records).met) }
     ensures items { IfOk result
-        (λ shelves. length (item_numbers shelves.items) ≡ items_in_use (state_spelled atlas.now).shelves) }
+        (λ walked. length walked.items.met.items ≡ items_in_use (state_spelled atlas.now).shelves) }
     ensures fault { IfErr result (IsBroken atlas.now) }
     ensures all { OnOk result (steps.new ≡ links_of_all atlas.now.records) }
     ensures end { OnOk result (links_followed atlas.now.records ≡ links_of_all atlas.now.records) }
@@ -83,17 +108,8 @@ fn judge_atlas(
         (length (state_spelled atlas.now).shelves + items_in_use (state_spelled atlas.now).shelves ≤ steps.new) }
 {
     let walked = walk_records(alloc, atlas, steps)?;
-    let shelves = atlas.records.shelves();
-    let items = atlas.records.items();
-    judge_rules(
-        alloc,
-        &atlas.frame,
-        shelves,
-        items,
-        &walked,
-        atlas.allocated_space,
-    )?;
-    Ok(walked.shelves)
+    judge_walked(alloc, atlas, &walked)?;
+    Ok(walked)
 }
 
 /// Makes an atlas from a snapshot, as `AtlasAllocator::restore` does, and counts the links that it follows. The laws of
@@ -122,9 +138,11 @@ pub fn restore_atlas(
 {
     *steps = 0;
     let atlas = LoadedAtlas::of_snapshot(alloc, snapshot)?;
-    let shelves = judge_atlas(alloc, &atlas, steps)?;
-    let Ok(by_height) = shelves_by_height(alloc, &atlas.frame, &atlas.records, &shelves) else {
+    let walked = judge_atlas(alloc, &atlas, steps)?;
+    let Ok(by_height) = shelves_by_height(alloc, &atlas.frame, &atlas.records, &walked.shelves)
+    else {
         return Err(RestoreFault::Memory);
     };
-    Ok(AtlasAllocator::of_judged(atlas, by_height, count_items(&shelves)))
+    let items_in_use = walked.items.met.len() as u32;
+    Ok(AtlasAllocator::of_judged(atlas, by_height, items_in_use))
 }

@@ -98,13 +98,14 @@ pub fn walk(alloc: Global, links: &[u16], start: u16) -> Result<Walk, AllocError
     WalkRoom::new(alloc, links.len())?.walk(alloc, links, start)
 }
 
-/// Whether a record was met: the position noted for it is one of those that were met, and has it.
-fn is_met(positions: &[u16], met: &[u16], at: u16) -> bool
+/// Whether a record was met behind so many: the position noted for it is that of one of those, which has it.
+fn is_met(positions: &[u16], met: &[u16], before: usize, at: u16) -> bool
     requires within { at < length positions.now }
-    requires at_positions { ArePositions positions.now met.now }
-    ensures { result ≡ list_any (λ number. number == at) met.now }
+    requires before { before ≤ length met.now }
+    requires at_positions { ArePositions positions.now (drop before met.now) }
+    ensures { result ≡ list_any (λ number. number == at) (drop before met.now) }
 {
-    let position = usize::from(positions[usize::from(at)]);
+    let position = before + usize::from(positions[usize::from(at)]);
     position < met.len() && met[position] == at
 }
 
@@ -134,7 +135,7 @@ fn walk_within(
     let mut at = start;
     for step in 0..links.len() {
         let number = usize::from(at);
-        if number >= links.len() || is_met(positions, behind(met, before), at) {
+        if number >= links.len() || is_met(positions, met, before, at) {
             break;
         }
         positions[number] = step as u16;

@@ -10,15 +10,15 @@ ghost use Rattle.etagere_links.specs.LinksRead.{links_in, links_until};
 ghost use Rattle.etagere_links.specs.Marks.{IsMarkedBy};
 ghost use Rattle.shelf_links.specs.RecordLists.{item_numbers, item_walk, shelf_walk, unused_item_walk};
 ghost use Rattle.shelf_links.specs.Records.{item_chain};
-ghost use Rattle.shelf_records.specs.Private.Restoring.{HasChain, HasItemLists, chain_entry};
+ghost use Rattle.shelf_records.specs.Private.Restoring.{HasChain, HasItemLists, chain_entry, items_met};
 ghost use Rattle.shelf_restoring.specs.RestoringSteps.{StopsAfter, item_walks};
 ghost use Rattle.shelf_records.specs.Snapshots.{IsBroken};
 
-use crate::judging::WalkedShelf;
 use crate::loaded_atlas::LoadedAtlas;
 use crate::shelf_lists::chain_fault;
+use crate::walked_lists::WalkedLists;
 use etagere_base::RestoreFault;
-use etagere_links::{Chain, WalkRoom, all_marked, next_bits, unmarked, walk_marking};
+use etagere_links::{Chain, WalkRoom, all_marked, mark_onto, next_bits, unmarked, walk_marking};
 use shelf_links::LinkedItem;
 use shelf_records::fields::first_item_link;
 use std::alloc::Global;
@@ -26,12 +26,11 @@ use std::alloc::Global;
 /// What walks have met of the items: of each shelf in use, and what is unused.
 #[derive(Drop)]
 pub struct WalkedItems {
-    pub shelves: Vec<WalkedShelf>,
+    pub lists: WalkedLists,
     pub unused: Vec<u16>,
 }
 
-/// The items of the shelves in use, and those unused, where each item record is in one of these lists. The free
-/// lists are empty.
+/// The items of the shelves in use, and those unused, where each item record is in one of these lists.
 pub fn walk_items(
     alloc: Global,
     atlas: &LoadedAtlas,
@@ -41,15 +40,19 @@ pub fn walk_items(
     requires few { length atlas.now.records.items ≤ no_link }
     requires numbers { numbers.now ≡ (shelf_walk atlas.now.records).met }
     requires steps { steps.old < 2 ^ 30 }
-    ensures ok { IfOk result (λ walked. HasItemLists atlas.now walked.shelves.items walked.unused.items) }
+    ensures ok { IfOk result (λ walked. HasItemLists atlas.now
+        (map (chain_entry atlas.now.records) (shelf_walk atlas.now.records).met) walked.unused.items) }
+    ensures met { IfOk result (λ walked. walked.lists.met.items
+        ≡ item_numbers (map (chain_entry atlas.now.records) (shelf_walk atlas.now.records).met)) }
+    ensures counts { IfOk result (λ walked. walked.lists.counts.items
+        ≡ map (items_met atlas.now.records) (shelf_walk atlas.now.records).met) }
     ensures fault { IfErr result (IsBroken atlas.now) }
     ensures all { OnOk result (steps.new ≡ steps.old + links_in (item_walks atlas.now.records)) }
     ensures until { IfErr result (λ fault. (more : ℕ) → StopsAfter
         (steps.old + links_until (length atlas.now.records.items) more [] (item_walks atlas.now.records))
         steps.new fault) }
     ensures bound { steps.new ≤ steps.old + 2 * length atlas.now.records.items }
-    ensures each { IfOk result
-        (λ walked. steps.old + length (item_numbers walked.shelves.items) ≤ steps.new) }
+    ensures each { IfOk result (λ walked. steps.old + length walked.lists.met.items ≤ steps.new) }
 {
     let Ok(links) = next_bits::<Chain, LinkedItem>(alloc, atlas.records.items()) else {
         return Err(RestoreFault::Memory);
@@ -82,29 +85,33 @@ fn follow_items(
     requires marked { IsMarkedBy marks.old [] }
     requires numbers { numbers.now ≡ (shelf_walk atlas.now.records).met }
     requires steps { steps.old < 2 ^ 30 }
-    ensures ok { IfOk result (λ walked. HasItemLists atlas.now walked.shelves.items walked.unused.items) }
+    ensures ok { IfOk result (λ walked. HasItemLists atlas.now
+        (map (chain_entry atlas.now.records) (shelf_walk atlas.now.records).met) walked.unused.items) }
+    ensures met { IfOk result (λ walked. walked.lists.met.items
+        ≡ item_numbers (map (chain_entry atlas.now.records) (shelf_walk atlas.now.records).met)) }
+    ensures counts { IfOk result (λ walked. walked.lists.counts.items
+        ≡ map (items_met atlas.now.records) (shelf_walk atlas.now.records).met) }
     ensures fault { IfErr result (IsBroken atlas.now) }
     ensures all { OnOk result (steps.new ≡ steps.old + links_in (item_walks atlas.now.records)) }
     ensures until { IfErr result (λ fault. (more : ℕ) → StopsAfter
         (steps.old + links_until (length atlas.now.records.items) more [] (item_walks atlas.now.records))
         steps.new fault) }
     ensures bound { steps.new ≤ steps.old + 2 * length atlas.now.records.items }
-    ensures each { IfOk result
-        (λ walked. steps.old + length (item_numbers walked.shelves.items) ≤ steps.new) }
+    ensures each { IfOk result (λ walked. steps.old + length walked.lists.met.items ≤ steps.new) }
 {
     let first = atlas.records.unused_items().bits();
     let unused = match walk_marking(alloc, room, marks, links, first, steps) {
         Ok(unused) => unused,
         Err(fault) => return Err(chain_fault(fault)),
     };
-    let shelves = walk_chains(alloc, atlas, room, marks, links, numbers, steps)?;
+    let lists = walk_chains(alloc, atlas, room, marks, links, numbers, steps)?;
     if !all_marked(marks) {
         return Err(RestoreFault::Sharing);
     }
-    Ok(WalkedItems { shelves, unused })
+    Ok(WalkedItems { lists, unused })
 }
 
-/// The items of each of the shelves, where the unused ones are marked. The free lists are empty.
+/// The items of each of the shelves, where the unused ones are marked. They are put one behind the other.
 fn walk_chains(
     alloc: Global,
     atlas: &LoadedAtlas,
@@ -113,7 +120,7 @@ fn walk_chains(
     links: &[u16],
     numbers: &[u16],
     steps: &mut u64,
-) -> Result<Vec<WalkedShelf>, RestoreFault>
+) -> Result<WalkedLists, RestoreFault>
     requires few { length atlas.now.records.items ≤ no_link }
     requires links { links.now
         ≡ map (λ here. bits_of (item_chain.next here)) atlas.now.records.items }
@@ -123,13 +130,16 @@ fn walk_chains(
     requires marked { IsMarkedBy marks.old (unused_item_walk atlas.now.records).met }
     requires steps { steps.old < 2 ^ 31 }
     ensures room { room.new ≡ room.old }
-    ensures ok { IfOk result (λ shelves. shelves.items ≡ map (chain_entry atlas.now.records) numbers.now) }
+    ensures met { IfOk result (λ lists. lists.met.items
+        ≡ item_numbers (map (chain_entry atlas.now.records) numbers.now)) }
+    ensures counts { IfOk result (λ lists. lists.counts.items
+        ≡ map (items_met atlas.now.records) numbers.now) }
     ensures chains { OnOk result (AllByRecursion (HasChain atlas.now.records) numbers.now) }
-    ensures marked { IfOk result (λ shelves.
-        IsMarkedBy marks.new ((unused_item_walk atlas.now.records).met ++ item_numbers shelves.items)) }
+    ensures marked { OnOk result (IsMarkedBy marks.new ((unused_item_walk atlas.now.records).met
+        ++ item_numbers (map (chain_entry atlas.now.records) numbers.now))) }
     ensures fault { IfErr result (IsBroken atlas.now) }
-    ensures steps { IfOk result (λ shelves.
-        steps.new ≡ steps.old + length (item_numbers shelves.items)) }
+    ensures steps { OnOk result (steps.new
+        ≡ steps.old + length (item_numbers (map (chain_entry atlas.now.records) numbers.now))) }
     ensures until { IfErr result (λ fault. (more : ℕ) → StopsAfter
         (steps.old + links_until (length atlas.now.records.items) more (unused_item_walk atlas.now.records).met
         (map (item_walk atlas.now.records) numbers.now))
@@ -137,21 +147,19 @@ fn walk_chains(
     ensures bound { steps.new + length (unused_item_walk atlas.now.records).met
         ≤ steps.old + 2 * length atlas.now.records.items }
 {
-    let mut shelves = Vec::new(alloc);
+    let Ok(mut met) = Vec::with_capacity(alloc, links.len()) else {
+        return Err(RestoreFault::Memory);
+    };
+    let mut counts = Vec::new(alloc);
     for number in numbers {
         let first = first_item_link(atlas.records.shelves(), usize::from(*number)).bits();
-        let items = match walk_marking(alloc, room, marks, links, first, steps) {
-            Ok(items) => items,
-            Err(fault) => return Err(chain_fault(fault)),
-        };
-        let shelf = WalkedShelf {
-            number: *number,
-            items,
-            free_list: Vec::new(alloc),
-        };
-        let Ok(()) = shelves.push(shelf) else {
+        let before = *steps;
+        if let Err(fault) = mark_onto(room, marks, &mut met, links, first, steps) {
+            return Err(chain_fault(fault));
+        }
+        let Ok(()) = counts.push((*steps - before) as u16) else {
             return Err(RestoreFault::Memory);
         };
     }
-    Ok(shelves)
+    Ok(WalkedLists { met, counts })
 }

@@ -9,37 +9,37 @@ ghost use Rattle.etagere_links.specs.Links.{no_link, bits_of};
 ghost use Rattle.etagere_links.specs.LinksRead.{links_in, links_until};
 ghost use Rattle.etagere_links.specs.Marks.{IsMarkedBy};
 ghost use Rattle.etagere_links.specs.Lists.{HasEachOnce};
-ghost use Rattle.shelf_links.specs.RecordLists.{item_numbers, shelf_walk, unused_item_walk};
+ghost use Rattle.shelf_links.specs.RecordLists.{free_walk, item_numbers, shelf_walk, unused_item_walk, walked_entry};
 ghost use Rattle.shelf_links.specs.Records.{free_list};
 ghost use Rattle.shelf_records.specs.AtlasRecords.{walked_entries};
 ghost use Rattle.shelf_records.specs.Private.Restoring as spec;
-ghost use Rattle.shelf_records.specs.Private.Restoring.{HasFree, chain_entry};
+ghost use Rattle.shelf_records.specs.Private.Restoring.{HasFree, free_numbers, frees_met};
 ghost use Rattle.shelf_restoring.specs.RestoringSteps.{StopsAfter, free_walks};
 ghost use Rattle.shelf_records.specs.Snapshots.{IsBroken};
 
-use crate::judging::WalkedShelf;
 use crate::loaded_atlas::LoadedAtlas;
+use crate::walked_lists::WalkedLists;
 use etagere_base::RestoreFault;
-use etagere_links::{FreeList, WalkFault, WalkRoom, next_bits, unmarked, walk_marking};
+use etagere_links::{FreeList, WalkFault, WalkRoom, mark_onto, next_bits, unmarked};
 use shelf_links::LinkedItem;
 use shelf_records::fields::first_free_link;
 use std::alloc::Global;
 
-/// The shelves with their items and their free lists, where no item is in two free lists. What comes in are
-/// the shelves with their items alone, each item in one of them.
+/// The free lists of the shelves in use, where no item is in two of them. Each item is known to be of one shelf.
 pub fn walk_free_lists(
     alloc: Global,
     atlas: &LoadedAtlas,
-    shelves: Vec<WalkedShelf>,
+    numbers: &[u16],
     steps: &mut u64,
-) -> Result<Vec<WalkedShelf>, RestoreFault>
+) -> Result<WalkedLists, RestoreFault>
     requires few { length atlas.now.records.items ≤ no_link }
-    requires shelves { shelves.items
-        ≡ map (chain_entry atlas.now.records) (shelf_walk atlas.now.records).met }
+    requires numbers { numbers.now ≡ (shelf_walk atlas.now.records).met }
     requires once { HasEachOnce (length atlas.now.records.items)
         (item_numbers (walked_entries atlas.now) ++ (unused_item_walk atlas.now.records).met) }
     requires steps { steps.old < 2 ^ 31 }
-    ensures ok { IfOk result (λ entries. entries.items ≡ walked_entries atlas.now) }
+    ensures met { IfOk result (λ lists. lists.met.items ≡ free_numbers (walked_entries atlas.now)) }
+    ensures counts { IfOk result (λ lists. lists.counts.items
+        ≡ map (frees_met atlas.now.records) (shelf_walk atlas.now.records).met) }
     ensures free { OnOk result (AllByRecursion (HasFree atlas.now.records) (shelf_walk atlas.now.records).met) }
     ensures fit { OnOk result (AreFitting free_list.next atlas.now.records.items) }
     ensures fault { IfErr result (IsBroken atlas.now) }
@@ -60,58 +60,58 @@ pub fn walk_free_lists(
     let Ok(mut marks) = unmarked(alloc, links.len()) else {
         return Err(RestoreFault::Memory);
     };
-    with_free_lists(alloc, atlas, &mut room, &mut marks, &links, shelves, steps)
+    follow_free_lists(alloc, atlas, &mut room, &mut marks, &links, numbers, steps)
 }
 
-/// The shelves with their free lists, where none of the items was marked.
-fn with_free_lists(
+/// The free lists of the shelves, where none of the items was marked. They are put one behind the other.
+fn follow_free_lists(
     alloc: Global,
     atlas: &LoadedAtlas,
     room: &mut WalkRoom,
     marks: &mut [bool],
     links: &[u16],
-    shelves: Vec<WalkedShelf>,
+    numbers: &[u16],
     steps: &mut u64,
-) -> Result<Vec<WalkedShelf>, RestoreFault>
+) -> Result<WalkedLists, RestoreFault>
     requires few { length atlas.now.records.items ≤ no_link }
     requires links { links.now
         ≡ map (λ here. bits_of (free_list.next here)) atlas.now.records.items }
     requires room { length links.now ≤ room.old }
     requires marks { length marks.old ≡ length links.now }
     requires marked { IsMarkedBy marks.old [] }
-    requires shelves { shelves.items
-        ≡ map (chain_entry atlas.now.records) (shelf_walk atlas.now.records).met }
+    requires numbers { numbers.now ≡ (shelf_walk atlas.now.records).met }
     requires once { HasEachOnce (length atlas.now.records.items)
         (item_numbers (walked_entries atlas.now) ++ (unused_item_walk atlas.now.records).met) }
     requires steps { steps.old < 2 ^ 31 }
-    ensures ok { IfOk result (λ entries. entries.items ≡ walked_entries atlas.now) }
-    ensures free { OnOk result (AllByRecursion (HasFree atlas.now.records) (shelf_walk atlas.now.records).met) }
+    ensures met { IfOk result (λ lists. lists.met.items
+        ≡ free_numbers (map (walked_entry atlas.now.records) numbers.now)) }
+    ensures counts { IfOk result (λ lists. lists.counts.items
+        ≡ map (frees_met atlas.now.records) numbers.now) }
+    ensures free { OnOk result (AllByRecursion (HasFree atlas.now.records) numbers.now) }
     ensures fault { IfErr result (IsBroken atlas.now) }
-    ensures all { OnOk result (steps.new ≡ steps.old + links_in (free_walks atlas.now.records)) }
-    ensures own { OnOk result
-        (links_until 0 0 [] (free_walks atlas.now.records) ≡ links_in (free_walks atlas.now.records)) }
+    ensures all { OnOk result (steps.new ≡ steps.old + links_in (map (free_walk atlas.now.records) numbers.now)) }
+    ensures own { OnOk result (links_until 0 0 [] (map (free_walk atlas.now.records) numbers.now)
+        ≡ links_in (map (free_walk atlas.now.records) numbers.now)) }
     ensures until { IfErr result (StopsAfter
-        (steps.old + links_until 0 0 [] (free_walks atlas.now.records)) steps.new) }
+        (steps.old + links_until 0 0 [] (map (free_walk atlas.now.records) numbers.now)) steps.new) }
     ensures bound { steps.new ≤ steps.old + 2 * length atlas.now.records.items }
     ensures more { OnOk result (steps.old ≤ steps.new) }
 {
-    let mut entries = Vec::new(alloc);
-    for shelf in shelves {
-        let first = first_free_link(atlas.records.shelves(), usize::from(shelf.number)).bits();
-        let free_list = match walk_marking(alloc, room, marks, links, first, steps) {
-            Ok(free_list) => free_list,
-            Err(fault) => return Err(free_fault(fault)),
-        };
-        let entry = WalkedShelf {
-            number: shelf.number,
-            items: shelf.items,
-            free_list,
-        };
-        let Ok(()) = entries.push(entry) else {
+    let Ok(mut met) = Vec::with_capacity(alloc, links.len()) else {
+        return Err(RestoreFault::Memory);
+    };
+    let mut counts = Vec::new(alloc);
+    for number in numbers {
+        let first = first_free_link(atlas.records.shelves(), usize::from(*number)).bits();
+        let before = *steps;
+        if let Err(fault) = mark_onto(room, marks, &mut met, links, first, steps) {
+            return Err(free_fault(fault));
+        }
+        let Ok(()) = counts.push((*steps - before) as u16) else {
             return Err(RestoreFault::Memory);
         };
     }
-    Ok(entries)
+    Ok(WalkedLists { met, counts })
 }
 
 /// What is wrong with a snapshot where a walk along a free list is refused.

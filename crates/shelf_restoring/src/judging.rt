@@ -20,18 +20,18 @@ use std::marker::Model;
 /// What walks have met of a shelf: its number, its items and its free list, by the numbers of their
 /// records.
 #[derive(Drop)]
-pub struct WalkedShelf {
+pub struct WalkedShelf<'a> {
     pub number: u16,
-    pub items: Vec<u16>,
-    pub free_list: Vec<u16>,
+    pub items: &'a [u16],
+    pub free_list: &'a [u16],
 }
 
-impl Model for WalkedShelf {
+impl<'a> Model for WalkedShelf<'a> {
     ghost Value = { Entry };
 
     ghost view = { λ shelf. record {
       number = shelf.number;
-      items = shelf.items.items;
-      free_list = shelf.free_list.items;
+      items = shelf.items.now;
+      free_list = shelf.free_list.now;
     } };
 }

@@ -11,4 +11,5 @@ pub mod loaded_atlas;
 pub mod loading;
 pub mod rules;
 pub mod shelf_lists;
+pub mod walked_lists;
 pub mod walking;

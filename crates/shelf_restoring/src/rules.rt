@@ -11,7 +11,7 @@ ghost use Rattle.shelf_links.specs.RecordLists.{Entry, item_numbers, shelf_numbe
 ghost use Rattle.etagere_links.specs.Lists.{HasEachOnce};
 ghost use Rattle.shelf_restoring.specs.Private.Rules.{BreaksRule, KeepsRules};
 
-use crate::chains::WalkedItems;
+use crate::judging::WalkedShelf;
 use crate::judging::freeing::used_marks;
 use crate::judging::neighbouring::has_empty_shelves_apart;
 use crate::judging::shelves::judge_shelves;
@@ -29,45 +29,46 @@ pub fn judge_rules(
     frame: &Frame,
     shelves: &[LinkedShelf],
     items: &[LinkedItem],
-    walked: &WalkedItems,
+    entries: &[WalkedShelf],
+    unused: &[u16],
     allocated_space: i32,
 ) -> Result<(), RestoreFault>
     requires frame { IsFrame longest_side frame.now }
-    requires few { length walked.now.shelves.items ≤ no_link }
+    requires few { length entries.now ≤ no_link }
     requires short { AllByRecursion
         (λ (entry : Entry). length entry.items ≤ no_link)
-        walked.now.shelves.items }
-    requires shelves { (number : ℕ) → times number (shelf_numbers walked.now.shelves.items) ≤ 1 }
+        entries.now }
+    requires shelves { (number : ℕ) → times number (shelf_numbers entries.now) ≤ 1 }
     requires items { HasEachOnce (length items.now)
-        (item_numbers walked.now.shelves.items ++ walked.now.unused.items) }
+        (item_numbers entries.now ++ unused.now) }
     requires once { AllByRecursion
         (λ (entry : Entry). (item : ℕ) → times item entry.free_list ≤ 1)
-        walked.now.shelves.items }
+        entries.now }
     ensures ok { OnOk result (KeepsRules frame.now shelves.now items.now
-        walked.now.shelves.items walked.now.unused.items allocated_space) }
+        entries.now unused.now allocated_space) }
     ensures fault { IfErr result (BreaksRule frame.now shelves.now items.now
-        walked.now.shelves.items walked.now.unused.items allocated_space) }
+        entries.now unused.now allocated_space) }
 {
-    let Ok(marks) = used_marks(alloc, items.len(), &walked.unused) else {
+    let Ok(marks) = used_marks(alloc, items.len(), unused) else {
         return Err(RestoreFault::Memory);
     };
-    let judged = judge_shelves(frame, shelves, items, &marks, &walked.shelves);
+    let judged = judge_shelves(frame, shelves, items, &marks, entries);
     if !judged.are_linked {
         return Err(RestoreFault::Link);
     }
     if !judged.have_free_lists {
         return Err(RestoreFault::FreeList);
     }
-    if !has_shelves(frame, shelves, &walked.shelves) {
+    if !has_shelves(frame, shelves, entries) {
         return Err(RestoreFault::Shelves);
     }
     if !judged.are_filled {
         return Err(RestoreFault::Runs);
     }
-    if !judged.are_apart || !has_empty_shelves_apart(frame, shelves, items, &walked.shelves) {
+    if !judged.are_apart || !has_empty_shelves_apart(frame, shelves, items, entries) {
         return Err(RestoreFault::Neighbours);
     }
-    if !none_allocated(items, &walked.unused) {
+    if !none_allocated(items, unused) {
         return Err(RestoreFault::Unused);
     }
     if !is_space(judged.space, allocated_space) {

@@ -5,20 +5,34 @@
 
 ghost use Rattle.std.specs.Prelude.{◌≡◌, ◌+◌, ◌*◌, ◌≤◌, IfOk, IfErr, OnOk, length};
 ghost use Rattle.etagere_links.specs.Links.{no_link};
-ghost use Rattle.shelf_links.specs.RecordLists.{item_numbers};
-ghost use Rattle.shelf_records.specs.Private.Restoring.{IsWalked};
+ghost use Rattle.shelf_records.specs.AtlasRecords.{walked_entries};
+ghost use Rattle.shelf_records.specs.Private.Restoring.{HasLists, IsWalked};
 ghost use Rattle.shelf_restoring.specs.RestoringSteps.{StopsAfter, links_followed, links_of_all};
 ghost use Rattle.shelf_records.specs.Snapshots.{IsBroken};
 
-use crate::chains::{WalkedItems, walk_items};
+use crate::chains::walk_items;
 use crate::free_lists::walk_free_lists;
 use crate::judging::linking::links_back;
 use crate::loaded_atlas::LoadedAtlas;
 use crate::shelf_lists::walk_shelves;
+use crate::walked_lists::WalkedLists;
 use etagere_base::RestoreFault;
 use etagere_links::Chain;
 use shelf_links::LinkedShelf;
 use std::alloc::Global;
+
+/// What walks have met of all records.
+#[derive(Drop)]
+pub struct WalkedRecords {
+    /// The numbers of the shelves in use.
+    pub shelves: Vec<u16>,
+    /// Their items.
+    pub items: WalkedLists,
+    /// Their free lists.
+    pub free_lists: WalkedLists,
+    /// The numbers of the unused items.
+    pub unused: Vec<u16>,
+}
 
 /// The shelves in use with their items and free lists, and the unused items, where each record is in one list,
 /// each list ends at none, and the shelves link back. The steps are the links followed.
@@ -26,11 +40,13 @@ pub fn walk_records(
     alloc: Global,
     atlas: &LoadedAtlas,
     steps: &mut u64,
-) -> Result<WalkedItems, RestoreFault>
+) -> Result<WalkedRecords, RestoreFault>
     requires shelves { length atlas.now.records.shelves ≤ no_link }
     requires items { length atlas.now.records.items ≤ no_link }
     requires steps { steps.old ≡ 0 }
-    ensures ok { IfOk result (λ walked. IsWalked atlas.now walked.shelves.items walked.unused.items) }
+    ensures ok { IfOk result (λ walked. IsWalked atlas.now (walked_entries atlas.now) walked.unused.items) }
+    ensures lists { IfOk result (λ walked. HasLists atlas.now walked.shelves.items walked.items.met.items
+        walked.items.counts.items walked.free_lists.met.items walked.free_lists.counts.items) }
     ensures fault { IfErr result (IsBroken atlas.now) }
     ensures all { OnOk result (steps.new ≡ links_of_all atlas.now.records) }
     ensures end { OnOk result (links_followed atlas.now.records ≡ links_of_all atlas.now.records) }
@@ -38,13 +54,18 @@ pub fn walk_records(
     ensures bound { steps.new
         ≤ 4 * (length atlas.now.records.shelves + length atlas.now.records.items) }
     ensures each { IfOk result
-        (λ walked. length walked.shelves.items + length (item_numbers walked.shelves.items) ≤ steps.new) }
+        (λ walked. length walked.shelves.items + length walked.items.met.items ≤ steps.new) }
 {
     let numbers = walk_shelves(alloc, atlas, steps)?;
-    let WalkedItems { shelves, unused } = walk_items(alloc, atlas, &numbers, steps)?;
-    let shelves = walk_free_lists(alloc, atlas, shelves, steps)?;
+    let walked = walk_items(alloc, atlas, &numbers, steps)?;
+    let free_lists = walk_free_lists(alloc, atlas, &numbers, steps)?;
     if !links_back::<Chain, LinkedShelf>(atlas.records.shelves(), &numbers) {
         return Err(RestoreFault::Link);
     }
-    Ok(WalkedItems { shelves, unused })
+    Ok(WalkedRecords {
+        shelves: numbers,
+        items: walked.lists,
+        free_lists,
+        unused: walked.unused,
+    })
 }

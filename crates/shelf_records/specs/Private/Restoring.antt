@@ -55,6 +55,14 @@ pub record HasFree (records : Records) (number : ℕ) : Type 0 where
 abbrev pub chain_entry : Records → ℕ → Entry
 chain_entry records number = record { number = number; items = (item_walk records number).met; free_list = [] }
 
+-- how many items of the shelf of this number its walk meets
+abbrev pub items_met : Records → ℕ → ℕ
+items_met records number = length (item_walk records number).met
+
+-- how many records the walk along the free list of this shelf meets
+abbrev pub frees_met : Records → ℕ → ℕ
+frees_met records number = length (free_walk records number).met
+
 -- these are the items of the shelves in use, and the unused ones; each item record is one of them, and all lists end
 -- at none
 pub record HasItemLists (atlas : AtlasRecords) (shelves : List Entry) (unused : List ℕ) : Type 0 where
@@ -81,3 +89,12 @@ pub record IsWalked (atlas : AtlasRecords) (entries : List Entry) (unused : List
   pub items : HasItemLists atlas (map (chain_entry atlas.records) (shelf_walk atlas.records).met) (unused_item_walk atlas.records).met
   pub free : AllByRecursion (HasFree atlas.records) (shelf_walk atlas.records).met
   pub free_fits : AreFitting free_list.next atlas.records.items
+
+-- these are the numbers of the shelves in use, their items and how many each has, and their free lists and how many each
+-- has; the lists stand one behind the other
+pub record HasLists (atlas : AtlasRecords) (numbers items item_counts frees free_counts : List ℕ) : Type 0 where
+  pub in_use : numbers ≡ (shelf_walk atlas.records).met
+  pub chains : items ≡ item_numbers (map (chain_entry atlas.records) (shelf_walk atlas.records).met)
+  pub chain_counts : item_counts ≡ map (items_met atlas.records) (shelf_walk atlas.records).met
+  pub free_lists : frees ≡ free_numbers (walked_entries atlas)
+  pub list_counts : free_counts ≡ map (frees_met atlas.records) (shelf_walk atlas.records).met

@@ -105,7 +105,7 @@ once-walked atlas entries unused has k =
     )
 
 -- as many items, of which only the items matter
-items-length : (records : Records) (numbers : List ℕ)
+pub items-length : (records : Records) (numbers : List ℕ)
     → length (item_numbers (map (chain_entry records) numbers)) ≡ length (item_numbers (map (walked_entry records) numbers))
 items-length records [] = refl
 items-length records (n ∷ ns) =

@@ -104,16 +104,16 @@ fn judge_shelf(
 {
     let shelf = usize::from(entry.number);
     let start = fields::along(shelves, shelf);
-    let found = judge_items(frame, items, entry.number, start, &entry.items);
+    let found = judge_items(frame, items, entry.number, start, entry.items);
     let is_full = found.lie_in_row & (found.width == frame.column_width);
-    let says_empty = fields::is_empty(shelves, shelf) == is_one_free(items, &entry.items);
+    let says_empty = fields::is_empty(shelves, shelf) == is_one_free(items, entry.items);
     JudgedShelves {
         are_linked: found.are_linked,
         have_free_lists: has_free_list(
             items,
             marks,
             entry.number,
-            &entry.free_list,
+            entry.free_list,
             found.free_count,
         ),
         are_filled: is_full & says_empty,

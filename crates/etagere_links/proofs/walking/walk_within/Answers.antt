@@ -16,7 +16,7 @@ loop-step-preserved c =
     let met : List ℕ = drop before all in
     let same : c.from-number.result ≡ at = c.from-number.ensures in
     let within : at < length links = omega (arith, same, c.if-number-links.false) in
-    let met_before : c.is_met.result ≡ has at met = c.is_met.ensures ∙ ap (has at) (c.behind.ensures ∙ ap (drop before) c.deref.ensures.value) in
+    let met_before : c.is_met.result ≡ has at met = c.is_met.ensures ∙ ap (λ (ns : List ℕ). has at (drop before ns)) c.deref.ensures.value in
     let goes : is_end links met at ≡ false = end-other links met at at c.is_met.result refl within c.requires.few c.if-is_met.false met_before in
     let less : length links - c.loop-step.step ≡ suc (length links - (c.loop-step.step + 1)) = omega arith in
     let after : drop before c.push.new.self.items ≡ met ++ at ∷ [] =
@@ -39,7 +39,7 @@ returns-then-number-links-clause-met c =
     elim c.then-number-links.branch [
       | then-number-links-via-then-number-links w ↦ end-past links met at c.from-number.result c.from-number.ensures w.if-number-links.true
       | then-number-links-via-else-number-links+then-is_met w ↦
-          end-marked links met at at w.is_met.result refl w.if-is_met.true (w.is_met.ensures ∙ ap (has at) (w.behind.ensures ∙ ap (drop before) w.deref.ensures.value))
+          end-marked links met at at w.is_met.result refl w.if-is_met.true (w.is_met.ensures ∙ ap (λ (ns : List ℕ). has at (drop before ns)) w.deref.ensures.value)
     ] in
     c.loop-step.invariant.whole
     ∙ ap (λ (ns : List ℕ). c.args.met.now.items ++ ns) (walked-end (length links - c.loop-step.step) links met at (walk links c.args.start) c.loop-step.invariant.rest stops).0
@@ -54,6 +54,6 @@ returns-then-number-links-clause-end c =
     elim c.then-number-links.branch [
       | then-number-links-via-then-number-links w ↦ end-past links met at c.from-number.result c.from-number.ensures w.if-number-links.true
       | then-number-links-via-else-number-links+then-is_met w ↦
-          end-marked links met at at w.is_met.result refl w.if-is_met.true (w.is_met.ensures ∙ ap (has at) (w.behind.ensures ∙ ap (drop before) w.deref.ensures.value))
+          end-marked links met at at w.is_met.result refl w.if-is_met.true (w.is_met.ensures ∙ ap (λ (ns : List ℕ). has at (drop before ns)) w.deref.ensures.value)
     ] in
     (walked-end (length links - c.loop-step.step) links met at (walk links c.args.start) c.loop-step.invariant.rest stops).1

@@ -2,7 +2,7 @@ use Rattle.std.proofs.Common.{◌≡◌, ℕ, ◌+◌, List, length, subst, sym,
 use Rattle.std.specs.List.{AllByRecursion}
 use Rattle.etagere_links.specs.Links.{bits_of, link_of}
 use Rattle.etagere_links.specs.Marks.{IsMarkedBy}
-use Rattle.shelf_links.specs.RecordLists.{Entry, item_numbers, item_walk, shelf_walk, unused_item_walk}
+use Rattle.shelf_links.specs.RecordLists.{item_numbers, item_walk, shelf_walk, unused_item_walk}
 use Rattle.etagere_links.specs.Lists.{HasEachOnce}
 use Rattle.shelf_links.specs.Records.{item_chain}
 use Rattle.etagere_links.specs.Walks.{Walked}
@@ -48,10 +48,8 @@ returns-then-not-all_marked-clause-fault c =
     c.bits-first.ensures.value ∙ ap bits_of (c.unused_items.ensures ∙ ap (λ (a : AtlasRecords). a.records.unused_items) c.atlas.view_is) in
     let walks = walks-by item_chain.next atlas.records.items atlas.records.unused_items c.args.links.now c.bits-first.result c.requires.links start in
     let numbers : List ℕ = (shelf_walk atlas.records).met in
-    let entries : c.in_ok-shelves.shelves.items ≡ map (chain_entry atlas.records) numbers =
-    c.in_ok-shelves.ensures.ok ∙ ap (map (chain_entry atlas.records)) c.requires.numbers in
     let marked : IsMarkedBy c.walk_chains.new.marks (unused ++ item_numbers (map (chain_entry atlas.records) numbers)) =
-    subst (λ (es : List Entry). IsMarkedBy c.walk_chains.new.marks (unused ++ item_numbers es)) entries c.in_ok-shelves.ensures.marked in
+    subst (λ (ns : List ℕ). IsMarkedBy c.walk_chains.new.marks (unused ++ item_numbers (map (chain_entry atlas.records) ns))) c.requires.numbers c.in_ok-lists.ensures.marked in
     let count : length c.walk_chains.new.marks ≡ length atlas.records.items =
     c.walk_chains.auto.marks ∙ c.walk_marking.auto.marks ∙ c.requires.marks ∙ links-length item_chain.next atlas.records.items c.args.links.now c.requires.links in
     λ (shared : IsShared atlas).
@@ -67,10 +65,8 @@ returns-clause-ok c =
     c.bits-first.ensures.value ∙ ap bits_of (c.unused_items.ensures ∙ ap (λ (a : AtlasRecords). a.records.unused_items) c.atlas.view_is) in
     let walks = walks-by item_chain.next atlas.records.items atlas.records.unused_items c.args.links.now c.bits-first.result c.requires.links start in
     let numbers : List ℕ = (shelf_walk atlas.records).met in
-    let entries : c.in_ok-shelves.shelves.items ≡ map (chain_entry atlas.records) numbers =
-    c.in_ok-shelves.ensures.ok ∙ ap (map (chain_entry atlas.records)) c.requires.numbers in
     let marked : IsMarkedBy c.walk_chains.new.marks (unused ++ item_numbers (map (chain_entry atlas.records) numbers)) =
-    subst (λ (es : List Entry). IsMarkedBy c.walk_chains.new.marks (unused ++ item_numbers es)) entries c.in_ok-shelves.ensures.marked in
+    subst (λ (ns : List ℕ). IsMarkedBy c.walk_chains.new.marks (unused ++ item_numbers (map (chain_entry atlas.records) ns))) c.requires.numbers c.in_ok-lists.ensures.marked in
     let count : length c.walk_chains.new.marks ≡ length atlas.records.items =
     c.walk_chains.auto.marks ∙ c.walk_marking.auto.marks ∙ c.requires.marks ∙ links-length item_chain.next atlas.records.items c.args.links.now c.requires.links in
     let unused_met : c.in-Ok.unused.items ≡ unused = c.in-Ok.ensures.met ∙ ap (λ (w : Walked). w.met) walks in
@@ -78,13 +74,12 @@ returns-clause-ok c =
     subst (λ (n : ℕ). HasEachOnce n (unused ++ item_numbers (map (chain_entry atlas.records) numbers))) count
     (c.if-not-all_marked.ensures.all refl (unused ++ item_numbers (map (chain_entry atlas.records) numbers)) marked) in
     record {
-      met = entries;
+      met = refl;
       unused_met = unused_met;
-      chains = subst (AllByRecursion (HasChain atlas.records)) c.requires.numbers c.in_ok-shelves.ensures.chains;
+      chains = subst (AllByRecursion (HasChain atlas.records)) c.requires.numbers c.in_ok-lists.ensures.chains;
       unused_end = sym (ap (λ (w : Walked). w.end) walks) ∙ c.in-Ok.ensures.end;
-      once = subst (λ (ns : List ℕ). HasEachOnce (length atlas.records.items) (item_numbers c.in_ok-shelves.shelves.items ++ ns)) (sym unused_met)
-          (subst (λ (es : List Entry). HasEachOnce (length atlas.records.items) (item_numbers es ++ unused)) (sym entries)
-          (once-back unused (item_numbers (map (chain_entry atlas.records) numbers)) (length atlas.records.items) once));
+      once = subst (λ (ns : List ℕ). HasEachOnce (length atlas.records.items) (item_numbers (map (chain_entry atlas.records) numbers) ++ ns)) (sym unused_met)
+          (once-back unused (item_numbers (map (chain_entry atlas.records) numbers)) (length atlas.records.items) once);
       next_fits = c.requires.fit;
       unused_fits = ap link_of (sym start) ∙ c.bits-first.ensures.link ∙ c.unused_items.ensures ∙ ap (λ (a : AtlasRecords). a.records.unused_items) c.atlas.view_is;
     }
@@ -102,22 +97,22 @@ returns-in-Err-clause-until c =
     (walk-once item_chain.next atlas.records.items atlas.records.unused_items c.requires.few)
     (subst (λ (w : Walked). steps ≡ c.args.steps.now + links_by w c.in-Err.fault) walks c.in-Err.ensures.read))
 
-pub returns-in_err-shelves-clause-until : goal.returns-in_err-shelves-clause-until
-returns-in_err-shelves-clause-until c =
+pub returns-in_err-lists-clause-until : goal.returns-in_err-lists-clause-until
+returns-in_err-lists-clause-until c =
     let atlas = c.args.atlas.now in
     let start : c.bits-first.result ≡ bits_of atlas.records.unused_items =
     c.bits-first.ensures.value ∙ ap bits_of (c.unused_items.ensures ∙ ap (λ (a : AtlasRecords). a.records.unused_items) c.atlas.view_is) in
     let walks = walks-by item_chain.next atlas.records.items atlas.records.unused_items c.args.links.now c.bits-first.result c.requires.links start in
     let marked : IsMarkedBy c.walk_marking.new.marks (unused_item_walk atlas.records).met =
     subst (λ (w : Walked). IsMarkedBy c.walk_marking.new.marks w.met) walks (c.in-Ok.ensures.marked [] c.requires.marked) in
-    let fault = c.in_err-shelves.field-0.0 in
+    let fault = c.in_err-lists.field-0.0 in
     let steps = c.walk_chains.new.steps in
     let passed = err_from_is_err_and c.from_residual.result c.from_residual.ensures.1 in
     rw (passed.1, passed.2) (λ more. subst (λ (n : ℕ). StopsAfter n steps fault)
     (ap (λ (ns : List ℕ). c.walk_marking.new.steps + links_until (length atlas.records.items) more (unused_item_walk atlas.records).met (map (item_walk atlas.records) ns)) c.requires.numbers
     ∙ items-on atlas.records more c.args.steps.now c.walk_marking.new.steps c.walk_marking.new.marks (sym (ap (λ (w : Walked). w.end) walks) ∙ c.in-Ok.ensures.end) marked
     (subst (λ (w : Walked). c.walk_marking.new.steps ≡ c.args.steps.now + length w.met) walks c.in-Ok.ensures.steps))
-    (c.in_err-shelves.ensures.until more))
+    (c.in_err-lists.ensures.until more))
 
 pub returns-then-not-all_marked-clause-until : goal.returns-then-not-all_marked-clause-until
 returns-then-not-all_marked-clause-until c =
@@ -127,20 +122,19 @@ returns-then-not-all_marked-clause-until c =
     c.bits-first.ensures.value ∙ ap bits_of (c.unused_items.ensures ∙ ap (λ (a : AtlasRecords). a.records.unused_items) c.atlas.view_is) in
     let walks = walks-by item_chain.next atlas.records.items atlas.records.unused_items c.args.links.now c.bits-first.result c.requires.links start in
     let numbers : List ℕ = (shelf_walk atlas.records).met in
-    let entries : c.in_ok-shelves.shelves.items ≡ map (chain_entry atlas.records) numbers =
-    c.in_ok-shelves.ensures.ok ∙ ap (map (chain_entry atlas.records)) c.requires.numbers in
     let marked : IsMarkedBy c.walk_chains.new.marks (met_by (item_walks atlas.records)) =
-    subst (λ (ns : List ℕ). IsMarkedBy c.walk_chains.new.marks (unused ++ ns)) (ap item_numbers entries ∙ sym (items-met atlas.records numbers)) c.in_ok-shelves.ensures.marked in
+    subst (λ (ns : List ℕ). IsMarkedBy c.walk_chains.new.marks (unused ++ ns))
+    (ap (λ (ns : List ℕ). item_numbers (map (chain_entry atlas.records) ns)) c.requires.numbers ∙ sym (items-met atlas.records numbers)) c.in_ok-lists.ensures.marked in
     let count : length c.walk_chains.new.marks ≡ length atlas.records.items =
     c.walk_chains.auto.marks ∙ c.walk_marking.auto.marks ∙ c.requires.marks ∙ links-length item_chain.next atlas.records.items c.args.links.now c.requires.links in
     let all : c.walk_chains.new.steps ≡ c.args.steps.now + links_in (item_walks atlas.records) =
     items-counted atlas.records c.args.steps.now c.walk_marking.new.steps c.walk_chains.new.steps
     (subst (λ (w : Walked). c.walk_marking.new.steps ≡ c.args.steps.now + length w.met) walks c.in-Ok.ensures.steps)
-    (c.in_ok-shelves.ensures.steps ∙ ap (λ (es : List Entry). c.walk_marking.new.steps + length (item_numbers es)) entries) in
+    (c.in_ok-lists.ensures.steps ∙ ap (λ (ns : List ℕ). c.walk_marking.new.steps + length (item_numbers (map (chain_entry atlas.records) ns))) c.requires.numbers) in
     λ more. all
     ∙ ap (λ (n : ℕ). c.args.steps.now + n)
     (none-further atlas.records more (item_walks atlas.records) c.walk_chains.new.marks (length atlas.records.items)
-    (sym (ap (λ (w : Walked). w.end) walks) ∙ c.in-Ok.ensures.end, chains-end atlas.records numbers (subst (AllByRecursion (HasChain atlas.records)) c.requires.numbers c.in_ok-shelves.ensures.chains))
+    (sym (ap (λ (w : Walked). w.end) walks) ∙ c.in-Ok.ensures.end, chains-end atlas.records numbers (subst (AllByRecursion (HasChain atlas.records)) c.requires.numbers c.in_ok-lists.ensures.chains))
     count marked (c.if-not-all_marked.ensures.missing refl (met_by (item_walks atlas.records)) marked))
 
 pub returns-clause-all : goal.returns-clause-all
@@ -149,8 +143,6 @@ returns-clause-all c =
     let start : c.bits-first.result ≡ bits_of atlas.records.unused_items =
     c.bits-first.ensures.value ∙ ap bits_of (c.unused_items.ensures ∙ ap (λ (a : AtlasRecords). a.records.unused_items) c.atlas.view_is) in
     let walks = walks-by item_chain.next atlas.records.items atlas.records.unused_items c.args.links.now c.bits-first.result c.requires.links start in
-    let entries : c.in_ok-shelves.shelves.items ≡ map (chain_entry atlas.records) (shelf_walk atlas.records).met =
-    c.in_ok-shelves.ensures.ok ∙ ap (map (chain_entry atlas.records)) c.requires.numbers in
     items-counted atlas.records c.args.steps.now c.walk_marking.new.steps c.walk_chains.new.steps
     (subst (λ (w : Walked). c.walk_marking.new.steps ≡ c.args.steps.now + length w.met) walks c.in-Ok.ensures.steps)
-    (c.in_ok-shelves.ensures.steps ∙ ap (λ (es : List Entry). c.walk_marking.new.steps + length (item_numbers es)) entries)
+    (c.in_ok-lists.ensures.steps ∙ ap (λ (ns : List ℕ). c.walk_marking.new.steps + length (item_numbers (map (chain_entry atlas.records) ns))) c.requires.numbers)

@@ -1,12 +1,13 @@
-use Rattle.std.proofs.Common.{◌≡◌, ℕ, ◌+◌, List, length, get_or, subst, sym, ap, refl, arith, ◌∙◌, [], ◌∷◌, ◌++◌, map, take}
+use Rattle.std.proofs.Common.{◌≡◌, ℕ, ◌+◌, ◌-◌, List, length, get_or, subst, sym, ap, refl, arith, ◌∙◌, [], ◌∷◌, ◌++◌, map, take}
 use Rattle.std.proofs.lemmas.List.{length-append}
 use Rattle.etagere_links.specs.Links.{bits_of, link_of}
 use Rattle.etagere_links.specs.Marks.{IsMarkedBy}
 use Rattle.shelf_links.specs.RecordLists.{Entry, first_item_of, item_numbers, item_walk, unused_item_walk}
 use Rattle.shelf_links.specs.Records.{item_chain}
 use Rattle.etagere_links.specs.Walks.{Walked, walk}
+use Rattle.etagere_links.proofs.MarkLemmas.{marked-length}
 use Rattle.shelf_records.specs.AtlasRecords.{AtlasRecords}
-use Rattle.shelf_records.specs.Private.Restoring.{HasChain, chain_entry}
+use Rattle.shelf_records.specs.Private.Restoring.{HasChain, chain_entry, items_met}
 use Rattle.shelf_records.specs.Snapshots.{IsBroken}
 use Rattle.shelf_restoring.proofs.Loaded.ChainsWalked.{both-length, each-next, images-next, items-next, marks-next}
 use Rattle.shelf_restoring.proofs.Loaded.WalksBroken.{chain-broken}
@@ -17,8 +18,12 @@ use Rattle.shelf_restoring.specs.RestoringSteps.{StopsAfter}
 use Rattle.shelf_restoring.proofs.Loaded.LinksFollowed.{chain-refused, chain-wanting}
 use Rattle.shelf_restoring.proofs.chains.walk_chains.Goals as goal
 
-pub walk_marking-requires-clause-steps : goal.walk_marking-requires-clause-steps
-walk_marking-requires-clause-steps c =
+pub returns-in_default-clause-bound : goal.returns-in_default-clause-bound
+returns-in_default-clause-bound c =
+    omega (arith, marked-length c.args.marks.now (unused_item_walk c.args.atlas.now.records).met c.requires.marked, c.requires.marks, links-length item_chain.next c.args.atlas.now.records.items c.args.links.now c.requires.links)
+
+pub mark_onto-requires-clause-steps : goal.mark_onto-requires-clause-steps
+mark_onto-requires-clause-steps c =
     let lists = c.args.atlas.now.records in
     let kept = c.loop-number.invariant in
     let items : List ℕ = item_numbers (map (chain_entry lists) (take c.loop-number.number-index c.args.numbers.now)) in
@@ -42,12 +47,12 @@ returns-in-Err-clause-bound c =
     let items : List ℕ = item_numbers (map (chain_entry lists) (take c.loop-number.number-index c.args.numbers.now)) in
     omega (arith, kept.steps, both-length c.loop-number.marks (unused_item_walk lists).met items kept.marked, c.loop-number.auto.marks, c.requires.marks, c.in-Err.ensures.bound, links-length item_chain.next lists.items c.args.links.now c.requires.links)
 
-pub returns-in_default-clause-bound : goal.returns-in_default-clause-bound
-returns-in_default-clause-bound c =
+pub returns-in_default-push-clause-bound : goal.returns-in_default-push-clause-bound
+returns-in_default-push-clause-bound c =
     let lists = c.args.atlas.now.records in
     let kept = c.loop-number.invariant in
     let items : List ℕ = item_numbers (map (chain_entry lists) (take c.loop-number.number-index c.args.numbers.now)) in
-    omega (arith, kept.steps, both-length c.loop-number.marks (unused_item_walk lists).met items kept.marked, c.loop-number.auto.marks, c.requires.marks, c.in-Ok.ensures.bound, links-length item_chain.next lists.items c.args.links.now c.requires.links)
+    omega (arith, kept.steps, both-length c.loop-number.marks (unused_item_walk lists).met items kept.marked, c.loop-number.auto.marks, c.requires.marks, c.in_default-mark_onto.ensures.bound, links-length item_chain.next lists.items c.args.links.now c.requires.links)
 
 pub loop-number-preserved : goal.loop-number-preserved
 loop-number-preserved c =
@@ -64,22 +69,26 @@ loop-number-preserved c =
     let start : c.bits-first.result ≡ bits_of (first_item_of atlas.records.shelves number) = c.bits-first.ensures.value ∙ ap bits_of link in
     let walks : walk c.args.links.now c.bits-first.result ≡ item_walk atlas.records number =
     walks-by item_chain.next atlas.records.items (first_item_of atlas.records.shelves number) c.args.links.now c.bits-first.result c.requires.links start in
-    let met : c.in-Ok.items.items ≡ (item_walk atlas.records number).met = c.in-Ok.ensures.met ∙ ap (λ (w : Walked). w.met) walks in
+    let more : ℕ = c.mark_onto.new.steps - c.loop-number.steps in
+    let counted : more ≡ items_met atlas.records number = omega (arith, c.in_default-mark_onto.ensures.steps, ap (λ (w : Walked). length w.met) walks) in
     record {
-      walked = c.in-Ok-push.ensures.items
-          ∙ ap (λ (es : List Entry). es ++ record { number = number; items = c.in-Ok.items.items; free_list = c.new.result.items } ∷ []) kept.walked
-          ∙ ap (λ (ns : List ℕ). map (chain_entry atlas.records) (take i numbers) ++ record { number = number; items = ns; free_list = c.new.result.items } ∷ []) met
-          ∙ ap (λ (ns : List ℕ). map (chain_entry atlas.records) (take i numbers) ++ record { number = number; items = (item_walk atlas.records number).met; free_list = ns } ∷ []) c.new.ensures.items
-          ∙ images-next (chain_entry atlas.records) numbers i number within refl;
-      marked = marks-next atlas.records unused numbers i number c.walk_marking.new.marks within refl
-          (subst (λ (w : Walked). IsMarkedBy c.walk_marking.new.marks ((unused ++ items) ++ w.met)) walks (c.in-Ok.ensures.marked (unused ++ items) kept.marked));
+      met = c.in_default-mark_onto.ensures.met
+          ∙ ap (λ (ns : List ℕ). ns ++ (walk c.args.links.now c.bits-first.result).met) kept.met
+          ∙ ap (λ (w : Walked). items ++ w.met) walks
+          ∙ sym (items-next atlas.records numbers i number within refl);
+      counts = c.in-Ok-push.ensures.items
+          ∙ ap (λ (ns : List ℕ). ns ++ more ∷ []) kept.counts
+          ∙ ap (λ (n : ℕ). map (items_met atlas.records) (take i numbers) ++ n ∷ []) counted
+          ∙ images-next (items_met atlas.records) numbers i number within refl;
+      marked = marks-next atlas.records unused numbers i number c.mark_onto.new.marks within refl
+          (subst (λ (w : Walked). IsMarkedBy c.mark_onto.new.marks ((unused ++ items) ++ w.met)) walks (c.in_default-mark_onto.ensures.marked (unused ++ items) kept.marked));
       chains = each-next (HasChain atlas.records) numbers i number within refl kept.chains
           (record {
-            end = sym (ap (λ (w : Walked). w.end) walks) ∙ c.in-Ok.ensures.end;
+            end = sym (ap (λ (w : Walked). w.end) walks) ∙ c.in_default-mark_onto.ensures.end;
             first_fits = ap link_of (sym start) ∙ c.bits-first.ensures.link ∙ link;
           });
-      room = c.in-Ok.ensures.room ∙ kept.room;
-      steps = omega (arith, kept.steps, c.in-Ok.ensures.steps, ap (λ (w : Walked). length w.met) walks, ap length (items-next atlas.records numbers i number within refl), length-append items (item_walk atlas.records number).met);
+      room = c.in_default-mark_onto.ensures.room ∙ kept.room;
+      steps = omega (arith, kept.steps, c.in_default-mark_onto.ensures.steps, ap (λ (w : Walked). length w.met) walks, ap length (items-next atlas.records numbers i number within refl), length-append items (item_walk atlas.records number).met);
     }
 
 pub returns-clause-bound : goal.returns-clause-bound
@@ -97,7 +106,7 @@ returns-in-Err-clause-until c =
     let start : c.bits-first.result ≡ bits_of (first_item_of atlas.records.shelves number) =
     c.bits-first.ensures.value ∙ ap bits_of (c.first_item_link.ensures ∙ ap (λ ss. first_item_of ss c.from.result) (c.shelves.ensures ∙ ap (λ (a : AtlasRecords). a.records.shelves) c.atlas.view_is) ∙ ap (first_item_of atlas.records.shelves) c.from.ensures) in
     let walks = walks-by item_chain.next atlas.records.items (first_item_of atlas.records.shelves number) c.args.links.now c.bits-first.result c.requires.links start in
-    let steps = c.walk_marking.new.steps in
+    let steps = c.mark_onto.new.steps in
     let counted : steps ≡ c.loop-number.steps + links_by (item_walk atlas.records number) c.in-Err.fault =
     subst (λ (w : Walked). steps ≡ c.loop-number.steps + links_by w c.in-Err.fault) walks c.in-Err.ensures.read in
     λ more. subst (StopsAfter (c.args.steps.now + links_until (length atlas.records.items) more (unused_item_walk atlas.records).met (map (item_walk atlas.records) c.args.numbers.now)) steps) (sym c.chain_fault.ensures)
@@ -105,14 +114,14 @@ returns-in-Err-clause-until c =
     (breaks-by item_chain.next atlas.records.items (first_item_of atlas.records.shelves number) c.args.links.now c.bits-first.result c.loop-number.marks c.in-Err.fault c.requires.links start c.in-Err.ensures.fault)
     kept.steps counted)
 
-pub returns-in_default-clause-until : goal.returns-in_default-clause-until
-returns-in_default-clause-until c =
+pub returns-in_default-push-clause-until : goal.returns-in_default-push-clause-until
+returns-in_default-push-clause-until c =
     let atlas = c.args.atlas.now in
     let kept = c.loop-number.invariant in
     let number : ℕ = get_or c.args.numbers.now c.loop-number.number-index 0 in
     let start : c.bits-first.result ≡ bits_of (first_item_of atlas.records.shelves number) =
     c.bits-first.ensures.value ∙ ap bits_of (c.first_item_link.ensures ∙ ap (λ ss. first_item_of ss c.from.result) (c.shelves.ensures ∙ ap (λ (a : AtlasRecords). a.records.shelves) c.atlas.view_is) ∙ ap (first_item_of atlas.records.shelves) c.from.ensures) in
     let walks = walks-by item_chain.next atlas.records.items (first_item_of atlas.records.shelves number) c.args.links.now c.bits-first.result c.requires.links start in
-    let steps = c.walk_marking.new.steps in
+    let steps = c.mark_onto.new.steps in
     λ more. chain-wanting atlas.records c.args.numbers.now (unused_item_walk atlas.records).met c.loop-number.number-index more c.args.steps.now c.loop-number.steps steps c.loop-number.marks c.loop-number-test.true kept.chains kept.marked kept.steps
-    (subst (λ (w : Walked). steps ≡ c.loop-number.steps + length w.met) walks c.in-Ok.ensures.steps)
+    (subst (λ (w : Walked). steps ≡ c.loop-number.steps + length w.met) walks c.in_default-mark_onto.ensures.steps)

@@ -2,12 +2,13 @@ use Rattle.std.proofs.Common.{◌≡◌, ◌+◌, ◌++◌, length, map, take}
 use Rattle.std.specs.List.{AllByRecursion}
 use Rattle.etagere_links.specs.Marks.{IsMarkedBy}
 use Rattle.shelf_links.specs.RecordLists.{item_numbers, unused_item_walk}
-use Rattle.shelf_records.specs.Private.Restoring.{HasChain, chain_entry}
+use Rattle.shelf_records.specs.Private.Restoring.{HasChain, chain_entry, items_met}
 use Rattle.shelf_restoring.proofs.chains.walk_chains.Given as goal
 
 abbrev pub invariant-loop-number : goal.invariant-loop-number
 invariant-loop-number l = record {
-  walked : l.shelves.items ≡ map (chain_entry l.atlas.records) (take l.number-index l.numbers);
+  met : l.met.items ≡ item_numbers (map (chain_entry l.atlas.records) (take l.number-index l.numbers));
+  counts : l.counts.items ≡ map (items_met l.atlas.records) (take l.number-index l.numbers);
   marked : IsMarkedBy l.marks ((unused_item_walk l.atlas.records).met ++ item_numbers (map (chain_entry l.atlas.records) (take l.number-index l.numbers)));
   chains : AllByRecursion (HasChain l.atlas.records) (take l.number-index l.numbers);
   room : l.room ≡ l.fn.room;

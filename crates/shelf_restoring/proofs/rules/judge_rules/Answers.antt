@@ -31,81 +31,79 @@ was-false true e = absurd (cc)
 pub returns-then-not-judged-2-clause-fault : goal.returns-then-not-judged-2-clause-fault
 returns-then-not-judged-2-clause-fault c = λ back.
     let items = c.args.items.now in
-    let entries = c.args.walked.now.shelves.items in
-    let unused = c.args.walked.now.unused.items in
-    let marks = c.deref-2.result.now in
+    let entries = c.args.entries.now in
+    let unused = c.args.unused.now in
+    let marks = c.deref.result.now in
     let judged = c.judge_shelves-judged in
     let linked = granted judged.result.are_linked (AllByRecursion (LinkBack items) entries)
-    (subst (λ (es : List Entry). Decides judged.result.are_linked (AllByRecursion (LinkBack items) es)) c.deref-3.ensures.value judged.ensures.links) (was-true judged.result.are_linked c.if-not-judged.false) in
-    let used = subst (λ (m : List Bool). AreUsed (length items) unused m) (sym c.deref-2.ensures.value)
-    (subst (λ (ns : List ℕ). AreUsed (length items) ns c.in-Ok.marks.items) c.deref.ensures.value c.in-Ok.ensures) in
+    judged.ensures.links (was-true judged.result.are_linked c.if-not-judged.false) in
+    let used = subst (λ (m : List Bool). AreUsed (length items) unused m) (sym c.deref.ensures.value) c.in-Ok.ensures in
     let own = own-marked items marks (length items) unused entries c.requires.shelves c.requires.items used linked in
     denied judged.result.have_free_lists (AllByRecursion (FreeOwn items marks) entries)
-    (subst (λ (es : List Entry). Decides judged.result.have_free_lists (AllByRecursion (FreeOwn items marks) es)) c.deref-3.ensures.value judged.ensures.free) (was-false judged.result.have_free_lists c.if-not-judged-2.true)
+    judged.ensures.free (was-false judged.result.have_free_lists c.if-not-judged-2.true)
     (back-own items marks entries own back)
 
 pub returns-then-not-judged-4-clause-fault : goal.returns-then-not-judged-4-clause-fault
 returns-then-not-judged-4-clause-fault c = λ has.
     let items = c.args.items.now in
-    let entries = c.args.walked.now.shelves.items in
+    let entries = c.args.entries.now in
     let atlas = atlas_of_records c.args.frame.now c.args.shelves.now items in
     let judged = c.judge_shelves-judged in
     elim c.then-not-judged-4.branch [
       | then-not-judged-4-via-then-not-judged-4 w ↦
           denied judged.result.are_apart (AllByRecursion (λ (entry : Entry). NoNeighbours both_free (map (item_at items) entry.items)) entries)
-          (subst (λ (es : List Entry). Decides judged.result.are_apart (AllByRecursion (λ (entry : Entry). NoNeighbours both_free (map (item_at items) entry.items)) es)) c.deref-3.ensures.value judged.ensures.apart)
+          judged.ensures.apart
           (was-false judged.result.are_apart w.if-not-judged-4.true) (each-unmap (λ (shelf : Shelf). NoNeighbours both_free shelf.items) (spelled_shelf atlas) entries has.items)
       | then-not-judged-4-via-else-not-judged-4+then-not-has_empty_shelves_apart w ↦
           denied w.has_empty_shelves_apart.result (NoNeighbours both_empty (map (spelled_shelf atlas) entries))
-          (subst (λ (es : List Entry). Decides w.has_empty_shelves_apart.result (NoNeighbours both_empty (map (spelled_shelf atlas) es))) w.deref-else-not-judged-4.ensures.value w.has_empty_shelves_apart.ensures)
+          w.has_empty_shelves_apart.ensures
           w.if-not-has_empty_shelves_apart.true has.shelves
     ]
 
 pub returns-then-not-none_allocated-clause-fault : goal.returns-then-not-none_allocated-clause-fault
 returns-then-not-none_allocated-clause-fault c = λ each.
     let items = c.args.items.now in
-    denied c.none_allocated.result (AllByRecursion (λ item. is_allocated_at items item ≡ false) c.args.walked.now.unused.items)
-    (subst (λ (ns : List ℕ). Decides c.none_allocated.result (AllByRecursion (λ item. is_allocated_at items item ≡ false) ns)) c.deref-5.ensures.value c.none_allocated.ensures)
+    denied c.none_allocated.result (AllByRecursion (λ item. is_allocated_at items item ≡ false) c.args.unused.now)
+    c.none_allocated.ensures
     c.if-not-none_allocated.true each
 
 pub returns-clause-ok : goal.returns-clause-ok
 returns-clause-ok c =
     let items = c.args.items.now in
-    let entries = c.args.walked.now.shelves.items in
-    let unused = c.args.walked.now.unused.items in
-    let marks = c.deref-2.result.now in
+    let entries = c.args.entries.now in
+    let unused = c.args.unused.now in
+    let marks = c.deref.result.now in
     let atlas = atlas_of_records c.args.frame.now c.args.shelves.now items in
     let judged = c.judge_shelves-judged in
     let linked = granted judged.result.are_linked (AllByRecursion (LinkBack items) entries)
-    (subst (λ (es : List Entry). Decides judged.result.are_linked (AllByRecursion (LinkBack items) es)) c.deref-3.ensures.value judged.ensures.links) (was-true judged.result.are_linked c.if-not-judged.false) in
-    let used = subst (λ (m : List Bool). AreUsed (length items) unused m) (sym c.deref-2.ensures.value)
-    (subst (λ (ns : List ℕ). AreUsed (length items) ns c.in-Ok.marks.items) c.deref.ensures.value c.in-Ok.ensures) in
+    judged.ensures.links (was-true judged.result.are_linked c.if-not-judged.false) in
+    let used = subst (λ (m : List Bool). AreUsed (length items) unused m) (sym c.deref.ensures.value) c.in-Ok.ensures in
     let own = own-marked items marks (length items) unused entries c.requires.shelves c.requires.items used linked in
     let Apart : Entry → Type 0 = λ entry. NoNeighbours both_free (map (item_at items) entry.items) in
     record {
       links = linked;
       free_lists = own-back items marks entries own c.requires.once
           (granted judged.result.have_free_lists (AllByRecursion (FreeOwn items marks) entries)
-          (subst (λ (es : List Entry). Decides judged.result.have_free_lists (AllByRecursion (FreeOwn items marks) es)) c.deref-3.ensures.value judged.ensures.free)
+          judged.ensures.free
           (was-true judged.result.have_free_lists c.if-not-judged-2.false));
       stacked = granted c.has_shelves.result (HasShelvesIn atlas entries)
-          (subst (λ (es : List Entry). Decides c.has_shelves.result (HasShelvesIn atlas es)) c.deref-4.ensures.value (c.has_shelves.ensures items)) c.if-not-has_shelves.false;
+          (c.has_shelves.ensures items) c.if-not-has_shelves.false;
       filled = granted judged.result.are_filled (AllByRecursion (HasItems atlas) entries)
-          (subst (λ (es : List Entry). Decides judged.result.are_filled (AllByRecursion (HasItems atlas) es)) c.deref-3.ensures.value judged.ensures.filled)
+          judged.ensures.filled
           (was-true judged.result.are_filled c.if-not-judged-3.false);
       neighbours =
           record {
             items = each-map (λ (shelf : Shelf). NoNeighbours both_free shelf.items) (spelled_shelf atlas) entries
                 (granted judged.result.are_apart (AllByRecursion Apart entries)
-                (subst (λ (es : List Entry). Decides judged.result.are_apart (AllByRecursion Apart es)) c.deref-3.ensures.value judged.ensures.apart)
+                judged.ensures.apart
                 (was-true judged.result.are_apart c.if-not-judged-4.false));
             shelves = granted c.has_empty_shelves_apart.result (NoNeighbours both_empty (map (spelled_shelf atlas) entries))
-                (subst (λ (es : List Entry). Decides c.has_empty_shelves_apart.result (NoNeighbours both_empty (map (spelled_shelf atlas) es))) c.deref-else-not-judged-4.ensures.value c.has_empty_shelves_apart.ensures)
+                c.has_empty_shelves_apart.ensures
                 c.if-not-has_empty_shelves_apart.false;
           };
       unused_free = granted c.none_allocated.result (AllByRecursion (λ item. is_allocated_at items item ≡ false) unused)
-          (subst (λ (ns : List ℕ). Decides c.none_allocated.result (AllByRecursion (λ item. is_allocated_at items item ≡ false) ns)) c.deref-5.ensures.value c.none_allocated.ensures) c.if-not-none_allocated.false;
+          c.none_allocated.ensures c.if-not-none_allocated.false;
       sum = sym (to_z-of_z w32 c.args.allocated_space c.ranges.allocated_space)
           ∙ granted c.is_space.result (to_z w32 (of_z w32 c.args.allocated_space) ≡ pos judged.result.space) c.is_space.ensures c.if-not-is_space.false
-          ∙ ap pos (judged.ensures.space ∙ ap (λ (es : List Entry). space_in (map (spelled_shelf atlas) es)) c.deref-3.ensures.value);
+          ∙ ap pos (judged.ensures.space);
     }

@@ -27,7 +27,7 @@ returns-clause-links c =
     let items = c.args.items.now in
     let entry = c.args.entry.now in
     let found = c.judge_items-found.result in
-    let numbers : c.deref.result.now ≡ entry.items = c.deref.ensures.value ∙ ap (λ (e : Entry). e.items) c.entry.view_is in
+    let numbers : c.entry.inside.items.now ≡ entry.items = ap (λ (e : Entry). e.items) c.entry.view_is in
     let own : c.entry.inside.number ≡ entry.number = ap (λ (e : Entry). e.number) c.entry.view_is in
     decides-map found.are_linked (LinkedFrom items entry.number None entry.items) (LinkBack items entry)
     (linked-back items entry.number entry.items) (back-linked items entry.number entry.items)
@@ -42,15 +42,14 @@ returns-clause-filled c =
     let entry = c.args.entry.now in
     let found = c.judge_items-found.result in
     let atlas = atlas_of_records frame shelves items in
-    let numbers : c.deref.result.now ≡ entry.items = c.deref.ensures.value ∙ ap (λ (e : Entry). e.items) c.entry.view_is in
-    let again : c.deref-2.result.now ≡ entry.items = c.deref-2.ensures.value ∙ ap (λ (e : Entry). e.items) c.entry.view_is in
+    let numbers : c.entry.inside.items.now ≡ entry.items = ap (λ (e : Entry). e.items) c.entry.view_is in
     let own : c.from-shelf.result ≡ entry.number = c.from-shelf.ensures ∙ ap (λ (e : Entry). e.number) c.entry.view_is in
     let start : c.along-start.result ≡ along_of shelves entry.number = c.along-start.ensures ∙ ap (along_of shelves) own in
     let width : found.width ≡ state.total_width (map (item_at items) entry.items) =
     c.judge_items-found.ensures.width ∙ ap (λ (ns : List ℕ). state.total_width (map (item_at items) ns)) numbers in
     let says : c.is_empty.result ≡ is_empty_at shelves entry.number = c.is_empty.ensures ∙ ap (is_empty_at shelves) own in
     let one : c.is_one_free.result ≡ state.is_one_free (map (item_at items) entry.items) =
-    c.is_one_free.ensures ∙ ap (λ (ns : List ℕ). state.is_one_free (map (item_at items) ns)) again in
+    c.is_one_free.ensures ∙ ap (λ (ns : List ℕ). state.is_one_free (map (item_at items) ns)) numbers in
     let row : Decides found.lie_in_row (RowFrom frame items (along_of shelves entry.number) entry.items) =
     subst (λ (s : ℕ). Decides found.lie_in_row (RowFrom frame items s entry.items)) start
     (subst (λ (ns : List ℕ). Decides found.lie_in_row (RowFrom frame items c.along-start.result ns)) numbers c.judge_items-found.ensures.places) in
@@ -72,7 +71,7 @@ returns-clause-apart c =
     let items = c.args.items.now in
     let entry = c.args.entry.now in
     let found = c.judge_items-found.result in
-    let numbers : c.deref.result.now ≡ entry.items = c.deref.ensures.value ∙ ap (λ (e : Entry). e.items) c.entry.view_is in
+    let numbers : c.entry.inside.items.now ≡ entry.items = ap (λ (e : Entry). e.items) c.entry.view_is in
     decides-map found.are_apart (ApartFrom items false entry.items) (NoNeighbours both_free (map (item_at items) entry.items))
     (apart-all items entry.items) (all-apart items entry.items)
     (subst (λ (ns : List ℕ). Decides found.are_apart (ApartFrom items false ns)) numbers c.judge_items-found.ensures.apart)

@@ -1,0 +1,57 @@
+//! Lists that walks met one after another, in one list, and the shelves whose items and free lists they are.
+//!
+//! Definitions: `Restoring`. So no walk takes memory of its own.
+
+ghost use Rattle.std.specs.Prelude.{◌≡◌, ◌+◌, ◌≤◌, IfOk, drop, length, take};
+ghost use Rattle.shelf_records.specs.AtlasRecords.{walked_entries};
+ghost use Rattle.shelf_records.specs.Private.Restoring.{HasLists};
+
+use crate::judging::WalkedShelf;
+use crate::loaded_atlas::LoadedAtlas;
+use std::alloc::{AllocError, Global};
+
+/// Lists that walks met, one behind the other.
+#[derive(Drop)]
+pub struct WalkedLists {
+    /// The numbers of the records in the lists.
+    pub met: Vec<u16>,
+    /// How many records each list has.
+    pub counts: Vec<u16>,
+}
+
+/// The shelves of these numbers, which are those in use, with their items and free lists.
+pub fn walked_shelves<'a>(
+    alloc: Global,
+    _atlas: &LoadedAtlas,
+    numbers: &[u16],
+    items: &'a WalkedLists,
+    free_lists: &'a WalkedLists,
+) -> Result<Vec<WalkedShelf<'a>>, AllocError>
+    requires { HasLists _atlas.now numbers.now items.now.met.items items.now.counts.items
+        free_lists.now.met.items free_lists.now.counts.items }
+    ensures { IfOk result (λ shelves. shelves.items ≡ walked_entries _atlas.now) }
+{
+    let mut shelves = Vec::with_capacity(alloc, numbers.len())?;
+    let mut start = 0;
+    let mut free_start = 0;
+    for at in 0..numbers.len() {
+        let count = usize::from(items.counts[at]);
+        let free_count = usize::from(free_lists.counts[at]);
+        shelves.push(WalkedShelf {
+            number: numbers[at],
+            items: part(&items.met, start, count),
+            free_list: part(&free_lists.met, free_start, free_count),
+        })?;
+        start += count;
+        free_start += free_count;
+    }
+    Ok(shelves)
+}
+
+/// So many of a list from a place on.
+fn part(list: &[u16], start: usize, count: usize) -> &[u16]
+    requires { start + count ≤ length list.now }
+    ensures { result.now ≡ take count (drop start list.now) }
+{
+    &list[start..start + count]
+}
