@@ -44,7 +44,7 @@ fn shelves_by_height(
     for number in numbers {
         by_height.push(newly_bounded(frame, usize::from(*number)));
     }
-    by_height.sort(records.shelves());
+    by_height.sort_by_keys(alloc, records.shelves())?;
     Ok(by_height)
 }
 

@@ -6,5 +6,6 @@ pub mod PairedShelves
 pub mod PassedBounds
 pub mod Positions
 pub mod ShiftedLists
+pub mod SortedKeys
 pub mod UsedLists
 pub mod WideBounds

@@ -58,7 +58,8 @@ fn order_at(height: u32, place: u32) -> u64
 /// Where a shelf stands in the order.
 pub fn order_of(shelves: &[LinkedShelf], shelf: usize) -> u64
     requires { shelf < length shelves.now }
-    ensures { result ≡ spec.order_of shelves.now shelf }
+    ensures value { result ≡ spec.order_of shelves.now shelf }
+    ensures small { result < 2 ^ 48 }
 {
     let record = &shelves[shelf];
     order_at(u32::from(record.height), chain_order(record.x, record.y))
@@ -81,7 +82,8 @@ fn comes_before(shelves: &[LinkedShelf], shelf: usize, height: u32, place: u32) 
 
 /// Where a shelf stands in the order; 0 where there is no such shelf.
 pub fn order_or_zero(shelves: &[LinkedShelf], shelf: usize) -> u64
-    ensures { result ≡ spec.order_of shelves.now shelf }
+    ensures value { result ≡ spec.order_of shelves.now shelf }
+    ensures small { result < 2 ^ 48 }
 {
     if shelf < shelves.len() {
         order_of(shelves, shelf)

@@ -24,6 +24,10 @@ order_at height place = height * (65536 * 65536) + place
 abbrev pub order_of : List LinkedShelf → ℕ → ℕ
 order_of shelves shelf = order_at (height_of shelves shelf) (chain_order shelves shelf)
 
+-- the key of a shelf: where it stands in the order, and then its number
+abbrev pub key_of : List LinkedShelf → ℕ → ℕ
+key_of shelves shelf = order_of shelves shelf * 65536 + shelf
+
 -- the numbers of the shelves, in their order
 abbrev pub numbers_by_height : List BoundedShelf → List ℕ
 numbers_by_height by_height = map (λ (one : BoundedShelf). one.shelf) by_height

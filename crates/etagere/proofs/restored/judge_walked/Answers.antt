@@ -1,6 +1,6 @@
 -- The rules are judged over what walks have met.
 use Rattle.std.specs.Prelude.{ℤ}
-use Rattle.std.proofs.Common.{◌≡◌, ℕ, List, ◌++◌, ◌≤◌, IfErr, OnOk, length, ap, rules, subst, sym, Err, Ok, Result, SFits, Unit, w32, ◌∙◌}
+use Rattle.std.proofs.Common.{◌≡◌, ℕ, List, ◌++◌, ◌≤◌, IfErr, OnOk, length, ap, rules, subst, sym, Err, Ok, Result, SFits, w32, ◌∙◌}
 use Rattle.std.proofs.lemmas.Int.{to_z-of_z}
 use Rattle.std.proofs.lemmas.Result.{on_ok_weaker}
 use Rattle.std.specs.List.{AllByRecursion}

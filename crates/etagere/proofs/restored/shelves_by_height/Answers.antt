@@ -44,12 +44,12 @@ pub returns-clause-by_height : goal.returns-clause-by_height
 returns-clause-by_height c =
     let frame = c.args.frame.now in
     let numbers = c.args.numbers.now in
-    let sorted = c.sort.new.self.items in
+    let sorted = c.sort_by_keys.new.self.items in
     let none : drop c.loop-number.number-index numbers ≡ [] = drop_all c.loop-number.number-index numbers c.loop-number-test.false in
     let all : c.loop-number.by_height.items ≡ in_use frame c.args.records.now =
     met-done frame numbers c.loop-number.by_height.items (subst (λ (ns : List ℕ). c.loop-number.by_height.items ++ met_by_height frame ns ≡ met_by_height frame numbers) none c.loop-number.invariant.whole)
     ∙ ap (map (newly_bounded frame)) c.requires.met in
     sorted-by_height frame c.args.records.now sorted c.requires.kept
-    (subst (λ (by_height : List BoundedShelf). IsPermutation (numbers_by_height by_height) (numbers_by_height sorted)) all c.sort.ensures.numbers)
-    (subst (λ (shelves : List LinkedShelf). IsNonDecreasingBy (order_of shelves) (numbers_by_height sorted)) c.shelves-2.ensures c.sort.ensures.sorted)
-    (c.sort.ensures.bounds ∙ ap (map (λ (one : BoundedShelf). one.widest)) all)
+    (subst (λ (by_height : List BoundedShelf). IsPermutation (numbers_by_height by_height) (numbers_by_height sorted)) all c.in_ok-sort_by_keys.ensures.numbers)
+    (subst (λ (shelves : List LinkedShelf). IsNonDecreasingBy (order_of shelves) (numbers_by_height sorted)) c.shelves-2.ensures c.in_ok-sort_by_keys.ensures.sorted)
+    (c.in_ok-sort_by_keys.ensures.bounds ∙ ap (map (λ (one : BoundedShelf). one.widest)) all)

@@ -58,11 +58,11 @@ loop-from-preserved c =
 pub returns-clause-before : goal.returns-clause-before
 returns-clause-before c =
     subst (λ (n : ℕ). AllByRecursion (λ (one : BoundedShelf). order_of c.args.shelves.now one.shelf < n) (take c.loop-from.from c.args.by_height.now.items))
-    c.order_of-order.ensures c.loop-from.invariant.before
+    c.order_of-order.ensures.value c.loop-from.invariant.before
 
 pub returns-clause-after : goal.returns-clause-after
 returns-clause-after c =
     let same : c.loop-from.end ≡ c.loop-from.from = omega (arith, c.loop-from.invariant.bounds, c.loop-from-test.false) in
     subst (λ (n : ℕ). AllByRecursion (λ (one : BoundedShelf). n ≤ order_of c.args.shelves.now one.shelf) (drop c.loop-from.from c.args.by_height.now.items))
-    c.order_of-order.ensures
+    c.order_of-order.ensures.value
     (subst (λ (n : ℕ). AllByRecursion (λ (one : BoundedShelf). c.order_of-order.result ≤ order_of c.args.shelves.now one.shelf) (drop n c.args.by_height.now.items)) same c.loop-from.invariant.after)
