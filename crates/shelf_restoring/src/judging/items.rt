@@ -2,7 +2,7 @@
 //!
 //! Definitions: `ItemsLinkBack` of `Judging`, `LieFrom` of `StandsFor`, and `Rules` for what is left of a list.
 
-ghost use Rattle.std.specs.Prelude.{◌≡◌, ◌≤◌, ◌*◌, None, false, length, map};
+ghost use Rattle.std.specs.Prelude.{◌≡◌, ◌≤◌, ◌*◌, ◌%◌, None, false, length, map};
 ghost use Rattle.etagere_base.specs.Deciding.{Decides};
 ghost use Rattle.etagere_base.specs.Frames.{IsFrame, longest_side};
 ghost use Rattle.etagere_links.specs.Edits.{link_at};
@@ -113,5 +113,13 @@ fn lies_at(frame: &Frame, items: &[LinkedItem], item: usize, here: u32) -> bool
     if width == 0 {
         return false;
     }
-    width % frame.alignment_along() == 0
+    is_multiple(width, frame.alignment_along())
+}
+
+/// Whether a width is a multiple of this, which is at least 1. Mostly it is 1, and a division is dear.
+fn is_multiple(width: u32, alignment: u32) -> bool
+    requires { 1 ≤ alignment }
+    ensures { Decides result (width % alignment ≡ 0) }
+{
+    alignment == 1 || width % alignment == 0
 }

@@ -51,7 +51,7 @@ fn are_both_empty(
         (spec.spelled_shelf (atlas_of_records frame.now shelves.now items.now) entry.now)
         (spec.spelled_shelf (atlas_of_records frame.now shelves.now items.now) next.now) }
 {
-    column_of(frame, shelves, entry) == column_of(frame, shelves, next)
-        && is_one_free(items, entry.items)
+    is_one_free(items, entry.items)
         && is_one_free(items, next.items)
+        && column_of(frame, shelves, entry) == column_of(frame, shelves, next)
 }
