@@ -91,11 +91,18 @@ pub record HasNeighbours (state : AtlasState) : Type 0 where
   pub items : AllByRecursion (λ (shelf : Shelf). NoNeighbours both_free shelf.items) state.shelves
   pub shelves : NoNeighbours both_empty state.shelves
 
--- the free list of a shelf has each of its free items once, links back, and ends at none
+-- the free ones of these items
+abbrev pub free_present : List LinkedItem → List ℕ → List ℕ
+free_present items numbers = filter (λ member. not (is_allocated_at items member)) numbers
+
+-- the free list of a shelf has each of its free items once, and no other
+abbrev pub ListsFree : List LinkedItem → Entry → Type 0
+ListsFree items entry =
+    (item : ℕ) → times item entry.free_list ≡ times item (free_present items entry.items)
+
+-- it does, links back, and ends at none
 pub record HasFreeList (atlas : AtlasRecords) (entry : Entry) : Type 0 where
-  pub items :
-      (item : ℕ) → times item entry.free_list
-      ≡ times item (filter (λ member. not (is_allocated_at atlas.records.items member)) entry.items)
+  pub items : ListsFree atlas.records.items entry
   pub back : LeadsBack (link_at free_list.previous atlas.records.items) None entry.free_list
   pub ends : (free_walk atlas.records entry.number).end ≡ no_link
 

@@ -7,7 +7,8 @@ use Rattle.etagere_links.proofs.ListEnds.{times-here, times-other}
 use Rattle.shelf_links.specs.declared.records.LinkedItem.{LinkedItem}
 use Rattle.shelf_links.specs.RecordLists.{Entry}
 use Rattle.shelf_records.specs.AtlasRecords.{is_allocated_at}
-use Rattle.shelf_records.specs.Private.Judging.{AreOwn, ListsFree, free_present, is_own, is_own_free}
+use Rattle.shelf_records.specs.Private.Judging.{AreOwn, is_own, is_own_free}
+use Rattle.shelf_records.specs.StandsFor.{ListsFree, free_present}
 use Rattle.shelf_records.proofs.Judged.EqualTimes.{length-fewer, times-as_long}
 
 -- how often a number that passes the test stands among those that do

@@ -1,6 +1,6 @@
 -- The rules of a snapshot over lists that walks have met: what contracts of the private passes cite
 -- that judge them.
-use Rattle.std.specs.Prelude.{◌≡◌, ℕ, ◌+◌, ◌/◌, ◌%◌, ◌<◌, ◌≤◌, true, ◌&&◌, ◌||◌, ◌==◌, Bool, false, not, nat_le, nat_lt, pos, None, List, [], ◌∷◌, map, filter, slice_index_or, if◌then◌else◌}
+use Rattle.std.specs.Prelude.{◌≡◌, ℕ, ◌+◌, ◌/◌, ◌%◌, ◌<◌, ◌≤◌, true, ◌&&◌, ◌||◌, ◌==◌, Bool, false, not, nat_le, nat_lt, pos, None, List, [], ◌∷◌, map, slice_index_or, if◌then◌else◌}
 use Rattle.etagere_base.specs.declared.frames.Frame.{Frame}
 use Rattle.etagere_base.specs.Frames.{across_side}
 use Rattle.std.specs.List.{AllByRecursion}
@@ -13,7 +13,7 @@ use Rattle.shelf_links.specs.RecordLists.{Entry, shelf_numbers}
 use Rattle.shelf_links.specs.Records.{free_list, item_chain}
 use Rattle.shelf_records.specs.AtlasRecords.{AtlasRecords, along_of, across_of, height_of, is_allocated_at, shelf_of, spelled_shelf}
 use Rattle.shelf_model.specs.Places.{column_height}
-use Rattle.shelf_records.specs.StandsFor.{AreStacked}
+use Rattle.shelf_records.specs.StandsFor.{AreStacked, ListsFree}
 use Rattle.shelf_model.specs.State.{Shelf}
 use Rattle.shelf_model.specs.Valid.{is_out_of_order}
 
@@ -108,16 +108,7 @@ abbrev pub is_own_free : List LinkedItem → List Bool → ℕ → ℕ → Bool
 is_own_free items marks shelf item =
     is_own items marks shelf item && not (is_allocated_at items item)
 
--- the free ones of these items
-abbrev pub free_present : List LinkedItem → List ℕ → List ℕ
-free_present items numbers = filter (λ member. not (is_allocated_at items member)) numbers
-
--- the free list has each free item of its shelf once, and no other
-abbrev pub ListsFree : List LinkedItem → Entry → Type 0
-ListsFree items entry =
-    (item : ℕ) → times item entry.free_list ≡ times item (free_present items entry.items)
-
--- it does, and links back to the one before
+-- a free list has each free item of its shelf once, and no other, and links back to the one before
 pub record FreeBack (records : List LinkedItem) (entry : Entry) : Type 0 where
   pub items : ListsFree records entry
   pub back : LeadsBack (link_at free_list.previous records) None entry.free_list

@@ -1,14 +1,13 @@
 -- Linked records that keep every rule, as the private functions see them: by the lists that their
 -- links spell, and apart from the space that an atlas says is allocated.
-use Rattle.std.specs.Prelude.{◌≡◌, ℕ, ◌%◌, pos, false, Some, [], filter, not, slice_get}
+use Rattle.std.specs.Prelude.{◌≡◌, ◌%◌, pos, false, Some, [], slice_get}
 use Rattle.etagere_base.specs.declared.frames.Frame.{Frame}
 use Rattle.std.specs.List.{AllByRecursion}
-use Rattle.etagere_base.specs.Lists.{times}
 use Rattle.shelf_links.specs.RecordLists.{Records, Entry, Lists, IsLinked, shelf_numbers, walked_lists}
 use Rattle.shelf_records.specs.AtlasRecords.{AtlasRecords, along_of, is_allocated_at, is_empty_at, shelf_of, spelled_shelf, spelled_state}
 use Rattle.shelf_model.specs.Choice.{Placement}
 use Rattle.shelf_model.specs.Space.{space_in}
-use Rattle.shelf_records.specs.StandsFor.{AreStacked, HasCounts, LieFrom}
+use Rattle.shelf_records.specs.StandsFor.{AreStacked, HasCounts, LieFrom, ListsFree}
 use Rattle.shelf_model.specs.State.{AtlasState, is_empty}
 use Rattle.shelf_model.specs.Valid.{IsValid}
 
@@ -17,9 +16,7 @@ pub record IsPlaced (atlas : AtlasRecords) (entry : Entry) : Type 0 where
   pub owners : AllByRecursion (λ item. shelf_of atlas.records.items item ≡ entry.number) entry.items
   pub along : along_of atlas.records.shelves entry.number % atlas.frame.column_width ≡ 0
   pub places : LieFrom atlas.records.items (along_of atlas.records.shelves entry.number) entry.items
-  pub free_list :
-      (item : ℕ) → times item entry.free_list
-      ≡ times item (filter (λ member. not (is_allocated_at atlas.records.items member)) entry.items)
+  pub free_list : ListsFree atlas.records.items entry
 
 -- the record of a shelf says whether it is empty
 abbrev pub HasFlag : AtlasRecords → Entry → Type 0

@@ -13,8 +13,8 @@ use Rattle.shelf_model.specs.Space.{allocated_width}
 use Rattle.shelf_model.specs.State.{is_free}
 use Rattle.shelf_model.specs.Valid.{IsItem}
 use Rattle.shelf_records.specs.AtlasRecords.{is_allocated_at, item_at, shelf_of, width_of}
-use Rattle.shelf_records.specs.Private.Judging.{ItemsLinkBack, free_present}
-use Rattle.shelf_records.specs.StandsFor.{LieFrom}
+use Rattle.shelf_records.specs.Private.Judging.{ItemsLinkBack}
+use Rattle.shelf_records.specs.StandsFor.{LieFrom, free_present}
 use Rattle.shelf_records.proofs.Spelled.SpelledPlaces.{free-spelled}
 use Rattle.shelf_restoring.specs.Private.Rules.{ApartFrom, LinkedFrom, RowFrom}
 

@@ -12,10 +12,10 @@ use Rattle.etagere_links.specs.Chains.{LeadsBack}
 use Rattle.etagere_links.specs.Edits.{link_at}
 use Rattle.shelf_links.specs.Records.{free_list, item_chain}
 use Rattle.shelf_records.specs.AtlasRecords.{across_of, along_of, height_of, is_allocated_at, item_at, item_place_of, shelf_of, spelled_shelf, spelled_state, width_of}
-use Rattle.shelf_records.specs.Private.Judging.{FreeBack, HasShelvesIn, LinkBack, atlas_of_records, column_at, free_present, height_below, is_own_free}
+use Rattle.shelf_records.specs.Private.Judging.{FreeBack, HasShelvesIn, LinkBack, atlas_of_records, column_at, height_below, is_own_free}
 use Rattle.shelf_model.specs.Valid.{IsItem}
 use Rattle.shelf_model.specs.Space.{space_in}
-use Rattle.shelf_records.specs.StandsFor.{HasItems, HasNeighbours}
+use Rattle.shelf_records.specs.StandsFor.{HasItems, HasNeighbours, free_present}
 
 -- all rules that are judged over lists
 pub record KeepsRules (frame : Frame) (shelves : List LinkedShelf) (items : List LinkedItem) (entries : List Entry) (unused : List ℕ) (space : ℤ) : Type 0 where

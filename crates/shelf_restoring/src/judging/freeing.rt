@@ -9,6 +9,7 @@ ghost use Rattle.std.specs.List.{AllByRecursion};
 ghost use Rattle.shelf_links.specs.RecordLists.{Entry};
 ghost use Rattle.shelf_records.specs.Private.Judging as judging;
 ghost use Rattle.shelf_records.specs.Private.Judging.{AreUsed};
+ghost use Rattle.shelf_records.specs.StandsFor.{free_present};
 ghost use Rattle.shelf_restoring.specs.Private.Rules.{FreeOwn};
 
 use crate::judging::linking::links_back;
@@ -41,7 +42,7 @@ pub fn has_free_list(
     count: usize,
 ) -> bool
     ensures { (entry : Entry) → entry.number ≡ shelf → entry.free_list ≡ free_list.now
-        → length (judging.free_present items.now entry.items) ≡ count
+        → length (free_present items.now entry.items) ≡ count
         → Decides result (FreeOwn items.now marks.now entry) }
 {
     if free_list.len() != count {

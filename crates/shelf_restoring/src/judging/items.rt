@@ -13,7 +13,7 @@ ghost use Rattle.shelf_model.specs.State as state;
 ghost use Rattle.shelf_model.specs.Valid.{IsItem};
 ghost use Rattle.shelf_records.specs.AtlasRecords as spec;
 ghost use Rattle.shelf_records.specs.AtlasRecords.{item_at};
-ghost use Rattle.shelf_records.specs.Private.Judging.{free_present};
+ghost use Rattle.shelf_records.specs.StandsFor.{free_present};
 ghost use Rattle.shelf_restoring.specs.Private.Rules.{ApartFrom, LinkedFrom, RowFrom};
 
 use crate::judging::linking::is_link_to;

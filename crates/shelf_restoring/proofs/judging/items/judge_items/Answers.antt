@@ -7,7 +7,7 @@ use Rattle.shelf_model.specs.Space.{allocated_width}
 use Rattle.shelf_model.specs.State.{total_width}
 use Rattle.shelf_model.specs.Valid.{IsItem}
 use Rattle.shelf_records.specs.AtlasRecords.{is_allocated_at, item_at, item_place_of, shelf_of, width_of}
-use Rattle.shelf_records.specs.Private.Judging.{free_present}
+use Rattle.shelf_records.specs.StandsFor.{free_present}
 use Rattle.shelf_restoring.specs.Private.Rules.{ApartFrom, LinkedFrom, RowFrom}
 use Rattle.shelf_restoring.proofs.Judged.FlagPasses.{IsFlagged, flagged-more}
 use Rattle.shelf_restoring.proofs.Judged.ItemPasses.{decides-not, free-more, taken-more, width-free, width-taken}

@@ -2,7 +2,7 @@ use Rattle.std.proofs.Common.{◌≡◌, ◌+◌, ◌*◌, ◌≤◌, None, drop
 use Rattle.shelf_model.specs.Space as space
 use Rattle.shelf_model.specs.State as state
 use Rattle.shelf_records.specs.AtlasRecords.{item_at}
-use Rattle.shelf_records.specs.Private.Judging.{free_present}
+use Rattle.shelf_records.specs.StandsFor.{free_present}
 use Rattle.shelf_restoring.specs.Private.Rules.{ApartFrom, LinkedFrom, RowFrom}
 use Rattle.shelf_restoring.proofs.Judged.FlagPasses.{IsFlagged}
 use Rattle.shelf_restoring.proofs.judging.items.judge_items.Given as goal
