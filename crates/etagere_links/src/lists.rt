@@ -46,9 +46,9 @@ pub fn next_bits<List, T: Linked<List>>(
         (λ bits. bits.items ≡ map (λ here. bits_of (T.family.next here)) records.now) }
     ensures fit { OnOk result (AreFitting T.family.next records.now) }
 {
-    let mut bits = Vec::new(alloc);
+    let mut bits = Vec::with_capacity(alloc, records.len())?;
     for number in 0..records.len() {
-        bits.push(next_of::<List, T>(records, number).bits())?;
+        bits.push_reserved(next_of::<List, T>(records, number).bits());
     }
     Ok(bits)
 }

@@ -103,6 +103,9 @@ pub fn mark_onto(
         (λ fault. steps.new ≡ steps.old + links_by (spec.walk links.now start) fault) }
     ensures bound { steps.new ≤ steps.old + length links.now }
 {
+    if start == u16::MAX {
+        return Ok(());
+    }
     let before = met.len();
     let Ok(end) = room.walk_onto(met, links, start) else {
         return Err(WalkFault::Memory);

@@ -4,7 +4,8 @@
 
 ghost use Rattle.std.specs.Prelude.{◌≡◌, ◌≤◌, ◌*◌, ◌%◌, None, false, length, map};
 ghost use Rattle.etagere_base.specs.Deciding.{Decides};
-ghost use Rattle.etagere_base.specs.Frames.{IsFrame, longest_side};
+ghost use Rattle.etagere_base.specs.Frames.{IsFrame, alignment_along, longest_side};
+ghost use Rattle.etagere_base.specs.declared.frames.Frame.{Frame};
 ghost use Rattle.etagere_links.specs.Edits.{link_at};
 ghost use Rattle.etagere_links.specs.Links.{no_link};
 ghost use Rattle.shelf_links.specs.Records.{item_chain};
@@ -66,6 +67,7 @@ pub fn judge_items(
         free_count: 0,
         allocated_width: 0,
     };
+    let alignment = frame.alignment_along();
     let mut before = None;
     let mut here = u32::from(start);
     let mut was_free = false;
@@ -74,7 +76,7 @@ pub fn judge_items(
         let is_free = !fields::is_allocated(items, item);
         let width = fields::width(items, item);
         judged.are_linked = is_linked(items, shelf, item, before) & judged.are_linked;
-        judged.lie_in_row = lies_at(frame, items, item, here) & judged.lie_in_row;
+        judged.lie_in_row = lies_at(items, item, here, alignment) & judged.lie_in_row;
         judged.are_apart = !(was_free & is_free) & judged.are_apart;
         if is_free {
             judged.free_count += 1;
@@ -100,11 +102,12 @@ fn is_linked(items: &[LinkedItem], shelf: u16, item: usize, before: Option<usize
     fields::shelf(items, item) == usize::from(shelf)
 }
 
-/// Whether an item lies here, and is at least a pixel wide, and aligned.
-fn lies_at(frame: &Frame, items: &[LinkedItem], item: usize, here: u32) -> bool
-    requires { IsFrame longest_side frame.now }
-    ensures { Decides result ((spec.item_place_of items.now item ≡ here)
-        × IsItem frame.now (item_at items.now item)) }
+/// Whether an item lies here, and is at least a pixel wide, and aligned to so many along.
+fn lies_at(items: &[LinkedItem], item: usize, here: u32, alignment: u32) -> bool
+    requires { 1 ≤ alignment }
+    ensures { (frame : Frame) → alignment_along frame ≡ alignment →
+        Decides result ((spec.item_place_of items.now item ≡ here)
+        × IsItem frame (item_at items.now item)) }
 {
     if u32::from(fields::place(items, item)) != here {
         return false;
@@ -113,7 +116,7 @@ fn lies_at(frame: &Frame, items: &[LinkedItem], item: usize, here: u32) -> bool
     if width == 0 {
         return false;
     }
-    is_multiple(width, frame.alignment_along())
+    is_multiple(width, alignment)
 }
 
 /// Whether a width is a multiple of this, which is at least 1. Mostly it is 1, and a division is dear.

@@ -1,4 +1,4 @@
-use Rattle.std.proofs.Common.{◌≡◌, ◌∙◌, ap, sym, List, ℕ, ◌++◌, ◌∷◌, [], below_more}
+use Rattle.std.proofs.Common.{◌≡◌, ◌∙◌, ap, sym, List, ℕ, ◌++◌, ◌∷◌, [], arith, below_more}
 use Rattle.etagere_links.specs.Links.{bits_of, link_of}
 use Rattle.etagere_links.specs.Edits.{link_at}
 use Rattle.etagere_links.proofs.LinkBits.{bits-more, bits-all, fitting-all}
@@ -11,7 +11,8 @@ loop-number-preserved g c =
     let number = c.loop-number.number in
     let read : c.bits.result ≡ bits_of (link_at link records number) = c.bits.ensures.value ∙ ap bits_of c.next_of.ensures in
     record {
-      bits = c.in_ok-push.ensures.items ∙ ap (λ (all : List ℕ). all ++ c.bits.result ∷ []) c.loop-number.invariant.bits ∙ bits-more link records number c.bits.result c.loop-number-test.true read;
+      room = omega (arith, c.loop-number.invariant.room, c.push_reserved.ensures.capacity);
+      bits = c.push_reserved.ensures.items ∙ ap (λ (all : List ℕ). all ++ c.bits.result ∷ []) c.loop-number.invariant.bits ∙ bits-more link records number c.bits.result c.loop-number-test.true read;
       fit = below_more (λ k. link_of (bits_of (link_at link records k)) ≡ link_at link records k) number c.loop-number.invariant.fit
           (ap link_of (sym read) ∙ c.bits.ensures.link ∙ c.next_of.ensures);
     }

@@ -36,7 +36,7 @@ loop-number-preserved c =
     let links = flagged-more c.is_linked.result judged.are_linked (LinkedFrom items shelf None numbers) (LinkedFrom items shelf c.loop-number.before) (LinkedFrom items shelf (Some item))
     ((link_at item_chain.previous items item ≡ c.loop-number.before) × (shelf_of items item ≡ shelf)) i numbers 0 item (λ later h. h) (λ later h. h) below is c.is_linked.ensures kept.links in
     let places = flagged-more c.lies_at.result judged.lie_in_row (RowFrom frame items c.args.start numbers) (RowFrom frame items here) (RowFrom frame items (here + width_of items item))
-    ((item_place_of items item ≡ here) × IsItem frame (item_at items item)) i numbers 0 item (λ later h. h) (λ later h. h) below is c.lies_at.ensures kept.places in
+    ((item_place_of items item ≡ here) × IsItem frame (item_at items item)) i numbers 0 item (λ later h. h) (λ later h. h) below is (c.lies_at.ensures frame (sym c.alignment_along-alignment.ensures.value)) kept.places in
     let apart = flagged-more (not (was_free && not taken)) judged.are_apart (ApartFrom items false numbers) (ApartFrom items was_free) (ApartFrom items (not taken))
     ((was_free && not taken) ≡ false) i numbers 0 item
     (λ later h. subst (λ (a : Bool). ((was_free && not a) ≡ false) × ApartFrom items (not a) later) (sym allocated) h)
