@@ -8,7 +8,6 @@ ghost use Rattle.etagere_base.specs.Frames.{HasAllColumns, IsFrame, longest_side
 ghost use Rattle.shelf_links.specs.RecordLists.{shelf_walk};
 ghost use Rattle.shelf_model.specs.Atlas.{KeepsPromises};
 ghost use Rattle.shelf_heights.specs.Private.ByHeight.{AreByHeight};
-ghost use Rattle.shelf_records.specs.AtlasRecords.{walked_entries};
 ghost use Rattle.shelf_records.specs.Private.Kept.{AreKept};
 ghost use Rattle.shelf_records.specs.Private.Restoring.{HasLists, IsWalked};
 ghost use Rattle.shelf_restoring.specs.RestoringSteps.{IsFollowed, StopsAfter, links_followed, links_of_all};
@@ -57,9 +56,10 @@ fn judge_walked(
     requires frame { IsFrame longest_side atlas.now.frame }
     requires columns { HasAllColumns atlas.now.frame }
     requires counts { HasCounts atlas.now }
-    requires walked { IsWalked atlas.now (walked_entries atlas.now) walked.now.unused.items }
+    requires walked { IsWalked atlas.now }
     requires lists { HasLists atlas.now walked.now.shelves.items walked.now.items.met.items
-        walked.now.items.counts.items walked.now.free_lists.met.items walked.now.free_lists.counts.items }
+        walked.now.items.counts.items walked.now.free_lists.met.items walked.now.free_lists.counts.items
+        walked.now.unused.items }
     ensures ok { OnOk result (StandsFor atlas.now (state_spelled atlas.now)) }
     ensures fault { IfErr result (IsBroken atlas.now) }
 {

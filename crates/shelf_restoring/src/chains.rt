@@ -40,8 +40,8 @@ pub fn walk_items(
     requires few { length atlas.now.records.items ≤ no_link }
     requires numbers { numbers.now ≡ (shelf_walk atlas.now.records).met }
     requires steps { steps.old < 2 ^ 30 }
-    ensures ok { IfOk result (λ walked. HasItemLists atlas.now
-        (map (chain_entry atlas.now.records) (shelf_walk atlas.now.records).met) walked.unused.items) }
+    ensures ok { OnOk result (HasItemLists atlas.now) }
+    ensures unused { IfOk result (λ walked. walked.unused.items ≡ (unused_item_walk atlas.now.records).met) }
     ensures met { IfOk result (λ walked. walked.lists.met.items
         ≡ item_numbers (map (chain_entry atlas.now.records) (shelf_walk atlas.now.records).met)) }
     ensures counts { IfOk result (λ walked. walked.lists.counts.items
@@ -85,8 +85,8 @@ fn follow_items(
     requires marked { IsMarkedBy marks.old [] }
     requires numbers { numbers.now ≡ (shelf_walk atlas.now.records).met }
     requires steps { steps.old < 2 ^ 30 }
-    ensures ok { IfOk result (λ walked. HasItemLists atlas.now
-        (map (chain_entry atlas.now.records) (shelf_walk atlas.now.records).met) walked.unused.items) }
+    ensures ok { OnOk result (HasItemLists atlas.now) }
+    ensures unused { IfOk result (λ walked. walked.unused.items ≡ (unused_item_walk atlas.now.records).met) }
     ensures met { IfOk result (λ walked. walked.lists.met.items
         ≡ item_numbers (map (chain_entry atlas.now.records) (shelf_walk atlas.now.records).met)) }
     ensures counts { IfOk result (λ walked. walked.lists.counts.items

@@ -3,6 +3,7 @@
 //! Definitions: `Restoring`. So no walk takes memory of its own.
 
 ghost use Rattle.std.specs.Prelude.{◌≡◌, ◌+◌, ◌≤◌, IfOk, drop, length, take};
+ghost use Rattle.shelf_links.specs.RecordLists.{unused_item_walk};
 ghost use Rattle.shelf_records.specs.AtlasRecords.{walked_entries};
 ghost use Rattle.shelf_records.specs.Private.Restoring.{HasLists};
 
@@ -28,7 +29,7 @@ pub fn walked_shelves<'a>(
     free_lists: &'a WalkedLists,
 ) -> Result<Vec<WalkedShelf<'a>>, AllocError>
     requires { HasLists _atlas.now numbers.now items.now.met.items items.now.counts.items
-        free_lists.now.met.items free_lists.now.counts.items }
+        free_lists.now.met.items free_lists.now.counts.items (unused_item_walk _atlas.now.records).met }
     ensures { IfOk result (λ shelves. shelves.items ≡ walked_entries _atlas.now) }
 {
     let mut shelves = Vec::with_capacity(alloc, numbers.len())?;

@@ -5,7 +5,6 @@
 
 ghost use Rattle.std.specs.Prelude.{◌≡◌, ◌+◌, ◌*◌, ◌≤◌, IfOk, IfErr, OnOk, length};
 ghost use Rattle.etagere_links.specs.Links.{no_link};
-ghost use Rattle.shelf_records.specs.AtlasRecords.{walked_entries};
 ghost use Rattle.shelf_records.specs.Private.Restoring.{HasLists, IsWalked};
 ghost use Rattle.shelf_restoring.specs.RestoringSteps.{StopsAfter, links_followed, links_of_all};
 ghost use Rattle.shelf_records.specs.Snapshots.{IsBroken};
@@ -44,9 +43,9 @@ pub fn walk_records(
     requires shelves { length atlas.now.records.shelves ≤ no_link }
     requires items { length atlas.now.records.items ≤ no_link }
     requires steps { steps.old ≡ 0 }
-    ensures ok { IfOk result (λ walked. IsWalked atlas.now (walked_entries atlas.now) walked.unused.items) }
+    ensures ok { OnOk result (IsWalked atlas.now) }
     ensures lists { IfOk result (λ walked. HasLists atlas.now walked.shelves.items walked.items.met.items
-        walked.items.counts.items walked.free_lists.met.items walked.free_lists.counts.items) }
+        walked.items.counts.items walked.free_lists.met.items walked.free_lists.counts.items walked.unused.items) }
     ensures fault { IfErr result (IsBroken atlas.now) }
     ensures all { OnOk result (steps.new ≡ links_of_all atlas.now.records) }
     ensures end { OnOk result (links_followed atlas.now.records ≡ links_of_all atlas.now.records) }

@@ -63,14 +63,13 @@ items_met records number = length (item_walk records number).met
 abbrev pub frees_met : Records → ℕ → ℕ
 frees_met records number = length (free_walk records number).met
 
--- these are the items of the shelves in use, and the unused ones; each item record is one of them, and all lists end
--- at none
-pub record HasItemLists (atlas : AtlasRecords) (shelves : List Entry) (unused : List ℕ) : Type 0 where
-  pub met : shelves ≡ map (chain_entry atlas.records) (shelf_walk atlas.records).met
-  pub unused_met : unused ≡ (unused_item_walk atlas.records).met
+-- each item record is an item of a shelf in use or unused, and all lists end at none
+pub record HasItemLists (atlas : AtlasRecords) : Type 0 where
   pub chains : AllByRecursion (HasChain atlas.records) (shelf_walk atlas.records).met
   pub unused_end : (unused_item_walk atlas.records).end ≡ no_link
-  pub once : HasEachOnce (length atlas.records.items) (item_numbers shelves ++ unused)
+  pub once : HasEachOnce (length atlas.records.items)
+      (item_numbers (map (chain_entry atlas.records) (shelf_walk atlas.records).met)
+      ++ (unused_item_walk atlas.records).met)
   pub next_fits : AreFitting item_chain.next atlas.records.items
   pub unused_fits : Fits atlas.records.unused_items
 
@@ -79,22 +78,20 @@ abbrev pub free_numbers : List Entry → List ℕ
 free_numbers [] = []
 free_numbers (entry ∷ entries) = entry.free_list ++ free_numbers entries
 
--- these are the shelves in use with their items and free lists, and the unused items; each record is in one list, and
--- each list ends at none, and the shelves link back to the one before
-pub record IsWalked (atlas : AtlasRecords) (entries : List Entry) (unused : List ℕ) : Type 0 where
-  pub entries_met : entries ≡ walked_entries atlas
-  pub unused_met : unused ≡ (unused_item_walk atlas.records).met
+-- each record is in one list, and each list ends at none, and the shelves link back to the one before
+pub record IsWalked (atlas : AtlasRecords) : Type 0 where
   pub shelves : HasShelfLists atlas (shelf_walk atlas.records).met
   pub back : LeadsBack (link_at shelf_chain.previous atlas.records.shelves) None (shelf_walk atlas.records).met
-  pub items : HasItemLists atlas (map (chain_entry atlas.records) (shelf_walk atlas.records).met) (unused_item_walk atlas.records).met
+  pub items : HasItemLists atlas
   pub free : AllByRecursion (HasFree atlas.records) (shelf_walk atlas.records).met
   pub free_fits : AreFitting free_list.next atlas.records.items
 
--- these are the numbers of the shelves in use, their items and how many each has, and their free lists and how many each
--- has; the lists stand one behind the other
-pub record HasLists (atlas : AtlasRecords) (numbers items item_counts frees free_counts : List ℕ) : Type 0 where
+-- these are the numbers of the shelves in use, their items and how many each has, their free lists and how many each has,
+-- and the unused items; the lists stand one behind the other
+pub record HasLists (atlas : AtlasRecords) (numbers items item_counts frees free_counts unused : List ℕ) : Type 0 where
   pub in_use : numbers ≡ (shelf_walk atlas.records).met
   pub chains : items ≡ item_numbers (map (chain_entry atlas.records) (shelf_walk atlas.records).met)
   pub chain_counts : item_counts ≡ map (items_met atlas.records) (shelf_walk atlas.records).met
   pub free_lists : frees ≡ free_numbers (walked_entries atlas)
   pub list_counts : free_counts ≡ map (frees_met atlas.records) (shelf_walk atlas.records).met
+  pub left_over : unused ≡ (unused_item_walk atlas.records).met

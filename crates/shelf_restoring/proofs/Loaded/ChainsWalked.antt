@@ -90,18 +90,17 @@ image-at records (n ∷ ns) (suc i) entry within is =
     (omega (arith, rest.0), rest.1)
 
 -- each item stands once in the lists that walks meet
-pub once-walked : (atlas : AtlasRecords) (entries : List Entry) (unused : List ℕ) → HasItemLists atlas entries unused
+pub once-walked : (atlas : AtlasRecords) → HasItemLists atlas
     → HasEachOnce (length atlas.records.items) (item_numbers (walked_entries atlas) ++ (unused_item_walk atlas.records).met)
-once-walked atlas entries unused has k =
+once-walked atlas has k =
     let numbers : List ℕ = (shelf_walk atlas.records).met in
+    let unused : List ℕ = (unused_item_walk atlas.records).met in
     omega (
       arith,
       has.once k,
-      times-append k (item_numbers entries) unused,
-      ap (λ (es : List Entry). times k (item_numbers es)) has.met,
+      times-append k (item_numbers (map (chain_entry atlas.records) numbers)) unused,
       items-times atlas.records numbers k,
-      ap (times k) has.unused_met,
-      times-append k (item_numbers (walked_entries atlas)) (unused_item_walk atlas.records).met,
+      times-append k (item_numbers (walked_entries atlas)) unused,
     )
 
 -- as many items, of which only the items matter
@@ -110,12 +109,3 @@ pub items-length : (records : Records) (numbers : List ℕ)
 items-length records [] = refl
 items-length records (n ∷ ns) =
     omega (arith, items-length records ns, length-append (item_walk records n).met (item_numbers (map (chain_entry records) ns)), length-append (item_walk records n).met (item_numbers (map (walked_entry records) ns)))
-
--- as many shelves and items as walks have met
-pub counted-walked : (atlas : AtlasRecords) (entries chains : List Entry) (numbers unused : List ℕ) → numbers ≡ (shelf_walk atlas.records).met
-    → HasItemLists atlas chains unused → entries ≡ walked_entries atlas
-    → (length entries ≡ length numbers) × (length (item_numbers entries) ≡ length (item_numbers chains))
-counted-walked atlas entries chains numbers unused met has are = (
-  ap length are ∙ length-map (shelf_walk atlas.records).met (walked_entry atlas.records) ∙ sym (ap length met),
-  ap (λ (es : List Entry). length (item_numbers es)) are ∙ sym (items-length atlas.records (shelf_walk atlas.records).met) ∙ sym (ap (λ (es : List Entry). length (item_numbers es)) has.met),
-)

@@ -237,28 +237,28 @@ module _ (atlas : AtlasRecords) where
       (subst (λ (ns : List ℕ). HasEachOnce (length atlas.records.shelves) ((shelf_walk atlas.records).met ++ ns)) (sym (append-nil (unused_shelf_walk atlas.records).met)) has.once)
 
   -- the walks along items were along lists of their own
-  pub items-go : (entries : List Entry) (unused : List ℕ) (more : ℕ) → HasItemLists atlas entries unused → links_until (length atlas.records.items) more [] (item_walks atlas.records) ≡ links_in (item_walks atlas.records) + more
-  items-go entries unused more has =
-      each-goes atlas.records more (length atlas.records.items) (item_walks atlas.records) (has.unused_end, chains-end atlas.records (shelf_walk atlas.records).met has.chains)
+  pub items-go : (more : ℕ) → HasItemLists atlas → links_until (length atlas.records.items) more [] (item_walks atlas.records) ≡ links_in (item_walks atlas.records) + more
+  items-go more has =
+      let unused : List ℕ = (unused_item_walk atlas.records).met in
+      let numbers : List ℕ = (shelf_walk atlas.records).met in
+      each-goes atlas.records more (length atlas.records.items) (item_walks atlas.records) (has.unused_end, chains-end atlas.records numbers has.chains)
       (λ k. omega (
         arith,
         has.once k,
-        times-append k (item_numbers entries) unused,
-        times-append k (unused_item_walk atlas.records).met (met_by (map (item_walk atlas.records) (shelf_walk atlas.records).met)),
-        ap (times k) has.unused_met,
-        ap (λ (es : List Entry). times k (item_numbers es)) has.met,
-        ap (times k) (items-met atlas.records (shelf_walk atlas.records).met),
+        times-append k (item_numbers (map (chain_entry atlas.records) numbers)) unused,
+        times-append k unused (met_by (map (item_walk atlas.records) numbers)),
+        ap (times k) (items-met atlas.records numbers),
       ))
 
   -- the links followed in the walks along shelves and along items, and then along free lists
-  pub all-followed : (numbers : List ℕ) (entries : List Entry) (unused : List ℕ) → HasShelfLists atlas numbers → HasItemLists atlas entries unused
+  pub all-followed : (numbers : List ℕ) → HasShelfLists atlas numbers → HasItemLists atlas
       → links_followed atlas.records ≡ links_in (shelf_walks atlas.records) + (links_in (item_walks atlas.records) + links_until 0 0 [] (free_walks atlas.records))
-  all-followed numbers entries unused shelves items =
+  all-followed numbers shelves items =
       shelves-go numbers (links_until (length atlas.records.items) (links_until 0 0 [] (free_walks atlas.records)) [] (item_walks atlas.records)) shelves
-      ∙ ap (λ (n : ℕ). links_in (shelf_walks atlas.records) + n) (items-go entries unused (links_until 0 0 [] (free_walks atlas.records)) items)
+      ∙ ap (λ (n : ℕ). links_in (shelf_walks atlas.records) + n) (items-go (links_until 0 0 [] (free_walks atlas.records)) items)
 
   -- where no walk is refused, the links of all are followed
-  pub all-links : (numbers : List ℕ) (entries : List Entry) (unused : List ℕ) → HasShelfLists atlas numbers → HasItemLists atlas entries unused
+  pub all-links : (numbers : List ℕ) → HasShelfLists atlas numbers → HasItemLists atlas
       → links_until 0 0 [] (free_walks atlas.records) ≡ links_in (free_walks atlas.records) → links_followed atlas.records ≡ links_of_all atlas.records
-  all-links numbers entries unused shelves items free =
-      omega (arith, all-followed numbers entries unused shelves items, free)
+  all-links numbers shelves items free =
+      omega (arith, all-followed numbers shelves items, free)

@@ -14,14 +14,9 @@ use Rattle.etagere_links.specs.Lists.{HasEachOnce}
 use Rattle.shelf_links.specs.Records.{free_list}
 use Rattle.shelf_records.specs.AtlasRecords.{AtlasRecords, walked_entries}
 use Rattle.shelf_records.specs.Private.Restoring.{Fits, HasChain, HasFree, IsWalked, chain_entry}
+use Rattle.shelf_restoring.proofs.Loaded.ChainsWalked.{once-walked}
 use Rattle.shelf_restoring.proofs.Judged.ShortLists.{few-shelves, once-shelves, short-items}
 use Rattle.shelf_records.proofs.Spelled.StandsLinked.{AllFit}
-
--- shelves with their items have the items that they have with their free lists too
-pub same-items : (records : Records) (numbers : List ℕ)
-    → item_numbers (map (chain_entry records) numbers) ≡ item_numbers (map (walked_entry records) numbers)
-same-items records [] = refl
-same-items records (n ∷ ns) = ap (λ (ms : List ℕ). (item_walk records n).met ++ ms) (same-items records ns)
 
 -- a free list that a walk meets has a number once at most
 frees-once : (records : Records) → length records.items ≤ no_link → (numbers : List ℕ)
@@ -34,7 +29,7 @@ frees-once records few (n ∷ ns) =
       frees-once records few ns,
     )
 
-module _ (atlas : AtlasRecords) (entries : List Entry) (unused : List ℕ) (walked : IsWalked atlas entries unused) where
+module _ (atlas : AtlasRecords) (walked : IsWalked atlas) where
   -- the links of the records fit their bits
   pub walked-fit : AllFit atlas.records
   walked-fit =
@@ -52,39 +47,31 @@ module _ (atlas : AtlasRecords) (entries : List Entry) (unused : List ℕ) (walk
       }
 
   -- each item record is an item of a shelf or unused, once
-  pub walked-items : HasEachOnce (length atlas.records.items) (item_numbers entries ++ unused)
-  walked-items =
-      subst (λ (es : List Entry). HasEachOnce (length atlas.records.items) (item_numbers es ++ unused)) (sym walked.entries_met)
-      (subst (λ (us : List ℕ). HasEachOnce (length atlas.records.items) (item_numbers (walked_entries atlas) ++ us)) (sym walked.unused_met)
-      (subst (λ (ns : List ℕ). HasEachOnce (length atlas.records.items) (ns ++ (unused_item_walk atlas.records).met))
-      (same-items atlas.records (shelf_walk atlas.records).met) walked.items.once))
+  pub walked-items : HasEachOnce (length atlas.records.items) (item_numbers (walked_entries atlas) ++ (unused_item_walk atlas.records).met)
+  walked-items = once-walked atlas walked.items
 
   -- each shelf record is in use or unused, once
-  pub walked-shelves : HasEachOnce (length atlas.records.shelves) (shelf_numbers entries ++ (unused_shelf_walk atlas.records).met)
+  walked-shelves : HasEachOnce (length atlas.records.shelves) (shelf_numbers (walked_entries atlas) ++ (unused_shelf_walk atlas.records).met)
   walked-shelves =
-      let numbers : shelf_numbers entries ≡ (shelf_walk atlas.records).met =
-      ap shelf_numbers walked.entries_met ∙ walked-numbers atlas.records (shelf_walk atlas.records).met in
-      subst (λ (ns : List ℕ). HasEachOnce (length atlas.records.shelves) (ns ++ (unused_shelf_walk atlas.records).met)) (sym numbers)
-      walked.shelves.once
+      subst (λ (ns : List ℕ). HasEachOnce (length atlas.records.shelves) (ns ++ (unused_shelf_walk atlas.records).met))
+      (sym (walked-numbers atlas.records (shelf_walk atlas.records).met)) walked.shelves.once
 
   -- a shelf has no more items than links can name
-  pub walked-short : length atlas.records.items ≤ no_link → AllByRecursion (λ (entry : Entry). length entry.items ≤ no_link) entries
+  pub walked-short : length atlas.records.items ≤ no_link → AllByRecursion (λ (entry : Entry). length entry.items ≤ no_link) (walked_entries atlas)
   walked-short few =
       Each-weaken (λ (entry : Entry). length entry.items ≤ length atlas.records.items) (λ (entry : Entry). length entry.items ≤ no_link)
-      entries (λ entry short. omega (arith, few, short)) (short-items (length atlas.records.items) entries unused walked-items)
+      (walked_entries atlas) (λ entry short. omega (arith, few, short)) (short-items (length atlas.records.items) (walked_entries atlas) (unused_item_walk atlas.records).met walked-items)
 
   -- there are no more shelves than links can name
-  pub walked-few : length atlas.records.shelves ≤ no_link → length entries ≤ no_link
+  pub walked-few : length atlas.records.shelves ≤ no_link → length (walked_entries atlas) ≤ no_link
   walked-few few =
-      omega (arith, few, few-shelves (length atlas.records.shelves) entries (unused_shelf_walk atlas.records).met walked-shelves)
+      omega (arith, few, few-shelves (length atlas.records.shelves) (walked_entries atlas) (unused_shelf_walk atlas.records).met walked-shelves)
 
   -- each shelf was met once at most
-  pub walked-once : (number : ℕ) → times number (shelf_numbers entries) ≤ 1
-  walked-once = once-shelves (length atlas.records.shelves) entries (unused_shelf_walk atlas.records).met walked-shelves
+  pub walked-once : (number : ℕ) → times number (shelf_numbers (walked_entries atlas)) ≤ 1
+  walked-once = once-shelves (length atlas.records.shelves) (walked_entries atlas) (unused_shelf_walk atlas.records).met walked-shelves
 
   -- a free list has an item once at most
   pub walked-frees : length atlas.records.items ≤ no_link
-      → AllByRecursion (λ (entry : Entry). (item : ℕ) → times item entry.free_list ≤ 1) entries
-  walked-frees few =
-      subst (λ (es : List Entry). AllByRecursion (λ (entry : Entry). (item : ℕ) → times item entry.free_list ≤ 1) es) (sym walked.entries_met)
-      (frees-once atlas.records few (shelf_walk atlas.records).met)
+      → AllByRecursion (λ (entry : Entry). (item : ℕ) → times item entry.free_list ≤ 1) (walked_entries atlas)
+  walked-frees few = frees-once atlas.records few (shelf_walk atlas.records).met

@@ -15,7 +15,8 @@ use Rattle.shelf_restoring.specs.Private.Rules.{KeepsRules}
 use Rattle.shelf_records.specs.Snapshots.{state_spelled}
 use Rattle.shelf_records.specs.StandsFor.{HasCounts, HasFreeList, HasItemLinks, StandsFor, StopsInRange}
 use Rattle.shelf_restoring.proofs.Judged.JudgedRules.{each-items-of, free-of, neighbours-of, shelves-of}
-use Rattle.shelf_restoring.proofs.Loaded.WalksFit.{same-items, walked-fit}
+use Rattle.shelf_restoring.proofs.Loaded.ChainsWalked.{once-walked}
+use Rattle.shelf_restoring.proofs.Loaded.WalksFit.{walked-fit}
 use Rattle.shelf_records.proofs.Spelled.StandsKept.{stands-kept}
 
 -- a walk that ends at none stops in range
@@ -54,12 +55,12 @@ module _ (atlas : AtlasRecords) where
   ends-of [] chains = tt
   ends-of (n ∷ ns) chains = (chains.0.end, ends-of ns chains.1)
 
-  -- where walks met these entries themselves
-  stands-of : IsWalked atlas (walked_entries atlas) (unused_item_walk atlas.records).met
+  -- records that walks have followed, and whose rules hold, stand for the state that they spell
+  pub walked-stands : IsWalked atlas
       → KeepsRules atlas.frame atlas.records.shelves atlas.records.items (walked_entries atlas) (unused_item_walk atlas.records).met atlas.allocated_space
       → IsFrame longest_side atlas.frame → HasAllColumns atlas.frame → HasCounts atlas
       → StandsFor atlas (state_spelled atlas)
-  stands-of walked keeps frame columns counts =
+  walked-stands walked keeps frame columns counts =
       let numbers : List ℕ = (shelf_walk atlas.records).met in
       record {
         spelled = refl;
@@ -81,8 +82,7 @@ module _ (atlas : AtlasRecords) where
         sharing =
             record {
               shelves = walked.shelves.once;
-              items = subst (λ (ns : List ℕ). HasEachOnce (length atlas.records.items) (ns ++ (unused_item_walk atlas.records).met))
-                  (same-items atlas.records numbers) walked.items.once;
+              items = once-walked atlas walked.items;
               shelf_end = walked.shelves.end;
               unused_shelf_end = walked.shelves.unused_end;
               item_ends = ends-of numbers walked.items.chains;
@@ -92,23 +92,8 @@ module _ (atlas : AtlasRecords) where
         space = keeps.sum;
       }
 
-  -- records that walks have followed, and whose rules hold, stand for the state that they spell
-  pub walked-stands : (entries : List Entry) (unused : List ℕ) → IsWalked atlas entries unused
-      → KeepsRules atlas.frame atlas.records.shelves atlas.records.items entries unused atlas.allocated_space
-      → IsFrame longest_side atlas.frame → HasAllColumns atlas.frame → HasCounts atlas
-      → StandsFor atlas (state_spelled atlas)
-  walked-stands entries unused walked keeps =
-      let met : IsWalked atlas (walked_entries atlas) (unused_item_walk atlas.records).met =
-      subst (λ (us : List ℕ). IsWalked atlas (walked_entries atlas) us) walked.unused_met
-      (subst (λ (es : List Entry). IsWalked atlas es unused) walked.entries_met walked) in
-      let kept : KeepsRules atlas.frame atlas.records.shelves atlas.records.items (walked_entries atlas) (unused_item_walk atlas.records).met atlas.allocated_space =
-      subst (λ (us : List ℕ). KeepsRules atlas.frame atlas.records.shelves atlas.records.items (walked_entries atlas) us atlas.allocated_space) walked.unused_met
-      (subst (λ (es : List Entry). KeepsRules atlas.frame atlas.records.shelves atlas.records.items es unused atlas.allocated_space) walked.entries_met keeps) in
-      stands-of met kept
-
   -- such records are kept
-  pub walked-kept : (entries : List Entry) (unused : List ℕ) → IsWalked atlas entries unused → StandsFor atlas (state_spelled atlas)
-      → AreKept atlas.frame atlas.records
-  walked-kept entries unused walked stands =
-      stands-kept atlas.frame atlas.records (walked-fit atlas entries unused walked)
+  pub walked-kept : IsWalked atlas → StandsFor atlas (state_spelled atlas) → AreKept atlas.frame atlas.records
+  walked-kept walked stands =
+      stands-kept atlas.frame atlas.records (walked-fit atlas walked)
       (subst (λ (space : ℤ). StandsFor (record { frame = atlas.frame; records = atlas.records; allocated_space = space }) (state_spelled atlas)) stands.space stands)

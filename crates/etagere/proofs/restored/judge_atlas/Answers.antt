@@ -9,7 +9,7 @@ use Rattle.etagere.proofs.restored.judge_atlas.Goals as goal
 
 pub returns-clause-kept : goal.returns-clause-kept
 returns-clause-kept c =
-    walked-kept c.args.atlas.now (walked_entries c.args.atlas.now) c.in_ok-walked.walked.unused.items c.in_ok-walked.ensures.ok c.in_ok-judge_walked.ensures.ok
+    walked-kept c.args.atlas.now c.in_ok-walked.ensures.ok c.in_ok-judge_walked.ensures.ok
 
 pub returns-clause-items : goal.returns-clause-items
 returns-clause-items c =

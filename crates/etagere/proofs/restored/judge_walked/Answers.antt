@@ -9,7 +9,7 @@ use Rattle.etagere_base.specs.declared.faults.RestoreFault.{RestoreFault}
 use Rattle.etagere_base.specs.declared.frames.Frame.{Frame}
 use Rattle.shelf_links.specs.declared.records.LinkedItem.{LinkedItem}
 use Rattle.shelf_links.specs.declared.records.LinkedShelf.{LinkedShelf}
-use Rattle.shelf_links.specs.RecordLists.{Entry, item_numbers, shelf_numbers}
+use Rattle.shelf_links.specs.RecordLists.{Entry, item_numbers, shelf_numbers, unused_item_walk}
 use Rattle.etagere_links.specs.Lists.{HasEachOnce}
 use Rattle.etagere_links.specs.Links.{no_link}
 use Rattle.shelf_records.specs.AtlasRecords.{AtlasRecords, walked_entries}
@@ -37,32 +37,32 @@ on-err P Q (Err fault) more said = more fault said
 pub judge_rules-requires-clause-few : goal.judge_rules-requires-clause-few
 judge_rules-requires-clause-few c =
     subst (λ (es : List Entry). length es ≤ no_link) (sym (c.deref-2.ensures.value ∙ c.in-Ok.ensures))
-    (walked-few c.args.atlas.now (walked_entries c.args.atlas.now) c.args.walked.now.unused.items c.requires.walked c.requires.counts.shelves.1)
+    (walked-few c.args.atlas.now c.requires.walked c.requires.counts.shelves.1)
 
 pub judge_rules-requires-clause-short : goal.judge_rules-requires-clause-short
 judge_rules-requires-clause-short c =
     subst (AllByRecursion (λ (entry : Entry). length entry.items ≤ no_link)) (sym (c.deref-2.ensures.value ∙ c.in-Ok.ensures))
-    (walked-short c.args.atlas.now (walked_entries c.args.atlas.now) c.args.walked.now.unused.items c.requires.walked c.requires.counts.items.1)
+    (walked-short c.args.atlas.now c.requires.walked c.requires.counts.items.1)
 
 pub judge_rules-requires-clause-shelves : goal.judge_rules-requires-clause-shelves
 judge_rules-requires-clause-shelves c = λ number.
     subst (λ (es : List Entry). times number (shelf_numbers es) ≤ 1) (sym (c.deref-2.ensures.value ∙ c.in-Ok.ensures))
-    (walked-once c.args.atlas.now (walked_entries c.args.atlas.now) c.args.walked.now.unused.items c.requires.walked number)
+    (walked-once c.args.atlas.now c.requires.walked number)
 
 pub judge_rules-requires-clause-items : goal.judge_rules-requires-clause-items
 judge_rules-requires-clause-items c =
     let atlas = c.args.atlas.now in
-    let unused : List ℕ = c.args.walked.now.unused.items in
+    let unused : List ℕ = (unused_item_walk atlas.records).met in
     let same = c.items.ensures ∙ ap (λ (a : AtlasRecords). a.records.items) c.atlas.view_is in
-    subst (λ (us : List ℕ). HasEachOnce (length c.items.result.now) (item_numbers c.deref-2.result.now ++ us)) (sym c.deref-3.ensures.value)
+    subst (λ (us : List ℕ). HasEachOnce (length c.items.result.now) (item_numbers c.deref-2.result.now ++ us)) (sym (c.deref-3.ensures.value ∙ c.requires.lists.left_over))
     (subst (λ (es : List Entry). HasEachOnce (length c.items.result.now) (item_numbers es ++ unused)) (sym (c.deref-2.ensures.value ∙ c.in-Ok.ensures))
     (subst (λ (is : List LinkedItem). HasEachOnce (length is) (item_numbers (walked_entries atlas) ++ unused)) (sym same)
-    (walked-items atlas (walked_entries atlas) unused c.requires.walked)))
+    (walked-items atlas c.requires.walked)))
 
 pub judge_rules-requires-clause-once : goal.judge_rules-requires-clause-once
 judge_rules-requires-clause-once c =
     subst (AllByRecursion (λ (entry : Entry). (item : ℕ) → times item entry.free_list ≤ 1)) (sym (c.deref-2.ensures.value ∙ c.in-Ok.ensures))
-    (walked-frees c.args.atlas.now (walked_entries c.args.atlas.now) c.args.walked.now.unused.items c.requires.walked c.requires.counts.items.1)
+    (walked-frees c.args.atlas.now c.requires.walked c.requires.counts.items.1)
 
 pub returns-clause-ok : goal.returns-clause-ok
 returns-clause-ok c =
@@ -72,8 +72,8 @@ returns-clause-ok c =
     let unused : List ℕ = c.deref-3.result.now in
     let fits : SFits w32 c.atlas.inside.allocated_space = search rules in
     on_ok_weaker c.judge_rules.result
-    (λ keeps. walked-stands atlas (walked_entries atlas) c.args.walked.now.unused.items c.requires.walked
-    (subst (λ (us : List ℕ). KeepsRules atlas.frame atlas.records.shelves atlas.records.items (walked_entries atlas) us atlas.allocated_space) c.deref-3.ensures.value
+    (λ keeps. walked-stands atlas c.requires.walked
+    (subst (λ (us : List ℕ). KeepsRules atlas.frame atlas.records.shelves atlas.records.items (walked_entries atlas) us atlas.allocated_space) (c.deref-3.ensures.value ∙ c.requires.lists.left_over)
     (subst (λ (es : List Entry). KeepsRules atlas.frame atlas.records.shelves atlas.records.items es unused atlas.allocated_space) (c.deref-2.ensures.value ∙ c.in-Ok.ensures)
     (said (λ frame shelves items space. KeepsRules frame shelves items entries unused space) fields atlas c.shelves.result.now c.items.result.now
     c.atlas.view_is c.shelves.ensures c.items.ensures
@@ -90,7 +90,7 @@ returns-clause-fault c =
     let fits : SFits w32 c.atlas.inside.allocated_space = search rules in
     on-err (BreaksRule c.atlas.inside.frame c.shelves.result.now c.items.result.now entries unused _) (IsBroken atlas) c.judge_rules.result
     (λ fault breaks. rule-broken atlas fault
-    (subst (λ (us : List ℕ). BreaksRule atlas.frame atlas.records.shelves atlas.records.items (walked_entries atlas) us atlas.allocated_space fault) (c.deref-3.ensures.value ∙ c.requires.walked.unused_met)
+    (subst (λ (us : List ℕ). BreaksRule atlas.frame atlas.records.shelves atlas.records.items (walked_entries atlas) us atlas.allocated_space fault) (c.deref-3.ensures.value ∙ c.requires.lists.left_over)
     (subst (λ (es : List Entry). BreaksRule atlas.frame atlas.records.shelves atlas.records.items es unused atlas.allocated_space fault) (c.deref-2.ensures.value ∙ c.in-Ok.ensures)
     (said (λ frame shelves items space. BreaksRule frame shelves items entries unused space fault) fields atlas c.shelves.result.now c.items.result.now
     c.atlas.view_is c.shelves.ensures c.items.ensures

@@ -69,17 +69,13 @@ returns-clause-ok c =
     subst (λ (ns : List ℕ). IsMarkedBy c.walk_chains.new.marks (unused ++ item_numbers (map (chain_entry atlas.records) ns))) c.requires.numbers c.in_ok-lists.ensures.marked in
     let count : length c.walk_chains.new.marks ≡ length atlas.records.items =
     c.walk_chains.auto.marks ∙ c.walk_marking.auto.marks ∙ c.requires.marks ∙ links-length item_chain.next atlas.records.items c.args.links.now c.requires.links in
-    let unused_met : c.in-Ok.unused.items ≡ unused = c.in-Ok.ensures.met ∙ ap (λ (w : Walked). w.met) walks in
     let once : HasEachOnce (length atlas.records.items) (unused ++ item_numbers (map (chain_entry atlas.records) numbers)) =
     subst (λ (n : ℕ). HasEachOnce n (unused ++ item_numbers (map (chain_entry atlas.records) numbers))) count
     (c.if-not-all_marked.ensures.all refl (unused ++ item_numbers (map (chain_entry atlas.records) numbers)) marked) in
     record {
-      met = refl;
-      unused_met = unused_met;
       chains = subst (AllByRecursion (HasChain atlas.records)) c.requires.numbers c.in_ok-lists.ensures.chains;
       unused_end = sym (ap (λ (w : Walked). w.end) walks) ∙ c.in-Ok.ensures.end;
-      once = subst (λ (ns : List ℕ). HasEachOnce (length atlas.records.items) (item_numbers (map (chain_entry atlas.records) numbers) ++ ns)) (sym unused_met)
-          (once-back unused (item_numbers (map (chain_entry atlas.records) numbers)) (length atlas.records.items) once);
+      once = once-back unused (item_numbers (map (chain_entry atlas.records) numbers)) (length atlas.records.items) once;
       next_fits = c.requires.fit;
       unused_fits = ap link_of (sym start) ∙ c.bits-first.ensures.link ∙ c.unused_items.ensures ∙ ap (λ (a : AtlasRecords). a.records.unused_items) c.atlas.view_is;
     }

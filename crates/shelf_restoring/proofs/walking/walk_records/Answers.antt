@@ -1,6 +1,4 @@
-use Rattle.std.proofs.Common.{◌≡◌, ℕ, ◌+◌, ◌∙◌, [], add_assoc, ap, arith, length, map, subst, sym}
-use Rattle.shelf_links.specs.RecordLists.{shelf_walk}
-use Rattle.shelf_records.specs.Private.Restoring.{chain_entry}
+use Rattle.std.proofs.Common.{◌≡◌, ℕ, ◌+◌, ◌∙◌, [], add_assoc, ap, arith, length, subst, sym}
 use Rattle.shelf_restoring.proofs.Loaded.ChainsWalked.{once-walked}
 use Rattle.std.proofs.lemmas.Result.{err_from_is_err_and}
 use Rattle.etagere_links.specs.LinksRead.{links_in, links_until}
@@ -10,7 +8,7 @@ use Rattle.shelf_restoring.proofs.walking.walk_records.Goals as goal
 
 pub walk_free_lists-requires-clause-once : goal.walk_free_lists-requires-clause-once
 walk_free_lists-requires-clause-once c =
-    once-walked c.args.atlas.now (map (chain_entry c.args.atlas.now.records) (shelf_walk c.args.atlas.now.records).met) c.in_ok-walked.walked.unused.items c.in_ok-walked.ensures.ok
+    once-walked c.args.atlas.now c.in_ok-walked.ensures.ok
 
 pub returns-in_err-numbers-clause-until : goal.returns-in_err-numbers-clause-until
 returns-in_err-numbers-clause-until c =
@@ -34,7 +32,7 @@ returns-in_err-free_lists-clause-until c =
     let atlas = c.args.atlas.now in
     let more : ℕ = links_until 0 0 [] (free_walks atlas.records) in
     let fault = c.in_err-free_lists.field-0.0 in
-    let all = all-followed atlas c.in_ok-numbers.numbers.items (map (chain_entry c.args.atlas.now.records) (shelf_walk c.args.atlas.now.records).met) c.in_ok-walked.walked.unused.items c.in_ok-numbers.ensures.ok c.in_ok-walked.ensures.ok in
+    let all = all-followed atlas c.in_ok-numbers.numbers.items c.in_ok-numbers.ensures.ok c.in_ok-walked.ensures.ok in
     let counted : c.walk_items.new.steps + more ≡ links_followed atlas.records =
     ap (λ (n : ℕ). n + more) (c.in_ok-walked.ensures.all ∙ ap (λ (n : ℕ). n + links_in (item_walks atlas.records)) c.in_ok-numbers.ensures.all)
     ∙ add_assoc (links_in (shelf_walks atlas.records)) (links_in (item_walks atlas.records)) more ∙ sym all in
@@ -47,9 +45,9 @@ returns-then-not-links_back-clause-until c =
       arith,
       c.in_ok-walked.ensures.all,
       c.in_ok-numbers.ensures.all,
-      all-links c.args.atlas.now c.in_ok-numbers.numbers.items (map (chain_entry c.args.atlas.now.records) (shelf_walk c.args.atlas.now.records).met) c.in_ok-walked.walked.unused.items c.in_ok-numbers.ensures.ok c.in_ok-walked.ensures.ok c.in_ok-free_lists.ensures.own,
+      all-links c.args.atlas.now c.in_ok-numbers.numbers.items c.in_ok-numbers.ensures.ok c.in_ok-walked.ensures.ok c.in_ok-free_lists.ensures.own,
     )
 
 pub returns-clause-end : goal.returns-clause-end
 returns-clause-end c =
-    all-links c.args.atlas.now c.in_ok-numbers.numbers.items (map (chain_entry c.args.atlas.now.records) (shelf_walk c.args.atlas.now.records).met) c.in_ok-walked.walked.unused.items c.in_ok-numbers.ensures.ok c.in_ok-walked.ensures.ok c.in_ok-free_lists.ensures.own
+    all-links c.args.atlas.now c.in_ok-numbers.numbers.items c.in_ok-numbers.ensures.ok c.in_ok-walked.ensures.ok c.in_ok-free_lists.ensures.own
