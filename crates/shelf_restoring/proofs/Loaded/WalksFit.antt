@@ -1,6 +1,6 @@
 -- What walks have met: the links that they read fit their bits, and what the rules are judged over has each record
 -- once at most.
-use Rattle.std.proofs.Common.{◌≡◌, ℕ, ◌≤◌, List, [], ◌∷◌, ◌++◌, length, map, refl, ap, sym, subst, arith, ◌∙◌}
+use Rattle.std.proofs.Common.{ℕ, ◌≤◌, List, [], ◌∷◌, ◌++◌, length, map, sym, subst, arith}
 use Rattle.std.proofs.lemmas.List.{length-map}
 use Rattle.std.specs.List.{AllByRecursion}
 use Rattle.etagere_base.specs.Lists.{times}
@@ -9,11 +9,11 @@ use Rattle.shelf_links.proofs.AllLists.LinkedWalks.{walked-numbers}
 use Rattle.etagere_links.proofs.WalkChains.{walk-leads}
 use Rattle.shelf_links.specs.declared.records.LinkedItem.{LinkedItem}
 use Rattle.etagere_links.specs.Links.{bits_of, no_link}
-use Rattle.shelf_links.specs.RecordLists.{Records, Entry, first_free_of, first_item_of, item_numbers, item_walk, shelf_numbers, shelf_walk, unused_item_walk, unused_shelf_walk, walked_entry}
+use Rattle.shelf_links.specs.RecordLists.{Records, Entry, first_free_of, first_item_of, item_numbers, shelf_numbers, shelf_walk, unused_item_walk, unused_shelf_walk, walked_entry}
 use Rattle.etagere_links.specs.Lists.{HasEachOnce}
 use Rattle.shelf_links.specs.Records.{free_list}
 use Rattle.shelf_records.specs.AtlasRecords.{AtlasRecords, walked_entries}
-use Rattle.shelf_records.specs.Private.Restoring.{Fits, HasChain, HasFree, IsWalked, chain_entry}
+use Rattle.shelf_records.specs.Private.Restoring.{Fits, HasChain, HasFree, IsWalked}
 use Rattle.shelf_restoring.proofs.Loaded.ChainsWalked.{once-walked}
 use Rattle.shelf_restoring.proofs.Judged.ShortLists.{few-shelves, once-shelves, short-items}
 use Rattle.shelf_records.proofs.Spelled.StandsLinked.{AllFit}

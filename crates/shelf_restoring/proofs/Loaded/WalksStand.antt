@@ -1,11 +1,10 @@
 -- Records that walks have followed, and whose rules hold, stand for the state that they spell; so they are kept
 -- records.
-use Rattle.std.proofs.Common.{◌≡◌, ℕ, ℤ, List, [], ◌∷◌, ◌++◌, length, map, refl, subst}
+use Rattle.std.proofs.Common.{◌≡◌, ℕ, ℤ, List, [], ◌∷◌, length, map, refl, subst}
 use Rattle.etagere_base.specs.Frames.{HasAllColumns, IsFrame, longest_side}
 use Rattle.std.specs.List.{AllByRecursion}
 use Rattle.etagere_links.specs.Links.{no_link}
 use Rattle.shelf_links.specs.RecordLists.{Entry, free_walk, item_walk, shelf_walk, unused_item_walk, unused_shelf_walk, walked_entry}
-use Rattle.etagere_links.specs.Lists.{HasEachOnce}
 use Rattle.etagere_links.specs.Walks.{Walked}
 use Rattle.shelf_records.specs.AtlasRecords.{AtlasRecords, walked_entries}
 use Rattle.shelf_records.specs.Private.Judging.{FreeBack, LinkBack}

@@ -1,13 +1,11 @@
 -- The rules that passes find kept or broken.
-use Rattle.std.proofs.Common.{◌≡◌, ℕ, true, false, not, Bool, List, length, map, subst, sym, refl, ap, pos, to_z, of_z, w32, ◌∙◌}
+use Rattle.std.proofs.Common.{◌≡◌, true, false, not, Bool, List, length, map, subst, sym, refl, ap, pos, to_z, of_z, w32, ◌∙◌}
 use Rattle.std.proofs.lemmas.Int.{to_z-of_z}
 use Rattle.std.specs.List.{AllByRecursion}
 use Rattle.etagere_base.proofs.DecidingLemmas.{denied, granted}
-use Rattle.etagere_base.specs.Deciding.{Decides}
 use Rattle.etagere_base.specs.Lists.{NoNeighbours}
 use Rattle.shelf_links.specs.RecordLists.{Entry}
 use Rattle.shelf_model.specs.Merging.{both_empty, both_free}
-use Rattle.shelf_model.specs.Space.{space_in}
 use Rattle.shelf_model.specs.State.{Shelf}
 use Rattle.shelf_records.specs.AtlasRecords.{is_allocated_at, item_at, spelled_shelf}
 use Rattle.shelf_records.specs.Private.Judging.{AreUsed, HasShelvesIn, LinkBack, atlas_of_records}
