@@ -114,8 +114,8 @@ impl GlyphCache {
         Ok(())
     }
 
-    /// Begins a frame: what is placed or looked up from now on isn't evicted until the next frame begins, or all keys
-    /// are taken out by [`GlyphCache::clear`].
+    /// Begins a frame: what is placed or looked up from now on isn't evicted by [`GlyphCache::place`] until the next
+    /// frame begins, or all keys are taken out by [`GlyphCache::clear`].
     pub fn begin_frame(&mut self) {
         self.handle.begin_frame();
     }

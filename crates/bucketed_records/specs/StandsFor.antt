@@ -105,7 +105,8 @@ StandDown alignment width begin end (place ∷ next ∷ places) =
     (place % alignment ≡ 0) × (place + width ≤ end)
     × StandDown alignment width begin place (next ∷ places)
 
--- the buckets of these numbers stand side by side in a shelf, and none has given more than it has
+-- the buckets of these numbers stand apart and in order within a shelf, and none has used more than
+-- it has
 pub record AreBuckets (frame : Frame) (buckets : List LinkedBucket) (shelf : LinkedBucketShelf)
     (numbers : List ℕ) : Type 0 where
   pub aligned : shelf.bucket_width % alignment_along frame ≡ 0

@@ -77,7 +77,7 @@ pub extern "C" fn etagere_bucketed_delete(alloc: Global, atlas: &mut EtagereBuck
 /// Gives a rectangle that is at least as large as the size, with the id under which it is allocated.
 ///
 /// Answers ETAGERE_OK; ETAGERE_NULL_HANDLE; ETAGERE_NO_ROOM where there is no place; ETAGERE_MEMORY, only where a shelf
-/// is to be added and there was no memory. Goes through all shelves a few times.
+/// is to be added and there was no memory. Passes over 512 shelves at once, and goes through those that may fit.
 #[unsafe(no_mangle)]
 pub extern "C" fn etagere_bucketed_allocate(
     atlas: &mut EtagereBucketed,

@@ -122,8 +122,8 @@ pub extern "C" fn etagere_cache_place(
     write_placed(placed, rectangle, evicted, count)
 }
 
-/// Begins a frame: what is placed or looked up from now on isn't evicted until the next frame begins, or the cache is
-/// cleared.
+/// Begins a frame: what is placed or looked up from now on isn't evicted by etagere_cache_place until the next frame
+/// begins, or the cache is cleared.
 ///
 /// Answers ETAGERE_OK; ETAGERE_NULL_HANDLE. Takes no memory, and constant time.
 #[unsafe(no_mangle)]

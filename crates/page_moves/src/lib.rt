@@ -1,5 +1,5 @@
 //! Moving house with several pages: what is allocated on them gets places on new pages, the tallest first, and so without
-//! the gaps that returns have left, on as few pages as that takes.
+//! the gaps that returns have left.
 //!
 //! `moving` has the call, `moves` what it answers, `order` who asks first.
 #![tactic(auto)]

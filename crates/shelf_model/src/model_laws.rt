@@ -1,7 +1,7 @@
-//! Laws of the ordered model, each the contract of a function that does nothing.
+//! Laws of the model, each the contract of a function that does nothing.
 //!
-//! Definitions: `Laws` and `RefusalLaws`. A law stands here where no clause of a call states it, and in `laws` if other crates are to
-//! cite it. The functions have no callers: they make the check prove the laws.
+//! Definitions: `Laws` and `RefusalLaws`. A law stands here where no clause of a call states it, and in `laws` if other
+//! crates are to cite it. The functions have no callers: they make the check prove the laws.
 
 ghost use Rattle.shelf_model.specs.Laws.{ChoosesAny, ChoosesByRule, FindsAny, FindsFirstLeast, GrowKeepsSpace, GrowUses, MergesAll, MergesOnce, MergingKeepsAllocated, ReturnRestores};
 ghost use Rattle.shelf_model.specs.RefusalLaws.{NoRoomExactly, RefusesExactly, WidestFits};
