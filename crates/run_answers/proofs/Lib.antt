@@ -7,5 +7,6 @@ pub mod EveryRun
 pub mod KeptSteps
 pub mod LiveEntries
 pub mod LiveRows
+pub mod Renamed
 pub mod RunsOn
 pub mod TableEntries

@@ -1,8 +1,13 @@
 -- Laws of runs, proved of all that the model allows: every run keeps its promises, not only those
 -- that calls made.
-use Rattle.std.specs.Prelude.{List, []}
+use Rattle.std.specs.Prelude.{◌≡◌, ◌≢◌, All, List, [], map}
 use Rattle.etagere_base.specs.declared.frames.Frame.{Frame}
+use Rattle.shelf_model.specs.State.{AtlasState}
+use Rattle.shelf_model.specs.Svg.{svg}
+use Rattle.run_commands.specs.declared.commands.AtlasCommand.{AtlasCommand}
 use Rattle.run_commands.specs.declared.commands.Reply.{Reply}
+use Rattle.run_commands.specs.declared.commands.Reply.TheVariants.{At, NoMemory, Placed}
+use Rattle.run_answers.specs.AtlasRuns.{shelf_atlas}
 use Rattle.run_answers.specs.Runs.{KeepsPromisesIn, Kind, Runs, RunKeepsPromisesThroughout}
 
 -- every run of a new atlas of this frame keeps its promises in the state to which it leads,
@@ -19,3 +24,24 @@ EveryRunKeepsPromises {S} {C} kind frame =
     (commands : List C) (replies : List Reply) (last : S)
     → Runs kind 0 [] (kind.fresh frame) commands replies last
     → RunKeepsPromisesThroughout kind frame commands replies
+
+-- a reply but for the number of the id, or the index, that it tells
+abbrev pub without_number : Reply → Reply
+without_number (Placed allocation) = Placed (record { id = 0; rectangle = allocation.rectangle })
+without_number (At rectangle index) = At rectangle 0
+without_number reply = reply
+
+-- a new shelf atlas of this frame may give these replies to the commands, and become this one; memory
+-- is refused to none
+pub record RunsWithMemory (frame : Frame) (commands : List AtlasCommand) (replies : List Reply)
+    (last : AtlasState) : Type 0 where
+  pub run : Runs shelf_atlas 0 [] (shelf_atlas.fresh frame) commands replies last
+  pub memory : All (λ (reply : Reply). reply ≢ NoMemory) replies
+
+-- two such runs of the same commands have the same replies but for the numbers of ids, and end with
+-- the same picture
+abbrev pub DifferInIds : Frame → Type 0
+DifferInIds frame =
+    (commands : List AtlasCommand) (replies others : List Reply) (last another : AtlasState)
+    → RunsWithMemory frame commands replies last → RunsWithMemory frame commands others another
+    → (map without_number replies ≡ map without_number others) × (svg last ≡ svg another)

@@ -1,0 +1,7 @@
+pub mod OtherNames
+pub mod RenamedChoice
+pub mod RenamedGrowth
+pub mod RenamedPicture
+pub mod RenamedReturns
+pub mod RenamedRuns
+pub mod RenamedTaking
