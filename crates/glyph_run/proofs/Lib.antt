@@ -2,6 +2,8 @@ mod EntriesTold
 mod HeaderLine
 mod LastWord
 mod PartsSent
+mod RenamedCaches
+mod RenamedSteps
 mod ReplayAnswers
 mod RunsOn
 mod ScriptRows

@@ -1,3 +1,4 @@
+pub mod Laws
 pub mod Replaying
 pub mod ReplyText
 pub mod Runs

@@ -5,6 +5,7 @@
 mod answering;
 mod commands;
 mod keys;
+pub mod laws;
 mod replaying;
 mod reply_text;
 mod running;

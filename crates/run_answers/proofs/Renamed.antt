@@ -1,3 +1,4 @@
+pub mod NewNames
 pub mod OtherNames
 pub mod RenamedChoice
 pub mod RenamedGrowth

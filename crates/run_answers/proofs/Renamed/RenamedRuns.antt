@@ -16,10 +16,9 @@ use Rattle.shelf_model.specs.Fresh.{fresh}
 use Rattle.shelf_model.specs.Growing.{atlas_grown, grow_fault}
 use Rattle.shelf_model.specs.Places.{is_allocated}
 use Rattle.shelf_model.specs.Returning.{returned}
-use Rattle.shelf_model.specs.State.{Shelf, AtlasState}
+use Rattle.shelf_model.specs.State.{AtlasState}
 use Rattle.shelf_model.specs.Taking.{taken}
-use Rattle.shelf_model.proofs.Allocations.AllocatedIds.{times-ids_of, times-not_allocated}
-use Rattle.shelf_model.proofs.Allocations.IdLists.{ids}
+use Rattle.shelf_model.proofs.Allocations.AllocatedIds.{times-ids_of}
 use Rattle.run_commands.specs.declared.commands.AtlasCommand.{AtlasCommand}
 use Rattle.run_commands.specs.declared.commands.AtlasCommand.TheVariants.{Allocate, Return, Look, Grow, Clear}
 use Rattle.run_commands.specs.declared.commands.Reply.{Reply}
@@ -28,10 +27,11 @@ use Rattle.run_answers.specs.AtlasRuns.{AtlasStep, atlas_effect, shelf_atlas}
 use Rattle.run_answers.specs.Laws.{without_number}
 use Rattle.run_answers.specs.Live.{Entry, allocation_at, live_after, live_allocations, without}
 use Rattle.run_answers.specs.Runs.{Runs}
-use Rattle.run_answers.specs.Private.Renamed.{renamed, renamed_allocation, renamed_entry, renamed_shelf}
+use Rattle.run_answers.specs.Private.Renamed.{renamed, renamed_allocation, renamed_entry}
 use Rattle.run_answers.specs.Private.Tied.{IsTied}
 use Rattle.run_answers.proofs.AtlasAnswers.{atlas-steps}
-use Rattle.run_answers.proofs.Renamed.OtherNames.{allocated-renamed, entries-agree, exchanged-apart, exchanged-none, exchanged-one, shelves-agree, with_name}
+use Rattle.run_answers.proofs.Renamed.NewNames.{HasNewName, new-name}
+use Rattle.run_answers.proofs.Renamed.OtherNames.{entries-agree}
 use Rattle.run_answers.proofs.Renamed.RenamedChoice.{placement_of-renamed}
 use Rattle.run_answers.proofs.Renamed.RenamedGrowth.{fault-renamed, fresh-renamed, grown-renamed}
 use Rattle.run_answers.proofs.Renamed.RenamedReturns.{returned-renamed}
@@ -132,20 +132,10 @@ allocated-alike position size ones others one other new another reply answer Non
 allocated-alike position size ones others one other new another reply answer (Some placement) tied alike (id, fresh_id, reply_is, new_is) (number, fresh_number, answer_is, another_is) =
     let name : ℕ → ℕ = alike.name in
     let rectangle : Rectangle = rectangle_of_placement one.frame placement in
-    let later : ℕ → ℕ = with_name name id number in
-    let agree : (n : ℕ) → 1 ≤ times n (ids one.shelves) → later n ≡ name n =
-    λ n stands.
-    exchanged-none (name id) number (name n)
-    (λ same. let own : n ≡ id = alike.apart n id same in let none : times n (ids one.shelves) ≡ 0 = rw own (times-not_allocated one id fresh_id) in omega (arith, none, stands))
-    (λ same.
-    let stood : 1 ≤ times (name n) (ids (map (renamed_shelf name) one.shelves)) = allocated-renamed name one.shelves n stands in
-    let there : 1 ≤ times number (ids other.shelves) = rw (ap (λ (s : AtlasState). s.shelves) alike.state, ← same) stood in
-    omega (arith, there, times-not_allocated other number fresh_number)) in
+    let new_name : HasNewName name one other id number = new-name name one other id number alike.apart alike.state fresh_id fresh_number in
+    let later : ℕ → ℕ = new_name.later in
     let live : (n : ℕ) → 1 ≤ times n (map (λ (a : Allocation). a.id) (live_allocations ones)) → later n ≡ name n =
-    λ n stands. agree n (omega (arith, stands, tied.allocated.counted n, times-ids_of one n)) in
-    let state : other ≡ renamed later one =
-    alike.state ∙ ap (λ (shelves : List Shelf). record { frame = one.frame; shelves = shelves; peak_items = one.peak_items }) (sym (shelves-agree name later one.shelves agree)) in
-    let own : later id ≡ number = exchanged-one (name id) number in
+    λ n stands. new_name.agree n (omega (arith, stands, tied.allocated.counted n, times-ids_of one n)) in
     let frame : other.frame ≡ one.frame = ap (λ (s : AtlasState). s.frame) alike.state in
     rw (reply_is, answer_is, new_is, another_is)
     (record {
@@ -153,13 +143,13 @@ allocated-alike position size ones others one other new another reply answer (So
       alike =
           record {
             name = later;
-            apart = λ n m same. alike.apart n m (exchanged-apart (name id) number (name n) (name m) same);
-            state = ap (λ (s : AtlasState). taken s placement number) state
-                ∙ ap (taken (renamed later one) placement) (sym own)
+            apart = new_name.apart;
+            state = ap (λ (s : AtlasState). taken s placement number) new_name.state
+                ∙ ap (taken (renamed later one) placement) (sym new_name.own)
                 ∙ sym (taken-renamed later one placement id);
             live = ap (λ (f : Frame). others ++ record { position = position; allocation = record { id = number; rectangle = rectangle_of_placement f placement } } ∷ []) frame
                 ∙ ap (λ (xs : List Entry). xs ++ record { position = position; allocation = record { id = number; rectangle = rectangle } } ∷ []) (alike.live ∙ sym (entries-agree name later ones live))
-                ∙ ap (λ (n : ℕ). map (renamed_entry later) ones ++ record { position = position; allocation = record { id = n; rectangle = rectangle } } ∷ []) (sym own)
+                ∙ ap (λ (n : ℕ). map (renamed_entry later) ones ++ record { position = position; allocation = record { id = n; rectangle = rectangle } } ∷ []) (sym new_name.own)
                 ∙ sym (map-append (renamed_entry later) ones (record { position = position; allocation = record { id = id; rectangle = rectangle } } ∷ []));
           };
     })
