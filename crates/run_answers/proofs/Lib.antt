@@ -8,5 +8,6 @@ pub mod KeptSteps
 pub mod LiveEntries
 pub mod LiveRows
 pub mod Renamed
+pub mod Renumbered
 pub mod RunsOn
 pub mod TableEntries

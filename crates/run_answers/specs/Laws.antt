@@ -1,13 +1,9 @@
 -- Laws of runs, proved of all that the model allows: every run keeps its promises, not only those
 -- that calls made.
-use Rattle.std.specs.Prelude.{◌≡◌, ◌≢◌, All, List, [], map}
+use Rattle.std.specs.Prelude.{◌≡◌, ◌≢◌, ℕ, All, List, [], map}
 use Rattle.etagere_base.specs.declared.frames.Frame.{Frame}
-use Rattle.shelf_model.specs.State.{AtlasState}
-use Rattle.shelf_model.specs.Svg.{svg}
-use Rattle.run_commands.specs.declared.commands.AtlasCommand.{AtlasCommand}
 use Rattle.run_commands.specs.declared.commands.Reply.{Reply}
 use Rattle.run_commands.specs.declared.commands.Reply.TheVariants.{At, NoMemory, Placed}
-use Rattle.run_answers.specs.AtlasRuns.{shelf_atlas}
 use Rattle.run_answers.specs.Runs.{KeepsPromisesIn, Kind, Runs, RunKeepsPromisesThroughout}
 
 -- every run of a new atlas of this frame keeps its promises in the state to which it leads,
@@ -31,17 +27,18 @@ without_number (Placed allocation) = Placed (record { id = 0; rectangle = alloca
 without_number (At rectangle index) = At rectangle 0
 without_number reply = reply
 
--- a new shelf atlas of this frame may give these replies to the commands, and become this one; memory
--- is refused to none
-pub record RunsWithMemory (frame : Frame) (commands : List AtlasCommand) (replies : List Reply)
-    (last : AtlasState) : Type 0 where
-  pub run : Runs shelf_atlas 0 [] (shelf_atlas.fresh frame) commands replies last
+-- a new state of this frame may give these replies to the commands, and become this one; memory is
+-- refused to none
+pub record RunsWithMemory {S C : Type 0} (kind : Kind S C) (frame : Frame) (commands : List C)
+    (replies : List Reply) (last : S) : Type 0 where
+  pub run : Runs kind 0 [] (kind.fresh frame) commands replies last
   pub memory : All (λ (reply : Reply). reply ≢ NoMemory) replies
 
 -- two such runs of the same commands have the same replies but for the numbers of ids, and end with
 -- the same picture
-abbrev pub DifferInIds : Frame → Type 0
-DifferInIds frame =
-    (commands : List AtlasCommand) (replies others : List Reply) (last another : AtlasState)
-    → RunsWithMemory frame commands replies last → RunsWithMemory frame commands others another
-    → (map without_number replies ≡ map without_number others) × (svg last ≡ svg another)
+abbrev pub DifferInIds : {S C : Type 0} → Kind S C → (S → List ℕ) → Frame → Type 0
+DifferInIds {S} {C} kind picture frame =
+    (commands : List C) (replies others : List Reply) (last another : S)
+    → RunsWithMemory kind frame commands replies last
+    → RunsWithMemory kind frame commands others another
+    → (map without_number replies ≡ map without_number others) × (picture last ≡ picture another)

@@ -1,6 +1,7 @@
 -- What contracts of steps and invariants of types cite; no public clause does.
 pub mod Given
 pub mod Renamed
+pub mod Renumbered
 pub mod Rooms
 pub mod Tables
 pub mod Tied

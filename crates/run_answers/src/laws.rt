@@ -5,6 +5,8 @@
 
 ghost use Rattle.etagere_base.specs.Frames.{IsAccepted, atlas_frame, longest_side};
 ghost use Rattle.bucketed_model.specs.Frames.{bucketed_frame, longest_bucketed_side};
+ghost use Rattle.bucketed_model.specs.Svg as buckets;
+ghost use Rattle.shelf_model.specs.Svg as shelves;
 ghost use Rattle.run_answers.specs.AtlasRuns.{shelf_atlas};
 ghost use Rattle.run_answers.specs.BucketedRuns.{bucketed_atlas};
 ghost use Rattle.run_answers.specs.Laws.{DifferInIds, EveryEndKeepsPromises, EveryRunKeepsPromises};
@@ -30,5 +32,12 @@ pub fn every_bucketed_run_keeps_promises(size: Size, options: AllocatorOptions)
 /// refused memory, have the same replies but for the numbers of ids, and end with the same picture.
 pub fn two_atlas_runs_differ_in_ids(size: Size, options: AllocatorOptions)
     requires { IsAccepted longest_side size options }
-    ensures { DifferInIds (atlas_frame size options) }
+    ensures { DifferInIds shelf_atlas shelves.svg (atlas_frame size options) }
+{}
+
+/// From a size and options without a fault two runs of the same commands on a new bucketed atlas, neither of which is
+/// refused memory, have the same replies but for the numbers of ids, and end with the same picture.
+pub fn two_bucketed_runs_differ_in_ids(size: Size, options: AllocatorOptions)
+    requires { IsAccepted longest_bucketed_side size options }
+    ensures { DifferInIds bucketed_atlas buckets.svg (bucketed_frame size options) }
 {}

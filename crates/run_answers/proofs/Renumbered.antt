@@ -1,0 +1,4 @@
+pub mod RenumberedChanges
+pub mod RenumberedNames
+pub mod RenumberedPlaces
+pub mod RenumberedRuns
