@@ -61,6 +61,7 @@ module _ (name : ℕ → ℕ) where
       here true later = refl
       here false later = later
 
+  -- the entry that a key finds
   entry-renamed : (test : ℕ → Bool) (es : List (ℕ × Allocation)) → lookup_entry test (renamed_entries name es) ≡ option_map (held_by (renamed_allocation name)) (lookup_entry test es)
   entry-renamed test [] = refl
   entry-renamed test (e ∷ es) = here (test e.0) (entry-renamed test es)
@@ -70,6 +71,7 @@ module _ (name : ℕ → ℕ) where
       here true later = refl
       here false later = later
 
+  -- a key has the same rectangle
   pub rectangle-renamed : (state : CacheState) (key : ℕ) → rectangle_at (renamed_cache name state) key ≡ rectangle_at state key
   rectangle-renamed state key =
       ap (option_map (λ (a : Allocation). a.rectangle)) (lookup-renamed (nat_eq key) state.entries) ∙ of_found (lookup (nat_eq key) state.entries)
@@ -87,21 +89,26 @@ module _ (name : ℕ → ℕ) where
       of_found None = refl
       of_found (Some e) = ap (λ (l : List (ℕ × Allocation)). held_by (renamed_allocation name) e ∷ l) (removed-held (renamed_allocation name) test es)
 
+  -- a key is there alike
   known-renamed : (test : ℕ → Bool) (es : List (ℕ × Allocation)) → is_some (lookup test (renamed_entries name es)) ≡ is_some (lookup test es)
   known-renamed test es = ap is_some (lookup-renamed test es) ∙ is_some-map (renamed_allocation name) (lookup test es)
 
+  -- a key stands among the first alike
   among-renamed : (key : ℕ) (es : List (ℕ × Allocation)) (n : ℕ) → stands_among key (renamed_entries name es) n ≡ stands_among key es n
   among-renamed key es n =
       ap (λ (l : List (ℕ × Allocation)). is_some (lookup (nat_eq key) l)) (take-map (held_by (renamed_allocation name)) n es) ∙ known-renamed (nat_eq key) (take n es)
 
+  -- the uses of a frame, when a key is used
   with-renamed : (key : ℕ) (es : List (ℕ × Allocation)) (o : Option ℕ) → option_map (uses_with key (renamed_entries name es)) o ≡ option_map (uses_with key es) o
   with-renamed key es None = refl
   with-renamed key es (Some n) = rw (among-renamed key es n, known-renamed (nat_eq key) es) refl
 
+  -- and when one goes
   without-renamed : (key : ℕ) (es : List (ℕ × Allocation)) (o : Option ℕ) → option_map (uses_without key (renamed_entries name es)) o ≡ option_map (uses_without key es) o
   without-renamed key es None = refl
   without-renamed key es (Some n) = rw (among-renamed key es n) refl
 
+  -- a key was used
   pub used-renamed : (state : CacheState) (key : ℕ) → used (renamed_cache name state) key ≡ renamed_cache name (used state key)
   used-renamed state key =
       same-cache (used (renamed_cache name state) key) (renamed_cache name (used state key))
@@ -113,18 +120,22 @@ module _ (name : ℕ → ℕ) where
       slice_get-map (held_by (renamed_allocation name)) es (length (renamed_entries name es) - 1)
       ∙ ap (λ n. option_map (held_by (renamed_allocation name)) (slice_get es (n - 1))) (length-map es (held_by (renamed_allocation name)))
 
+  -- the keys are the same
   keys-renamed : (es : List (ℕ × Allocation)) → keys_of (renamed_entries name es) ≡ keys_of es
   keys-renamed es = map-agree (held_by (renamed_allocation name)) (λ e. e.0) (λ e. e.0) (λ e. refl) es
 
+  -- the same keys go
   pub dropped-renamed : (state : CacheState) (n : ℕ) → dropped_keys (renamed_cache name state) n ≡ dropped_keys state n
   dropped-renamed state n = ap (λ (keys : List ℕ). take n (reverse keys)) (keys-renamed state.entries)
 
+  -- there is room alike
   pub room-renamed : (state : CacheState) (size : Size) → has_room (renamed_cache name state) size ≡ has_room state size
   room-renamed state size =
       ap (λ n. nat_lt n state.capacity && is_some (placement_of (renamed name state.atlas) size)) (length-map state.entries (held_by (renamed_allocation name)))
       ∙ ap (λ o. nat_lt (length state.entries) state.capacity && is_some o) (placement_of-renamed name state.atlas size)
 
   module _ (apart : (n m : ℕ) → name n ≡ name m → n ≡ m) where
+    -- a key was taken out
     pub without_key-renamed : (state : CacheState) (key : ℕ) → without_key (renamed_cache name state) key ≡ renamed_cache name (without_key state key)
     without_key-renamed state key = rw (lookup-renamed (nat_eq key) state.entries) (of_found (lookup (nat_eq key) state.entries))
       where
@@ -140,6 +151,7 @@ module _ (name : ℕ → ℕ) where
             (record { entries = renamed_entries name (remove_entry (nat_eq key) state.entries); capacity = state.capacity; atlas = renamed name (returned state.atlas a.id); used_in_frame = option_map (uses_without key state.entries) state.used_in_frame })
             (sym (removed-held (renamed_allocation name) (nat_eq key) state.entries)) refl (sym (returned-renamed name apart state.atlas a.id)) (without-renamed key state.entries state.used_in_frame)
 
+    -- the last key was taken out
     without_last-renamed : (state : CacheState) → without_last (renamed_cache name state) ≡ renamed_cache name (without_last state)
     without_last-renamed state = rw (last-renamed state.entries, length-map state.entries (held_by (renamed_allocation name))) (of_last (last_entry state.entries))
       where
@@ -155,6 +167,7 @@ module _ (name : ℕ → ℕ) where
             (record { entries = renamed_entries name (take (length state.entries - 1) state.entries); capacity = state.capacity; atlas = renamed name (returned state.atlas e.1.id); used_in_frame = uses_left (length state.entries - 1) state.used_in_frame })
             (take-map (held_by (renamed_allocation name)) (length state.entries - 1) state.entries) refl (sym (returned-renamed name apart state.atlas e.1.id)) refl
 
+    -- some keys went
     pub dropping-renamed : (state : CacheState) (n : ℕ) → after_dropping (renamed_cache name state) n ≡ renamed_cache name (after_dropping state n)
     dropping-renamed state zero = refl
     dropping-renamed state (suc n) = ap without_last (dropping-renamed state n) ∙ without_last-renamed (after_dropping state n)

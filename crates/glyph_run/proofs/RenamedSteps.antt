@@ -71,6 +71,7 @@ record EnterAlike (one other : Rectangle) (new another : CacheState) : Type 0 wh
   same : one ≡ other
   alike : AreAlike new another
 
+-- a new key enters both, under an id that is new in each
 enter-alike : (key : ℕ) (size : Size) (one other new another : CacheState) (rectangle another_rectangle : Rectangle)
     → KeepsCachePromises one → AreAlike one other → Enters one key size rectangle new → Enters other key size another_rectangle another
     → EnterAlike rectangle another_rectangle new another
@@ -131,16 +132,19 @@ keeps-dropping state (suc n) promises = keeps-without_last (after_dropping state
 alike-rectangle : (one other : CacheState) (key : ℕ) → AreAlike one other → rectangle_at other key ≡ rectangle_at one key
 alike-rectangle one other key alike = ap (λ (s : CacheState). rectangle_at s key) alike.state ∙ rectangle-renamed alike.name one key
 
+-- after as many evictions both have room, or neither
 alike-room : (one other : CacheState) (size : Size) → AreAlike one other → (n : ℕ) → has_room (after_dropping other n) size ≡ has_room (after_dropping one n) size
 alike-room one other size alike n =
     ap (λ (s : CacheState). has_room (after_dropping s n) size) alike.state
     ∙ ap (λ (s : CacheState). has_room s size) (dropping-renamed alike.name alike.apart one n)
     ∙ room-renamed alike.name (after_dropping one n) size
 
+-- as many keys may be evicted
 alike-evictable : (one other : CacheState) → AreAlike one other → evictable other ≡ evictable one
 alike-evictable one other alike =
     ap evictable alike.state ∙ ap (λ n. n - frame_uses one) (length-map one.entries (held_by (renamed_allocation alike.name)))
 
+-- both have one frame
 alike-frame : (one other : CacheState) → AreAlike one other → other.atlas.frame ≡ one.atlas.frame
 alike-frame one other alike = ap (λ (s : CacheState). s.atlas.frame) alike.state
 
@@ -292,6 +296,7 @@ module _ (one other new another : CacheState) (promises : KeepsCachePromises one
       absurd (there-not_new one key rectangle finds.there (new-alike one other key alike is_new))
   found-step key rectangle answer step other_step = absurd other_step
 
+  -- where a key that was looked up is not there
   missed-step : (key : ℕ) (answer : GlyphReply)
       → GlyphStep one (Get key) NotThere new → GlyphStep other (Get key) answer another → StepAlike NotThere answer new another
   missed-step key (At found) (is_new, same) finds =
@@ -317,6 +322,7 @@ module _ (one other new another : CacheState) (promises : KeepsCachePromises one
       absurd (there-not_new one key rectangle there (new-alike one other key alike is_new))
   removed-step key rectangle answer step other_step = absurd other_step
 
+  -- where a key to be taken out is not there
   kept-step : (key : ℕ) (answer : GlyphReply)
       → GlyphStep one (Remove key) NotThere new → GlyphStep other (Remove key) answer another → StepAlike NotThere answer new another
   kept-step key (Removed found) (is_new, same) (there, after) =

@@ -16,6 +16,7 @@ pub record HasNewName (name : ℕ → ℕ) (one other : AtlasState) (id number :
   pub agree : (n : ℕ) → 1 ≤ times n (ids one.shelves) → later n ≡ name n
   pub state : other ≡ renamed later one
 
+-- a new id of each can have the number of the other
 pub new-name : (name : ℕ → ℕ) (one other : AtlasState) (id number : ℕ) → ((n m : ℕ) → name n ≡ name m → n ≡ m)
     → other ≡ renamed name one → is_allocated one id ≡ false → is_allocated other number ≡ false → HasNewName name one other id number
 new-name name one other id number apart state fresh_id fresh_number =

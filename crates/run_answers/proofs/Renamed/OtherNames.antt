@@ -14,12 +14,15 @@ use Rattle.run_answers.specs.Private.Renamed.{renamed_entry, renamed_item, renam
 abbrev pub exchanged : ℕ → ℕ → ℕ → ℕ
 exchanged one other n = if n == one then other else (if n == other then one else n)
 
+-- the first becomes the second
 pub exchanged-one : (one other : ℕ) → exchanged one other one ≡ other
 exchanged-one one other = grind arith
 
+-- all others stay
 pub exchanged-none : (one other n : ℕ) → n ≢ one → n ≢ other → exchanged one other n ≡ n
 exchanged-none one other n first second = grind arith
 
+-- no two numbers become one
 pub exchanged-apart : (one other n m : ℕ) → exchanged one other n ≡ exchanged one other m → n ≡ m
 exchanged-apart one other n m same = grind arith
 
@@ -31,6 +34,7 @@ with_name name id new n = exchanged (name id) new (name n)
 stands-append : (n : ℕ) (front back : List ℕ) → 1 ≤ times n front → 1 ≤ times n (front ++ back)
 stands-append n front back stands = omega (arith, stands, times-append n front back)
 
+-- it stands among those behind
 stands-behind : (n : ℕ) (front back : List ℕ) → 1 ≤ times n back → 1 ≤ times n (front ++ back)
 stands-behind n front back stands = omega (arith, stands, times-append n front back)
 
@@ -47,6 +51,7 @@ module _ (name other : ℕ → ℕ) where
       of_id None agree = refl
       of_id (Some id) agree = ap Some (agree id (grind arith))
 
+  -- and so are shelves
   pub shelves-agree : (shelves : List Shelf) → ((n : ℕ) → 1 ≤ times n (ids shelves) → other n ≡ name n)
       → map (renamed_shelf other) shelves ≡ map (renamed_shelf name) shelves
   shelves-agree [] agree = refl
@@ -56,6 +61,7 @@ module _ (name other : ℕ → ℕ) where
       (items-agree shelf.items (λ n stands. agree n (stands-append n (item_ids shelf.items) (ids shelves) stands))))
       ∙ ap (λ (xs : List Shelf). renamed_shelf name shelf ∷ xs) (shelves-agree shelves (λ n stands. agree n (stands-behind n (item_ids shelf.items) (ids shelves) stands)))
 
+  -- and what is live
   pub entries-agree : (entries : List Entry) → ((n : ℕ) → 1 ≤ times n (map (λ (a : Allocation). a.id) (live_allocations entries)) → other n ≡ name n)
       → map (renamed_entry other) entries ≡ map (renamed_entry name) entries
   entries-agree [] agree = refl
@@ -77,6 +83,7 @@ module _ (name : ℕ → ℕ) where
       of_id None = refl
       of_id (Some id) = refl
 
+  -- the ids of shelves under other numbers
   ids-renamed : (shelves : List Shelf) → ids (map (renamed_shelf name) shelves) ≡ map name (ids shelves)
   ids-renamed [] = refl
   ids-renamed (shelf ∷ shelves) =
@@ -84,6 +91,7 @@ module _ (name : ℕ → ℕ) where
       ∙ ap (λ (ns : List ℕ). map name (item_ids shelf.items) ++ ns) (ids-renamed shelves)
       ∙ sym (map-append name (item_ids shelf.items) (ids shelves))
 
+  -- an id that stands in a list stands in it under its other number
   stands-renamed : (n : ℕ) (ns : List ℕ) → 1 ≤ times n ns → 1 ≤ times (name n) (map name ns)
   stands-renamed n [] stands = absurd (omega (arith, stands))
   stands-renamed n (m ∷ ns) stands = by_test (λ others. stands-renamed n ns others) (m == n) refl

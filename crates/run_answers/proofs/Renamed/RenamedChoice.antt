@@ -34,41 +34,50 @@ module _ (name : ℕ → ℕ) where
       of_id None = refl
       of_id (Some id) = refl
 
+  -- one free item is one under other numbers
   one_free-renamed : (items : List Item) → is_one_free (map (renamed_item name) items) ≡ is_one_free items
   one_free-renamed [] = refl
   one_free-renamed (item ∷ []) = free-renamed item
   one_free-renamed (item ∷ next ∷ items) = refl
 
+  -- a shelf is empty under other numbers too
   pub empty-renamed : (shelf : Shelf) → is_empty (renamed_shelf name shelf) ≡ is_empty shelf
   empty-renamed shelf = one_free-renamed shelf.items
 
+  -- the item at a place has the same width
   width_at-renamed : (here : ℕ) (items : List Item) (place : ℕ) → width_at here (map (renamed_item name) items) place ≡ width_at here items place
   width_at-renamed here [] place = refl
   width_at-renamed here (item ∷ items) place =
       ap (λ n. if here == place then item.width else n) (width_at-renamed (here + item.width) items place)
 
+  -- it stands at the same number
   number_at-renamed : (here : ℕ) (items : List Item) (place : ℕ) → number_at here (map (renamed_item name) items) place ≡ number_at here items place
   number_at-renamed here [] place = refl
   number_at-renamed here (item ∷ items) place =
       ap (λ n. if here == place then 0 else suc n) (number_at-renamed (here + item.width) items place)
 
+  -- a width fits at the same place
   fitting-renamed : (frame : Frame) (width : ℕ) (shelf : Shelf) → fitting_place frame width (renamed_shelf name shelf) ≡ fitting_place frame width shelf
   fitting-renamed frame width shelf =
       find-agree _ _ (λ place. ap (nat_le width) (width_at-renamed (column_place frame shelf) shelf.items place)) shelf.free_list
 
+  -- a shelf ranks alike
   rank-renamed : (frame : Frame) (width height : ℕ) (shelf : Shelf) → rank frame width height (renamed_shelf name shelf) ≡ rank frame width height shelf
   rank-renamed frame width height shelf = rw (fitting-renamed frame width shelf, empty-renamed shelf) refl
 
+  -- a place tells the same
   placement-renamed : (frame : Frame) (number across width height : ℕ) (shelf : Shelf) (place : ℕ)
       → placement_in frame number across width height (renamed_shelf name shelf) place ≡ placement_in frame number across width height shelf place
   placement-renamed frame number across width height shelf place =
       rw (width_at-renamed (column_place frame shelf) shelf.items place, number_at-renamed (column_place frame shelf) shelf.items place, empty-renamed shelf) refl
 
+  -- columns are as tall
   pub column_height-renamed : (column : ℕ) (shelves : List Shelf) → column_height column (map (renamed_shelf name) shelves) ≡ column_height column shelves
   column_height-renamed column [] = refl
   column_height-renamed column (shelf ∷ shelves) =
       ap (λ n. (if shelf.column == column then shelf.height else 0) + n) (column_height-renamed column shelves)
 
+  -- as many items are in use
   pub in_use-renamed : (shelves : List Shelf) → items_in_use (map (renamed_shelf name) shelves) ≡ items_in_use shelves
   in_use-renamed [] = refl
   in_use-renamed (shelf ∷ shelves) =
@@ -94,6 +103,7 @@ module _ (name : ℕ → ℕ) where
       of_place None = refl
       of_place (Some place) = ap Some (placement-renamed frame number (column_height shelf.column before) width height shelf place)
 
+  -- the same place is chosen
   chosen-renamed : (state : AtlasState) (sides : Sides) → chosen (renamed name state) sides ≡ chosen state sides
   chosen-renamed state sides =
       rw (map-agree (renamed_shelf name) (rank state.frame sides.along (shelf_height state.frame sides.across)) (rank state.frame sides.along (shelf_height state.frame sides.across)) (rank-renamed state.frame sides.along (shelf_height state.frame sides.across)) state.shelves)
@@ -120,6 +130,7 @@ module _ (name : ℕ → ℕ) where
           rw (take-map (renamed_shelf name) found.number state.shelves, slice_get-map (renamed_shelf name) state.shelves found.number)
           (offered-renamed state.frame found.number sides.along (shelf_height state.frame sides.across) (take found.number state.shelves) (slice_get state.shelves found.number))
 
+  -- a size has the same place
   pub placement_of-renamed : (state : AtlasState) (size : Size) → placement_of (renamed name state) size ≡ placement_of state size
   placement_of-renamed state size = of_sides (asked state.frame size)
     where

@@ -20,19 +20,23 @@ module _ (name : ℕ → ℕ) where
   columns-renamed frame column zero = refl
   columns-renamed frame column (suc n) = ap (λ (ss : List Shelf). empty_shelf frame column (across_side frame) ∷ ss) (columns-renamed frame (suc column) n)
 
+  -- a new state has no ids
   pub fresh-renamed : (frame : Frame) → renamed name (fresh frame) ≡ fresh frame
   fresh-renamed frame =
       ap (λ (shelves : List Shelf). record { frame = frame; shelves = shelves; peak_items = frame.columns }) (columns-renamed frame 0 frame.columns)
 
+  -- the last item is free alike
   ends_free-renamed : (items : List Item) → ends_free (map (renamed_item name) items) ≡ ends_free items
   ends_free-renamed [] = refl
   ends_free-renamed (item ∷ []) = free-renamed name item
   ends_free-renamed (item ∷ next ∷ items) = ends_free-renamed (next ∷ items)
 
+  -- a shelf ends its column alike
   ends_column-renamed : (shelf : Shelf) (shelves : List Shelf) → ends_column (renamed_shelf name shelf) (map (renamed_shelf name) shelves) ≡ ends_column shelf shelves
   ends_column-renamed shelf [] = refl
   ends_column-renamed shelf (next ∷ shelves) = refl
 
+  -- as many shelves end with an allocated item
   ends-counted : (shelves : List Shelf) → total (λ (shelf : Shelf). if ends_free shelf.items then 0 else 1) (map (renamed_shelf name) shelves)
       ≡ total (λ (shelf : Shelf). if ends_free shelf.items then 0 else 1) shelves
   ends-counted [] = refl
@@ -40,27 +44,32 @@ module _ (name : ℕ → ℕ) where
       ap (λ b. (if b then 0 else 1) + total (λ (shelf : Shelf). if ends_free shelf.items then 0 else 1) (map (renamed_shelf name) shelves)) (ends_free-renamed shelf.items)
       ∙ ap (λ n. (if ends_free shelf.items then 0 else 1) + n) (ends-counted shelves)
 
+  -- as many columns end with a shelf that is in use
   filled-renamed : (shelves : List Shelf) → filled_ends (map (renamed_shelf name) shelves) ≡ filled_ends shelves
   filled-renamed [] = refl
   filled-renamed (shelf ∷ shelves) =
       rw (ends_column-renamed shelf shelves, empty-renamed name shelf)
       (ap (λ n. (if ends_column shelf shelves && not (is_empty shelf) then 1 else 0) + n) (filled-renamed shelves))
 
+  -- as many records are needed
   needed-renamed : (state : AtlasState) (size : Size) → records_needed (renamed name state) size ≡ records_needed state size
   needed-renamed state size =
       ap (λ n. (if added_width state.frame size == 0 then 0 else n) + needed_for_height (added_height state.frame size) (map (renamed_shelf name) state.shelves) + added_columns state.frame size) (ends-counted state.shelves)
       ∙ ap (λ n. needed_for_width (added_width state.frame size) state.shelves + (if added_height state.frame size == 0 then 0 else n) + added_columns state.frame size) (filled-renamed state.shelves)
 
+  -- a growth has the same fault
   pub fault-renamed : (state : AtlasState) (size : Size) → grow_fault (renamed name state) size ≡ grow_fault state size
   fault-renamed state size =
       ap (λ n. or_records_fault (n + records_needed (renamed name state) size) (size_fault state.frame size)) (in_use-renamed name state.shelves)
       ∙ ap (λ n. or_records_fault (items_in_use state.shelves + n) (size_fault state.frame size)) (needed-renamed state size)
 
+  -- a shelf becomes wider alike
   widened_shelf-renamed : (frame : Frame) (width : ℕ) (shelf : Shelf)
       → renamed_shelf name (widened_shelf frame width shelf) ≡ widened_shelf frame width (renamed_shelf name shelf)
   widened_shelf-renamed frame width shelf =
       rw (map-append (renamed_item name) shelf.items (record { width = width; id = None } ∷ []), ends_free-renamed shelf.items) refl
 
+  -- so do all
   widened-renamed : (frame : Frame) (width : ℕ) (shelves : List Shelf)
       → map (renamed_shelf name) (widened frame width shelves) ≡ widened frame width (map (renamed_shelf name) shelves)
   widened-renamed frame width shelves = by_test (width == 0)
@@ -70,6 +79,7 @@ module _ (name : ℕ → ℕ) where
       by_test true = refl
       by_test false = map-through (renamed_shelf name) (widened_shelf frame width) (widened_shelf frame width) (widened_shelf-renamed frame width) shelves
 
+  -- columns get the same ends
   with_ends-renamed : (frame : Frame) (height : ℕ) (shelves : List Shelf)
       → map (renamed_shelf name) (with_ends frame height shelves) ≡ with_ends frame height (map (renamed_shelf name) shelves)
   with_ends-renamed frame height [] = refl
@@ -86,6 +96,7 @@ module _ (name : ℕ → ℕ) where
       by_test true = refl
       by_test false = refl
 
+  -- and become taller alike
   heightened-renamed : (frame : Frame) (height : ℕ) (shelves : List Shelf)
       → map (renamed_shelf name) (heightened frame height shelves) ≡ heightened frame height (map (renamed_shelf name) shelves)
   heightened-renamed frame height shelves = by_test (height == 0)
@@ -95,6 +106,7 @@ module _ (name : ℕ → ℕ) where
       by_test true = refl
       by_test false = with_ends-renamed frame height shelves
 
+  -- the same is added
   extended-renamed : (state : AtlasState) (size : Size) → renamed name (extended state size) ≡ extended (renamed name state) size
   extended-renamed state size =
       let frame : Frame = grown_frame state.frame size in
@@ -107,6 +119,7 @@ module _ (name : ℕ → ℕ) where
       ∙ ap (λ (ss : List Shelf). ss ++ more) (heightened-renamed frame (added_height state.frame size) wide)
       ∙ ap (λ (ss : List Shelf). heightened frame (added_height state.frame size) ss ++ more) (widened-renamed state.frame (added_width state.frame size) state.shelves))
 
+  -- a growth changes no id
   pub grown-renamed : (state : AtlasState) (size : Size) → renamed name (atlas_grown state size) ≡ atlas_grown (renamed name state) size
   grown-renamed state size =
       let frame : Frame = grown_frame state.frame size in

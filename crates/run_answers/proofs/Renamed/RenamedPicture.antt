@@ -13,6 +13,7 @@ use Rattle.run_answers.specs.Private.Renamed.{renamed, renamed_item, renamed_she
 use Rattle.run_answers.proofs.Renamed.RenamedChoice.{column_height-renamed, free-renamed}
 
 module _ (name : ℕ → ℕ) where
+  -- a shelf is drawn alike
   along-renamed : (frame : Frame) (across height here : ℕ) (items : List Item)
       → drawn_along frame across height here (map (renamed_item name) items) ≡ drawn_along frame across height here items
   along-renamed frame across height here [] = refl
@@ -20,6 +21,7 @@ module _ (name : ℕ → ℕ) where
       ap (λ b. drawn_at frame (if b then Free else Allocated) here across item.width height ∷ drawn_along frame across height (here + item.width) (map (renamed_item name) items)) (free-renamed name item)
       ∙ ap (λ (ds : List Drawn). drawn_along frame across height here (item ∷ []) ++ ds) (along-renamed frame across height (here + item.width) items)
 
+  -- so are shelves after others
   after-renamed : (frame : Frame) (before shelves : List Shelf)
       → drawn_after frame (map (renamed_shelf name) before) (map (renamed_shelf name) shelves) ≡ drawn_after frame before shelves
   after-renamed frame before [] = refl
@@ -31,6 +33,7 @@ module _ (name : ℕ → ℕ) where
       (ap (λ (ss : List Shelf). drawn_after frame ss (map (renamed_shelf name) shelves)) (sym (map-append (renamed_shelf name) before (shelf ∷ [])))
       ∙ after-renamed frame (before ++ shelf ∷ []) shelves)
 
+  -- the text is the same
   pub svg-renamed : (state : AtlasState) → svg (renamed name state) ≡ svg state
   svg-renamed state =
       ap (λ (ds : List Drawn). document state.frame.width state.frame.height (background state.frame ∷ ds)) (after-renamed state.frame [] state.shelves)

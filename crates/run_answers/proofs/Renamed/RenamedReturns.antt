@@ -29,6 +29,7 @@ module _ (name : ℕ → ℕ) where
       (λ (x y : Item). ap (λ b. b && is_free (renamed_item name y)) (free-renamed name x) ∙ ap (λ b. is_free x && b) (free-renamed name y))
       (λ (x y : Item). refl) shelf.items)
 
+  -- all is merged alike
   pub merged-renamed : (state : AtlasState) → renamed name (merged state) ≡ merged (renamed name state)
   merged-renamed state =
       ap (λ (shelves : List Shelf). record { frame = state.frame; shelves = shelves; peak_items = state.peak_items })
@@ -43,10 +44,12 @@ module _ (name : ℕ → ℕ) where
   free_at-renamed zero (item ∷ items) = free-renamed name item
   free_at-renamed (suc n) (item ∷ items) = free_at-renamed n items
 
+  -- whether the item before it is free
   free_before-renamed : (n : ℕ) (items : List Item) → is_free_before n (map (renamed_item name) items) ≡ is_free_before n items
   free_before-renamed zero items = refl
   free_before-renamed (suc n) items = free_at-renamed n items
 
+  -- where an item begins
   place_at-renamed : (here : ℕ) (items : List Item) (n : ℕ) → place_at here (map (renamed_item name) items) n ≡ place_at here items n
   place_at-renamed here items n =
       ap (λ (xs : List Item). here + total_width xs) (take-map (renamed_item name) n items) ∙ ap (λ w. here + w) (width-renamed (take n items))
@@ -55,16 +58,19 @@ module _ (name : ℕ → ℕ) where
       width-renamed [] = refl
       width-renamed (item ∷ items) = ap (λ w. item.width + w) (width-renamed items)
 
+  -- an item is freed
   freed-renamed : (n : ℕ) (items : List Item) → map (renamed_item name) (freed n items) ≡ freed n (map (renamed_item name) items)
   freed-renamed n [] = refl
   freed-renamed zero (item ∷ items) = refl
   freed-renamed (suc n) (item ∷ items) = ap (λ (xs : List Item). renamed_item name item ∷ xs) (freed-renamed n items)
 
+  -- the free list after that
   free_list-renamed : (here : ℕ) (items : List Item) (n : ℕ) (free_list : List ℕ)
       → returned_free_list here (map (renamed_item name) items) n free_list ≡ returned_free_list here items n free_list
   free_list-renamed here items n free_list =
       rw (free_at-renamed (suc n) items, place_at-renamed here items (suc n), free_before-renamed n items, place_at-renamed here items n) refl
 
+  -- its shelf after that
   freed_shelf-renamed : (frame : Frame) (n : ℕ) (shelf : Shelf)
       → renamed_shelf name (freed_shelf frame n shelf) ≡ freed_shelf frame n (renamed_shelf name shelf)
   freed_shelf-renamed frame n shelf =
@@ -86,6 +92,7 @@ module _ (name : ℕ → ℕ) where
             by_other true h = h ∙ sym (eq-eqb owner id (apart owner id (eqb-true (name owner) (name id) h)))
             by_other false h = h ∙ sym e
 
+    -- the item of an id has the same number
     number_of-renamed : (id : ℕ) (items : List Item) → number_of (name id) (map (renamed_item name) items) ≡ number_of id items
     number_of-renamed id [] = refl
     number_of-renamed id (item ∷ items) =
@@ -94,6 +101,7 @@ module _ (name : ℕ → ℕ) where
         ∙ ap (λ o. cond (has_id id item.id) (Some 0) (option_map suc o)) (number_of-renamed id items)
         ∙ sym (position-cons (λ (item : Item). has_id id item.id) item items)
 
+    -- the item of an id is freed
     freed_in-renamed : (frame : Frame) (id : ℕ) (shelf : Shelf)
         → renamed_shelf name (freed_in frame id shelf) ≡ freed_in frame (name id) (renamed_shelf name shelf)
     freed_in-renamed frame id shelf = rw (number_of-renamed id shelf.items) (of_number (number_of id shelf.items))
@@ -104,6 +112,7 @@ module _ (name : ℕ → ℕ) where
         of_number None = refl
         of_number (Some n) = freed_shelf-renamed frame n shelf
 
+    -- a return of an id is one of its other number
     pub returned-renamed : (state : AtlasState) (id : ℕ) → renamed name (returned state id) ≡ returned (renamed name state) (name id)
     returned-renamed state id =
         merged-renamed (record { frame = state.frame; shelves = map (freed_in state.frame id) state.shelves; peak_items = state.peak_items })

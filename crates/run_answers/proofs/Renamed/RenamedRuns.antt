@@ -58,18 +58,22 @@ IsAllocated old reply new (Some placement) =
     × (reply ≡ Placed (record { id = id; rectangle = rectangle_of_placement old.frame placement }))
     × (new ≡ taken old placement id)
 
+-- the same of a position that goes back
 abbrev IsReturned : AtlasState → Reply → AtlasState → Option Allocation → Type 0
 IsReturned old reply new None = (reply ≡ NotLive) × (new ≡ old)
 IsReturned old reply new (Some allocation) = (reply ≡ Returned) × (new ≡ returned old allocation.id)
 
+-- of one that is looked up
 abbrev IsShown : AtlasState → Reply → AtlasState → Option Allocation → Type 0
 IsShown old reply new None = (reply ≡ NotLive) × (new ≡ old)
 IsShown old reply new (Some allocation) = (reply ≡ At allocation.rectangle (allocation.id % index_modulus)) × (new ≡ old)
 
+-- and of a growth
 abbrev IsGrown : AtlasState → Size → Reply → AtlasState → Option AtlasGrowFault → Type 0
 IsGrown old size reply new None = (reply ≡ Grown) × (new ≡ atlas_grown old size)
 IsGrown old size reply new (Some fault) = (reply ≡ GrowRefused (grow_fault_number fault)) × (new ≡ old)
 
+-- a step is such an answer to a size
 is-allocated : (entries : List Entry) (old : AtlasState) (size : Size) (reply : Reply) (new : AtlasState) → AtlasStep entries old (Allocate size) reply new → reply ≢ NoMemory → IsAllocated old reply new (placement_of old size)
 is-allocated entries old size (Placed allocation) new step memory =
     let allocates = step.allocates in
@@ -79,11 +83,13 @@ is-allocated entries old size Refused new step memory = subst (IsAllocated old R
 is-allocated entries old size NoMemory new step memory = absurd (memory refl)
 is-allocated entries old size reply new step memory = absurd step
 
+-- to a position that goes back
 is-returned : (entries : List Entry) (old : AtlasState) (other : ℕ) (reply : Reply) (new : AtlasState) → AtlasStep entries old (Return other) reply new → IsReturned old reply new (allocation_at other entries)
 is-returned entries old other Returned new step = subst (IsReturned old Returned new) (sym step.live_is) (refl, step.after)
 is-returned entries old other NotLive new step = subst (IsReturned old NotLive new) (sym step.0) (refl, step.1)
 is-returned entries old other reply new step = absurd step
 
+-- to one that is looked up
 is-shown : (entries : List Entry) (old : AtlasState) (other : ℕ) (reply : Reply) (new : AtlasState) → AtlasStep entries old (Look other) reply new → IsShown old reply new (allocation_at other entries)
 is-shown entries old other (At rectangle index) new step =
     let shows = step.0 in
@@ -92,6 +98,7 @@ is-shown entries old other (At rectangle index) new step =
 is-shown entries old other NotLive new step = subst (IsShown old NotLive new) (sym step.0) (refl, step.1)
 is-shown entries old other reply new step = absurd step
 
+-- to a growth
 is-grown : (entries : List Entry) (old : AtlasState) (size : Size) (reply : Reply) (new : AtlasState) → AtlasStep entries old (Grow size) reply new → reply ≢ NoMemory → IsGrown old size reply new (grow_fault old size)
 is-grown entries old size Grown new step memory = subst (IsGrown old size Grown new) (sym step.fits) (refl, step.after)
 is-grown entries old size (GrowRefused number) new step memory =
@@ -100,6 +107,7 @@ is-grown entries old size (GrowRefused number) new step memory =
 is-grown entries old size NoMemory new step memory = absurd (memory refl)
 is-grown entries old size reply new step memory = absurd step
 
+-- and to a clear
 is-cleared : (entries : List Entry) (old : AtlasState) (reply : Reply) (new : AtlasState) → AtlasStep entries old Clear reply new → (reply ≡ Cleared) × (new ≡ fresh old.frame)
 is-cleared entries old Cleared new step = (refl, step)
 is-cleared entries old reply new step = absurd step
@@ -114,6 +122,7 @@ module _ (name : ℕ → ℕ) where
       by_test rest true e = rw e refl
       by_test rest false e = rw e rest
 
+  -- what is live without a position
   without-renamed : (other : ℕ) (entries : List Entry) → without other (map (renamed_entry name) entries) ≡ map (renamed_entry name) (without other entries)
   without-renamed other [] = refl
   without-renamed other (entry ∷ entries) = by_test (without-renamed other entries) (entry.position == other)

@@ -18,6 +18,7 @@ replaced-renamed change pieces others same zero (x ∷ xs) = map-append change (
 replaced-renamed change pieces others same (suc n) (x ∷ xs) = ap (λ ys. change x ∷ ys) (replaced-renamed change pieces others same n xs)
 
 module _ (name : ℕ → ℕ) where
+  -- the pieces of an item
   item_pieces-renamed : (placement : Placement) (id : ℕ) (item : Item)
       → map (renamed_item name) (item_pieces placement id item) ≡ item_pieces placement (name id) (renamed_item name item)
   item_pieces-renamed placement id item = ap (λ items. record { width = placement.width; id = Some (name id) } ∷ items) (by_test placement.splits_item)
@@ -29,12 +30,14 @@ module _ (name : ℕ → ℕ) where
       by_test true = refl
       by_test false = refl
 
+  -- the shelf of a place that was taken
   taken_shelf-renamed : (placement : Placement) (id : ℕ) (shelf : Shelf)
       → renamed_shelf name (taken_shelf placement id shelf) ≡ taken_shelf placement (name id) (renamed_shelf name shelf)
   taken_shelf-renamed placement id shelf =
       ap (λ (items : List Item). record { column = shelf.column; height = placement.height; items = items; free_list = taken_free_list placement shelf.free_list })
       (replaced-renamed (renamed_item name) (item_pieces placement id) (item_pieces placement (name id)) (item_pieces-renamed placement id) placement.item shelf.items)
 
+  -- the pieces of a shelf
   shelf_pieces-renamed : (frame : Frame) (placement : Placement) (id : ℕ) (shelf : Shelf)
       → map (renamed_shelf name) (shelf_pieces frame placement id shelf) ≡ shelf_pieces frame placement (name id) (renamed_shelf name shelf)
   shelf_pieces-renamed frame placement id shelf =
@@ -48,6 +51,7 @@ module _ (name : ℕ → ℕ) where
       by_test true = refl
       by_test false = refl
 
+  -- a place taken by an id is taken by its other number
   pub taken-renamed : (state : AtlasState) (placement : Placement) (id : ℕ)
       → renamed name (taken state placement id) ≡ taken (renamed name state) placement (name id)
   taken-renamed state placement id =

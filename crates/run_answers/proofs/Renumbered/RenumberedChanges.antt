@@ -26,6 +26,7 @@ use Rattle.run_answers.proofs.Renumbered.RenumberedPlaces.{height-renumbered, id
 abbrev pub plain_bucket : Bucket → Bucket
 plain_bucket = renumbered_bucket (λ n. n)
 
+-- a shelf without its generations
 abbrev pub plain_shelf : BucketShelf → BucketShelf
 plain_shelf = renumbered_shelf (λ n. n)
 
@@ -42,6 +43,7 @@ module _ (name : ℕ → ℕ) where
       ap (λ (n : ℕ). record { place = place + n * width; used = 0; live = 0; given = 0; tag = renumbered_tag name tag } ∷ map (renumbered_bucket name) (new_buckets place width tags)) (sym (length-map tags (renumbered_tag name)))
       ∙ ap (λ (bs : List Bucket). record { place = place + length (map (renumbered_tag name) tags) * width; used = 0; live = 0; given = 0; tag = renumbered_tag name tag } ∷ bs) (buckets-renumbered place width tags)
 
+  -- new shelves
   made-renumbered : (frame : Frame) (news : List NewShelf) (tags : List Tag) → map (renumbered_shelf name) (made_shelves frame news tags) ≡ made_shelves frame news (map (renumbered_tag name) tags)
   made-renumbered frame [] tags = refl
   made-renumbered frame (new ∷ news) tags =
@@ -64,6 +66,7 @@ module _ (name : ℕ → ℕ) where
       ∙ ap (λ (ss : List BucketShelf). map (with_height 0) (take others (map (renumbered_shelf name) shelves)) ++ ss) (sym (drop-map (renumbered_shelf name) others shelves)))
   merged-renumbered (suc first) others (shelf ∷ shelves) = ap (λ (ss : List BucketShelf). renumbered_shelf name shelf ∷ ss) (merged-renumbered first others shelves)
 
+  -- shelves that were made ready for a place
   pub prepared-renumbered : (frame : Frame) (shelves : List BucketShelf) (tags : List Tag) (place : BucketPlace)
       → prepared frame (map (renumbered_shelf name) shelves) (map (renumbered_tag name) tags) (renumbered_place name place) ≡ map (renumbered_shelf name) (prepared frame shelves tags place)
   prepared-renumbered frame shelves tags (InBucket spot) = refl
@@ -71,9 +74,11 @@ module _ (name : ℕ → ℕ) where
       ap (λ (ss : List BucketShelf). map (renumbered_shelf name) shelves ++ ss) (sym (made-renumbered frame news tags)) ∙ sym (map-append (renumbered_shelf name) shelves (made_shelves frame news tags))
   prepared-renumbered frame shelves tags (InMerged group) = sym (merged-renumbered group.first group.others shelves)
 
+  -- the first bucket of a shelf
   first-spot : (number : ℕ) (shelves : List BucketShelf) → first_bucket number (map (renumbered_shelf name) shelves) ≡ option_map (renumbered_spot name) (first_bucket number shelves)
   first-spot number shelves = spot-renumbered name (λ (shelf : BucketShelf). slice_get shelf.buckets 0) (λ (shelf : BucketShelf). slice_get-map (renumbered_bucket name) shelf.buckets 0) number shelves
 
+  -- the bucket of a place
   pub spot_of-renumbered : (shelves : List BucketShelf) (place : BucketPlace) → spot_of (map (renumbered_shelf name) shelves) (renumbered_place name place) ≡ option_map (renumbered_spot name) (spot_of shelves place)
   spot_of-renumbered shelves (InBucket spot) = refl
   spot_of-renumbered shelves (InAdded news) =
@@ -94,6 +99,7 @@ module _ (name : ℕ → ℕ) where
       before (next ∷ xs) = refl
 
   module _ (apart : (n m : ℕ) → name n ≡ name m → n ≡ m) where
+    -- numbers are equal alike
     tests-renumbered : (n m : ℕ) → (name n == name m) ≡ (n == m)
     tests-renumbered n m = by_test (n == m) refl
       where
@@ -130,11 +136,13 @@ module _ (name : ℕ → ℕ) where
   counts-renumbered width left (shelf ∷ shelves) =
       ap (λ (ns : List ℕ). min (width / shelf.bucket_width) left ∷ ns) (counts-renumbered width (left - min (width / shelf.bucket_width) left) shelves)
 
+  -- each shelf gets as many buckets
   pub grow_counts-renumbered : (frame : Frame) (size : Size) (shelves : List BucketShelf) → grow_counts frame size (map (renumbered_shelf name) shelves) ≡ grow_counts frame size shelves
   grow_counts-renumbered frame size shelves =
       ap (λ n. grown_counts ((grown_frame frame size).column_width - frame.column_width) (most_buckets - n) (map (renumbered_shelf name) shelves)) (in_use-renumbered name shelves)
       ∙ counts-renumbered ((grown_frame frame size).column_width - frame.column_width) (buckets_left shelves) shelves
 
+  -- shelves with new buckets
   widened-renumbered : (place : ℕ) (counts : List ℕ) (tags : List Tag) (shelves : List BucketShelf)
       → map (renumbered_shelf name) (widened place counts tags shelves) ≡ widened place counts (map (renumbered_tag name) tags) (map (renumbered_shelf name) shelves)
   widened-renumbered place [] tags shelves = refl
@@ -147,6 +155,7 @@ module _ (name : ℕ → ℕ) where
       ∙ ap (λ (ss : List BucketShelf). record { column = shelf.column; height = shelf.height; bucket_width = shelf.bucket_width; buckets = new_buckets place shelf.bucket_width (take count (map (renumbered_tag name) tags)) ++ map (renumbered_bucket name) shelf.buckets } ∷ ss)
       (widened-renumbered place counts (drop count tags) shelves ∙ ap (λ (ts : List Tag). widened place counts ts (map (renumbered_shelf name) shelves)) (sym (drop-map (renumbered_tag name) count tags)))
 
+  -- a growth
   pub grown-renumbered : (state : BucketedState) (size : Size) (tags : List Tag) → renumbered name (grown state size tags) ≡ grown (renumbered name state) size (map (renumbered_tag name) tags)
   grown-renumbered state size tags =
       ap (λ (ss : List BucketShelf). record { frame = grown_frame state.frame size; shelves = ss })
@@ -161,6 +170,7 @@ module _ (name : ℕ → ℕ) where
       each [] = refl
       each (b ∷ bs) = ap (λ (ds : List Drawn). drawn_bucket frame across shelf.height shelf.bucket_width b ++ ds) (each bs)
 
+  -- shelves are drawn alike
   after-renumbered : (frame : Frame) (before shelves : List BucketShelf) → drawn_after frame (map (renumbered_shelf name) before) (map (renumbered_shelf name) shelves) ≡ drawn_after frame before shelves
   after-renumbered frame before [] = refl
   after-renumbered frame before (shelf ∷ shelves) =
@@ -170,6 +180,7 @@ module _ (name : ℕ → ℕ) where
       (ap (λ (ss : List BucketShelf). drawn_after frame ss (map (renumbered_shelf name) shelves)) (sym (map-append (renumbered_shelf name) before (shelf ∷ [])))
       ∙ after-renumbered frame (before ++ shelf ∷ []) shelves)
 
+  -- the text is the same
   pub svg-renumbered : (state : BucketedState) → svg (renumbered name state) ≡ svg state
   svg-renumbered state =
       ap (λ (ds : List Drawn). document state.frame.width state.frame.height (background state.frame ∷ ds)) (after-renumbered state.frame [] state.shelves)

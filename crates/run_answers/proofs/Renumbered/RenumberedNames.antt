@@ -36,6 +36,7 @@ pub record HasNewNumbers (name : ℕ → ℕ) (olds news others : List ℕ) : Ty
   pub agree : (n : ℕ) → 1 ≤ times n olds → later n ≡ name n
   pub own : map later news ≡ others
 
+-- new numbers of each can be those of the other
 pub new-numbers : (name : ℕ → ℕ) (olds news others : List ℕ) → ((n m : ℕ) → name n ≡ name m → n ≡ m) → length news ≡ length others
     → ((n : ℕ) → times n news + times n olds ≤ 1) → ((n : ℕ) → times n others + times n (map name olds) ≤ 1) → HasNewNumbers name olds news others
 new-numbers name olds [] [] apart long once others_once = record { later = name; apart = apart; agree = λ n stands. refl; own = refl }
@@ -75,6 +76,7 @@ numbers-renumbered name (shelf ∷ shelves) =
     each [] = refl
     each (b ∷ bs) = ap (λ (ns : List ℕ). name b.tag.number ∷ ns) (each bs)
 
+-- numbers as they are
 same-numbers : (ns : List ℕ) → map (λ n. n) ns ≡ ns
 same-numbers [] = refl
 same-numbers (n ∷ ns) = ap (λ (l : List ℕ). n ∷ l) (same-numbers ns)
@@ -145,6 +147,7 @@ pub record HasNewTags (name : ℕ → ℕ) (one other : BucketedState) (tags oth
   pub own : map (renumbered_tag (λ n. n)) others ≡ map (renumbered_tag later) tags
   pub state : renumbered (λ n. n) other ≡ renumbered later one
 
+-- new tags of each can have the numbers of the other
 pub new-tags : (name : ℕ → ℕ) (one other : BucketedState) (needed others_needed : ℕ) (tags others : List Tag) → ((n m : ℕ) → name n ≡ name m → n ≡ m)
     → renumbered (λ n. n) other ≡ renumbered name one → needed ≡ others_needed → AreNewTags one.shelves needed tags → AreNewTags other.shelves others_needed others → HasNewTags name one other tags others
 new-tags name one other needed others_needed tags others apart state same new others_new =

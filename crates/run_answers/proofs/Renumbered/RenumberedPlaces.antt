@@ -40,44 +40,54 @@ map-none : {X Y Z : Type 0} (f : X → Y) (g : Y → Z) (h : X → Z) → ((x : 
 map-none f g h same None = refl
 map-none f g h same (Some x) = ap Some (same x)
 
+-- changed elements rank alike
 ranks-changed : {X : Type 0} (change : X → X) (rank : X → Option ℕ) → ((x : X) → rank (change x) ≡ rank x) → (xs : List X) → map rank (map change xs) ≡ map rank xs
 ranks-changed change rank same [] = refl
 ranks-changed change rank same (x ∷ xs) = ap (λ r. r ∷ map rank (map change xs)) (same x) ∙ ap (λ rs. rank x ∷ rs) (ranks-changed change rank same xs)
 
+-- what was found or comes after, changed
 or_else-changed : {X Y : Type 0} (change : X → Y) (one other : Option X) → or_else (option_map change one) (option_map change other) ≡ option_map change (or_else one other)
 or_else-changed change None other = refl
 or_else-changed change (Some x) other = refl
 
 module _ (name : ℕ → ℕ) where
+  -- a shelf holds nothing live alike
   pub idle-renumbered : (shelf : BucketShelf) → is_idle (renumbered_shelf name shelf) ≡ is_idle shelf
   idle-renumbered shelf = all-changed (renumbered_bucket name) is_idle_bucket is_idle_bucket (λ (b : Bucket). refl) shelf.buckets
 
+  -- columns are as tall
   pub height-renumbered : (column : ℕ) (shelves : List BucketShelf) → column_height column (map (renumbered_shelf name) shelves) ≡ column_height column shelves
   height-renumbered column [] = refl
   height-renumbered column (shelf ∷ shelves) = ap (λ n. (if shelf.column == column then shelf.height else 0) + n) (height-renumbered column shelves)
 
+  -- the last column is the same
   last-renumbered : (column : ℕ) (shelves : List BucketShelf) → last_column column (map (renumbered_shelf name) shelves) ≡ last_column column shelves
   last-renumbered column [] = refl
   last-renumbered column (shelf ∷ shelves) = last-renumbered shelf.column shelves
 
+  -- as many buckets are in use
   pub in_use-renumbered : (shelves : List BucketShelf) → buckets_in_use (map (renumbered_shelf name) shelves) ≡ buckets_in_use shelves
   in_use-renumbered [] = refl
   in_use-renumbered (shelf ∷ shelves) =
       ap (λ n. n + buckets_in_use (map (renumbered_shelf name) shelves)) (length-map shelf.buckets (renumbered_bucket name))
       ∙ ap (λ n. length shelf.buckets + n) (in_use-renumbered shelves)
 
+  -- as much is left
   pub left-renumbered : (frame : Frame) (shelves : List BucketShelf) → left_to frame (map (renumbered_shelf name) shelves) ≡ left_to frame shelves
   left-renumbered frame shelves =
       rw (last-renumbered 0 shelves, height-renumbered (last_column 0 shelves) shelves, in_use-renumbered shelves) refl
 
+  -- the same bucket has room
   roomy-renumbered : (width : ℕ) (shelf : BucketShelf) → roomy_bucket width (renumbered_shelf name shelf) ≡ option_map (renumbered_bucket name) (roomy_bucket width shelf)
   roomy-renumbered width shelf = find-changed (renumbered_bucket name) (has_room width (renumbered_shelf name shelf)) (has_room width shelf) (λ (b : Bucket). refl) shelf.buckets
 
+  -- a shelf wastes as much
   waste-renumbered : (adds : Bool) (sides : Sides) (shelf : BucketShelf) → waste adds sides (renumbered_shelf name shelf) ≡ waste adds sides shelf
   waste-renumbered adds sides shelf =
       rw (roomy-renumbered sides.along shelf)
       (ap (λ o. if is_eligible adds sides shelf then o else None) (map-none (renumbered_bucket name) (λ _. shelf.height - sides.across) (λ _. shelf.height - sides.across) (λ b. refl) (roomy_bucket sides.along shelf)))
 
+  -- a choice that finds the same bucket finds the same spot
   pub spot-renumbered : (choose : BucketShelf → Option Bucket) → ((shelf : BucketShelf) → choose (renumbered_shelf name shelf) ≡ option_map (renumbered_bucket name) (choose shelf))
       → (number : ℕ) (shelves : List BucketShelf) → spot_in choose number (map (renumbered_shelf name) shelves) ≡ option_map (renumbered_spot name) (spot_in choose number shelves)
   spot-renumbered choose same number shelves = rw (slice_get-map (renumbered_shelf name) shelves number) (of_shelf (slice_get shelves number))
@@ -94,6 +104,7 @@ module _ (name : ℕ → ℕ) where
       of_shelf None = refl
       of_shelf (Some shelf) = rw (same shelf) (of_bucket shelf (choose shelf))
 
+  -- the bucket of least waste
   least-renumbered : (adds : Bool) (sides : Sides) (shelves : List BucketShelf) → least_spot adds sides (map (renumbered_shelf name) shelves) ≡ option_map (renumbered_spot name) (least_spot adds sides shelves)
   least-renumbered adds sides shelves =
       rw (ranks-changed (renumbered_shelf name) (waste adds sides) (waste-renumbered adds sides) shelves) (of_found (first_least (map (waste adds sides) shelves)))
@@ -104,6 +115,7 @@ module _ (name : ℕ → ℕ) where
       of_found None = refl
       of_found (Some found) = spot-renumbered (roomy_bucket sides.along) (roomy-renumbered sides.along) found.number shelves
 
+  -- an exact bucket
   exact-renumbered : (sides : Sides) (shelf : BucketShelf) → exact_bucket sides (renumbered_shelf name shelf) ≡ option_map (renumbered_bucket name) (exact_bucket sides shelf)
   exact-renumbered sides shelf =
       ap (λ o. if shelf.height == sides.across then o else None) (find-changed (renumbered_bucket name) (is_exact sides.along (renumbered_shelf name shelf)) (is_exact sides.along shelf) (λ (b : Bucket). refl) shelf.buckets)
@@ -113,6 +125,7 @@ module _ (name : ℕ → ℕ) where
       here true = refl
       here false = refl
 
+  -- the first exact one
   first-renumbered : (sides : Sides) (number : ℕ) (shelves : List BucketShelf) → first_spot (exact_bucket sides) number (map (renumbered_shelf name) shelves) ≡ option_map (renumbered_spot name) (first_spot (exact_bucket sides) number shelves)
   first-renumbered sides number [] = refl
   first-renumbered sides number (shelf ∷ shelves) =
@@ -124,6 +137,7 @@ module _ (name : ℕ → ℕ) where
       of_bucket None = refl
       of_bucket (Some bucket) = refl
 
+  -- an exact one instead
   exact_or-renumbered : (sides : Sides) (shelves : List BucketShelf) (spot : Spot) → exact_or sides (map (renumbered_shelf name) shelves) (renumbered_spot name spot) ≡ renumbered_spot name (exact_or sides shelves spot)
   exact_or-renumbered sides shelves spot =
       rw (drop-map (renumbered_shelf name) (suc spot.number) shelves, first-renumbered sides (suc spot.number) (drop (suc spot.number) shelves))
@@ -134,6 +148,7 @@ module _ (name : ℕ → ℕ) where
       here true (Some found) = refl
       here false o = refl
 
+  -- the same bucket is picked
   pick-renumbered : (adds : Bool) (sides : Sides) (shelves : List BucketShelf) → pick adds sides (map (renumbered_shelf name) shelves) ≡ option_map (renumbered_spot name) (pick adds sides shelves)
   pick-renumbered adds sides shelves = rw (least-renumbered adds sides shelves) (of_spot (least_spot adds sides shelves))
     where
@@ -141,10 +156,12 @@ module _ (name : ℕ → ℕ) where
       of_spot None = refl
       of_spot (Some spot) = ap Some (exact_or-renumbered sides shelves spot)
 
+  -- shelves are as tall together
   pub total-renumbered : (shelves : List BucketShelf) → total_height (map (renumbered_shelf name) shelves) ≡ total_height shelves
   total-renumbered [] = refl
   total-renumbered (shelf ∷ shelves) = ap (λ n. shelf.height + n) (total-renumbered shelves)
 
+  -- shelves serve alike
   serves-renumbered : (sides : Sides) (others : ℕ) (shelf : BucketShelf) (shelves : List BucketShelf) → serves sides others (renumbered_shelf name shelf) (map (renumbered_shelf name) shelves) ≡ serves sides others shelf shelves
   serves-renumbered sides others shelf shelves =
       rw (
@@ -155,11 +172,13 @@ module _ (name : ℕ → ℕ) where
         total-renumbered (take others shelves),
       ) refl
 
+  -- the same shelves can be merged
   mergeable-renumbered : (sides : Sides) (number : ℕ) (shelves : List BucketShelf) → mergeable_shelves sides number (map (renumbered_shelf name) shelves) ≡ mergeable_shelves sides number shelves
   mergeable-renumbered sides number [] = refl
   mergeable-renumbered sides number (shelf ∷ shelves) =
       rw (serves-renumbered sides 1 shelf shelves, serves-renumbered sides 2 shelf shelves, mergeable-renumbered sides (suc number) shelves) refl
 
+  -- sides have the same place
   place-renumbered : (frame : Frame) (shelves : List BucketShelf) (sides : Sides) → bucket_place frame (map (renumbered_shelf name) shelves) sides ≡ option_map (renumbered_place name) (bucket_place frame shelves sides)
   place-renumbered frame shelves sides =
       ap (λ left. placed left (map (renumbered_shelf name) shelves)) (left-renumbered frame shelves) ∙ of_left (left_to frame shelves)
@@ -183,6 +202,7 @@ module _ (name : ℕ → ℕ) where
           ∙ ap (λ g. or_else (option_map InBucket (option_map (renumbered_spot name) (pick (can_add frame left sides.across) sides shelves))) (if can_add frame left sides.across then Some (InAdded (new_shelves frame left sides)) else option_map InMerged g)) (mergeable-renumbered sides 0 shelves)
           ∙ of_spot left (pick (can_add frame left sides.across) sides shelves) (can_add frame left sides.across) (mergeable_shelves sides 0 shelves)
 
+  -- a size has the same place
   pub placement-renumbered : (state : BucketedState) (size : Size) → placement_of (renumbered name state) size ≡ option_map (renumbered_placement name) (placement_of state size)
   placement-renumbered state size = of_sides (asked state.frame size)
     where

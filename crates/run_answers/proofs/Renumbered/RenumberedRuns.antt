@@ -191,6 +191,7 @@ abbrev without_seen : ℕ → List Seen → List Seen
 without_seen place [] = []
 without_seen place (seen ∷ all) = cond (seen.position == place) all (seen ∷ without_seen place all)
 
+-- what is seen, without a position
 seen-without : (name : ℕ → ℕ) (place : ℕ) (entries : List Entry) → map (seen_entry name) (without place entries) ≡ without_seen place (map (seen_entry name) entries)
 seen-without name place [] = refl
 seen-without name place (entry ∷ entries) = here (entry.position == place) (seen-without name place entries)
@@ -205,6 +206,7 @@ abbrev IsReturned : BucketedState → Reply → BucketedState → Option Entry �
 IsReturned old reply new None = (reply ≡ NotLive) × (new ≡ old)
 IsReturned old reply new (Some entry) = (reply ≡ Returned) × (new ≡ bucket_returned old entry.allocation.id)
 
+-- a step is such an answer
 is-returned : (entries : List Entry) (old : BucketedState) (place : ℕ) (reply : Reply) (new : BucketedState) → BucketedStep entries old (Return place) reply new → IsReturned old reply new (find (λ (e : Entry). e.position == place) entries)
 is-returned entries old place Returned new step = of_entry (find (λ (e : Entry). e.position == place) entries) step.live_is
   where
@@ -218,6 +220,7 @@ is-returned entries old place NotLive new step = of_entry (find (λ (e : Entry).
     of_entry (Some entry) e = absurd (cc)
 is-returned entries old place reply new step = absurd step
 
+-- what was given back
 returned-alike : (position place : ℕ) (ones others : List Entry) (one other new another : BucketedState) (reply answer : Reply) (o p : Option Entry) (alike : AreAlike ones others one other)
     → option_map (seen_entry own) p ≡ option_map (seen_entry alike.name) o → IsReturned one reply new o → IsReturned other answer another p
     → AnswerAlike position (Return place) reply answer ones others new another
@@ -280,9 +283,11 @@ pub fresh-alike : (frame : Frame) → AreAlike [] [] (fresh frame) (fresh frame)
 fresh-alike frame = record { name = own; apart = λ n m same. same; state = refl; live = refl }
 
 module _ (position : ℕ) (ones others : List Entry) (one other new another : BucketedState) (tied : IsInBuckets ones one) (others_tied : IsInBuckets others other) (alike : AreAlike ones others one other) where
+  -- both have one frame
   frame-alike : other.frame ≡ one.frame
   frame-alike = ap (λ (s : BucketedState). s.frame) alike.state
 
+  -- the other atlas answers alike where a size got its place
   allocated-step : (size : Size) (a : Allocation) (answer : Reply) → answer ≢ NoMemory → BucketedStep ones one (Allocate size) (Placed a) new → BucketedStep others other (Allocate size) answer another
       → AnswerAlike position (Allocate size) (Placed a) answer ones others new another
   allocated-step size a (Placed b) memory step other_step =
@@ -292,6 +297,7 @@ module _ (position : ℕ) (ones others : List Entry) (one other new another : Bu
   allocated-step size a NoMemory memory step other_step = absurd (memory refl)
   allocated-step size a answer memory step other_step = absurd other_step
 
+  -- where it was refused
   refused-step : (size : Size) (answer : Reply) → answer ≢ NoMemory → BucketedStep ones one (Allocate size) Refused new → BucketedStep others other (Allocate size) answer another
       → AnswerAlike position (Allocate size) Refused answer ones others new another
   refused-step size (Placed b) memory step other_step =
@@ -300,6 +306,7 @@ module _ (position : ℕ) (ones others : List Entry) (one other new another : Bu
   refused-step size NoMemory memory step other_step = absurd (memory refl)
   refused-step size answer memory step other_step = absurd other_step
 
+  -- where the atlas grew
   grown-step : (size : Size) (answer : Reply) → answer ≢ NoMemory → BucketedStep ones one (Grow size) Grown new → BucketedStep others other (Grow size) answer another
       → AnswerAlike position (Grow size) Grown answer ones others new another
   grown-step size Grown memory step other_step = grown-alike position size ones others one other new another tied alike step other_step
@@ -310,6 +317,7 @@ module _ (position : ℕ) (ones others : List Entry) (one other new another : Bu
   grown-step size NoMemory memory step other_step = absurd (memory refl)
   grown-step size answer memory step other_step = absurd other_step
 
+  -- where a growth has a fault
   unfit-step : (size : Size) (number : ℕ) (answer : Reply) → answer ≢ NoMemory → BucketedStep ones one (Grow size) (GrowRefused number) new → BucketedStep others other (Grow size) answer another
       → AnswerAlike position (Grow size) (GrowRefused number) answer ones others new another
   unfit-step size number Grown memory step other_step =
@@ -326,6 +334,7 @@ module _ (position : ℕ) (ones others : List Entry) (one other new another : Bu
   unfit-step size number NoMemory memory step other_step = absurd (memory refl)
   unfit-step size number answer memory step other_step = absurd other_step
 
+  -- where all was cleared
   cleared-step : (answer : Reply) → BucketedStep ones one Clear Cleared new → BucketedStep others other Clear answer another → AnswerAlike position Clear Cleared answer ones others new another
   cleared-step Cleared step other_step = rw (step, other_step, frame-alike) (record { same = refl; alike = fresh-alike one.frame })
   cleared-step answer step other_step = absurd other_step

@@ -6,9 +6,11 @@ use Rattle.bucketed_model.specs.Placing.{BucketPlace, BucketPlacement, InAdded, 
 use Rattle.bucketed_model.specs.State.{Bucket, BucketShelf, BucketedState, Tag, given_unit}
 use Rattle.run_answers.specs.Live.{Entry}
 
+-- a tag with another number, and its first generation
 abbrev pub renumbered_tag : (ℕ → ℕ) → Tag → Tag
 renumbered_tag name tag = record { number = name tag.number; generation = 0 }
 
+-- a bucket, a shelf and a state whose buckets have such tags
 abbrev pub renumbered_bucket : (ℕ → ℕ) → Bucket → Bucket
 renumbered_bucket name bucket =
     record {
