@@ -31,13 +31,13 @@ pub fn every_bucketed_run_keeps_promises(size: Size, options: AllocatorOptions)
 /// From a size and options without a fault two runs of the same commands on a new shelf atlas, neither of which is
 /// refused memory, have the same replies but for the numbers of ids, and end with the same picture.
 pub fn two_atlas_runs_differ_in_ids(size: Size, options: AllocatorOptions)
-    requires { IsAccepted longest_side size options }
+    requires accepted { IsAccepted longest_side size options }
     ensures { DifferInIds shelf_atlas shelves.svg (atlas_frame size options) }
 {}
 
 /// From a size and options without a fault two runs of the same commands on a new bucketed atlas, neither of which is
 /// refused memory, have the same replies but for the numbers of ids, and end with the same picture.
 pub fn two_bucketed_runs_differ_in_ids(size: Size, options: AllocatorOptions)
-    requires { IsAccepted longest_bucketed_side size options }
+    requires accepted { IsAccepted longest_bucketed_side size options }
     ensures { DifferInIds bucketed_atlas buckets.svg (bucketed_frame size options) }
 {}

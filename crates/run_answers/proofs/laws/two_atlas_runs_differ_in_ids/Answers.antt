@@ -17,6 +17,6 @@ returns c commands replies others last another one other =
     let short_height : side c.args.options.alignment.height < 2 ^ 31 = search rules in
     let alike : RunAlike replies others last another =
     runs-alike 0 [] [] (fresh frame) (fresh frame) last another commands replies others
-    (tied-cleared (fresh frame) (fresh-allocated frame) (promises-new c.args.size c.args.options c.requires short_width short_height))
+    (tied-cleared (fresh frame) (fresh-allocated frame) (promises-new c.args.size c.args.options c.requires.accepted short_width short_height))
     (fresh-alike frame) one.run other.run (recursion_from_All _ replies one.memory) (recursion_from_All _ others other.memory) in
     (alike.same, sym (ap svg alike.state ∙ svg-renamed alike.name last))

@@ -15,7 +15,7 @@ returns c commands replies others last another one other =
     let frame = bucketed_frame c.args.size c.args.options in
     let short_width : side c.args.options.alignment.width < 2 ^ 31 = search rules in
     let short_height : side c.args.options.alignment.height < 2 ^ 31 = search rules in
-    let tied = in_buckets-fresh frame (fresh frame) (accepted-bucketed c.args.size c.args.options c.requires short_width short_height) refl in
+    let tied = in_buckets-fresh frame (fresh frame) (accepted-bucketed c.args.size c.args.options c.requires.accepted short_width short_height) refl in
     let alike : RunAlike replies others last another =
     runs-alike 0 [] [] (fresh frame) (fresh frame) last another commands replies others tied tied (fresh-alike frame) one.run other.run
     (recursion_from_All _ replies one.memory) (recursion_from_All _ others other.memory) in
