@@ -1,21 +1,26 @@
 -- Two runs of the same commands on a cache, step by step: where memory is refused to neither, they have the same lines.
 use Rattle.std.proofs.Common.{◌≡◌, ℕ, zero, suc, ◌-◌, ◌<◌, ◌≤◌, Bool, true, false, Option, None, Some, List, [], ◌∷◌, ◌++◌, inl, inr, length, map, refl, ap, arith, sym, subst, ◌∙◌, ⊎_elim}
-use Rattle.std.proofs.lemmas.Bool.{cases_lt}
+use Rattle.std.proofs.lemmas.Bool.{and_parts, cases_lt}
+use Rattle.std.proofs.lemmas.Bool.Decides.{nat_tests}
 use Rattle.std.proofs.lemmas.List.{length-map}
 use Rattle.std.specs.List.{AllByRecursion}
 use Rattle.std.specs.Map.{lookup}
-use Rattle.std.specs.Prelude.{codes, nat_eq, option_map}
+use Rattle.std.specs.Prelude.{codes, is_some, nat_eq, nat_lt, option_map}
 use Rattle.etagere_base.specs.declared.frames.Frame.{Frame}
 use Rattle.etagere_base.specs.declared.geometry.Rectangle.{Rectangle}
 use Rattle.etagere_base.specs.declared.geometry.Size.{Size}
 use Rattle.etagere_base.specs.declared.ids.Allocation.{Allocation}
 use Rattle.etagere_base.specs.Lists.{times}
+use Rattle.etagere_base.specs.Rectangles.{IsLarge}
 use Rattle.shelf_model.specs.Choice.{Placement, placement_of, rectangle_of_placement}
 use Rattle.shelf_model.specs.Fresh.{fresh}
+use Rattle.shelf_model.specs.Atlas.{KeepsPromises}
+use Rattle.shelf_model.specs.Places.{allocations}
 use Rattle.shelf_model.specs.State.{AtlasState}
 use Rattle.shelf_model.specs.Taking.{taken}
+use Rattle.shelf_model.proofs.Callers.{CanAllocate, fresh-allocated, placed-can_allocate, promises-cleared, tied-none}
 use Rattle.shelf_model.proofs.Allocations.AllocatedIds.{times-ids_of}
-use Rattle.glyph_shelf.proofs.Callers.{keeps-without_last}
+use Rattle.glyph_shelf.proofs.Callers.{entries-after_dropping, keeps, keeps-entered, keeps-key_returned, keeps-used, keeps-without_last, unknown-take}
 use Rattle.glyph_shelf.specs.declared.cache.Placed as placements
 use Rattle.glyph_shelf.specs.Cache.{CacheState, after_dropping, dropped_keys, empty_cache, evictable, frame_uses, kept_allocations, rectangle_at, used, without_key}
 use Rattle.glyph_shelf.specs.Placing.{Enters, IsFrameFull, IsNew, has_room}
@@ -26,8 +31,8 @@ use Rattle.glyph_run.specs.declared.commands.GlyphReply.{GlyphReply}
 use Rattle.glyph_run.specs.declared.commands.GlyphReply.TheVariants.{Placed, TooLarge, NoMemory, At, Removed, NotThere, Cleared, FrameFull}
 use Rattle.glyph_run.specs.Laws.{HasMemory}
 use Rattle.glyph_run.specs.ReplyText.{evicted_text, line_of, replies_text}
-use Rattle.glyph_run.specs.Runs.{GlyphStep, KeptRuns, PlacesNew}
-use Rattle.glyph_run.proofs.EntriesTold.{held_by}
+use Rattle.glyph_run.specs.Runs.{GlyphStep, PlacesNew, Runs}
+use Rattle.glyph_run.proofs.EntriesTold.{entry-found, held_by}
 use Rattle.glyph_run.proofs.RenamedCaches.{dropped-renamed, dropping-renamed, lookup-renamed, rectangle-renamed, renamed_cache, renamed_entries, room-renamed, same-cache, used-renamed, without_key-renamed}
 use Rattle.run_scripts.specs.Lines.{line_feed}
 use Rattle.run_scripts.specs.ReplyText.{corners_text}
@@ -355,16 +360,139 @@ module _ (one other new another : CacheState) (promises : KeepsCachePromises one
   step-alike Clear Cleared answer memory room step other_step = cleared-step answer step other_step
   step-alike command reply answer memory room step other_step = absurd step
 
--- runs that are alike so far have the same lines
-pub runs-alike : (one other last another : CacheState) (commands : List GlyphCommand) (replies answers : List GlyphReply)
-    → AreAlike one other → KeptRuns one commands replies last → KeptRuns other commands answers another
+-- a cache that keeps its promises can answer a command so, and keeps them
+record CanAnswer (one : CacheState) (command : GlyphCommand) (reply : GlyphReply) : Type 0 where
+  new : CacheState
+  step : GlyphStep one command reply new
+  promises : KeepsCachePromises new
+
+-- a new key can enter it where it enters another one
+can-enter : (key : ℕ) (size : Size) (one other another : CacheState) (rectangle : Rectangle) → KeepsCachePromises one → AreAlike one other
+    → lookup (nat_eq key) one.entries ≡ None → has_room one size ≡ true → Enters other key size rectangle another
+    → (new : CacheState) × Enters one key size rectangle new × KeepsCachePromises new
+can-enter key size one other another rectangle promises alike unknown room enters =
+    let room_parts = and_parts (nat_lt (length one.entries) one.capacity) (is_some (placement_of one.atlas size)) room in
+    let few : length one.entries < one.capacity = let short : nat_lt (length one.entries) one.capacity ≡ true = room_parts.0 in grind (arith, nat_tests, short) in
+    let atlas : other.atlas ≡ renamed alike.name one.atlas = ap (λ (s : CacheState). s.atlas) alike.state in
+    let placed : placement_of one.atlas size ≡ Some enters.allocated.placement =
+    sym (placement_of-renamed alike.name one.atlas size) ∙ sym (ap (λ (s : AtlasState). placement_of s size) atlas) ∙ enters.allocated.placed in
+    let can : CanAllocate one.atlas size = placed-can_allocate one.atlas size enters.allocated.placement promises.atlas.valid placed in
+    let same : Some can.allocated.allocates.placement ≡ Some enters.allocated.placement = sym can.allocated.allocates.placed ∙ placed in
+    let placement : can.allocated.allocates.placement ≡ enters.allocated.placement = cc in
+    let given : can.allocation.rectangle ≡ rectangle =
+    sym can.allocated.allocates.rectangle
+    ∙ ap (rectangle_of_placement one.atlas.frame) placement
+    ∙ ap (λ (f : Frame). rectangle_of_placement f enters.allocated.placement) (sym (ap (λ (s : AtlasState). s.frame) atlas))
+    ∙ enters.allocated.rectangle ∙ enters.given in (
+      record {
+        entries = (key, can.allocation) ∷ one.entries;
+        capacity = one.capacity;
+        atlas = can.new;
+        used_in_frame = option_map suc one.used_in_frame;
+      },
+      record { allocation = can.allocation; given = given; allocated = can.allocated.allocates; entries = refl; capacity = refl; uses = refl },
+      keeps-entered one key can.allocation can.new promises unknown few can.allocated.promises_after can.allocated.adds can.allocated.allocates.fresh_id,
+    )
+
+-- a new cache keeps its promises
+pub keeps-empty : (frame : Frame) (capacity : ℕ) → KeepsPromises (fresh frame) → 1 ≤ capacity → KeepsCachePromises (empty_cache frame capacity)
+keeps-empty frame capacity promises some =
+    keeps (empty_cache frame capacity) promises (omega arith) some (λ key. omega arith) (tied-none (allocations (fresh frame)) (fresh-allocated frame)) (omega arith)
+
+-- it can answer a command as another one does that is alike
+can-answer : (one other another : CacheState) (command : GlyphCommand) (reply : GlyphReply) → KeepsCachePromises one → AreAlike one other → HasMemory reply
+    → GlyphStep other command reply another → CanAnswer one command reply
+can-answer one other another (Place key size) (Placed placed) promises alike memory (inl again) =
+    record {
+      new = used one key;
+      step = inl (record { finds = record { there = sym (alike-rectangle one other key alike) ∙ again.finds.there; after = refl }; none = again.none });
+      promises = keeps-used one key promises;
+    }
+can-answer one other another (Place key size) (Placed placed) promises alike memory (inr first) =
+    let n : ℕ = length placed.evicted.items in
+    let is_new : IsNew one key = new-alike one other key alike first.fits.new in
+    let room : has_room (after_dropping one n) size ≡ true = sym (alike-room one other size alike n) ∙ first.places.least.room in
+    let unknown : lookup (nat_eq key) (after_dropping one n).entries ≡ None =
+    ap (lookup (nat_eq key)) (entries-after_dropping one n) ∙ unknown-take (nat_eq key) (length one.entries - n) one.entries is_new in
+    let dropped : after_dropping other n ≡ renamed_cache alike.name (after_dropping one n) =
+    ap (λ (s : CacheState). after_dropping s n) alike.state ∙ dropping-renamed alike.name alike.apart one n in
+    let can = can-enter key size (after_dropping one n) (after_dropping other n) another placed.rectangle (keeps-dropping one n promises)
+    (record { name = alike.name; apart = alike.apart; state = dropped }) unknown room first.places.entered in
+    record {
+      new = can.0;
+      step = inr (record {
+        fits = record { new = is_new; fits = λ large. first.fits.fits (subst (λ (f : Frame). placement_of (fresh f) size ≡ None) (sym (alike-frame one other alike)) large) };
+        places =
+            record {
+              least =
+                  record {
+                    room = room;
+                    least = λ k less. sym (alike-room one other size alike k) ∙ first.places.least.least k less;
+                  };
+              listed = first.places.listed ∙ ap (λ (s : CacheState). dropped_keys s n) alike.state ∙ dropped-renamed alike.name one n;
+              entered = can.1;
+            };
+        spared = omega (arith, first.spared, alike-evictable one other alike);
+        large = subst (λ (f : Frame). IsLarge f size placed.rectangle) (alike-frame one other alike) first.large;
+      });
+      promises = can.2;
+    }
+can-answer one other another (Place key size) TooLarge promises alike memory (is_new, large, same) =
+    record {
+      new = one;
+      step = (new-alike one other key alike is_new, subst (λ (f : Frame). placement_of (fresh f) size ≡ None) (alike-frame one other alike) large, refl);
+      promises = promises;
+    }
+can-answer one other another (Place key size) FrameFull promises alike memory (fits, full, same) =
+    record {
+      new = one;
+      step = (
+        record { new = new-alike one other key alike fits.new; fits = λ large. fits.fits (subst (λ (f : Frame). placement_of (fresh f) size ≡ None) (sym (alike-frame one other alike)) large) },
+        λ count few. sym (alike-room one other size alike count) ∙ full count (omega (arith, few, alike-evictable one other alike)),
+        refl,
+      );
+      promises = promises;
+    }
+can-answer one other another (Place key size) (NoMemory evicted) promises alike memory step = absurd memory
+can-answer one other another (Get key) (At rectangle) promises alike memory finds =
+    record {
+      new = used one key;
+      step = record { there = sym (alike-rectangle one other key alike) ∙ finds.there; after = refl };
+      promises = keeps-used one key promises;
+    }
+can-answer one other another (Get key) NotThere promises alike memory (is_new, same) =
+    record { new = one; step = (new-alike one other key alike is_new, refl); promises = promises }
+can-answer one other another (Remove key) (Removed rectangle) promises alike memory (there, after) =
+    let own_there : rectangle_at one key ≡ Some rectangle = sym (alike-rectangle one other key alike) ∙ there in
+    let found = entry-found (λ (a : Allocation). a.rectangle) key rectangle one.entries own_there in
+    record {
+      new = without_key one key;
+      step = (own_there, refl);
+      promises = rw found.known (keeps-key_returned one key found.entry.1 promises found.known);
+    }
+can-answer one other another (Remove key) NotThere promises alike memory (is_new, same) =
+    record { new = one; step = (new-alike one other key alike is_new, refl); promises = promises }
+can-answer one other another Clear Cleared promises alike memory step =
+    record {
+      new = empty_cache one.atlas.frame one.capacity;
+      step = refl;
+      promises = keeps-empty one.atlas.frame one.capacity (promises-cleared one.atlas promises.atlas.valid) promises.capacity;
+    }
+can-answer one other another command reply promises alike memory step = absurd step
+
+-- runs of two caches that are alike to one that keeps its promises have the same lines
+pub runs-alike : (kept one other last another : CacheState) (commands : List GlyphCommand) (replies answers : List GlyphReply)
+    → KeepsCachePromises kept → AreAlike kept one → AreAlike kept other → Runs one commands replies last → Runs other commands answers another
     → AllByRecursion HasMemory replies → AllByRecursion HasMemory answers → replies_text replies ≡ replies_text answers
-runs-alike one other last another [] [] [] alike run other_run memory room = refl
-runs-alike one other last another [] (reply ∷ replies) answers alike run other_run memory room = absurd run
-runs-alike one other last another [] [] (answer ∷ answers) alike run other_run memory room = absurd other_run
-runs-alike one other last another (command ∷ commands) [] answers alike run other_run memory room = absurd run
-runs-alike one other last another (command ∷ commands) (reply ∷ replies) [] alike run other_run memory room = absurd other_run
-runs-alike one other last another (command ∷ commands) (reply ∷ replies) (answer ∷ answers) alike (promises, new, step, run) (others_promises, middle, other_step, other_run) memory room =
-    let next : StepAlike reply answer new middle = step-alike one other new middle promises alike command reply answer memory.0 room.0 step other_step in
-    ap (λ (line : List ℕ). line ++ replies_text replies) next.same
-    ∙ ap (λ (text : List ℕ). line_of answer ++ text) (runs-alike new middle last another commands replies answers next.alike run other_run memory.1 room.1)
+runs-alike kept one other last another [] [] [] promises alike also run other_run memory room = refl
+runs-alike kept one other last another [] (reply ∷ replies) answers promises alike also run other_run memory room = absurd run
+runs-alike kept one other last another [] [] (answer ∷ answers) promises alike also run other_run memory room = absurd other_run
+runs-alike kept one other last another (command ∷ commands) [] answers promises alike also run other_run memory room = absurd run
+runs-alike kept one other last another (command ∷ commands) (reply ∷ replies) [] promises alike also run other_run memory room = absurd other_run
+runs-alike kept one other last another (command ∷ commands) (reply ∷ replies) (answer ∷ answers) promises alike also (new, step, run) (middle, other_step, other_run) memory room =
+    let can : CanAnswer kept command reply = can-answer kept one new command reply promises alike memory.0 step in
+    let first : StepAlike reply reply can.new new = step-alike kept one can.new new promises alike command reply reply memory.0 memory.0 can.step step in
+    let second : StepAlike reply answer can.new middle = step-alike kept other can.new middle promises also command reply answer memory.0 room.0 can.step other_step in
+    ap (λ (line : List ℕ). line ++ replies_text replies) second.same
+    ∙ ap (λ (text : List ℕ). line_of answer ++ text)
+    (runs-alike can.new new middle last another commands replies answers can.promises first.alike second.alike run other_run memory.1 room.1)

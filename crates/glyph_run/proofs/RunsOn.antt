@@ -8,7 +8,7 @@ use Rattle.glyph_shelf.specs.Cache.{CacheState, empty_cache}
 use Rattle.glyph_shelf.specs.Promises.{KeepsCachePromises}
 use Rattle.glyph_run.specs.declared.commands.GlyphCommand.{GlyphCommand}
 use Rattle.glyph_run.specs.declared.commands.GlyphReply.{GlyphReply}
-use Rattle.glyph_run.specs.Runs.{GlyphStep, KeptRuns, RunKeepsPromises, RunKeepsPromisesThroughout, Runs, rectangles, told_after, told_from}
+use Rattle.glyph_run.specs.Runs.{GlyphStep, RunKeepsPromises, RunKeepsPromisesThroughout, Runs, rectangles, told_after, told_from}
 use Rattle.glyph_run.proofs.StepsTold.{bounds-step, told-step}
 
 -- a run and one more step are a run
@@ -21,17 +21,6 @@ Runs-more old middle new [] (r ∷ replies) command reply run step = absurd run
 Runs-more old middle new (c ∷ commands) [] command reply run step = absurd run
 Runs-more old middle new (c ∷ commands) (r ∷ replies) command reply run step =
     (run.0, run.1, Runs-more run.0 middle new commands replies command reply run.2 step)
-
--- the same where each state keeps its promises
-kept-more : (old middle new : CacheState) (commands : List GlyphCommand) (replies : List GlyphReply) (command : GlyphCommand) (reply : GlyphReply)
-    → KeptRuns old commands replies middle → GlyphStep middle command reply new → KeepsCachePromises new
-    → KeptRuns old (commands ++ command ∷ []) (replies ++ reply ∷ []) new
-kept-more old middle new [] [] command reply run step promises =
-    (run.0, new, subst (λ (state : CacheState). GlyphStep state command reply new) run.1 step, (promises, refl))
-kept-more old middle new [] (r ∷ replies) command reply run step promises = absurd run
-kept-more old middle new (c ∷ commands) [] command reply run step promises = absurd run
-kept-more old middle new (c ∷ commands) (r ∷ replies) command reply run step promises =
-    (run.0, run.1, run.2, kept-more run.1 middle new commands replies command reply run.3 step promises)
 
 -- what replies and one more tell
 told-more : (told : List (ℕ × Rectangle)) (commands : List GlyphCommand) (replies : List GlyphReply) (command : GlyphCommand) (reply : GlyphReply)
@@ -48,7 +37,6 @@ pub record IsUnderWay (frame : Frame) (capacity : ℕ) (commands : List GlyphCom
     : Type 0 where
   pub lengths : length replies ≡ length commands
   pub run : Runs (empty_cache frame capacity) commands replies state
-  pub kept : KeptRuns (empty_cache frame capacity) commands replies state
   pub told_is : told_from [] commands replies ≡ rectangles state
   pub promises : KeepsCachePromises state
   pub same_frame : state.atlas.frame ≡ frame
@@ -87,7 +75,6 @@ module _ (frame : Frame) (capacity : ℕ) where
       record {
         lengths = omega (arith, length-append replies (reply ∷ []), length-append commands (command ∷ []), way.lengths);
         run = run;
-        kept = kept-more (empty_cache frame capacity) old new commands replies command reply way.kept step promises;
         told_is = told_is;
         promises = promises;
         same_frame = bounds.frame ∙ way.same_frame;
@@ -115,7 +102,6 @@ module _ (frame : Frame) (capacity : ℕ) where
       record {
         lengths = refl;
         run = is;
-        kept = (subst KeepsCachePromises is promises, is);
         told_is = told_is;
         promises = promises;
         same_frame = same_frame;

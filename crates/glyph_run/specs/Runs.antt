@@ -69,18 +69,6 @@ abbrev pub RunsTo : Frame → ℕ → List GlyphCommand → List GlyphReply → 
 RunsTo frame capacity commands replies =
     (last : CacheState) × Runs (empty_cache frame capacity) commands replies last
 
--- the same where each state on the way keeps its promises
-abbrev pub KeptRuns : CacheState → List GlyphCommand → List GlyphReply → CacheState → Type 0
-KeptRuns old [] [] new = KeepsCachePromises old × (new ≡ old)
-KeptRuns old (command ∷ commands) (reply ∷ replies) new =
-    KeepsCachePromises old
-    × (middle : CacheState) × GlyphStep old command reply middle × KeptRuns middle commands replies new
-KeptRuns old commands replies new = ⊥
-
-abbrev pub KeptRunsTo : Frame → ℕ → List GlyphCommand → List GlyphReply → Type 0
-KeptRunsTo frame capacity commands replies =
-    (last : CacheState) × KeptRuns (empty_cache frame capacity) commands replies last
-
 -- the entries of other keys
 abbrev pub without : {X : Type 0} → List ℕ → List (ℕ × X) → List (ℕ × X)
 without [] entries = entries

@@ -8,7 +8,7 @@ ghost use Rattle.etagere_base.specs.Frames.{IsAccepted, atlas_frame, longest_sid
 ghost use Rattle.run_answers.specs.Runs.{RefusesRun};
 ghost use Rattle.glyph_shelf.specs.Cache.{empty_cache};
 ghost use Rattle.glyph_shelf.specs.Promises.{KeepsCachePromises};
-ghost use Rattle.glyph_run.specs.Runs.{KeptRunsTo, RunKeepsPromisesThroughout, RunsTo};
+ghost use Rattle.glyph_run.specs.Runs.{RunKeepsPromisesThroughout, RunsTo};
 
 use crate::answering::answer;
 use crate::commands::{GlyphCommand, GlyphReply};
@@ -36,8 +36,6 @@ pub fn run_cache(
         (non_zero_usize_get capacity) commands.now replies.items) }
     ensures promises { IfOk result (λ replies. RunKeepsPromisesThroughout (atlas_frame size options.now)
         (non_zero_usize_get capacity) commands.now replies.items) }
-    ensures kept { IfOk result (λ replies. KeptRunsTo (atlas_frame size options.now)
-        (non_zero_usize_get capacity) commands.now replies.items) }
     ensures accepted { OnOk result (IsAccepted longest_side size options.now) }
     ensures err { IfErr result (RefusesRun longest_side size options.now) }
 {
@@ -61,7 +59,6 @@ fn answer_all(
     ensures run { RunsTo cache.old.atlas.frame cache.old.capacity commands.now result.items }
     ensures promises { RunKeepsPromisesThroughout cache.old.atlas.frame cache.old.capacity
         commands.now result.items }
-    ensures kept { KeptRunsTo cache.old.atlas.frame cache.old.capacity commands.now result.items }
 {
     let mut replies = replies;
     for position in 0..commands.len() {

@@ -30,8 +30,4 @@ returns c =
     let all : length c.args.commands.now ≤ c.loop-position.position = omega arith in
     let end = ends now.atlas.frame now.capacity c.args.commands.now c.loop-position.position c.loop-position.replies.items
     c.loop-position.cache all c.loop-position.invariant.way in
-    record {
-      run = (c.loop-position.cache, end.run);
-      promises = end.throughout;
-      kept = (c.loop-position.cache, end.kept);
-    }
+    record { run = (c.loop-position.cache, end.run); promises = end.throughout }

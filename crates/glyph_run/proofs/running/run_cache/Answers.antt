@@ -2,7 +2,7 @@ use Rattle.std.proofs.Common.{◌≡◌, rules, subst}
 use Rattle.std.specs.NonZero.{non_zero_usize_get}
 use Rattle.etagere_base.specs.Frames.{atlas_frame}
 use Rattle.glyph_shelf.specs.Cache.{CacheState, empty_cache}
-use Rattle.glyph_run.specs.Runs.{KeptRunsTo, RunKeepsPromisesThroughout, RunsTo}
+use Rattle.glyph_run.specs.Runs.{RunKeepsPromisesThroughout, RunsTo}
 use Rattle.glyph_run.proofs.running.run_cache.Goals as goal
 
 pub returns-clause-run : goal.returns-clause-run
@@ -15,8 +15,3 @@ returns-clause-promises c =
     let is : c.in_ok-cache.cache ≡ empty_cache (atlas_frame c.args.size c.args.options.now) (non_zero_usize_get c.args.capacity) = search rules in
     subst (λ (s : CacheState). RunKeepsPromisesThroughout s.atlas.frame s.capacity c.args.commands.now c.answer_all.result.items) is
     c.answer_all.ensures.promises
-
-pub returns-clause-kept : goal.returns-clause-kept
-returns-clause-kept c =
-    let is : c.in_ok-cache.cache ≡ empty_cache (atlas_frame c.args.size c.args.options.now) (non_zero_usize_get c.args.capacity) = search rules in
-    subst (λ (s : CacheState). KeptRunsTo s.atlas.frame s.capacity c.args.commands.now c.answer_all.result.items) is c.answer_all.ensures.kept
