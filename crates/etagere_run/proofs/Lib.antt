@@ -1,5 +1,6 @@
 pub mod AllAnswered
 pub mod Pictures
+pub mod InputsDecide
 pub mod ReplayAnswers
 pub mod RightAnswers
 pub mod SavedDrawings

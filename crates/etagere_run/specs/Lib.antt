@@ -1,5 +1,6 @@
 pub mod Checking
 pub mod Drawing
+pub mod Laws
 pub mod Private
 pub mod Replaying
 pub mod Saved

@@ -1,11 +1,7 @@
 -- What a stream of replies writes.
-use Rattle.std.specs.Prelude.{◌≡◌, ℕ, ◌+◌, ◌<◌, MatchOption, ⊤, Option, List, [], ◌∷◌, ◌++◌, Result, Ok, Err, length, take}
+use Rattle.std.specs.Prelude.{◌≡◌, ℕ, ◌+◌, ◌<◌, Option, List, [], ◌∷◌, ◌++◌, Result, Ok, Err, length, take}
 use Rattle.std.specs.Io.KnownBytes.{Appends, Keeps}
-use Rattle.etagere_base.specs.declared.faults.OptionsFault.TheVariants as faults
 use Rattle.etagere_base.specs.declared.frames.Frame.{Frame}
-use Rattle.etagere_base.specs.declared.geometry.Size.{Size}
-use Rattle.etagere_base.specs.declared.options.AllocatorOptions.{AllocatorOptions}
-use Rattle.etagere_base.specs.Frames.{IsAccepted, options_fault}
 use Rattle.pictures.specs.Sending.{AppendsBeginning}
 use Rattle.run_commands.specs.declared.commands.Reply.{Reply}
 use Rattle.run_commands.specs.declared.faults.StreamFault.{StreamFault}

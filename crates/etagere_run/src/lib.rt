@@ -5,6 +5,7 @@
 
 mod checking;
 mod drawing;
+pub mod replay_laws;
 mod replaying;
 mod saved;
 mod streaming;

@@ -9,3 +9,4 @@ mod RunsOn
 mod ScriptRows
 mod StepsTold
 mod StreamsOn
+mod TwoRuns

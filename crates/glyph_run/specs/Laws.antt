@@ -4,6 +4,7 @@ use Rattle.etagere_base.specs.declared.frames.Frame.{Frame}
 use Rattle.glyph_run.specs.declared.commands.GlyphCommand.{GlyphCommand}
 use Rattle.glyph_run.specs.declared.commands.GlyphReply.{GlyphReply}
 use Rattle.glyph_run.specs.declared.commands.GlyphReply.TheVariants.{NoMemory}
+use Rattle.glyph_run.specs.Replaying.{IsWholeRunOf}
 use Rattle.glyph_run.specs.ReplyText.{replies_text}
 use Rattle.glyph_run.specs.Runs.{RunsTo}
 
@@ -26,3 +27,9 @@ HasOneText frame capacity =
     → RunsWithMemory frame capacity commands replies
     → RunsWithMemory frame capacity commands others
     → replies_text replies ≡ replies_text others
+
+-- two whole replays of an input, neither refused memory, write the same text
+abbrev pub ReplaysHaveOneText : Type 0
+ReplaysHaveOneText =
+    (input text other : List ℕ) (one : IsWholeRunOf input text) (another : IsWholeRunOf input other)
+    → All HasMemory one.run.replies → All HasMemory another.run.replies → text ≡ other

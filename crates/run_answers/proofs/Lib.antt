@@ -11,3 +11,4 @@ pub mod Renamed
 pub mod Renumbered
 pub mod RunsOn
 pub mod TableEntries
+pub mod TwoRuns

@@ -8,3 +8,5 @@ pub mod LineSending
 pub mod Pieces
 pub mod PlainLines
 pub mod ScriptRows
+pub mod ShortHeader
+pub mod ShortNumbers

@@ -1,5 +1,5 @@
 -- A line that goes out in parts: so many bytes of it, and then a part of the rest.
-use Rattle.std.proofs.Common.{ℕ, ◌+◌, ◌<◌, ◌≤◌, List, Option, length, take, drop, sym, arith, subst}
+use Rattle.std.proofs.Common.{ℕ, ◌+◌, List, Option, take, drop, sym, arith, subst}
 use Rattle.std.proofs.Math.Seq.{take-add}
 use Rattle.std.proofs.lemmas.List.{length-drop}
 use Rattle.std.specs.Prelude.{Err, Ok, OnErr, Result}
