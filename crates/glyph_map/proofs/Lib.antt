@@ -1,0 +1,11 @@
+pub mod Calling
+pub mod Entries
+pub mod Faulted
+pub mod Found
+pub mod Joined
+pub mod Seen
+pub mod Settled
+pub mod Shrunk
+pub mod Taken
+pub mod Unkeyed
+pub mod Unused

@@ -1,0 +1,49 @@
+//! Where memory is refused, each name and its picture is in the map or comes back. To refuse the Nth growth of memory:
+//! `rt try --test --fail-alloc N`.
+
+use crate::support::{Picture, Pictures, counts, equal, pictures};
+use etagere::size2;
+use glyph_map::{MapFault, Refused};
+use std::alloc::Global;
+use std::test::Fail;
+
+/// How many came back when a name wasn't placed.
+fn came_back(refused: Refused<String, Picture>) -> usize {
+    match &refused.fault {
+        MapFault::Memory(evicted) => evicted.len().saturating_add(1),
+        _ => 1,
+    }
+}
+
+/// Places one of these names, if there is memory for it, and tells how many were given and came back.
+fn place_one(map: &mut Pictures, alloc: Global, number: i32) -> (usize, usize) {
+    let Ok(name) = format!(in alloc; "name {number}") else {
+        return (0, 0);
+    };
+    let side = (number & 31) | 1;
+    let kept = Picture {
+        advance: number,
+        page: 0,
+    };
+    match map.place(name, kept, size2(side, side)) {
+        Ok(placed) => (1, placed.evicted.len()),
+        Err(refused) => (1, came_back(refused)),
+    }
+}
+
+#[test]
+fn nothing_is_lost(rt: HostRuntime) -> Result<(), Fail> {
+    let alloc = rt.alloc();
+    let Ok(mut map) = pictures(alloc, 20) else {
+        return Ok(());
+    };
+    let (mut given, mut back) = (0usize, 0usize);
+    for number in 0..300 {
+        let (one, more) = place_one(&mut map, alloc, number);
+        given = given.saturating_add(one);
+        back = back.saturating_add(more);
+    }
+    let (len, _, _) = counts(&map);
+    equal(&rt, &given, &back.saturating_add(len));
+    Ok(())
+}

@@ -1,0 +1,151 @@
+//! A map of pictures under names, by calls that promise nothing, so that a test is proved safe in little time.
+
+use etagere::{DEFAULT_OPTIONS, OptionsFault, size2};
+use glyph_map::{GlyphMap, MapFault, Placed, Refused};
+use std::alloc::{AllocError, Global};
+use std::fmt::Debug;
+use std::num::NonZeroUsize;
+use std::process::Abort;
+
+/// What a caller keeps of a picture.
+#[derive(Clone, Copy, Debug, PartialEq, Eq)]
+pub struct Picture {
+    pub advance: i32,
+    pub page: u32,
+}
+
+pub type Pictures = GlyphMap<String, Picture>;
+
+pub fn equal<T: PartialEq + Debug>(rt: &impl Abort, found: &T, wanted: &T) {
+    assert_eq!(rt; found, wanted);
+}
+
+/// A map of so many names over an atlas of 64x64.
+pub fn pictures(alloc: Global, capacity: usize) -> Result<Pictures, OptionsFault> {
+    let capacity = NonZeroUsize::new(capacity).unwrap_or(NonZeroUsize::MIN);
+    GlyphMap::new(alloc, size2(64, 64), &DEFAULT_OPTIONS, capacity)
+}
+
+pub fn name_of(alloc: Global, name: &str) -> Result<String, AllocError> {
+    let mut text = String::new(alloc);
+    text.push_str(name)?;
+    Ok(text)
+}
+
+/// What became of a name that was placed: the advance of the first that was evicted, or that came back; the advance that
+/// was kept under the name before; and the number of the fault.
+pub type Told = (i32, i32, u32);
+
+/// Places a name with a picture of this advance, for a square of this side.
+pub fn place(
+    map: &mut Pictures,
+    alloc: Global,
+    name: &str,
+    advance: i32,
+    side: i32,
+) -> Result<Told, AllocError> {
+    let name = name_of(alloc, name)?;
+    Ok(told(map.place(name, Picture { advance, page: 3 }, size2(side, side))))
+}
+
+fn told(tried: Result<Placed<String, Picture>, Refused<String, Picture>>) -> Told {
+    match tried {
+        Ok(placed) => (
+            first_of(placed.evicted.as_slice()),
+            old_of(placed.replaced),
+            0,
+        ),
+        Err(refused) => (refused.value.advance, -1, number_of(&refused.fault)),
+    }
+}
+
+/// The advance of the first of these, or -1.
+pub fn first_of(pairs: &[(String, Picture)]) -> i32 {
+    match pairs {
+        [(_, kept), ..] => kept.advance,
+        [] => -1,
+    }
+}
+
+fn old_of(replaced: Option<(String, Picture)>) -> i32 {
+    match replaced {
+        Some((_, kept)) => kept.advance,
+        None => -1,
+    }
+}
+
+fn number_of(fault: &MapFault<String, Picture>) -> u32 {
+    match fault {
+        MapFault::TooLarge => 1,
+        MapFault::Memory(_) => 2,
+        MapFault::FrameFull => 3,
+    }
+}
+
+/// The advance under a name, which is used.
+pub fn get(map: &mut Pictures, name: &String) -> i32 {
+    match map.get(name) {
+        Some((_, kept)) => kept.advance,
+        None => -1,
+    }
+}
+
+/// The advance under a name.
+pub fn peek(map: &Pictures, name: &String) -> i32 {
+    match map.peek(name) {
+        Some((_, kept)) => kept.advance,
+        None => -1,
+    }
+}
+
+/// Whether a name is there, which is used.
+pub fn use_name(map: &mut Pictures, name: &String) -> bool {
+    map.use_key(name).is_some()
+}
+
+/// The advance of what was under a name.
+pub fn remove(map: &mut Pictures, name: &String) -> i32 {
+    match map.remove(name) {
+        Some((_, kept)) => kept.advance,
+        None => -1,
+    }
+}
+
+/// The advance of the first that goes where there may be one name.
+pub fn keep_one(map: &mut Pictures) -> i32 {
+    match map.set_capacity(NonZeroUsize::MIN) {
+        Ok(evicted) => first_of(evicted.as_slice()),
+        Err(_) => -2,
+    }
+}
+
+pub fn begin_frame(map: &mut Pictures) {
+    map.begin_frame();
+}
+
+pub fn clear(map: &mut Pictures) {
+    map.clear();
+}
+
+/// Whether the atlas is 64x128 now.
+pub fn grow(map: &mut Pictures) -> bool {
+    map.grow(size2(64, 128)).is_ok()
+}
+
+/// How many names are there, may be there, and were used in the frame.
+pub fn counts(map: &Pictures) -> (usize, usize, usize) {
+    (map.len(), map.capacity().get(), map.used_in_frame())
+}
+
+pub fn is_empty(map: &Pictures) -> bool {
+    map.is_empty() && map.atlas().is_empty()
+}
+
+/// The advances, those most recently used first.
+pub fn order(map: &Pictures, alloc: Global) -> Result<Vec<i32>, AllocError> {
+    let mut advances = Vec::new(alloc);
+    for (_, _, kept) in map {
+        advances.push(kept.advance)?;
+    }
+    Ok(advances)
+}
