@@ -1,5 +1,5 @@
 -- Pages on which each rectangle has padding: what is asked of them has it, and what is given back has not.
-use Rattle.std.specs.Prelude.{◌≡◌, ℕ, Option, map, option_map}
+use Rattle.std.specs.Prelude.{◌≡◌, ℕ, List, Option, map, option_map}
 use Rattle.std.specs.List.{AllByRecursion}
 use Rattle.etagere_base.specs.declared.geometry.Rectangle.{Rectangle}
 use Rattle.etagere_base.specs.declared.geometry.Size.{Size}
@@ -8,6 +8,7 @@ use Rattle.padding.specs.Padding.{ArePadded, padded, padded_allocation, trimmed,
 use Rattle.shelf_model.specs.Places.{allocations}
 use Rattle.shelf_model.specs.State.{AtlasState}
 use Rattle.atlas_pages.specs.declared.places.PagePlace.{PagePlace}
+use Rattle.atlas_pages.specs.Listing.{listed_places}
 use Rattle.atlas_pages.specs.Pages.{PagesState}
 use Rattle.atlas_pages.specs.Places.{Places, rectangle_on}
 use Rattle.atlas_pages.specs.Promises.{KeepsPagesPromises}
@@ -29,6 +30,10 @@ padded_place padding place =
 abbrev pub trimmed_place : Padding → PagePlace → PagePlace
 trimmed_place padding place =
     record { page = place.page; allocation = trimmed_allocation padding place.allocation }
+
+-- everything that is allocated, without its padding
+abbrev pub trimmed_places : PaddedState → List PagePlace
+trimmed_places state = map (trimmed_place state.padding) (listed_places state.pages)
 
 -- a size gets a place: with the padding, it is one that the pages give to the size with the padding
 pub record PlacesPadded (old : PaddedState) (size : Size) (place : PagePlace) (new : PaddedState) : Type 0 where

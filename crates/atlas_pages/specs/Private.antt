@@ -3,6 +3,7 @@ pub mod Fullest
 pub mod Kept
 pub mod KeptPadded
 pub mod Listed
+pub mod ListedPadded
 pub mod Pieces
 pub mod Restored
 pub mod Taking

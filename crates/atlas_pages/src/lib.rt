@@ -2,9 +2,9 @@
 //! has.
 //!
 //! `pages` has the public calls, `padded` those of pages with a padding, `open_pages` what calls do to the atlases of
-//! the open pages, `choosing` the search for the fullest page, `listing` the iterator, `picture` all pages side by side, `saving` what pages are saved as,
-//! `options` how pages are made and chosen, `places` what a size gets, `faults` why there are no such pages. `laws`
-//! states the rules of the choice and of snapshots.
+//! the open pages, `choosing` the search for the fullest page, `listing` and `padded_listing` the iterators, `picture`
+//! all pages side by side, `saving` what pages are saved as, `options` how pages are made and chosen, `places` what a
+//! size gets, `faults` why there are no such pages. `laws` states the rules of the choice and of snapshots.
 #![tactic(auto)]
 
 mod choosing;
@@ -14,6 +14,7 @@ mod listing;
 mod open_pages;
 mod options;
 mod padded;
+mod padded_listing;
 mod pages;
 mod picture;
 mod places;
@@ -23,6 +24,7 @@ pub use faults::{FewerPages, PagesFault, PagesRestoreFault};
 pub use listing::Iter;
 pub use options::{PageChoice, PageOptions};
 pub use padded::PaddedPages;
+pub use padded_listing::PaddedIter;
 pub use pages::AtlasPages;
 pub use places::PagePlace;
 pub use saving::PagesSnapshot;

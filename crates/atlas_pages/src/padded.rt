@@ -3,19 +3,19 @@
 //! Definitions: `Padded`, over those of pages. The clauses stay as they are: callers prove by them.
 
 ghost use Rattle.std.specs.Prelude.{◌≡◌, ◌↔◌, ◌+◌, ◌<◌, false, Err, IfOk, IfErr, IfSome, IfNone, OnOk, OnErr, IsErr, MatchOption, length};
-ghost use Rattle.padding.specs.Padding.{HasSize, IsNear, padded};
+ghost use Rattle.padding.specs.Padding.{HasSize, padded};
 ghost use Rattle.atlas_pages.specs.Choosing.{IsRefusedByAll};
-ghost use Rattle.atlas_pages.specs.Padded as spec;
-ghost use Rattle.atlas_pages.specs.Padded.{KeepsPadding, PlacesPadded, trimmed_on};
+ghost use Rattle.atlas_pages.specs.Padded.{KeepsPadding, PlacesPadded, trimmed_on, trimmed_places};
 ghost use Rattle.atlas_pages.specs.Pages as model;
 ghost use Rattle.atlas_pages.specs.Pages.{ArePageOptions, no_pages};
 ghost use Rattle.atlas_pages.specs.Places.{NeedsMemory, cleared, is_allocated_on, returned_on, shrunk, with_most};
 
 use crate::faults::{FewerPages, PagesFault};
 use crate::options::PageOptions;
+use crate::padded_listing::{PaddedIter, trimmed_place};
 use crate::pages::AtlasPages;
 use crate::places::PagePlace;
-use etagere::{AllocId, Allocation, Rectangle, Size, UnknownId};
+use etagere::{AllocId, Rectangle, Size, UnknownId};
 use padding::Padding;
 use std::alloc::{AllocError, Global};
 use std::marker::Model;
@@ -66,6 +66,20 @@ impl PaddedPages {
             Ok(pages) => Ok(PaddedPages { pages, padding }),
             Err(fault) => Err(fault),
         }
+    }
+
+    /// The same pages, of whose rectangles so many pixels on each side are padding from now on: pages that were restored,
+    /// of which the rectangles were asked for with this padding. Another rectangle that is smaller than its padding has a
+    /// corner beyond the opposite one when it is trimmed.
+    ///
+    /// Takes no memory, and constant time.
+    pub fn from_pages(pages: AtlasPages, padding: Padding) -> PaddedPages
+        ensures made { result ≡ record { padding = padding; pages = pages } }
+        ensures promises { KeepsPadding result }
+    {
+        // A call tells what pages keep, which the padded rectangles lie inside and apart by.
+        let _ = pages.page_count();
+        PaddedPages { pages, padding }
     }
 
     /// Gives a rectangle that is at least as large as the size in pixels, and its page; none exactly where the size with
@@ -120,6 +134,17 @@ impl PaddedPages {
         Some(self.padding.trimmed(rectangle))
     }
 
+    /// Everything that is allocated, each once and without its padding: page after page, on each by rising index, and then
+    /// none for ever.
+    ///
+    /// Takes no memory. All steps together take time linear in the numbers of pages and of their records.
+    pub fn iter(&self) -> PaddedIter<'_>
+        ensures listed { result ≡ trimmed_places self.now }
+        ensures promises { KeepsPadding self.now }
+    {
+        PaddedIter::new(self.pages.iter(), self.padding)
+    }
+
     /// How many pixels stay free on each side. Takes constant time.
     pub fn padding(&self) -> Padding
         ensures { result ≡ self.now.padding }
@@ -127,8 +152,8 @@ impl PaddedPages {
         self.padding
     }
 
-    /// The pages, on which each rectangle has its padding, for their space, their pictures and what is allocated. Takes
-    /// constant time.
+    /// The pages, on which each rectangle has its padding, for their space, their pictures and what is saved of them.
+    /// Takes constant time.
     pub fn pages(&self) -> &AtlasPages
         ensures pages { result.now ≡ self.now.pages }
         ensures promises { KeepsPadding self.now }
@@ -171,17 +196,14 @@ impl PaddedPages {
     }
 }
 
-/// A place without the padding of its rectangle, which is near the origin.
-fn trimmed_place(padding: Padding, place: &PagePlace) -> PagePlace
-    requires { IsNear place.now.allocation.rectangle }
-    ensures { result ≡ spec.trimmed_place padding place.now }
-{
-    let Allocation { id, rectangle } = place.allocation;
-    PagePlace {
-        page: place.page,
-        allocation: Allocation {
-            id,
-            rectangle: padding.trimmed(rectangle),
-        },
+impl<'a> IntoIterator for &'a PaddedPages {
+    type Item = PagePlace;
+
+    type IntoIter = PaddedIter<'a>;
+
+    ghost into_iter_gives = { λ pages iter. iter ≡ trimmed_places pages.now };
+
+    fn into_iter(self) -> PaddedIter<'a> {
+        self.iter()
     }
 }

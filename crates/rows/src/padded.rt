@@ -1,9 +1,9 @@
 //! Calls of several pages with a padding.
 
 use crate::lines::{numbers, say, say_if, say_number, say_rectangle, size_of};
-use crate::pages::{options_of, place_of, say_answer, say_spaces, spaces};
+use crate::pages::{copy_of, options_of, place_of, say_answer, say_place, say_spaces, spaces};
 use crate::places::{Called, NotMade};
-use atlas_pages::{PaddedPages, PageOptions, PagePlace, PagesFault};
+use atlas_pages::{AtlasPages, PaddedPages, PageOptions, PagePlace, PagesFault};
 use etagere::{AllocId, Rectangle, Size, UnknownId};
 use padding::Padding;
 use std::alloc::{AllocError, Global};
@@ -17,8 +17,9 @@ impl Called for PaddedPages {
         ))
     }
 
-    fn copied(&self, _alloc: Global) -> Result<PaddedPages, NotMade> {
-        Err(NotMade::Unread)
+    fn copied(&self, alloc: Global) -> Result<PaddedPages, NotMade> {
+        let pages = copy_of(alloc, self.pages()).map_err(|_| NotMade::NoMemory)?;
+        Ok(with_padding(pages, self.padding()))
     }
 
     fn saved(&self, _alloc: Global) -> Option<String> {
@@ -43,6 +44,7 @@ impl Called for PaddedPages {
             "allocate" => say_answer(rt, &asked(self, size_of(words))),
             "deallocate" => give_back(self, rt, words),
             "get" => say_rectangle(rt, rectangle_of(self, place_of(words))),
+            "iter" => list(self, rt),
             "shrink" => say_number(rt, shrunk(self)),
             "spaces" => say_spaces(rt, spaces(self.pages())),
             _ => say(rt, "no such call"),
@@ -58,6 +60,14 @@ fn padding_of(pixels: i32) -> Padding {
     }
 }
 
+/// Writes a line for everything that is allocated, and one that ends them.
+fn list(pages: &PaddedPages, rt: &impl Print) -> io::Result<()> {
+    for place in pages {
+        say_place(rt, "at", &place)?;
+    }
+    say(rt, "end")
+}
+
 fn give_back(pages: &mut PaddedPages, rt: &impl Print, words: &str) -> io::Result<()> {
     let is_known = returned(pages, place_of(words)).is_ok();
     say_if(rt, is_known, "returned", "unknown")
@@ -71,6 +81,10 @@ fn new_pages(
     padding: Padding,
 ) -> Result<PaddedPages, PagesFault> {
     PaddedPages::new(alloc, options, padding)
+}
+
+fn with_padding(pages: AtlasPages, padding: Padding) -> PaddedPages {
+    PaddedPages::from_pages(pages, padding)
 }
 
 fn asked(pages: &mut PaddedPages, size: Size) -> Result<Option<PagePlace>, AllocError> {

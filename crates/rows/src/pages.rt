@@ -96,7 +96,7 @@ pub fn say_answer(
 }
 
 /// Writes the page, the corners and the id of a place.
-fn say_place(rt: &impl Print, word: &str, place: &PagePlace) -> io::Result<()> {
+pub fn say_place(rt: &impl Print, word: &str, place: &PagePlace) -> io::Result<()> {
     print!(rt; "page {} ", place.page)?;
     say_given(rt, word, &place.allocation)
 }
@@ -151,7 +151,7 @@ fn new_pages(alloc: Global, options: &PageOptions) -> Result<AtlasPages, PagesFa
     AtlasPages::new(alloc, options)
 }
 
-fn copy_of(alloc: Global, pages: &AtlasPages) -> Result<AtlasPages, PagesRestoreFault> {
+pub fn copy_of(alloc: Global, pages: &AtlasPages) -> Result<AtlasPages, PagesRestoreFault> {
     saved_and_restored(alloc, pages)
 }
 
