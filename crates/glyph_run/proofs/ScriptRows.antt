@@ -6,8 +6,8 @@ use Rattle.std.specs.List.{flat_map}
 use Rattle.etagere_base.specs.declared.geometry.Rectangle.{Rectangle}
 use Rattle.etagere_base.specs.declared.geometry.Size.{Size}
 use Rattle.glyph_run.specs.declared.commands.GlyphCommand.{GlyphCommand}
-use Rattle.glyph_run.specs.declared.commands.GlyphCommand.TheVariants.{Place, Get, Remove, Clear}
-use Rattle.glyph_run.specs.declared.commands.GlyphReply.TheVariants.{TooLarge, At, Removed, NotThere, Cleared}
+use Rattle.glyph_run.specs.declared.commands.GlyphCommand.TheVariants.{Place, Get, Remove, Clear, BeginFrame}
+use Rattle.glyph_run.specs.declared.commands.GlyphReply.TheVariants.{TooLarge, At, Removed, NotThere, Cleared, Begun, FrameFull}
 use Rattle.glyph_run.specs.ReplyText.{evicted_text, replies_text}
 use Rattle.glyph_run.specs.Runs.{told}
 use Rattle.glyph_run.specs.Script.{Request, script_of}
@@ -37,8 +37,8 @@ request width height capacity commands = record {
   commands = commands;
 }
 
-all_commands : script_of (text (codes "cache 32 16 1 1 1 h 3" ∷ codes "p 1 32 8" ∷ [] ∷ codes "g 007" ∷ codes "r 1" ∷ codes "c" ∷ []))
-    ≡ Ok (request 32 16 3 (Place 1 (size 32 8) ∷ Get 7 ∷ Remove 1 ∷ Clear ∷ []))
+all_commands : script_of (text (codes "cache 32 16 1 1 1 h 3" ∷ codes "p 1 32 8" ∷ [] ∷ codes "g 007" ∷ codes "r 1" ∷ codes "c" ∷ codes "f" ∷ []))
+    ≡ Ok (request 32 16 3 (Place 1 (size 32 8) ∷ Get 7 ∷ Remove 1 ∷ Clear ∷ BeginFrame ∷ []))
 all_commands = refl
 
 no_bytes : script_of [] ≡ Err 1
@@ -53,6 +53,12 @@ another_header = refl
 a_key_without_a_size : script_of (text (codes "cache 8 8 1 1 1 h 4" ∷ [] ∷ codes "p 1 8" ∷ codes "x" ∷ [])) ≡ Err 3
 a_key_without_a_size = refl
 
+a_frame_of_a_key : script_of (text (codes "cache 8 8 1 1 1 h 4" ∷ codes "f" ∷ codes "f 1" ∷ [])) ≡ Err 3
+a_frame_of_a_key = refl
+
+a_frame_and_a_space : script_of (text (codes "cache 8 8 1 1 1 h 4" ∷ codes "f " ∷ [])) ≡ Err 2
+a_frame_and_a_space = refl
+
 greatest_key : key_of (codes "18446744073709551615") ≡ Some 18446744073709551615
 greatest_key = refl
 
@@ -65,8 +71,8 @@ key_with_a_sign = refl
 least_capacity : capacity_of (codes "01") ≡ Some 1
 least_capacity = refl
 
-plain_replies : replies_text (TooLarge ∷ At (rectangle 0 8 32 16) ∷ Removed (rectangle 0 0 1 1) ∷ NotThere ∷ Cleared ∷ [])
-    ≡ text (codes "too large" ∷ codes "at 0 8 32 16" ∷ codes "removed 0 0 1 1" ∷ codes "none" ∷ codes "cleared" ∷ [])
+plain_replies : replies_text (TooLarge ∷ At (rectangle 0 8 32 16) ∷ Removed (rectangle 0 0 1 1) ∷ NotThere ∷ Cleared ∷ Begun ∷ FrameFull ∷ [])
+    ≡ text (codes "too large" ∷ codes "at 0 8 32 16" ∷ codes "removed 0 0 1 1" ∷ codes "none" ∷ codes "cleared" ∷ codes "begun" ∷ codes "frame full" ∷ [])
 unfolding digits
 plain_replies = refl
 

@@ -17,9 +17,9 @@ use Rattle.glyph_shelf.specs.Placing.{IsNew}
 use Rattle.glyph_shelf.specs.Promises.{KeepsCachePromises}
 use Rattle.glyph_shelf.proofs.Callers.{capacity-after_dropping, dropped-behind, entries-after_dropping, frame-after_dropping}
 use Rattle.glyph_run.specs.declared.commands.GlyphCommand.{GlyphCommand}
-use Rattle.glyph_run.specs.declared.commands.GlyphCommand.TheVariants.{Place, Get, Remove, Clear}
+use Rattle.glyph_run.specs.declared.commands.GlyphCommand.TheVariants.{Place, Get, Remove, Clear, BeginFrame}
 use Rattle.glyph_run.specs.declared.commands.GlyphReply.{GlyphReply}
-use Rattle.glyph_run.specs.declared.commands.GlyphReply.TheVariants.{Placed, TooLarge, NoMemory, At, Removed, NotThere, Cleared, FrameFull}
+use Rattle.glyph_run.specs.declared.commands.GlyphReply.TheVariants.{Placed, TooLarge, NoMemory, At, Removed, NotThere, Cleared, Begun, FrameFull}
 use Rattle.glyph_run.specs.Runs.{GlyphStep, PlacesNew, rectangles, told_after, without}
 use Rattle.glyph_run.proofs.EntriesTold.{entry-found, held_by, removed-held, removed-unknown, without-held, without-last}
 
@@ -118,6 +118,7 @@ told-step old (Remove key) (Removed rectangle) new promises (there, after) =
     ap rectangles after ∙ told-taken_out old key rectangle there
 told-step old (Remove key) NotThere new promises (is_new, same) = ap rectangles same
 told-step old Clear Cleared new promises after = ap rectangles after
+told-step old BeginFrame Begun new promises after = ap rectangles after
 told-step old command reply new promises never = absurd never
 
 -- an allocation keeps the frame
@@ -172,5 +173,6 @@ bounds-step old (Remove key) (Removed rectangle) new (there, after) =
       capacity = ap (λ (s : CacheState). s.capacity) after ∙ stays.capacity;
     }
 bounds-step old (Remove key) NotThere new (is_new, same) = bounds-same old new same
+bounds-step old BeginFrame Begun new after = record { frame = ap (λ (s : CacheState). s.atlas.frame) after; capacity = ap (λ (s : CacheState). s.capacity) after }
 bounds-step old Clear Cleared new after = record { frame = ap (λ (s : CacheState). s.atlas.frame) after; capacity = ap (λ (s : CacheState). s.capacity) after }
 bounds-step old command reply new never = absurd never

@@ -3,7 +3,7 @@ use Rattle.std.specs.Prelude.{ℕ, List, [], ◌∷◌, ◌++◌, codes, decimal
 use Rattle.run_scripts.specs.Lines.{line_feed, space}
 use Rattle.run_scripts.specs.ReplyText.{corners_text}
 use Rattle.glyph_run.specs.declared.commands.GlyphReply.{GlyphReply}
-use Rattle.glyph_run.specs.declared.commands.GlyphReply.TheVariants.{Placed, TooLarge, NoMemory, At, Removed, NotThere, Cleared, FrameFull}
+use Rattle.glyph_run.specs.declared.commands.GlyphReply.TheVariants.{Placed, TooLarge, NoMemory, At, Removed, NotThere, Cleared, Begun, FrameFull}
 
 -- keys, a space before each
 abbrev pub key_text : ℕ → List ℕ
@@ -26,6 +26,7 @@ words_of (At rectangle) = codes "at " ++ corners_text rectangle
 words_of (Removed rectangle) = codes "removed " ++ corners_text rectangle
 words_of NotThere = codes "none"
 words_of Cleared = codes "cleared"
+words_of Begun = codes "begun"
 words_of FrameFull = codes "frame full"
 
 -- the keys that a reply names as evicted

@@ -5,13 +5,13 @@ use Rattle.etagere_base.specs.declared.frames.Frame.{Frame}
 use Rattle.etagere_base.specs.declared.geometry.Rectangle.{Rectangle}
 use Rattle.etagere_base.specs.declared.geometry.Size.{Size}
 use Rattle.etagere_base.specs.Rectangles.{IsLarge}
-use Rattle.glyph_shelf.specs.Cache.{CacheState, empty_cache, evictable, rectangle_at, used, without_key}
+use Rattle.glyph_shelf.specs.Cache.{CacheState, empty_cache, evictable, in_new_frame, rectangle_at, used, without_key}
 use Rattle.glyph_shelf.specs.Placing.{IsFrameFull, IsNew, IsTooLarge, Places, RanOut}
 use Rattle.glyph_shelf.specs.Promises.{KeepsCachePromises}
 use Rattle.glyph_run.specs.declared.commands.GlyphCommand.{GlyphCommand}
-use Rattle.glyph_run.specs.declared.commands.GlyphCommand.TheVariants.{Place, Get, Remove, Clear}
+use Rattle.glyph_run.specs.declared.commands.GlyphCommand.TheVariants.{Place, Get, Remove, Clear, BeginFrame}
 use Rattle.glyph_run.specs.declared.commands.GlyphReply.{GlyphReply}
-use Rattle.glyph_run.specs.declared.commands.GlyphReply.TheVariants.{Placed, TooLarge, NoMemory, At, Removed, NotThere, Cleared, FrameFull}
+use Rattle.glyph_run.specs.declared.commands.GlyphReply.TheVariants.{Placed, TooLarge, NoMemory, At, Removed, NotThere, Cleared, Begun, FrameFull}
 
 -- a key that is there has this rectangle, and becomes the most recently used
 pub record Finds (old : CacheState) (key : ℕ) (rectangle : Rectangle) (new : CacheState) : Type 0 where
@@ -54,6 +54,7 @@ GlyphStep old (Remove key) (Removed rectangle) new =
     (rectangle_at old key ≡ Some rectangle) × (new ≡ without_key old key)
 GlyphStep old (Remove key) NotThere new = IsNew old key × (new ≡ old)
 GlyphStep old Clear Cleared new = new ≡ empty_cache old.atlas.frame old.capacity
+GlyphStep old BeginFrame Begun new = new ≡ in_new_frame old
 -- no other reply is given
 GlyphStep old command reply new = ⊥
 

@@ -5,7 +5,7 @@ use Rattle.etagere_base.specs.declared.options.AllocatorOptions.{AllocatorOption
 use Rattle.run_scripts.specs.Numbers.{natural_of, number_of}
 use Rattle.run_scripts.specs.Words.{command_of, direction_of, size_in, size_of, ◌>>=◌}
 use Rattle.glyph_run.specs.declared.commands.GlyphCommand.{GlyphCommand}
-use Rattle.glyph_run.specs.declared.commands.GlyphCommand.TheVariants.{Place, Get, Remove, Clear}
+use Rattle.glyph_run.specs.declared.commands.GlyphCommand.TheVariants.{Place, Get, Remove, Clear, BeginFrame}
 
 -- a cache as a header asks for it
 pub record Setup : Type 0 where
@@ -66,13 +66,19 @@ place_in (word ∷ words) = do
   key ← key_of word
   Some (Place key size)
 
--- commands of a cache: `p`, a key and a size, or `g` or `r` and a key
+-- no words
+abbrev pub frame_in : List (List ℕ) → Option GlyphCommand
+frame_in [] = Some BeginFrame
+frame_in words = None
+
+-- commands of a cache: `p`, a key and a size, `g` or `r` and a key, or `f` alone
 abbrev pub glyph_command_named : List ℕ → List (List ℕ) → Option GlyphCommand
 glyph_command_named name words =
     if bytes_eq name (codes "p") then place_in words
     else (if bytes_eq name (codes "g") then option_map Get (key_in words)
     else (if bytes_eq name (codes "r") then option_map Remove (key_in words)
-    else None))
+    else (if bytes_eq name (codes "f") then frame_in words
+    else None)))
 
 abbrev pub glyph_command_of : List (List ℕ) → Option GlyphCommand
 glyph_command_of = command_of Clear glyph_command_named

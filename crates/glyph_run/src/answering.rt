@@ -19,6 +19,7 @@ pub fn answer(cache: &mut GlyphCache, command: GlyphCommand) -> GlyphReply
         GlyphCommand::Get(key) => get(cache, key),
         GlyphCommand::Remove(key) => remove(cache, key),
         GlyphCommand::Clear => clear(cache),
+        GlyphCommand::BeginFrame => begin_frame(cache),
     }
 }
 
@@ -60,4 +61,12 @@ fn clear(cache: &mut GlyphCache) -> GlyphReply
 {
     cache.clear();
     GlyphReply::Cleared
+}
+
+fn begin_frame(cache: &mut GlyphCache) -> GlyphReply
+    ensures step { GlyphStep cache.old GlyphCommand.BeginFrame result cache.new }
+    ensures promises { KeepsCachePromises cache.new }
+{
+    cache.begin_frame();
+    GlyphReply::Begun
 }

@@ -16,6 +16,8 @@ pub enum GlyphCommand {
     Remove(u64),
     /// Takes all keys out.
     Clear,
+    /// Begins a frame: what is placed or looked up from here on stays until the next one.
+    BeginFrame,
 }
 
 /// What a run answers to a command.
@@ -36,6 +38,8 @@ pub enum GlyphReply {
     NotThere,
     /// No key is there any more.
     Cleared,
+    /// A frame has begun.
+    Begun,
     /// The key is new, and there would be no room though all keys went that weren't used in this frame. Nothing changed.
     FrameFull,
 }

@@ -39,6 +39,7 @@ fn words_of<'a>(reply: &GlyphReply, line: &'a mut Line) -> &'a str
         GlyphReply::Removed(rectangle) => with_corners("removed ", rectangle, line),
         GlyphReply::NotThere => "none",
         GlyphReply::Cleared => "cleared",
+        GlyphReply::Begun => "begun",
         GlyphReply::FrameFull => "frame full",
     }
 }

@@ -68,6 +68,13 @@ impl Spelled for GlyphCommand {
         GlyphCommand::Clear
     }
 
+    fn alone(name: &[u8]) -> Option<GlyphCommand> {
+        match name {
+            b"f" => Some(GlyphCommand::BeginFrame),
+            _ => None,
+        }
+    }
+
     #[tactic(auto, using(crate::proofs::LastWord::last_words))]
     fn named(name: &[u8], words: &[u8]) -> Option<GlyphCommand> {
         match name {

@@ -5,6 +5,7 @@ pub mod HeaderLine
 pub mod LastWord
 pub mod LineLengths
 pub mod LineSending
+pub mod LoneNames
 pub mod Pieces
 pub mod PlainLines
 pub mod ScriptRows

@@ -77,11 +77,11 @@ header_of (name ∷ words) = do
   kind ← kind_of name
   atlas_in kind words
 
--- a command is `c` alone, which clears, or a name and words
+-- a command is `c` alone, which clears, or a name, alone or with words behind it
 abbrev pub command_of : {C : Type 0} → C → (List ℕ → List (List ℕ) → Option C) → List (List ℕ)
     → Option C
 command_of clear named [] = None
-command_of clear named (name ∷ []) = if bytes_eq name (codes "c") then Some clear else None
+command_of clear named (name ∷ []) = if bytes_eq name (codes "c") then Some clear else named name []
 command_of clear named (name ∷ word ∷ words) = named name (word ∷ words)
 
 -- commands of an atlas of shelves: `a` or `g` and a size, or `r` or `l` and a position

@@ -90,6 +90,10 @@ pub trait Spelled: Copy {
     fn clear() -> Self
         ensures { result ≡ cleared };
 
+    /// The command of a name alone. `c` is left to `clear`.
+    fn alone(name: &[u8]) -> Option<Self>
+        ensures { result ≡ meaning name.now [] };
+
     /// The command of a name and the words after it.
     fn named(name: &[u8], words: &[u8]) -> Option<Self>
         ensures { result ≡ meaning name.now (words_of words.now) };
@@ -113,7 +117,7 @@ pub fn command_of<C: Spelled>(line: &[u8]) -> Option<C>
     match split_word(line) {
         Some((name, words)) => C::named(name, words),
         None if line == b"c".as_slice() => Some(C::clear()),
-        None => None,
+        None => C::alone(line),
     }
 }
 
@@ -126,6 +130,11 @@ impl Spelled for AtlasCommand {
 
     fn clear() -> AtlasCommand {
         AtlasCommand::Clear
+    }
+
+    #[tactic(auto, using(crate::proofs::LoneNames::lone_names))]
+    fn alone(_name: &[u8]) -> Option<AtlasCommand> {
+        None
     }
 
     #[tactic(auto, using(crate::proofs::LastWord::last_words))]
@@ -165,6 +174,11 @@ impl Spelled for BucketedCommand {
 
     fn clear() -> BucketedCommand {
         BucketedCommand::Clear
+    }
+
+    #[tactic(auto, using(crate::proofs::LoneNames::lone_names))]
+    fn alone(_name: &[u8]) -> Option<BucketedCommand> {
+        None
     }
 
     #[tactic(auto, using(crate::proofs::LastWord::last_words))]
