@@ -1,0 +1,33 @@
+-- A cache over pages: the options stay through evictions, and a new key gets a rectangle that is large enough.
+use Rattle.std.proofs.Common.{◌≡◌, ℕ, zero, suc, ◌-◌, Option, Some, None, List, length, take, refl, ◌∙◌, subst}
+use Rattle.std.specs.Option.{option_map_or}
+use Rattle.lru.specs.LruCache.{last_entry}
+use Rattle.etagere_base.specs.declared.geometry.Size.{Size}
+use Rattle.etagere_base.specs.Rectangles.{IsLarge}
+use Rattle.atlas_pages.specs.declared.options.PageOptions.{PageOptions}
+use Rattle.atlas_pages.specs.declared.places.PagePlace.{PagePlace}
+use Rattle.atlas_pages.specs.Pages.{page_frame}
+use Rattle.paged_cache.specs.Held.{place_returned}
+use Rattle.paged_cache.specs.Keyed.{after_dropping, without_last}
+use Rattle.paged_cache.specs.Paged.{PagedCacheState, PlacesKey}
+use Rattle.paged_cache.proofs.Keeping.{keyed}
+
+options-without_last : (state : PagedCacheState) → (without_last place_returned state).places.options ≡ state.places.options
+options-without_last state = by_last (last_entry state.entries)
+  where
+    by_last : (o : Option (ℕ × PagePlace))
+        → (option_map_or (λ entry. keyed (take (length state.entries - 1) state.entries) state.capacity (place_returned state.places entry.1)) o state).places.options
+        ≡ state.places.options
+    by_last None = refl
+    by_last (Some e) = refl
+
+options-after_dropping : (state : PagedCacheState) (n : ℕ) → (after_dropping place_returned state n).places.options ≡ state.places.options
+options-after_dropping state zero = refl
+options-after_dropping state (suc n) =
+    options-without_last (after_dropping place_returned state n) ∙ options-after_dropping state n
+
+pub placed-large : (old : PagedCacheState) (key : ℕ) (size : Size) (place : PagePlace) (evicted : List ℕ) (new : PagedCacheState)
+    → PlacesKey old key size place evicted new → IsLarge (page_frame old.places.options) size place.allocation.rectangle
+placed-large old key size place evicted new placed =
+    subst (λ (o : PageOptions). IsLarge (page_frame o) size place.allocation.rectangle)
+    (options-after_dropping old (length evicted)) placed.entered.given.large

@@ -1,0 +1,5 @@
+pub mod Faults
+pub mod Held
+pub mod Keyed
+pub mod Paged
+pub mod Private

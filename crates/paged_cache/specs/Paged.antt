@@ -1,0 +1,46 @@
+-- The model of a cache over several pages, as callers see it, and what becomes of it.
+use Rattle.std.specs.Prelude.{◌≡◌, ℕ, false, List}
+use Rattle.etagere_base.specs.declared.geometry.Size.{Size}
+use Rattle.atlas_pages.specs.declared.options.PageOptions.{PageOptions}
+use Rattle.atlas_pages.specs.declared.places.PagePlace.{PagePlace}
+use Rattle.atlas_pages.specs.Pages.{PagesState, no_pages}
+use Rattle.atlas_pages.specs.Places.{cleared}
+use Rattle.atlas_pages.specs.Promises.{KeepsPagesPromises}
+use Rattle.paged_cache.specs.declared.faults.PagedFault.{PagedFault}
+use Rattle.paged_cache.specs.declared.faults.PagedFault.TheVariants.{TooLarge, Memory}
+use Rattle.paged_cache.specs.Held.{AreAllPlaces, GivesPlace, fits_page, has_page, place_returned}
+use Rattle.paged_cache.specs.Keyed as keyed
+
+-- a cache: keys with their places, the most recently used first; how many there may be; and the pages
+abbrev pub PagedCacheState : Type 0
+PagedCacheState = keyed.KeyedState PagesState PagePlace
+
+-- a new one: no page is open
+abbrev pub empty_cache : PageOptions → ℕ → PagedCacheState
+empty_cache options capacity = keyed.no_keys (no_pages options) capacity
+
+-- without its keys: each open page is empty, and stays open
+abbrev pub emptied_cache : PagedCacheState → PagedCacheState
+emptied_cache state = keyed.no_keys (cleared state.places) state.capacity
+
+-- without a key, whose place is given back
+abbrev pub without_key : PagedCacheState → ℕ → PagedCacheState
+without_key state key = keyed.without_key place_returned state key
+
+-- the size is too large for an empty page
+abbrev pub IsTooLarge : PagedCacheState → Size → Type 0
+IsTooLarge state size = fits_page state.places size ≡ false
+
+-- a new key was placed: just the evictions that its size needs went, the least recently used first, and then it entered
+abbrev pub PlacesKey : PagedCacheState → ℕ → Size → PagePlace → List ℕ → PagedCacheState → Type 0
+PlacesKey old key size place evicted new = keyed.Places place_returned has_page GivesPlace old key size place evicted new
+
+-- what a fault of a new key left: all, or what memory running out did
+abbrev pub IsLeft : PagedCacheState → Size → PagedFault → PagedCacheState → Type 0
+IsLeft old size TooLarge new = new ≡ old
+IsLeft old size (Memory evicted) new = keyed.RanOut place_returned has_page GivesPlace old size evicted.items new
+
+-- the pages keep their promises, by which what is allocated lies inside and apart; there are at most as many keys as
+-- there may be, none stands twice, and their places are all that is allocated
+abbrev pub KeepsPagedPromises : PagedCacheState → Type 0
+KeepsPagedPromises state = keyed.IsKeyed KeepsPagesPromises AreAllPlaces state

@@ -1,0 +1,208 @@
+//! The public calls of a cache over several pages.
+//!
+//! Definitions: `Paged` for what the clauses see and what becomes of it, over `Held` and `Keyed`. The clauses stay as
+//! they are: callers prove by them.
+
+ghost use Rattle.std.specs.Prelude.{◌≡◌, ◌↔◌, [], Err, IfOk, IfErr, IfSome, IsOkAnd, IsErrOf, MatchOption, OnErr, OnOk, length};
+ghost use Rattle.std.specs.NonZero.{non_zero_usize_get};
+ghost use Rattle.etagere_base.specs.Rectangles.{IsLarge};
+ghost use Rattle.atlas_pages.specs.Pages.{ArePageOptions, page_frame, pages_fault};
+ghost use Rattle.paged_cache.specs.declared.faults.NewCacheFault.TheVariants as new_faults;
+ghost use Rattle.paged_cache.specs.Keyed.{IsNew, place_at, used};
+ghost use Rattle.paged_cache.specs.Paged.{IsLeft, IsTooLarge, KeepsPagedPromises, PlacesKey, empty_cache, emptied_cache, without_key};
+
+use crate::allocating::Allocates;
+use crate::faults::{NewCacheFault, PagedFault};
+use crate::keyed::KeyedPlaces;
+use crate::listing::Iter;
+use atlas_pages::{AtlasPages, PageOptions, PagePlace};
+use etagere::Size;
+use std::alloc::Global;
+use std::marker::Model;
+use std::num::NonZeroUsize;
+
+/// Where a key was placed.
+#[derive(Debug, Drop, PartialEq)]
+pub struct PlacedKey {
+    /// The page of the key, and its rectangle there.
+    pub place: PagePlace,
+    /// The keys that were evicted for it, the least recently used first.
+    pub evicted: Vec<u64>,
+}
+
+/// Rectangles on several pages under keys, of which those used least recently are evicted where there is no room and no
+/// page may be opened.
+///
+/// ```text
+/// let mut cache = PagedCache::new(alloc, &options, capacity)?;
+/// let placed = cache.place(key, size2(9, 14))?;
+/// for old in &placed.evicted { .. }       // forget what was drawn there
+/// ```
+#[derive(Drop)]
+pub struct PagedCache {
+    kept: KeyedPlaces<AtlasPages>,
+    alloc: Global,
+}
+
+impl Model for PagedCache {
+    ghost use Rattle.paged_cache.specs.Paged.{PagedCacheState};
+
+    ghost Value = { PagedCacheState };
+
+    ghost view = { λ cache. cache.kept };
+}
+
+impl PagedCache {
+    /// An empty cache of at most `capacity` keys, over pages of these options, of which none is open yet.
+    ///
+    /// Returns the first fault of the options; `Memory` only where there is no other and no memory. Takes memory for no
+    /// page, and none for keys that aren't there yet. Takes constant time.
+    pub fn new(
+        alloc: Global,
+        options: &PageOptions,
+        capacity: NonZeroUsize,
+    ) -> Result<PagedCache, NewCacheFault>
+        ensures ok { IfOk result
+            (λ cache. cache ≡ empty_cache options.now (non_zero_usize_get capacity)) }
+        ensures accepted { OnOk result (ArePageOptions options.now) }
+        ensures fault { IfSome (pages_fault options.now)
+            (λ fault. result ≡ Err (new_faults.Pages fault)) }
+        ensures memory { IfErr result
+            (λ fault. ArePageOptions options.now → fault ≡ new_faults.Memory) }
+        ensures promises { IfOk result KeepsPagedPromises }
+    {
+        let pages = AtlasPages::new(alloc, options).map_err(NewCacheFault::Pages)?;
+        let Ok(kept) = KeyedPlaces::new(alloc, capacity, pages) else {
+            return Err(NewCacheFault::Memory);
+        };
+        // A call tells what the keys keep.
+        let _ = kept.len();
+        Ok(PagedCache { kept, alloc })
+    }
+
+    /// Gives the place of a key. A key that is there becomes the most recently used; the size isn't looked at, no memory
+    /// is taken, and the call can't fail.
+    ///
+    /// A new key gets a rectangle at least as large as the size in pixels, on the page that `AtlasPages::allocate`
+    /// chooses, and becomes the most recently used. Where no page has room and none may be opened, the least recently
+    /// used keys are evicted first, no more than needed; they are listed in `evicted`.
+    ///
+    /// `TooLarge` comes exactly where the key is new and an empty page has no room for the size; then nothing changes.
+    /// `Memory` comes only for a new key, with the keys that were evicted before memory ran out: these are gone, and the
+    /// others stand; a page that was opened for the key stays open.
+    ///
+    /// Takes memory for the entry, for what the allocation takes, and for the list of the evicted keys. Asks the pages
+    /// once, and once more for each key that is evicted.
+    pub fn place(&mut self, key: u64, size: Size) -> Result<PlacedKey, PagedFault>
+        ensures found { IfSome (place_at self.old key)
+            (λ place. IsOkAnd result
+            (λ placed. (placed.place ≡ place) × (placed.evicted.items ≡ []))
+            × (self.new ≡ used self.old key)) }
+        ensures placed { IsNew self.old key → IfOk result
+            (λ placed. PlacesKey self.old key size placed.place placed.evicted.items self.new) }
+        ensures large { IsNew self.old key → IfOk result
+            (λ placed. IsLarge (page_frame self.old.places.options) size placed.place.allocation.rectangle) }
+        ensures too_large { IsErrOf result PagedFault.TooLarge
+            ↔ (IsNew self.old key × IsTooLarge self.old size) }
+        ensures left { IfErr result (λ fault. IsLeft self.old size fault self.new) }
+        ensures promises { KeepsPagedPromises self.new }
+    {
+        let mut evicted = Vec::new(self.alloc);
+        if let Some(place) = self.kept.look(key) {
+            return Ok(PlacedKey { place, evicted });
+        }
+        if !self.kept.places().fits_ever(size) {
+            return Err(PagedFault::TooLarge);
+        }
+        match self.kept.place_new(key, size, &mut evicted) {
+            Ok(place) => Ok(PlacedKey { place, evicted }),
+            Err(_) => Err(PagedFault::Memory(evicted)),
+        }
+    }
+
+    /// The place of a key, which becomes the most recently used; none where the key isn't there, and then nothing
+    /// changes.
+    ///
+    /// Takes no memory, and constant time.
+    pub fn get(&mut self, key: u64) -> Option<PagePlace>
+        ensures value { result ≡ place_at self.old key }
+        ensures used { self.new ≡ used self.old key }
+        ensures promises { KeepsPagedPromises self.new }
+    {
+        self.kept.look(key)
+    }
+
+    /// The place of a key; none where the key isn't there. Nothing changes: what is only looked at so isn't used.
+    ///
+    /// Takes no memory, and constant time.
+    pub fn peek(&self, key: u64) -> Option<PagePlace>
+        ensures { result ≡ place_at self.now key }
+    {
+        self.kept.peek(key)
+    }
+
+    /// Removes a key, and returns the place that it had; none where the key isn't there, and then nothing changes. Its
+    /// page stays open.
+    ///
+    /// Takes no memory. Costs what `AtlasPages::deallocate` does.
+    pub fn remove(&mut self, key: u64) -> Option<PagePlace>
+        ensures value { result ≡ place_at self.old key }
+        ensures removed { self.new ≡ without_key self.old key }
+        ensures promises { KeepsPagedPromises self.new }
+    {
+        self.kept.remove(key)
+    }
+
+    /// Removes all keys: each open page is as new, and stays open.
+    ///
+    /// Takes no memory. Goes through the keys, and the columns of each page.
+    pub fn clear(&mut self)
+        ensures cleared { self.new ≡ emptied_cache self.old }
+        ensures promises { KeepsPagedPromises self.new }
+    {
+        self.kept.clear();
+    }
+
+    /// The keys with their places, from the most to the least recently used, and then none for ever. Nothing changes.
+    ///
+    /// Takes no memory. A step takes constant time.
+    pub fn iter(&self) -> Iter<'_>
+        ensures { result ≡ self.now.entries }
+    {
+        Iter::new(self.kept.iter())
+    }
+
+    /// How many keys there are. Takes constant time.
+    pub fn len(&self) -> usize
+        ensures len { result ≡ length self.now.entries }
+        ensures promises { KeepsPagedPromises self.now }
+    {
+        self.kept.len()
+    }
+
+    /// How many keys there may be. Takes constant time.
+    pub fn capacity(&self) -> NonZeroUsize
+        ensures { non_zero_usize_get result ≡ self.now.capacity }
+    {
+        self.kept.capacity()
+    }
+
+    /// The pages, for their space, their pictures and how many are open. Takes constant time.
+    pub fn pages(&self) -> &AtlasPages
+        ensures { result.now ≡ self.now.places }
+    {
+        self.kept.places()
+    }
+}
+
+impl<'a> IntoIterator for &'a PagedCache {
+    type Item = (u64, PagePlace);
+
+    type IntoIter = Iter<'a>;
+
+    ghost into_iter_gives = { λ cache iter. iter ≡ cache.now.entries };
+
+    fn into_iter(self) -> Iter<'a> {
+        self.iter()
+    }
+}

@@ -1,0 +1,232 @@
+//! Keys with their places, and what the places are of: the two change together.
+//!
+//! Definitions: `Keyed` for what the clauses say, `Private.Kept` for what the fields keep.
+
+ghost use Rattle.std.specs.Prelude.{◌≡◌, ◌<◌, [], ◌∷◌, None, nat_eq, option_map, is_some, length, IfOk, IfSome, IfNone, OnOk, OnErr, true, false};
+ghost use Rattle.std.specs.Map.{lookup};
+ghost use Rattle.std.specs.NonZero.{non_zero_usize_get};
+ghost use Rattle.lru.specs.LruCache as lru;
+ghost use Rattle.paged_cache.specs.Keyed as spec;
+ghost use Rattle.paged_cache.specs.Keyed.{Enters, IsKeyed, IsNew, IsUndone, Places, RanOut, has_room};
+
+use crate::allocating::Allocates;
+use etagere_base::Size;
+use lru::LruCache;
+use std::alloc::{AllocError, Global};
+use std::marker::Model;
+use std::num::NonZeroUsize;
+
+/// Keys with their places, the most recently used first, and what the places are of.
+#[derive(Drop)]
+pub struct KeyedPlaces<A: Allocates> {
+    entries: LruCache<u64, A::Place>,
+    places: A,
+}
+
+impl<A: Allocates> Model for KeyedPlaces<A> {
+    ghost use Rattle.paged_cache.specs.Keyed.{KeyedState, IsKeyed};
+
+    ghost Value = { KeyedState A A.Place };
+
+    ghost view = { λ kept. record { entries = kept.entries.entries; capacity = kept.entries.cap; places = kept.places } };
+
+    ghost invariant = { λ kept. IsKeyed A.keeps A.are_held
+        (record { entries = kept.entries.entries; capacity = kept.entries.cap; places = kept.places }) };
+}
+
+impl<A: Allocates> KeyedPlaces<A> {
+    /// No keys, of which there may be so many, and nothing of which a place is allocated. Takes no memory for keys.
+    pub fn new(
+        alloc: Global,
+        capacity: NonZeroUsize,
+        places: A,
+    ) -> Result<KeyedPlaces<A>, AllocError>
+        requires promises { A.keeps places }
+        requires none { A.are_held places [] }
+        ensures { IfOk result (λ kept. kept ≡ spec.no_keys places (non_zero_usize_get capacity)) }
+    {
+        let entries = LruCache::sparse(alloc, capacity)?;
+        Ok(KeyedPlaces { entries, places })
+    }
+
+    /// How many keys there are.
+    pub fn len(&self) -> usize
+        ensures len { result ≡ length self.now.entries }
+        ensures promises { IsKeyed A.keeps A.are_held self.now }
+    {
+        self.entries.len()
+    }
+
+    /// How many keys there may be.
+    pub fn capacity(&self) -> NonZeroUsize
+        ensures { non_zero_usize_get result ≡ self.now.capacity }
+    {
+        self.entries.cap()
+    }
+
+    /// What the places are of.
+    pub fn places(&self) -> &A
+        ensures places { result.now ≡ self.now.places }
+    {
+        &self.places
+    }
+
+    /// The place of a key; none where it isn't there. The order of use stays.
+    pub fn peek(&self, key: u64) -> Option<A::Place>
+        ensures { result ≡ spec.place_at self.now key }
+    {
+        let Some(place) = self.entries.peek(&key) else {
+            return None;
+        };
+        Some(*place)
+    }
+
+    /// The entries, the most recently used first.
+    pub fn iter(&self) -> lru::Iter<'_, u64, A::Place>
+        ensures { result ≡ self.now.entries }
+    {
+        self.entries.iter()
+    }
+
+    /// The place of a key, which becomes the most recently used; none where it isn't there.
+    pub fn look(&mut self, key: u64) -> Option<A::Place>
+        ensures value { result ≡ spec.place_at self.old key }
+        ensures used { self.new ≡ spec.used self.old key }
+        ensures promises { IsKeyed A.keeps A.are_held self.new }
+    {
+        found(&mut self.entries, key)
+    }
+
+    /// Takes a key out, and answers the place that it had; none where it isn't there.
+    pub fn remove(&mut self, key: u64) -> Option<A::Place>
+        ensures value { result ≡ spec.place_at self.old key }
+        ensures removed { self.new ≡ spec.without_key A.returned self.old key }
+        ensures promises { IsKeyed A.keeps A.are_held self.new }
+    {
+        let Some(place) = self.entries.pop(&key) else {
+            return None;
+        };
+        self.places.take_back(place);
+        Some(place)
+    }
+
+    /// Drops everything.
+    pub fn clear(&mut self)
+        ensures cleared { self.new ≡ spec.no_keys (A.cleared self.old.places) self.old.capacity }
+        ensures promises { IsKeyed A.keeps A.are_held self.new }
+    {
+        self.entries.clear();
+        self.places.clear();
+    }
+
+    /// Drops the least recently used entry, and answers its key; none where there is no entry.
+    fn drop_last(&mut self) -> Option<u64>
+        ensures key { result ≡ option_map (λ entry. entry.0) (lru.last_entry self.old.entries) }
+        ensures dropped { self.new ≡ spec.without_last A.returned self.old }
+        ensures promises { IsKeyed A.keeps A.are_held self.new }
+    {
+        let (key, place) = self.entries.pop_lru()?;
+        self.places.take_back(place);
+        Some(key)
+    }
+
+    /// Puts a new key in front, if there is room for one entry more and its size has a place.
+    fn enter(&mut self, key: u64, size: Size) -> Result<Option<A::Place>, AllocError>
+        requires { IsNew self.old key }
+        ensures entered { IfOk result
+            (λ answer. IfSome answer (λ place. Enters A.gives self.old key size place self.new)) }
+        ensures room { IfOk result (λ answer. is_some answer ≡ has_room A.has_place self.old size) }
+        ensures none { IfOk result (λ answer. IfNone answer (self.new ≡ self.old)) }
+        ensures err_room { OnErr result (has_room A.has_place self.old size ≡ true) }
+        ensures err { OnErr result (IsUndone A.returned A.gives self.old size self.new) }
+        ensures promises { IsKeyed A.keeps A.are_held self.new }
+    {
+        if self.entries.len() == self.entries.cap().get() {
+            return Ok(None);
+        }
+        let Some(place) = self.places.give(size)? else {
+            return Ok(None);
+        };
+        match put_first(&mut self.entries, key, place) {
+            Ok(()) => Ok(Some(place)),
+            Err(refused) => {
+                self.places.take_back(place);
+                Err(refused)
+            }
+        }
+    }
+
+    /// Puts a new key in front. Where there is no room, entries are dropped before, the least recently used first, no
+    /// more than needed, and their keys listed in that order; for each there is room before it goes.
+    pub fn place_new(
+        &mut self,
+        key: u64,
+        size: Size,
+        evicted: &mut Vec<u64>,
+    ) -> Result<A::Place, AllocError>
+        requires new { IsNew self.old key }
+        requires fits { A.fits self.old.places size ≡ true }
+        requires none { evicted.old.items ≡ [] }
+        requires promises { IsKeyed A.keeps A.are_held self.old }
+        ensures ok { IfOk result (λ place. Places A.returned A.has_place A.gives
+            self.old key size place evicted.new.items self.new) }
+        ensures err { OnErr result (RanOut A.returned A.has_place A.gives
+            self.old size evicted.new.items self.new) }
+        ensures promises { IsKeyed A.keeps A.are_held self.new }
+    {
+        if let Some(place) = self.enter(key, size)? {
+            return Ok(place);
+        }
+        self.evict_for(key, size, evicted)
+    }
+
+    /// Puts a new key in front, after as many entries are dropped as its size needs.
+    fn evict_for(
+        &mut self,
+        key: u64,
+        size: Size,
+        evicted: &mut Vec<u64>,
+    ) -> Result<A::Place, AllocError>
+        requires new { IsNew self.old key }
+        requires fits { A.fits self.old.places size ≡ true }
+        requires none { evicted.old.items ≡ [] }
+        requires full { has_room A.has_place self.old size ≡ false }
+        requires promises { IsKeyed A.keeps A.are_held self.old }
+        ensures ok { IfOk result (λ place. Places A.returned A.has_place A.gives
+            self.old key size place evicted.new.items self.new) }
+        ensures err { OnErr result (RanOut A.returned A.has_place A.gives
+            self.old size evicted.new.items self.new) }
+        ensures promises { IsKeyed A.keeps A.are_held self.new }
+    {
+        evicted.reserve(1)?;
+        while let Some(dropped) = self.drop_last() {
+            evicted.push(dropped).unwrap();
+            if let Some(place) = self.enter(key, size)? {
+                return Ok(place);
+            }
+            evicted.reserve(1)?;
+        }
+        unreachable!()
+    }
+}
+
+/// The place of a key, which goes to the front; none where it isn't there.
+fn found<P: Copy>(entries: &mut LruCache<u64, P>, key: u64) -> Option<P>
+    ensures value { result ≡ lookup (nat_eq key) entries.old.entries }
+    ensures entries { entries.new ≡ lru.lru_cache (lru.promoted (nat_eq key) entries.old.entries) entries.old.cap }
+{
+    let place = entries.get(&key)?;
+    Some(*place)
+}
+
+/// Puts a new key in front of entries that have room for it. After an `Err` nothing has changed.
+fn put_first<P: Copy>(entries: &mut LruCache<u64, P>, key: u64, place: P) -> Result<(), AllocError>
+    requires new { lookup (nat_eq key) entries.old.entries ≡ None }
+    requires room { length entries.old.entries < entries.old.cap }
+    ensures ok { OnOk result (entries.new
+        ≡ lru.lru_cache ((key, place) ∷ entries.old.entries) entries.old.cap) }
+    ensures err { OnErr result (entries.new ≡ entries.old) }
+{
+    entries.put(key, place)?;
+    Ok(())
+}

@@ -1,0 +1,51 @@
+//! The keys of a cache with their places, one by one, from the most to the least recently used.
+//!
+//! Contracts see an `Iter` as the list of what is still to come.
+
+ghost use Rattle.std.specs.Prelude.{◌≡◌};
+ghost use Rattle.std.specs.Iterator.{YieldsFirst, item_count};
+
+use atlas_pages::PagePlace;
+use std::iter::FusedIterator;
+use std::marker::Model;
+
+/// The keys of a cache with their places, the most recently used first. After the last comes none, for ever.
+///
+/// A step takes constant time.
+#[derive(Drop)]
+pub struct Iter<'a> {
+    entries: lru::Iter<'a, u64, PagePlace>,
+}
+
+impl<'a> Model for Iter<'a> {
+    ghost use Rattle.std.specs.Prelude.{ℕ, List};
+    ghost use Rattle.atlas_pages.specs.declared.places.PagePlace.{PagePlace};
+
+    ghost Value = { List (ℕ × PagePlace) };
+
+    ghost view = { λ iter. iter.entries };
+}
+
+impl<'a> Iter<'a> {
+    /// These entries, the most recently used first.
+    pub(crate) fn new(entries: lru::Iter<'a, u64, PagePlace>) -> Iter<'a>
+        ensures { result ≡ entries.entry }
+    {
+        Iter { entries }
+    }
+}
+
+impl<'a> Iterator for Iter<'a> {
+    type Item = (u64, PagePlace);
+
+    ghost next_gives = { YieldsFirst (λ rest. rest) };
+
+    ghost remaining = { item_count (λ rest. rest) };
+
+    fn next(&mut self) -> Option<(u64, PagePlace)> {
+        let (key, place) = self.entries.next()?;
+        Some((*key, *place))
+    }
+}
+
+impl<'a> FusedIterator for Iter<'a> {}
