@@ -86,7 +86,7 @@ def is_mended(program, lines):
             expected, replies = replies[: len(part)], replies[len(part) :]
             if part == [line] and expected != [answer]:
                 return f"`{line}` is answered {answer}"
-            if part != [line] and not all(it[0].startswith(("(", "no such", "nothing")) for it in expected):
+            if part != [line] and not all(it[0].startswith(("(", "page ", "no such", "nothing")) for it in expected):
                 return f"`{line}` evicted what wasn't there"
         is_whole = len(found) == len(lines)
         return None if is_whole == (ended.status == 0) else f"status {ended.status} after {len(found)} answers"

@@ -9,7 +9,7 @@ from tables import expanded
 NOT_MADE = "unread"
 NOT_DONE = {NOT_MADE, "no such call", "nothing was made", "no memory"}
 ATLASES = ("atlas", "bucketed")
-KINDS = (*ATLASES, "cache", "pages", "padded", "padded_cache")
+KINDS = (*ATLASES, "cache", "pages", "padded", "padded_cache", "paged_cache")
 # What the program writes in more than a line, up to one that ends it.
 LISTS = ("picture", "iter", "moved")
 # How the one line begins in place of a list.

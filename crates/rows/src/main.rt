@@ -1,9 +1,9 @@
 //! Makes the calls of standard input, one a line, and writes a line for each answer. `tests/rows/run` writes the calls of
 //! its rows here, and compares the answers.
 //!
-//! The argument is the kind of what is called: `atlas`, `bucketed`, `cache`, `pages`, `padded` or `padded_cache`. There are two places for
-//! such a one, and a line is the number of a place, 0 or 1, the call, and its words. With `run` or `stream` standard input
-//! is a script.
+//! The argument is the kind of what is called: `atlas`, `bucketed`, `cache`, `pages`, `padded`, `padded_cache` or
+//! `paged_cache`. There are two places for such a one, and a line is the number of a place, 0 or 1, the call, and its
+//! words. With `run` or `stream` standard input is a script.
 //!
 //! `tests/refused_memory/run` refuses memory to the calls of rows.
 #![tactic(auto)]
@@ -15,6 +15,7 @@ mod lines;
 mod moved_caches;
 mod padded;
 mod padded_caches;
+mod paged_caches;
 mod pages;
 mod places;
 mod runs;
@@ -26,6 +27,7 @@ use atlas_pages::{AtlasPages, PaddedPages};
 use etagere::{AtlasAllocator, BucketedAtlasAllocator};
 use glyph_shelf::GlyphCache;
 use padded_cache::PaddedCache;
+use paged_cache::PagedCache;
 use std::env;
 use std::io::{BufRead, BufReader};
 
@@ -38,6 +40,7 @@ fn main(rt: HostRuntime) -> Result<()> {
         "pages" => answer_all::<AtlasPages, _>(&rt),
         "padded" => answer_all::<PaddedPages, _>(&rt),
         "padded_cache" => answer_all::<PaddedCache, _>(&rt),
+        "paged_cache" => answer_all::<PagedCache, _>(&rt),
         "run" => runs::run(&rt),
         "stream" => runs::stream(&rt),
         _ => bail!("no such kind"),
