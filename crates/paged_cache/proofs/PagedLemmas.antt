@@ -1,5 +1,6 @@
 -- A cache over pages: the options stay through evictions, and a new key gets a rectangle that is large enough.
-use Rattle.std.proofs.Common.{◌≡◌, ℕ, zero, suc, ◌-◌, Option, Some, None, List, length, take, refl, ◌∙◌, subst}
+use Rattle.std.proofs.Common.{◌≡◌, ℕ, zero, suc, ◌-◌, Option, Some, None, Result, Ok, Err, List, length, take, refl, ◌∙◌, subst}
+use Rattle.std.specs.Prelude.{IfOk}
 use Rattle.std.specs.Option.{option_map_or}
 use Rattle.lru.specs.LruCache.{last_entry}
 use Rattle.etagere_base.specs.declared.geometry.Size.{Size}
@@ -7,6 +8,8 @@ use Rattle.etagere_base.specs.Rectangles.{IsLarge}
 use Rattle.atlas_pages.specs.declared.options.PageOptions.{PageOptions}
 use Rattle.atlas_pages.specs.declared.places.PagePlace.{PagePlace}
 use Rattle.atlas_pages.specs.Pages.{page_frame}
+use Rattle.paged_cache.specs.declared.faults.PlacingFault.{PlacingFault}
+use Rattle.paged_cache.specs.declared.keyed.PlacedKey.{PlacedKey}
 use Rattle.paged_cache.specs.Held.{place_returned}
 use Rattle.paged_cache.specs.Keyed.{after_dropping, without_last}
 use Rattle.paged_cache.specs.Paged.{PagedCacheState, PlacesKey}
@@ -31,3 +34,10 @@ pub placed-large : (old : PagedCacheState) (key : ℕ) (size : Size) (place : Pa
 placed-large old key size place evicted new placed =
     subst (λ (o : PageOptions). IsLarge (page_frame o) size place.allocation.rectangle)
     (options-after_dropping old (length evicted)) placed.entered.given.large
+
+-- so does one that was placed, where it was
+pub placed-ok : (told : Result (PlacedKey PagePlace) PlacingFault) (old : PagedCacheState) (key : ℕ) (size : Size) (new : PagedCacheState)
+    → IfOk told (λ placed. PlacesKey old key size placed.place placed.evicted.items new)
+    → IfOk told (λ placed. IsLarge (page_frame old.places.options) size placed.place.allocation.rectangle)
+placed-ok (Ok placed) old key size new is = placed-large old key size placed.place placed.evicted.items new is
+placed-ok (Err fault) old key size new is = tt

@@ -6,6 +6,8 @@ use Rattle.std.specs.Option.{option_map_or}
 use Rattle.lru.specs.LruCache.{last_entry, promoted}
 use Rattle.etagere_base.specs.declared.geometry.Size.{Size}
 use Rattle.etagere_base.specs.Lists.{times}
+use Rattle.paged_cache.specs.declared.faults.PlacingFault.{PlacingFault}
+use Rattle.paged_cache.specs.declared.faults.PlacingFault.TheVariants.{TooLarge, Memory}
 
 -- keys with their places, the most recently used first; how many there may be; and what the places are of
 pub record KeyedState (A P : Type 0) : Type 0 where
@@ -123,3 +125,8 @@ module _ {A P : Type 0} (returned : A → P → A) where
     pub few : length evicted ≤ evictions
     pub listed : evicted ≡ dropped_keys old (length evicted)
     pub rest : IsUndone gives (after_dropping old (length evicted)) size new
+
+  -- what a fault of a new key left: all, or what memory running out did
+  abbrev pub IsLeft : (A → Size → Bool) → (A → Size → P → A → Type 0) → KeyedState A P → Size → PlacingFault → KeyedState A P → Type 0
+  IsLeft has_place gives old size TooLarge new = new ≡ old
+  IsLeft has_place gives old size (Memory evicted) new = RanOut has_place gives old size evicted.items new

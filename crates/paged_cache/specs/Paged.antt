@@ -6,8 +6,7 @@ use Rattle.atlas_pages.specs.declared.places.PagePlace.{PagePlace}
 use Rattle.atlas_pages.specs.Pages.{PagesState, no_pages}
 use Rattle.atlas_pages.specs.Places.{cleared}
 use Rattle.atlas_pages.specs.Promises.{KeepsPagesPromises}
-use Rattle.paged_cache.specs.declared.faults.PagedFault.{PagedFault}
-use Rattle.paged_cache.specs.declared.faults.PagedFault.TheVariants.{TooLarge, Memory}
+use Rattle.paged_cache.specs.declared.faults.PlacingFault.{PlacingFault}
 use Rattle.paged_cache.specs.Held.{AreAllPlaces, GivesPlace, fits_page, has_page, place_returned}
 use Rattle.paged_cache.specs.Keyed as keyed
 
@@ -36,9 +35,8 @@ abbrev pub PlacesKey : PagedCacheState → ℕ → Size → PagePlace → List �
 PlacesKey old key size place evicted new = keyed.Places place_returned has_page GivesPlace old key size place evicted new
 
 -- what a fault of a new key left: all, or what memory running out did
-abbrev pub IsLeft : PagedCacheState → Size → PagedFault → PagedCacheState → Type 0
-IsLeft old size TooLarge new = new ≡ old
-IsLeft old size (Memory evicted) new = keyed.RanOut place_returned has_page GivesPlace old size evicted.items new
+abbrev pub IsLeft : PagedCacheState → Size → PlacingFault → PagedCacheState → Type 0
+IsLeft old size fault new = keyed.IsLeft place_returned has_page GivesPlace old size fault new
 
 -- the pages keep their promises, by which what is allocated lies inside and apart; there are at most as many keys as
 -- there may be, none stands twice, and their places are all that is allocated

@@ -11,24 +11,14 @@ ghost use Rattle.paged_cache.specs.declared.faults.NewCacheFault.TheVariants as 
 ghost use Rattle.paged_cache.specs.Keyed.{IsNew, place_at, used};
 ghost use Rattle.paged_cache.specs.Paged.{IsLeft, IsTooLarge, KeepsPagedPromises, PlacesKey, empty_cache, emptied_cache, without_key};
 
-use crate::allocating::Allocates;
-use crate::faults::{NewCacheFault, PagedFault};
-use crate::keyed::KeyedPlaces;
+use crate::faults::{NewCacheFault, PlacingFault};
+use crate::keyed::{KeyedPlaces, PlacedKey};
 use crate::listing::Iter;
 use atlas_pages::{AtlasPages, PageOptions, PagePlace};
 use etagere::Size;
 use std::alloc::Global;
 use std::marker::Model;
 use std::num::NonZeroUsize;
-
-/// Where a key was placed.
-#[derive(Debug, Drop, PartialEq)]
-pub struct PlacedKey {
-    /// The page of the key, and its rectangle there.
-    pub place: PagePlace,
-    /// The keys that were evicted for it, the least recently used first.
-    pub evicted: Vec<u64>,
-}
 
 /// Rectangles on several pages under keys, of which those used least recently are evicted where there is no room and no
 /// page may be opened.
@@ -41,7 +31,6 @@ pub struct PlacedKey {
 #[derive(Drop)]
 pub struct PagedCache {
     kept: KeyedPlaces<AtlasPages>,
-    alloc: Global,
 }
 
 impl Model for PagedCache {
@@ -77,7 +66,7 @@ impl PagedCache {
         };
         // A call tells what the keys keep.
         let _ = kept.len();
-        Ok(PagedCache { kept, alloc })
+        Ok(PagedCache { kept })
     }
 
     /// Gives the place of a key. A key that is there becomes the most recently used; the size isn't looked at, no memory
@@ -93,7 +82,7 @@ impl PagedCache {
     ///
     /// Takes memory for the entry, for what the allocation takes, and for the list of the evicted keys. Asks the pages
     /// once, and once more for each key that is evicted.
-    pub fn place(&mut self, key: u64, size: Size) -> Result<PlacedKey, PagedFault>
+    pub fn place(&mut self, key: u64, size: Size) -> Result<PlacedKey<PagePlace>, PlacingFault>
         ensures found { IfSome (place_at self.old key)
             (λ place. IsOkAnd result
             (λ placed. (placed.place ≡ place) × (placed.evicted.items ≡ []))
@@ -102,22 +91,12 @@ impl PagedCache {
             (λ placed. PlacesKey self.old key size placed.place placed.evicted.items self.new) }
         ensures large { IsNew self.old key → IfOk result
             (λ placed. IsLarge (page_frame self.old.places.options) size placed.place.allocation.rectangle) }
-        ensures too_large { IsErrOf result PagedFault.TooLarge
+        ensures too_large { IsErrOf result PlacingFault.TooLarge
             ↔ (IsNew self.old key × IsTooLarge self.old size) }
         ensures left { IfErr result (λ fault. IsLeft self.old size fault self.new) }
         ensures promises { KeepsPagedPromises self.new }
     {
-        let mut evicted = Vec::new(self.alloc);
-        if let Some(place) = self.kept.look(key) {
-            return Ok(PlacedKey { place, evicted });
-        }
-        if !self.kept.places().fits_ever(size) {
-            return Err(PagedFault::TooLarge);
-        }
-        match self.kept.place_new(key, size, &mut evicted) {
-            Ok(place) => Ok(PlacedKey { place, evicted }),
-            Err(_) => Err(PagedFault::Memory(evicted)),
-        }
+        self.kept.place(key, size)
     }
 
     /// The place of a key, which becomes the most recently used; none where the key isn't there, and then nothing

@@ -3,7 +3,7 @@
 //! Definitions: `Faults`. Numbers and messages are public: a new fault gets a new number.
 
 ghost use Rattle.std.specs.Prelude.{◌≡◌};
-ghost use Rattle.paged_cache.specs.Faults.{new_cache_fault_number, paged_fault_number};
+ghost use Rattle.paged_cache.specs.Faults.{new_cache_fault_number, placing_fault_number};
 
 use atlas_pages::PagesFault;
 use thiserror::Error;
@@ -33,8 +33,8 @@ impl NewCacheFault {
 
 /// Why there is no room for a key.
 #[derive(Debug, Drop, PartialEq, Eq, Error)]
-pub enum PagedFault {
-    /// The key is new, and an empty page has no room for its size. Nothing changed.
+pub enum PlacingFault {
+    /// The key is new, and its size would have no place, on no page, where nothing is allocated. Nothing changed.
     #[error("TooLarge")]
     TooLarge,
     /// The key is new, and there was no memory. These keys were evicted before memory ran out, the least recently used
@@ -43,14 +43,14 @@ pub enum PagedFault {
     Memory(Vec<u64>),
 }
 
-impl PagedFault {
+impl PlacingFault {
     /// The fault's number, 1 or 2.
     pub fn number(&self) -> u32
-        ensures { result ≡ paged_fault_number self.now }
+        ensures { result ≡ placing_fault_number self.now }
     {
         match self {
-            PagedFault::TooLarge => 1,
-            PagedFault::Memory(_) => 2,
+            PlacingFault::TooLarge => 1,
+            PlacingFault::Memory(_) => 2,
         }
     }
 }

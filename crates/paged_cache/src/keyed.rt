@@ -2,25 +2,36 @@
 //!
 //! Definitions: `Keyed` for what the clauses say, `Private.Kept` for what the fields keep.
 
-ghost use Rattle.std.specs.Prelude.{◌≡◌, ◌<◌, [], ◌∷◌, None, nat_eq, option_map, is_some, length, IfOk, IfSome, IfNone, OnOk, OnErr, true, false};
+ghost use Rattle.std.specs.Prelude.{◌≡◌, ◌↔◌, ◌<◌, [], ◌∷◌, None, nat_eq, option_map, is_some, length, IfOk, IfErr, IfSome, IfNone, IsOkAnd, IsErrOf, OnOk, OnErr, true, false};
 ghost use Rattle.std.specs.Map.{lookup};
 ghost use Rattle.std.specs.NonZero.{non_zero_usize_get};
 ghost use Rattle.lru.specs.LruCache as lru;
 ghost use Rattle.paged_cache.specs.Keyed as spec;
-ghost use Rattle.paged_cache.specs.Keyed.{Enters, IsKeyed, IsNew, IsUndone, Places, RanOut, has_room};
+ghost use Rattle.paged_cache.specs.Keyed.{Enters, IsKeyed, IsLeft, IsNew, IsUndone, Places, RanOut, has_room};
 
 use crate::allocating::Allocates;
+use crate::faults::PlacingFault;
 use etagere_base::Size;
 use lru::LruCache;
 use std::alloc::{AllocError, Global};
 use std::marker::Model;
 use std::num::NonZeroUsize;
 
+/// Where a key was placed.
+#[derive(Debug, Drop, PartialEq)]
+pub struct PlacedKey<P> {
+    /// The place of the key.
+    pub place: P,
+    /// The keys that were evicted for it, the least recently used first.
+    pub evicted: Vec<u64>,
+}
+
 /// Keys with their places, the most recently used first, and what the places are of.
 #[derive(Drop)]
 pub struct KeyedPlaces<A: Allocates> {
     entries: LruCache<u64, A::Place>,
     places: A,
+    alloc: Global,
 }
 
 impl<A: Allocates> Model for KeyedPlaces<A> {
@@ -46,7 +57,11 @@ impl<A: Allocates> KeyedPlaces<A> {
         ensures { IfOk result (λ kept. kept ≡ spec.no_keys places (non_zero_usize_get capacity)) }
     {
         let entries = LruCache::sparse(alloc, capacity)?;
-        Ok(KeyedPlaces { entries, places })
+        Ok(KeyedPlaces {
+            entries,
+            places,
+            alloc,
+        })
     }
 
     /// How many keys there are.
@@ -156,9 +171,43 @@ impl<A: Allocates> KeyedPlaces<A> {
         }
     }
 
+    /// Gives the place of a key. A key that is there becomes the most recently used; the size isn't looked at, no memory
+    /// is taken, and the call can't fail. A new key gets a place, and becomes the most recently used; where there is no
+    /// room, the least recently used keys are evicted first, no more than needed.
+    ///
+    /// `TooLarge` comes exactly where the key is new and the size would have no place where nothing is allocated; then
+    /// nothing changes. `Memory` comes only for a new key, with the keys that were evicted before memory ran out: these
+    /// are gone, and the others stand.
+    pub fn place(&mut self, key: u64, size: Size) -> Result<PlacedKey<A::Place>, PlacingFault>
+        ensures found { IfSome (spec.place_at self.old key)
+            (λ place. IsOkAnd result
+            (λ placed. (placed.place ≡ place) × (placed.evicted.items ≡ []))
+            × (self.new ≡ spec.used self.old key)) }
+        ensures placed { IsNew self.old key → IfOk result
+            (λ placed. Places A.returned A.has_place A.gives
+            self.old key size placed.place placed.evicted.items self.new) }
+        ensures too_large { IsErrOf result PlacingFault.TooLarge
+            ↔ (IsNew self.old key × (A.fits self.old.places size ≡ false)) }
+        ensures left { IfErr result
+            (λ fault. IsLeft A.returned A.has_place A.gives self.old size fault self.new) }
+        ensures promises { IsKeyed A.keeps A.are_held self.new }
+    {
+        let mut evicted = Vec::new(self.alloc);
+        if let Some(place) = self.look(key) {
+            return Ok(PlacedKey { place, evicted });
+        }
+        if !self.places.fits_ever(size) {
+            return Err(PlacingFault::TooLarge);
+        }
+        match self.place_new(key, size, &mut evicted) {
+            Ok(place) => Ok(PlacedKey { place, evicted }),
+            Err(_) => Err(PlacingFault::Memory(evicted)),
+        }
+    }
+
     /// Puts a new key in front. Where there is no room, entries are dropped before, the least recently used first, no
     /// more than needed, and their keys listed in that order; for each there is room before it goes.
-    pub fn place_new(
+    fn place_new(
         &mut self,
         key: u64,
         size: Size,

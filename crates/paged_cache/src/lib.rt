@@ -14,7 +14,7 @@ mod on_atlas;
 mod on_pages;
 
 pub use allocating::Allocates;
-pub use cache::{PagedCache, PlacedKey};
-pub use faults::{NewCacheFault, PagedFault};
-pub use keyed::KeyedPlaces;
+pub use cache::PagedCache;
+pub use faults::{NewCacheFault, PlacingFault};
+pub use keyed::{KeyedPlaces, PlacedKey};
 pub use listing::Iter;

@@ -7,7 +7,7 @@ use crate::pages::options_of;
 use crate::places::{Called, NotMade};
 use atlas_pages::{PageOptions, PagePlace};
 use etagere::Size;
-use paged_cache::{NewCacheFault, PagedCache, PagedFault, PlacedKey};
+use paged_cache::{NewCacheFault, PagedCache, PlacingFault, PlacedKey};
 use std::alloc::Global;
 use std::io;
 use std::num::NonZeroUsize;
@@ -74,7 +74,7 @@ fn place(cache: &mut PagedCache, rt: &impl Print, words: &str) -> io::Result<()>
             say_corners(rt, &place.allocation.rectangle)?;
             say_evicted(rt, &evicted)
         }
-        Err(PagedFault::Memory(evicted)) => {
+        Err(PlacingFault::Memory(evicted)) => {
             rt.print("no memory")?;
             say_evicted(rt, &evicted)
         }
@@ -111,7 +111,7 @@ fn new_cache(
     PagedCache::new(alloc, options, capacity)
 }
 
-fn placed(cache: &mut PagedCache, key: u64, size: Size) -> Result<PlacedKey, PagedFault> {
+fn placed(cache: &mut PagedCache, key: u64, size: Size) -> Result<PlacedKey<PagePlace>, PlacingFault> {
     cache.place(key, size)
 }
 
