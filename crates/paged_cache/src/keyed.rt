@@ -1,6 +1,6 @@
 //! Keys with their places, and what the places are of: the two change together.
 //!
-//! Definitions: `Keyed` for what the clauses say, `Private.Kept` for what the fields keep.
+//! Definitions: `Keyed`.
 
 ghost use Rattle.std.specs.Prelude.{◌≡◌, ◌↔◌, ◌<◌, [], ◌∷◌, None, nat_eq, option_map, is_some, length, IfOk, IfErr, IfSome, IfNone, IsOkAnd, IsErrOf, OnOk, OnErr, true, false};
 ghost use Rattle.std.specs.Map.{lookup};
@@ -39,14 +39,23 @@ impl<A: Allocates> Model for KeyedPlaces<A> {
 
     ghost Value = { KeyedState A A.Place };
 
-    ghost view = { λ kept. record { entries = kept.entries.entries; capacity = kept.entries.cap; places = kept.places } };
+    ghost view = { λ kept. record {
+      entries = kept.entries.entries;
+      capacity = kept.entries.cap;
+      places = kept.places;
+    } };
 
-    ghost invariant = { λ kept. IsKeyed A.keeps A.are_held
-        (record { entries = kept.entries.entries; capacity = kept.entries.cap; places = kept.places }) };
+    ghost invariant = { λ kept. IsKeyed A.keeps A.are_held (record {
+      entries = kept.entries.entries;
+      capacity = kept.entries.cap;
+      places = kept.places;
+    }) };
 }
 
 impl<A: Allocates> KeyedPlaces<A> {
-    /// No keys, of which there may be so many, and nothing of which a place is allocated. Takes no memory for keys.
+    /// No keys, of which there may be so many, with something that gives places and of which none is allocated.
+    ///
+    /// The error comes only where there was no memory. Takes none for keys that aren't there yet.
     pub fn new(
         alloc: Global,
         capacity: NonZeroUsize,
