@@ -1,13 +1,13 @@
 //! What a test judges, as calls that promise nothing. A test is proved safe before it runs, in a fraction of the time
 //! where it calls these than where it asserts by itself. A failure names the line of the test.
 
-use crate::calls::placed;
-use crate::corners::corners;
 use etagere::{Allocation, size2};
 use std::fmt::Debug;
 use std::process::Abort;
 use std::test::Fail;
 use test_support::atlases::Atlas;
+use test_support::calls::placed;
+use test_support::corners::corners;
 
 pub fn holds(rt: &impl Abort, fact: bool) {
     assert!(rt; fact);

@@ -1,8 +1,6 @@
 //! A long text through a small cache, compared with a plain one, and the numbers and names of faults.
 
 use crate::assertions::{equal, holds};
-use crate::calls::{new, return_all};
-use crate::corners::corners;
 use etagere::{Allocation, AtlasAllocator, DEFAULT_OPTIONS, OptionsFault, Size, size2};
 use glyph_shelf::{GlyphCache, GlyphFault};
 use std::alloc::Global;
@@ -10,6 +8,8 @@ use std::num::NonZeroUsize;
 use std::process::Abort;
 use std::test::Fail;
 use test_support::atlases::Atlas;
+use test_support::calls::{new, return_all};
+use test_support::corners::corners;
 
 fn cache_of(
     alloc: Global,

@@ -2,11 +2,11 @@
 //! of the rules.
 
 use crate::assertions::{equal, holds, is_at, is_refused};
-use crate::calls::{placed, return_all};
 use crate::squares::{Grid, MANY_SHELVES, SQUARE, VERTICAL_COLUMNS, comes_again};
 use etagere::{Allocation, AtlasAllocator, Size};
 use std::process::Abort;
 use std::test::Fail;
+use test_support::calls::{placed, return_all};
 
 const SIDES: (i32, i32) = (SQUARE.width, SQUARE.height);
 

@@ -1,9 +1,9 @@
 //! What no row of calls says of the iterator over allocations.
 
 use crate::assertions::equal;
-use crate::calls::{new, placed};
 use etagere::AtlasAllocator;
 use std::test::Fail;
+use test_support::calls::{new, placed};
 
 #[test]
 fn nothing_follows_the_last_allocation(rt: HostRuntime) -> Result<(), Fail> {

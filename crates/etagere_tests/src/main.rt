@@ -1,6 +1,6 @@
-//! Tests of what no clause and no row says: readers and writers that fail, large cases with ample memory, messages and
-//! statuses, the plain types and their JSON text, the end of an iterator, walks along links, and how many of these are
-//! read; a long text through a cache of glyphs.
+//! Tests of what no clause and no row says: large cases with ample memory, messages and statuses, the plain types and
+//! their JSON text, the end of an iterator, walks along links, and how many of these are read; a long text through a
+//! cache of glyphs.
 //!
 //! The program replays and draws each example of the folder that it is run in, and prints whether it
 //! wrote what stands beside the script. `rt ci` runs it in `data/`, which is `examples/` at the root, and
@@ -11,19 +11,7 @@
 mod ample_memory;
 #[cfg(test)]
 mod assertions;
-#[cfg(test)]
-mod calls;
-#[cfg(test)]
-mod checks;
-#[cfg(test)]
-mod corners;
-#[cfg(test)]
-mod drawings;
-#[cfg(test)]
-mod dumps;
 mod examples;
-#[cfg(test)]
-mod fake_streams;
 #[cfg(test)]
 mod faults;
 #[cfg(test)]
@@ -40,10 +28,6 @@ mod plain_types;
 mod squares;
 #[cfg(test)]
 mod steps;
-#[cfg(test)]
-mod streaming;
-#[cfg(test)]
-mod streams;
 #[cfg(test)]
 mod walks;
 

@@ -1,8 +1,8 @@
 //! Squares of side 16 that fill an atlas whole, without a rest, so that the rules give the place of each.
 
-use crate::corners::{oriented, swapped};
 use etagere::{AllocatorOptions, DEFAULT_OPTIONS, Size};
 use std::alloc::{AllocError, Global};
+use test_support::corners::{oriented, swapped};
 
 /// The size of a square, which is the height of its shelf too.
 pub const SQUARE: Size = Size {

@@ -1,10 +1,10 @@
 //! How many links are read until a snapshot is restored or refused.
 
 use crate::assertions::holds;
-use crate::calls::{ask_all, return_one, with_options};
 use etagere::laws::restore_atlas;
 use etagere::{AllocatorOptions, AtlasAllocator, DEFAULT_OPTIONS, RestoreFault, size2};
 use std::test::Fail;
+use test_support::calls::{ask_all, return_one, with_options};
 
 #[test]
 fn a_chain_that_many_shelves_share_is_followed_once(rt: HostRuntime) -> Result<(), Fail> {

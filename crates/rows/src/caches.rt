@@ -1,20 +1,24 @@
 //! Calls of a cache of glyphs.
 
-use crate::atlases::of_options;
-use crate::lines::{numbers, say, say_fault, say_if, say_number, say_rectangle, size_of};
 use crate::moved_caches;
-use crate::places::{Called, NotMade};
 use etagere::{AllocId, AllocatorOptions, DEFAULT_OPTIONS, OptionsFault, Rectangle, Size, size2};
 use glyph_shelf::laws::saved_and_restored;
 use glyph_shelf::{CacheRestoreFault, CacheSnapshot, GlyphCache, GlyphFault, Placed, SavedKey};
+use row_calls::atlases::of_options;
+use row_calls::lines::{numbers, say, say_fault, say_if, say_number, say_rectangle, size_of};
+use row_calls::places::{Called, NotMade};
 use saved_caches::{read_saved_cache, write_saved_cache};
 use std::alloc::Global;
 use std::io;
 use std::num::NonZeroUsize;
 
-impl Called for GlyphCache {
+/// A cache that is called by lines.
+#[derive(Drop)]
+pub struct CalledCache(GlyphCache);
+
+impl Called for CalledCache {
     /// The words are the capacity of the cache, the sides of its atlas, and how many columns that has.
-    fn made(alloc: Global, words: &str) -> Result<GlyphCache, NotMade> {
+    fn made(alloc: Global, words: &str) -> Result<CalledCache, NotMade> {
         let (capacity, words) = words.split_once(' ').unwrap_or(("", words));
         let capacity = NonZeroUsize::new(capacity.parse().unwrap_or(0)).ok_or(NotMade::Unread)?;
         let [width, height, num_columns, ..] = numbers(words);
@@ -22,24 +26,29 @@ impl Called for GlyphCache {
             num_columns,
             ..DEFAULT_OPTIONS
         };
-        new_cache(alloc, size2(width, height), &options, capacity).map_err(of_options)
+        match new_cache(alloc, size2(width, height), &options, capacity) {
+            Ok(cache) => Ok(CalledCache(cache)),
+            Err(fault) => Err(of_options(fault)),
+        }
     }
 
-    fn copied(&self, alloc: Global) -> Result<GlyphCache, NotMade> {
-        copy_of(alloc, self).map_err(|_| NotMade::NoMemory)
+    fn copied(&self, alloc: Global) -> Result<CalledCache, NotMade> {
+        match copy_of(alloc, &self.0) {
+            Ok(cache) => Ok(CalledCache(cache)),
+            Err(_) => Err(NotMade::NoMemory),
+        }
     }
 
     fn saved(&self, alloc: Global) -> Option<String> {
-        text_of(alloc, self)
+        text_of(alloc, &self.0)
     }
 
-    fn restored(alloc: Global, text: &str) -> Result<GlyphCache, NotMade> {
+    fn restored(alloc: Global, text: &str) -> Result<CalledCache, NotMade> {
         let saved = read(alloc, text).ok_or(NotMade::Unread)?;
-        restored_of(alloc, saved).map_err(not_restored)
-    }
-
-    fn steps(_alloc: Global, _text: &str) -> Result<u64, NotMade> {
-        Err(NotMade::Unread)
+        match restored_of(alloc, saved) {
+            Ok(cache) => Ok(CalledCache(cache)),
+            Err(fault) => Err(not_restored(fault)),
+        }
     }
 
     fn answer(
@@ -48,22 +57,23 @@ impl Called for GlyphCache {
         call: &str,
         words: &str,
     ) -> io::Result<()> {
+        let cache = &mut self.0;
         match call {
-            "place" => place(self, rt, words),
-            "get" => say_rectangle(rt, look(self, key_of(words))),
-            "remove" => say_rectangle(rt, remove(self, key_of(words))),
-            "retain" => retain(self, rt, words),
-            "clear" => clear(self, rt),
-            "frame" => begin_frame(self, rt),
-            "used" => say_number(rt, used(self)),
-            "len" => say_number(rt, len(self)),
-            "capacity" => say_number(rt, capacity(self)),
-            "empty" => say_if(rt, is_empty(self), "yes", "no"),
-            "allocated" => say_number(rt, allocated(self)),
-            "moved" => moved_caches::say_moved(self, rt, words),
-            "rearrange" => moved_caches::rearrange(self, rt, words),
+            "place" => place(cache, rt, words),
+            "get" => say_rectangle(rt, look(cache, key_of(words))),
+            "remove" => say_rectangle(rt, remove(cache, key_of(words))),
+            "retain" => retain(cache, rt, words),
+            "clear" => clear(cache, rt),
+            "frame" => begin_frame(cache, rt),
+            "used" => say_number(rt, used(cache)),
+            "len" => say_number(rt, len(cache)),
+            "capacity" => say_number(rt, capacity(cache)),
+            "empty" => say_if(rt, is_empty(cache), "yes", "no"),
+            "allocated" => say_number(rt, allocated(cache)),
+            "moved" => moved_caches::say_moved(cache, rt, words),
+            "rearrange" => moved_caches::rearrange(cache, rt, words),
             "with_capacity" | "with_key" | "with_id" | "with_space" | "without_last" => {
-                say_restored(rt, &changed(self, rt.alloc(), call, key_of(words)))
+                say_restored(rt, &changed(cache, rt.alloc(), call, key_of(words)))
             }
             _ => say(rt, "no such call"),
         }

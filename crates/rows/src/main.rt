@@ -8,26 +8,22 @@
 //! `tests/refused_memory/run` refuses memory to the calls of rows.
 #![tactic(auto)]
 
-mod atlases;
-mod buckets;
 mod caches;
-mod lines;
 mod moved_caches;
 mod padded;
 mod padded_caches;
 mod paged_caches;
 mod pages;
-mod places;
 mod runs;
-mod shelves;
 
-use crate::places::{Called, Places, answer};
+use crate::caches::CalledCache;
+use crate::padded::CalledPaddedPages;
+use crate::padded_caches::CalledPaddedCache;
+use crate::paged_caches::CalledPagedCache;
+use crate::pages::CalledPages;
 use anyhow::{Context, Result, bail};
-use atlas_pages::{AtlasPages, PaddedPages};
 use etagere::{AtlasAllocator, BucketedAtlasAllocator};
-use glyph_shelf::GlyphCache;
-use padded_cache::PaddedCache;
-use paged_cache::PagedCache;
+use row_calls::places::{Called, Places, answer};
 use std::env;
 use std::io::{BufRead, BufReader};
 
@@ -36,11 +32,11 @@ fn main(rt: HostRuntime) -> Result<()> {
     match kind.as_str() {
         "atlas" => answer_all::<AtlasAllocator, _>(&rt),
         "bucketed" => answer_all::<BucketedAtlasAllocator, _>(&rt),
-        "cache" => answer_all::<GlyphCache, _>(&rt),
-        "pages" => answer_all::<AtlasPages, _>(&rt),
-        "padded" => answer_all::<PaddedPages, _>(&rt),
-        "padded_cache" => answer_all::<PaddedCache, _>(&rt),
-        "paged_cache" => answer_all::<PagedCache, _>(&rt),
+        "cache" => answer_all::<CalledCache, _>(&rt),
+        "pages" => answer_all::<CalledPages, _>(&rt),
+        "padded" => answer_all::<CalledPaddedPages, _>(&rt),
+        "padded_cache" => answer_all::<CalledPaddedCache, _>(&rt),
+        "paged_cache" => answer_all::<CalledPagedCache, _>(&rt),
         "run" => runs::run(&rt),
         "stream" => runs::stream(&rt),
         _ => bail!("no such kind"),

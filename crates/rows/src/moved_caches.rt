@@ -1,9 +1,9 @@
 //! Moves of a cache of glyphs into a new atlas.
 
-use crate::lines::{say, say_fault, size_of};
 use cache_moves::{KeyMove, RearrangedCache, UnplacedKey, rearranged_cache};
 use etagere::{OptionsFault, Rectangle, Size};
 use glyph_shelf::GlyphCache;
+use row_calls::lines::{say, say_fault, size_of};
 use std::alloc::Global;
 use std::io;
 

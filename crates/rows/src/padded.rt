@@ -1,37 +1,32 @@
 //! Calls of several pages with a padding.
 
-use crate::lines::{numbers, say, say_if, say_number, say_rectangle, size_of};
 use crate::pages::{copy_of, options_of, place_of, say_answer, say_place, say_spaces, spaces};
-use crate::places::{Called, NotMade};
 use atlas_pages::{AtlasPages, PaddedPages, PageOptions, PagePlace, PagesFault};
 use etagere::{AllocId, Rectangle, Size, UnknownId};
 use padding::Padding;
+use row_calls::lines::{numbers, say, say_if, say_number, say_rectangle, size_of};
+use row_calls::places::{Called, NotMade};
 use std::alloc::{AllocError, Global};
 use std::io;
 
-impl Called for PaddedPages {
-    fn made(alloc: Global, words: &str) -> Result<PaddedPages, NotMade> {
+/// Padded pages that are called by lines.
+#[derive(Drop)]
+pub struct CalledPaddedPages(PaddedPages);
+
+impl Called for CalledPaddedPages {
+    fn made(alloc: Global, words: &str) -> Result<CalledPaddedPages, NotMade> {
         let [.., pixels] = numbers(words);
-        new_pages(alloc, &options_of(words), padding_of(pixels)).map_err(|fault| NotMade::Fault(
-            fault.number(),
-        ))
+        match new_pages(alloc, &options_of(words), padding_of(pixels)) {
+            Ok(pages) => Ok(CalledPaddedPages(pages)),
+            Err(fault) => Err(NotMade::Fault(fault.number())),
+        }
     }
 
-    fn copied(&self, alloc: Global) -> Result<PaddedPages, NotMade> {
-        let pages = copy_of(alloc, self.pages()).map_err(|_| NotMade::NoMemory)?;
-        Ok(with_padding(pages, self.padding()))
-    }
-
-    fn saved(&self, _alloc: Global) -> Option<String> {
-        None
-    }
-
-    fn restored(_alloc: Global, _text: &str) -> Result<PaddedPages, NotMade> {
-        Err(NotMade::Unread)
-    }
-
-    fn steps(_alloc: Global, _text: &str) -> Result<u64, NotMade> {
-        Err(NotMade::Unread)
+    fn copied(&self, alloc: Global) -> Result<CalledPaddedPages, NotMade> {
+        match copy_of(alloc, self.0.pages()) {
+            Ok(pages) => Ok(CalledPaddedPages(with_padding(pages, self.0.padding()))),
+            Err(_) => Err(NotMade::NoMemory),
+        }
     }
 
     fn answer(
@@ -40,13 +35,14 @@ impl Called for PaddedPages {
         call: &str,
         words: &str,
     ) -> io::Result<()> {
+        let pages = &mut self.0;
         match call {
-            "allocate" => say_answer(rt, &asked(self, size_of(words))),
-            "deallocate" => give_back(self, rt, words),
-            "get" => say_rectangle(rt, rectangle_of(self, place_of(words))),
-            "iter" => list(self, rt),
-            "shrink" => say_number(rt, shrunk(self)),
-            "spaces" => say_spaces(rt, spaces(self.pages())),
+            "allocate" => say_answer(rt, &asked(pages, size_of(words))),
+            "deallocate" => give_back(pages, rt, words),
+            "get" => say_rectangle(rt, rectangle_of(pages, place_of(words))),
+            "iter" => list(pages, rt),
+            "shrink" => say_number(rt, shrunk(pages)),
+            "spaces" => say_spaces(rt, spaces(pages.pages())),
             _ => say(rt, "no such call"),
         }
     }

@@ -1,24 +1,28 @@
 //! Calls of a cache of glyphs with a padding.
 
-use crate::atlases::of_options;
 use crate::caches::{key_of, say_evicted};
-use crate::lines::{numbers, say, say_fault, say_number, say_rectangle, size_of};
 use crate::moved_caches::say_corners;
-use crate::places::{Called, NotMade};
 use etagere::{
     AllocatorOptions, AtlasGrowFault, DEFAULT_OPTIONS, OptionsFault, Rectangle, Size, size2,
 };
 use glyph_shelf::{GlyphFault, Placed};
 use padded_cache::PaddedCache;
 use padding::Padding;
+use row_calls::atlases::of_options;
+use row_calls::lines::{numbers, say, say_fault, say_number, say_rectangle, size_of};
+use row_calls::places::{Called, NotMade};
 use std::alloc::{AllocError, Global};
 use std::io;
 use std::num::NonZeroUsize;
 
-impl Called for PaddedCache {
+/// A padded cache that is called by lines.
+#[derive(Drop)]
+pub struct CalledPaddedCache(PaddedCache);
+
+impl Called for CalledPaddedCache {
     /// The words are the sides of the atlas, how many columns it has, the capacity, and how many pixels are around each
     /// rectangle.
-    fn made(alloc: Global, words: &str) -> Result<PaddedCache, NotMade> {
+    fn made(alloc: Global, words: &str) -> Result<CalledPaddedCache, NotMade> {
         let [width, height, num_columns, capacity, pixels, _] = numbers(words);
         let options = AllocatorOptions {
             num_columns,
@@ -26,23 +30,10 @@ impl Called for PaddedCache {
         };
         let padding = Padding::around(u16::try_from(pixels).unwrap_or(0));
         let capacity = capacity_of(capacity).ok_or(NotMade::Unread)?;
-        new_cache(alloc, size2(width, height), &options, capacity, padding).map_err(of_options)
-    }
-
-    fn copied(&self, _alloc: Global) -> Result<PaddedCache, NotMade> {
-        Err(NotMade::Unread)
-    }
-
-    fn saved(&self, _alloc: Global) -> Option<String> {
-        None
-    }
-
-    fn restored(_alloc: Global, _text: &str) -> Result<PaddedCache, NotMade> {
-        Err(NotMade::Unread)
-    }
-
-    fn steps(_alloc: Global, _text: &str) -> Result<u64, NotMade> {
-        Err(NotMade::Unread)
+        match new_cache(alloc, size2(width, height), &options, capacity, padding) {
+            Ok(cache) => Ok(CalledPaddedCache(cache)),
+            Err(fault) => Err(of_options(fault)),
+        }
     }
 
     fn answer(
@@ -51,17 +42,18 @@ impl Called for PaddedCache {
         call: &str,
         words: &str,
     ) -> io::Result<()> {
+        let cache = &mut self.0;
         match call {
-            "place" => place(self, rt, words),
-            "get" => say_rectangle(rt, look(self, key_of(words))),
-            "peek" => say_rectangle(rt, peek(self, key_of(words))),
-            "remove" => say_rectangle(rt, remove(self, key_of(words))),
-            "iter" => list(self, rt),
-            "frame" => begin_frame(self, rt),
-            "clear" => clear(self, rt),
-            "grow" => grow(self, rt, words),
-            "keep" => keep(self, rt, words),
-            "len" => say_number(rt, len(self)),
+            "place" => place(cache, rt, words),
+            "get" => say_rectangle(rt, look(cache, key_of(words))),
+            "peek" => say_rectangle(rt, peek(cache, key_of(words))),
+            "remove" => say_rectangle(rt, remove(cache, key_of(words))),
+            "iter" => list(cache, rt),
+            "frame" => begin_frame(cache, rt),
+            "clear" => clear(cache, rt),
+            "grow" => grow(cache, rt, words),
+            "keep" => keep(cache, rt, words),
+            "len" => say_number(rt, len(cache)),
             _ => say(rt, "no such call"),
         }
     }

@@ -1,40 +1,31 @@
 //! Calls of a cache over several pages.
 
 use crate::caches::{key_of, say_evicted};
-use crate::lines::{numbers, say, say_fault, say_number, size_of};
 use crate::moved_caches::say_corners;
 use crate::pages::options_of;
-use crate::places::{Called, NotMade};
 use atlas_pages::{PageOptions, PagePlace};
 use etagere::Size;
-use paged_cache::{NewCacheFault, PagedCache, PlacingFault, PlacedKey};
+use paged_cache::{NewCacheFault, PagedCache, PlacedKey, PlacingFault};
+use row_calls::lines::{numbers, say, say_fault, say_number, size_of};
+use row_calls::places::{Called, NotMade};
 use std::alloc::Global;
 use std::io;
 use std::num::NonZeroUsize;
 
-impl Called for PagedCache {
+/// A cache over pages that is called by lines.
+#[derive(Drop)]
+pub struct CalledPagedCache(PagedCache);
+
+impl Called for CalledPagedCache {
     /// The words are those of pages, and the capacity.
-    fn made(alloc: Global, words: &str) -> Result<PagedCache, NotMade> {
+    fn made(alloc: Global, words: &str) -> Result<CalledPagedCache, NotMade> {
         let [.., capacity] = numbers(words);
         let capacity = NonZeroUsize::new(usize::try_from(capacity).unwrap_or(0));
         let capacity = capacity.ok_or(NotMade::Unread)?;
-        new_cache(alloc, &options_of(words), capacity).map_err(of_new_cache)
-    }
-
-    fn copied(&self, _alloc: Global) -> Result<PagedCache, NotMade> {
-        Err(NotMade::Unread)
-    }
-
-    fn saved(&self, _alloc: Global) -> Option<String> {
-        None
-    }
-
-    fn restored(_alloc: Global, _text: &str) -> Result<PagedCache, NotMade> {
-        Err(NotMade::Unread)
-    }
-
-    fn steps(_alloc: Global, _text: &str) -> Result<u64, NotMade> {
-        Err(NotMade::Unread)
+        match new_cache(alloc, &options_of(words), capacity) {
+            Ok(cache) => Ok(CalledPagedCache(cache)),
+            Err(fault) => Err(of_new_cache(fault)),
+        }
     }
 
     fn answer(
@@ -43,16 +34,17 @@ impl Called for PagedCache {
         call: &str,
         words: &str,
     ) -> io::Result<()> {
+        let cache = &mut self.0;
         match call {
-            "place" => place(self, rt, words),
-            "get" => say_place(rt, look(self, key_of(words))),
-            "peek" => say_place(rt, peek(self, key_of(words))),
-            "remove" => say_place(rt, remove(self, key_of(words))),
-            "iter" => list(self, rt),
-            "clear" => clear(self, rt),
-            "len" => say_number(rt, len(self)),
-            "capacity" => say_number(rt, capacity(self)),
-            "open" => say_number(rt, open(self)),
+            "place" => place(cache, rt, words),
+            "get" => say_place(rt, look(cache, key_of(words))),
+            "peek" => say_place(rt, peek(cache, key_of(words))),
+            "remove" => say_place(rt, remove(cache, key_of(words))),
+            "iter" => list(cache, rt),
+            "clear" => clear(cache, rt),
+            "len" => say_number(rt, len(cache)),
+            "capacity" => say_number(rt, capacity(cache)),
+            "open" => say_number(rt, open(cache)),
             _ => say(rt, "no such call"),
         }
     }
@@ -111,7 +103,11 @@ fn new_cache(
     PagedCache::new(alloc, options, capacity)
 }
 
-fn placed(cache: &mut PagedCache, key: u64, size: Size) -> Result<PlacedKey<PagePlace>, PlacingFault> {
+fn placed(
+    cache: &mut PagedCache,
+    key: u64,
+    size: Size,
+) -> Result<PlacedKey<PagePlace>, PlacingFault> {
     cache.place(key, size)
 }
 

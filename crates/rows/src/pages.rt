@@ -1,35 +1,33 @@
 //! Calls of several pages.
 
-use crate::lines::{numbers, say, say_given, say_if, say_number, say_rectangle, size_of};
-use crate::places::{Called, NotMade};
 use atlas_pages::laws::saved_and_restored;
 use atlas_pages::{
     AtlasPages, FewerPages, PageChoice, PageOptions, PagePlace, PagesFault, PagesRestoreFault,
 };
 use etagere::{AllocId, AllocatorOptions, DEFAULT_OPTIONS, Rectangle, Size, UnknownId, size2};
 use page_moves::{PageMove, RearrangedPages, rearranged_pages};
+use row_calls::lines::{numbers, say, say_given, say_if, say_number, say_rectangle, size_of};
+use row_calls::places::{Called, NotMade};
 use std::alloc::{AllocError, Global};
 use std::io;
 
-impl Called for AtlasPages {
-    fn made(alloc: Global, words: &str) -> Result<AtlasPages, NotMade> {
-        new_pages(alloc, &options_of(words)).map_err(|fault| NotMade::Fault(fault.number()))
+/// Pages that are called by lines.
+#[derive(Drop)]
+pub struct CalledPages(AtlasPages);
+
+impl Called for CalledPages {
+    fn made(alloc: Global, words: &str) -> Result<CalledPages, NotMade> {
+        match new_pages(alloc, &options_of(words)) {
+            Ok(pages) => Ok(CalledPages(pages)),
+            Err(fault) => Err(NotMade::Fault(fault.number())),
+        }
     }
 
-    fn copied(&self, alloc: Global) -> Result<AtlasPages, NotMade> {
-        copy_of(alloc, self).map_err(|_| NotMade::NoMemory)
-    }
-
-    fn saved(&self, _alloc: Global) -> Option<String> {
-        None
-    }
-
-    fn restored(_alloc: Global, _text: &str) -> Result<AtlasPages, NotMade> {
-        Err(NotMade::Unread)
-    }
-
-    fn steps(_alloc: Global, _text: &str) -> Result<u64, NotMade> {
-        Err(NotMade::Unread)
+    fn copied(&self, alloc: Global) -> Result<CalledPages, NotMade> {
+        match copy_of(alloc, &self.0) {
+            Ok(pages) => Ok(CalledPages(pages)),
+            Err(_) => Err(NotMade::NoMemory),
+        }
     }
 
     fn answer(
@@ -38,19 +36,20 @@ impl Called for AtlasPages {
         call: &str,
         words: &str,
     ) -> io::Result<()> {
+        let pages = &mut self.0;
         match call {
-            "allocate" => say_answer(rt, &asked(self, size_of(words))),
-            "deallocate" => give_back(self, rt, words),
-            "get" => say_rectangle(rt, rectangle_of(self, words)),
-            "iter" => list(self, rt),
-            "picture" => draw(self, rt),
-            "moved" => say_moved(rt, &moved(rt.alloc(), self)),
-            "grow" => grow(self, rt, words),
-            "clear" => clear(self, rt),
-            "shrink" => say_number(rt, shrunk(self)),
-            "open" => say_number(rt, open(self)),
-            "empty" => say_if(rt, is_empty(self), "yes", "no"),
-            "spaces" => say_spaces(rt, spaces(self)),
+            "allocate" => say_answer(rt, &asked(pages, size_of(words))),
+            "deallocate" => give_back(pages, rt, words),
+            "get" => say_rectangle(rt, rectangle_of(pages, words)),
+            "iter" => list(pages, rt),
+            "picture" => draw(pages, rt),
+            "moved" => say_moved(rt, &moved(rt.alloc(), pages)),
+            "grow" => grow(pages, rt, words),
+            "clear" => clear(pages, rt),
+            "shrink" => say_number(rt, shrunk(pages)),
+            "open" => say_number(rt, open(pages)),
+            "empty" => say_if(rt, is_empty(pages), "yes", "no"),
+            "spaces" => say_spaces(rt, spaces(pages)),
             _ => say(rt, "no such call"),
         }
     }

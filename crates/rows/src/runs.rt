@@ -1,11 +1,11 @@
 //! Runs and streams of a script. What is written is what a replay of the script writes.
 
-use crate::lines::{say, say_corners};
 use anyhow::{Context, Result, bail};
 use etagere::OptionsFault;
 use etagere_run::{
     Reply, RunFault, StreamFault, run_atlas, run_bucketed, stream_atlas, stream_bucketed,
 };
+use row_calls::lines::{say, say_corners};
 use run_scripts::reading::read_all;
 use run_scripts::script::{Commands, Script, read_script};
 use std::io;

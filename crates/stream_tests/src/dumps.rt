@@ -2,7 +2,6 @@
 //! take few bytes at once, and fail.
 
 use crate::assertions::{equal, equal_at, holds};
-use crate::calls::{new, placed, with_options};
 use crate::fake_streams::{End, FakeWriter};
 use etagere::{
     AllocatorOptions, AtlasAllocator, BucketedAtlasAllocator, DEFAULT_OPTIONS, Rectangle, point2,
@@ -12,6 +11,7 @@ use std::io::ErrorKind;
 use std::process::Abort;
 use std::test::Fail;
 use test_support::atlases::Atlas;
+use test_support::calls::{new, placed, with_options};
 
 /// A rectangle of a picture by its place and its sides, and its colour.
 type Drawn<'a> = ([i32; 4], &'a str);

@@ -20,17 +20,25 @@ pub trait Called: Sized {
     /// What these words say.
     fn made(alloc: Global, words: &str) -> Result<Self, NotMade>;
 
-    /// Another one in the same state.
-    fn copied(&self, alloc: Global) -> Result<Self, NotMade>;
+    /// Another one in the same state, where there is a call for that.
+    fn copied(&self, _alloc: Global) -> Result<Self, NotMade> {
+        Err(NotMade::Unread)
+    }
 
-    /// What it is saved as, as JSON text.
-    fn saved(&self, alloc: Global) -> Option<String>;
+    /// What it is saved as, as JSON text, where it is saved.
+    fn saved(&self, _alloc: Global) -> Option<String> {
+        None
+    }
 
     /// What such a text restores.
-    fn restored(alloc: Global, text: &str) -> Result<Self, NotMade>;
+    fn restored(_alloc: Global, _text: &str) -> Result<Self, NotMade> {
+        Err(NotMade::Unread)
+    }
 
     /// How many links are read until such a text is restored or refused.
-    fn steps(alloc: Global, text: &str) -> Result<u64, NotMade>;
+    fn steps(_alloc: Global, _text: &str) -> Result<u64, NotMade> {
+        Err(NotMade::Unread)
+    }
 
     /// Makes a call with these words, and writes its answer.
     fn answer(

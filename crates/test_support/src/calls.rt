@@ -1,9 +1,9 @@
 //! Calls of atlases of both kinds as tests make them.
 
+use crate::atlases::Atlas;
 use etagere::{AllocId, Allocation, AllocatorOptions, size2};
 use std::alloc::Global;
 use std::test::Fail;
-use test_support::atlases::Atlas;
 
 pub fn new<A: Atlas>(alloc: Global, (width, height): (i32, i32)) -> Result<A, Fail> {
     Ok(A::made(alloc, size2(width, height))?)
