@@ -22,13 +22,13 @@ use Rattle.shelf_model.proofs.Callers.{CanAllocate, fresh-allocated, placed-can_
 use Rattle.shelf_model.proofs.Allocations.AllocatedIds.{times-ids_of}
 use Rattle.glyph_shelf.proofs.Callers.{entries-after_dropping, keeps, keeps-entered, keeps-key_returned, keeps-used, keeps-without_last, unknown-take}
 use Rattle.glyph_shelf.specs.declared.cache.Placed as placements
-use Rattle.glyph_shelf.specs.Cache.{CacheState, after_dropping, dropped_keys, empty_cache, evictable, frame_uses, kept_allocations, rectangle_at, used, without_key}
+use Rattle.glyph_shelf.specs.Cache.{CacheState, after_dropping, dropped_keys, empty_cache, evictable, frame_uses, in_new_frame, kept_allocations, rectangle_at, used, without_key}
 use Rattle.glyph_shelf.specs.Placing.{Enters, IsFrameFull, IsNew, has_room}
 use Rattle.glyph_shelf.specs.Promises.{KeepsCachePromises}
 use Rattle.glyph_run.specs.declared.commands.GlyphCommand.{GlyphCommand}
-use Rattle.glyph_run.specs.declared.commands.GlyphCommand.TheVariants.{Place, Get, Remove, Clear}
+use Rattle.glyph_run.specs.declared.commands.GlyphCommand.TheVariants.{Place, Get, Remove, Clear, BeginFrame}
 use Rattle.glyph_run.specs.declared.commands.GlyphReply.{GlyphReply}
-use Rattle.glyph_run.specs.declared.commands.GlyphReply.TheVariants.{Placed, TooLarge, NoMemory, At, Removed, NotThere, Cleared, FrameFull}
+use Rattle.glyph_run.specs.declared.commands.GlyphReply.TheVariants.{Placed, TooLarge, NoMemory, At, Removed, NotThere, Cleared, Begun, FrameFull}
 use Rattle.glyph_run.specs.Laws.{HasMemory}
 use Rattle.glyph_run.specs.ReplyText.{evicted_text, line_of, replies_text}
 use Rattle.glyph_run.specs.Runs.{GlyphStep, PlacesNew, Runs}
@@ -206,6 +206,29 @@ fresh-alike frame capacity =
       state = ap (λ (a : AtlasState). record { entries = []; capacity = capacity; atlas = a; used_in_frame = None }) (sym (fresh-renamed (λ n. n) frame));
     }
 
+-- two caches that are alike stay so where a frame begins in both
+framed-alike : (one other : CacheState) → AreAlike one other → AreAlike (in_new_frame one) (in_new_frame other)
+framed-alike one other alike =
+    record {
+      name = alike.name;
+      apart = alike.apart;
+      state = ap in_new_frame alike.state;
+    }
+
+-- a cache keeps its promises where a frame begins
+keeps-framed : (one : CacheState) → KeepsCachePromises one → KeepsCachePromises (in_new_frame one)
+keeps-framed one promises =
+    record {
+      atlas = promises.atlas;
+      few = promises.few;
+      capacity = promises.capacity;
+      keys = promises.keys;
+      tied = promises.tied;
+      inside = promises.inside;
+      apart = promises.apart;
+      uses = omega arith;
+    }
+
 -- a new key was placed in both
 placed-alike : (key : ℕ) (size : Size) (one other new another : CacheState) (rectangle others_rectangle : Rectangle) (evicted others_evicted : List ℕ)
     → KeepsCachePromises one → AreAlike one other → PlacesNew one key size rectangle evicted new → PlacesNew other key size others_rectangle others_evicted another
@@ -346,6 +369,12 @@ module _ (one other new another : CacheState) (promises : KeepsCachePromises one
       }
   cleared-step answer step other_step = absurd other_step
 
+  -- where a frame begins
+  framed-step : (answer : GlyphReply) → GlyphStep one BeginFrame Begun new → GlyphStep other BeginFrame answer another → StepAlike Begun answer new another
+  framed-step Begun after others_after =
+      record { same = refl; alike = rw (after, others_after) (framed-alike one other alike) }
+  framed-step answer step other_step = absurd other_step
+
   -- each command
   step-alike : (command : GlyphCommand) (reply answer : GlyphReply) → HasMemory reply → HasMemory answer
       → GlyphStep one command reply new → GlyphStep other command answer another → StepAlike reply answer new another
@@ -358,6 +387,7 @@ module _ (one other new another : CacheState) (promises : KeepsCachePromises one
   step-alike (Remove key) (Removed rectangle) answer memory room step other_step = removed-step key rectangle answer step other_step
   step-alike (Remove key) NotThere answer memory room step other_step = kept-step key answer step other_step
   step-alike Clear Cleared answer memory room step other_step = cleared-step answer step other_step
+  step-alike BeginFrame Begun answer memory room step other_step = framed-step answer step other_step
   step-alike command reply answer memory room step other_step = absurd step
 
 -- a cache that keeps its promises can answer a command so, and keeps them
@@ -478,6 +508,8 @@ can-answer one other another Clear Cleared promises alike memory step =
       step = refl;
       promises = keeps-empty one.atlas.frame one.capacity (promises-cleared one.atlas promises.atlas.valid) promises.capacity;
     }
+can-answer one other another BeginFrame Begun promises alike memory step =
+    record { new = in_new_frame one; step = refl; promises = keeps-framed one promises }
 can-answer one other another command reply promises alike memory step = absurd step
 
 -- runs of two caches that are alike to one that keeps its promises have the same lines
