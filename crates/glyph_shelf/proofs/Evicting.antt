@@ -19,8 +19,8 @@ use Rattle.etagere_base.specs.declared.frames.Frame.{Frame}
 use Rattle.etagere_base.specs.declared.geometry.Rectangle.{Rectangle}
 use Rattle.etagere_base.specs.declared.geometry.Size.{Size}
 use Rattle.etagere_base.specs.declared.ids.Allocation.{Allocation}
-use Rattle.glyph_shelf.specs.Cache.{CacheState, after_dropping, dropped_keys, without_last}
-use Rattle.glyph_shelf.specs.Placing.{Enters, IsEvictionCount, Places, RanOut, SameLayout, has_room}
+use Rattle.glyph_shelf.specs.Cache.{CacheState, after_dropping, dropped_keys, evictable, without_last}
+use Rattle.glyph_shelf.specs.Placing.{Enters, IsEvictionCount, MakesRoom, Places, RanOut, SameLayout, has_room}
 use Rattle.glyph_shelf.specs.Promises.{KeepsCachePromises}
 use Rattle.glyph_shelf.proofs.Callers.{frame-after_dropping, frame-without_last, length-after_dropping, length-without_last}
 use Rattle.glyph_shelf.proofs.EntryLemmas.{last-none, last-split, unknown-take}
@@ -136,14 +136,22 @@ evicted-places old key size evicted left rectangle new has room enters =
       entered = subst (λ (s : CacheState). Enters s key size rectangle new) has.drops.after enters;
     }
 
+-- the least number of evictions is no more than makes room
+least-few : (old : CacheState) (size : Size) (count most : ℕ) → IsEvictionCount old size count → MakesRoom old size most → count ≤ most
+least-few old size count most least makes = elim (nat_lt makes.count count) as (λ b. nat_lt makes.count count ≡ b → count ≤ most) [
+  | true ↦ λ is. let none = least.least makes.count (grind (arith, nat_tests)) in let room = makes.room in absurd (cc)
+  | false ↦ λ is. let few = makes.few in grind (arith, nat_tests)
+] refl
+
 -- where memory runs out then
-pub evicted-ran_out : (old : CacheState) (size : Size) (evicted : List ℕ) (left new : CacheState)
+pub evicted-ran_out : (old : CacheState) (size : Size) (evicted : List ℕ) (left new : CacheState) → MakesRoom old size (evictable old)
     → HasEvicted old size evicted left → has_room left size ≡ true → SameLayout left new → RanOut old size evicted new
-evicted-ran_out old size evicted left new has room same =
+evicted-ran_out old size evicted left new makes has room same =
     record {
       evictions = length evicted;
       least = evictions-made old size evicted left has room;
       few = omega arith;
+      needed = λ some. least-few old size (length evicted) (evictable old) (evictions-made old size evicted left has room) makes;
       listed = dropped-gone old evicted left has.drops;
       rest = subst (λ (s : CacheState). SameLayout s new) has.drops.after same;
     }
@@ -200,19 +208,21 @@ ran_out-first state size promises fits =
       evictions = found.0;
       least = found.1;
       few = omega arith;
+      needed = λ some. absurd (omega arith);
       listed = refl;
       rest = record { entries = refl; capacity = refl; uses = refl; layout = refl };
     }
 
 -- where memory runs out while there is no room yet
 pub evicted-stopped : (old : CacheState) (size : Size) (evicted : List ℕ) (left : CacheState) → KeepsCachePromises old
-    → Fits old.atlas.frame size → HasEvicted old size evicted left → RanOut old size evicted left
-evicted-stopped old size evicted left promises fits has =
+    → Fits old.atlas.frame size → MakesRoom old size (evictable old) → HasEvicted old size evicted left → RanOut old size evicted left
+evicted-stopped old size evicted left promises fits makes has =
     let found = evictions-exist old size promises fits in
     record {
       evictions = found.0;
       least = found.1;
       few = not_fewer found.0 found.1.room;
+      needed = λ some. least-few old size found.0 (evictable old) found.1 makes;
       listed = dropped-gone old evicted left has.drops;
       rest = subst (λ (s : CacheState). SameLayout s left) has.drops.after (record { entries = refl; capacity = refl; uses = refl; layout = refl });
     }
@@ -282,8 +292,8 @@ evicting-step old key size {evicted} {longer} {left} {new} {dropped} is full at 
 
 -- where memory runs out for the list of what has gone
 pub evicting-stopped : (old : CacheState) (key : ℕ) (size : Size) (evicted : List ℕ) (left : CacheState)
-    → IsEvicting old key size evicted left → RanOut old size evicted left
-evicting-stopped old key size evicted left is = evicted-stopped old size evicted left is.before is.fits is.has
+    → MakesRoom old size (evictable old) → IsEvicting old key size evicted left → RanOut old size evicted left
+evicting-stopped old key size evicted left makes is = evicted-stopped old size evicted left is.before is.fits makes is.has
 
 -- one entry less is left
 pub evicting-shorter : (left new : CacheState) (dropped : ℕ) → Some dropped ≡ option_map (λ e. e.0) (last_entry left.entries)

@@ -9,12 +9,13 @@ use Rattle.shelf_model.specs.Choice.{placement_of}
 use Rattle.shelf_model.specs.Places.{is_allocated}
 use Rattle.shelf_model.specs.Returning.{returned}
 use Rattle.shelf_model.specs.State.{AtlasState}
+use Rattle.etagere_base.specs.declared.geometry.Rectangle.{Rectangle}
 use Rattle.etagere_base.specs.declared.geometry.Size.{Size}
 use Rattle.etagere_base.specs.declared.ids.Allocation.{Allocation}
 use Rattle.used_keys.specs.declared.stamps.Entry.{Entry}
 use Rattle.used_keys.specs.Private.Stamps.{unstamped}
 use Rattle.glyph_shelf.specs.Cache.{CacheState, after_dropping, evictable, frame_uses}
-use Rattle.glyph_shelf.specs.Placing.{IsFrameFull, LacksRoom, MakesRoom, has_room}
+use Rattle.glyph_shelf.specs.Placing.{IsFrameFull, LacksRoom, MakesRoom, Places, has_room}
 use Rattle.glyph_shelf.specs.Promises.{KeepsCachePromises}
 use Rattle.glyph_shelf.proofs.Callers.{capacity-after_dropping, length-after_dropping}
 use Rattle.glyph_shelf.proofs.EntryLemmas.{last-among}
@@ -42,6 +43,16 @@ pub lacks-more : (state : CacheState) (size : Size) (n : ℕ) → LacksRoom stat
 lacks-more state size n lacks full count few =
     below_next (λ k. has_room (after_dropping state k) size ≡ false) (n + 1)
     (λ k less. lacks k (omega arith)) full count (omega arith)
+
+-- what makes room in a frame isn't lacking
+pub full-lacks : (old : CacheState) (size : Size) → IsFrameFull old size → MakesRoom old size (evictable old) → ⊥
+full-lacks old size full makes = let none = full makes.count makes.few in let room = makes.room in cc
+
+-- nothing is placed in a full frame
+pub full-places : (old : CacheState) (key : ℕ) (size : Size) (rectangle : Rectangle) (evicted : List ℕ) (new : CacheState)
+    → IsFrameFull old size → Places old key size rectangle evicted new → length evicted ≤ evictable old → ⊥
+full-places old key size rectangle evicted new full places spared =
+    full-lacks old size full (record { count = length evicted; few = spared; room = places.least.room })
 
 -- so many evictions as were needed are no more than make room
 pub evicted-few : (old : CacheState) (size : Size) (evicted : List ℕ) (left : CacheState) (most : ℕ)

@@ -1,5 +1,5 @@
 -- What becomes of a cache when a new key is placed: what is evicted, and what stands after it.
-use Rattle.std.specs.Prelude.{◌≡◌, ℕ, suc, ◌<◌, ◌≤◌, Bool, ◌&&◌, true, false, is_some, nat_eq, nat_lt, option_map, None, List, ◌∷◌, length}
+use Rattle.std.specs.Prelude.{◌≡◌, ℕ, suc, ◌<◌, ◌≤◌, Bool, ◌&&◌, true, false, is_some, nat_eq, nat_lt, option_map, None, List, [], ◌∷◌, length}
 use Rattle.std.specs.Map.{lookup}
 use Rattle.shelf_model.specs.Atlas.{Allocates}
 use Rattle.shelf_model.specs.Choice.{placement_of, IsRefused}
@@ -70,12 +70,14 @@ pub record SameLayout (old new : CacheState) : Type 0 where
   pub uses : new.used_in_frame ≡ old.used_in_frame
   pub layout : layout new.atlas ≡ layout old.atlas
 
--- memory ran out when so many of the evictions that a size needs had gone
+-- memory ran out when so many of the evictions that a size needs had gone; none went where those that may go make no
+-- room
 pub record RanOut (old : CacheState) (size : Size) (evicted : List ℕ) (new : CacheState)
     : Type 0 where
   pub evictions : ℕ
   pub least : IsEvictionCount old size evictions
   pub few : length evicted ≤ evictions
+  pub needed : 1 ≤ length evicted → evictions ≤ evictable old
   pub listed : evicted ≡ dropped_keys old (length evicted)
   pub rest : SameLayout (after_dropping old (length evicted)) new
 
@@ -89,3 +91,8 @@ IsLeft old size FrameFull new = new ≡ old
 abbrev pub Spares : CacheState → GlyphFault → Type 0
 Spares old (Memory evicted) = length evicted.items ≤ evictable old
 Spares old fault = Unit {0}
+
+-- a fault names no key as evicted
+abbrev pub EvictsNone : GlyphFault → Type 0
+EvictsNone (Memory evicted) = evicted.items ≡ []
+EvictsNone fault = Unit {0}

@@ -3,7 +3,7 @@
 //! Definitions: `Cache` for what the clauses see, `Placing` for what becomes of it, `Promises` for what every cache
 //! keeps. The clauses stay as they are: callers prove by them.
 
-ghost use Rattle.std.specs.Prelude.{◌≡◌, ◌↔◌, ◌≤◌, [], Err, None, Some, IfOk, IfErr, IfSome, IsOkAnd, IsErrOf, OnErr, OnOk, IsTrue, length};
+ghost use Rattle.std.specs.Prelude.{◌≡◌, ◌↔◌, ◌≤◌, [], Err, None, Some, IfOk, IfErr, IfSome, IsOkAnd, IsErrAnd, IsErrOf, OnErr, OnOk, IsTrue, length};
 ghost use Rattle.std.specs.NonZero.{non_zero_usize_get};
 ghost use Rattle.etagere_base.specs.Frames as frames;
 ghost use Rattle.etagere_base.specs.Frames.{IsAccepted, longest_side, options_fault};
@@ -12,7 +12,7 @@ ghost use Rattle.etagere_base.specs.Rectangles.{IsLarge};
 ghost use Rattle.shelf_model.specs.Growing.{grow_fault, records_needed};
 ghost use Rattle.shelf_model.specs.declared.faults.AtlasGrowFault.TheVariants as grow_faults;
 ghost use Rattle.glyph_shelf.specs.Cache.{empty_cache, evictable, frame_uses, in_new_frame, listed, rectangle_at, used, without_key};
-ghost use Rattle.glyph_shelf.specs.Placing.{IsFrameFull, IsLeft, IsNew, IsTooLarge, Places, Spares};
+ghost use Rattle.glyph_shelf.specs.Placing.{EvictsNone, IsFrameFull, IsLeft, IsNew, IsTooLarge, Places, Spares};
 ghost use Rattle.glyph_shelf.specs.Promises.{KeepsCachePromises};
 ghost use Rattle.glyph_shelf.specs.Retaining.{Retains};
 ghost use Rattle.glyph_shelf.specs.Saved.{CacheStandsFor, IsCacheBroken, without_frame};
@@ -91,7 +91,8 @@ impl GlyphCache {
     /// `TooLarge` comes exactly where the key is new and an empty atlas has no room for the size; then nothing
     /// changes. `FrameFull` comes exactly where the key is new, and evicting all keys that weren't used in this frame
     /// wouldn't make room, memory aside; then nothing changes. `Memory` comes only for a new key, with the keys that
-    /// were evicted before memory ran out: these are gone, and the others stand.
+    /// were evicted before memory ran out: these are gone, and the others stand. Where evicting those keys wouldn't make
+    /// room, it names none, and nothing changes.
     ///
     /// Takes memory for the entry, for what the allocation splits, and for the list of the evicted keys. Asks the atlas
     /// once, and once more for each key that is evicted. Where keys were used in this frame, others weren't, and there
@@ -115,6 +116,8 @@ impl GlyphCache {
         ensures frame_full { IsErrOf result GlyphFault.FrameFull
             → IsNew self.old key × IsFrameFull self.old size }
         ensures framed { IsErrOf result GlyphFault.FrameFull → 1 ≤ frame_uses self.old }
+        ensures full { IsNew self.old key → IsFrameFull self.old size
+            → IsErrAnd result EvictsNone × (self.new ≡ self.old) }
         ensures promises { KeepsCachePromises self.new }
     {
         let mut evicted = Vec::new(self.alloc);

@@ -381,6 +381,8 @@ impl Kept {
         ensures framed { IfOk result (λ answer. IfNone answer (1 ≤ frame_uses self.old)) }
         ensures none { IfOk result (λ answer. IfNone answer (self.new ≡ self.old)) }
         ensures err { OnErr result (RanOut self.old size evicted.new.items self.new) }
+        ensures err_full { IsFrameFull self.old size → OnErr result
+            ((evicted.new.items ≡ []) × (self.new ≡ self.old)) }
         ensures spared { length evicted.new.items ≤ evictable self.old }
         ensures frame { self.new.atlas.frame ≡ self.old.atlas.frame }
         ensures promises { KeepsCachePromises self.new }

@@ -2,6 +2,7 @@ use Rattle.std.proofs.Common.{◌≡◌, ◌≤◌, None, length, nat_eq, ap, sy
 use Rattle.std.specs.Map.{lookup}
 use Rattle.glyph_shelf.specs.Cache.{CacheState, evictable, rectangle_at}
 use Rattle.glyph_shelf.specs.Placing.{IsFrameFull, IsNew, Places, RanOut}
+use Rattle.glyph_shelf.proofs.FullFrames.{full-places}
 use Rattle.glyph_shelf.proofs.Keeping.{looked-unknown, unknown-rectangle}
 use Rattle.glyph_shelf.proofs.cache.GlyphCache.place.Goals as goal
 
@@ -66,3 +67,25 @@ returns-clause-spared c =
     let same : c.look.new.self ≡ c.args.self.now =
     looked-unknown c.self.inside.kept c.look.new.self c.args.key none c.look.ensures.used ∙ c.self.view_is in
     subst (λ (s : CacheState). length c.place_new.new.evicted.items ≤ evictable s) same c.place_new.ensures.spared
+
+pub returns-then-not-fits_when_empty-clause-full : goal.returns-then-not-fits_when_empty-clause-full
+returns-then-not-fits_when_empty-clause-full c =
+    λ new full. (tt, returns-then-not-fits_when_empty-clause-left c)
+
+pub returns-in_default-place_new-clause-full : goal.returns-in_default-place_new-clause-full
+returns-in_default-place_new-clause-full c =
+    let none : rectangle_at c.self.inside.kept c.args.key ≡ None = sym c.look.ensures.value ∙ c.in_default.is in
+    let same : c.look.new.self ≡ c.args.self.now =
+    looked-unknown c.self.inside.kept c.look.new.self c.args.key none c.look.ensures.used ∙ c.self.view_is in
+    λ new full.
+    let kept = c.in_default-place_new.ensures.err_full (subst (λ (s : CacheState). IsFrameFull s c.args.size) (sym same) full) in
+    (kept.0, kept.1 ∙ same)
+
+pub returns-in_default-answer-clause-full : goal.returns-in_default-answer-clause-full
+returns-in_default-answer-clause-full c =
+    λ new full. (tt, returns-in_default-answer-clause-left c)
+
+pub returns-clause-full : goal.returns-clause-full
+returns-clause-full c =
+    λ new full. absurd (full-places c.args.self.now c.args.key c.args.size c.in-Some-answer.rectangle c.place_new.new.evicted.items
+    c.place_new.new.self full (returns-clause-placed c new) (returns-clause-spared c))

@@ -35,7 +35,7 @@ returns-in_err-rectangle-clause-err c =
     evicting-step c.args.self.now c.args.key c.args.size c.loop-dropped.invariant.0 c.loop-dropped.invariant.1
     c.in-Some.ensures.key longer c.drop_last.ensures.dropped in
     on_err (RanOut c.args.self.now c.args.size c.push.new.self.items c.enter.new.self) _
-    (evicted-ran_out c.args.self.now c.args.size c.push.new.self.items c.drop_last.new.self c.enter.new.self
+    (evicted-ran_out c.args.self.now c.args.size c.push.new.self.items c.drop_last.new.self c.enter.new.self c.requires.room
     stepped.has c.in_err-rectangle.ensures.err_room c.in_err-rectangle.ensures.err)
 
 pub returns-in-Some-2-clause-ok : goal.returns-in-Some-2-clause-ok
@@ -79,7 +79,7 @@ returns-in_err-reserve-2-clause-err c =
     let longer : c.push.new.self.items ≡ c.loop-dropped.evicted.items ++ c.in-Some.dropped ∷ [] = rw c.unwrap.ensures at c.push.ensures.items in
     let same : c.enter.new.self ≡ c.drop_last.new.self = rw c.in_default-2.is at c.in_ok-rectangle.ensures.none in
     on_err (RanOut c.args.self.now c.args.size c.reserve-in-Some.new.self.items c.enter.new.self) _
-    (evicting-stopped c.args.self.now c.args.key c.args.size c.reserve-in-Some.new.self.items c.enter.new.self
+    (evicting-stopped c.args.self.now c.args.key c.args.size c.reserve-in-Some.new.self.items c.enter.new.self c.requires.room
     (evicting-step c.args.self.now c.args.key c.args.size c.loop-dropped.invariant.0 c.loop-dropped.invariant.1
     c.in-Some.ensures.key (c.reserve-in-Some.ensures.items ∙ longer) (same ∙ c.drop_last.ensures.dropped)))
 

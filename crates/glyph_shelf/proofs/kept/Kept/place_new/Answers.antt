@@ -1,4 +1,4 @@
-use Rattle.std.proofs.Common.{◌≡◌, ℕ, [], List, Result, Ok, Err, OnErr, sym, subst}
+use Rattle.std.proofs.Common.{◌≡◌, ℕ, [], List, Result, Ok, Err, OnErr, sym, subst, arith}
 use Rattle.glyph_shelf.specs.Cache.{CacheState}
 use Rattle.glyph_shelf.specs.Placing.{RanOut}
 use Rattle.glyph_shelf.specs.Promises.{KeepsCachePromises}
@@ -18,3 +18,7 @@ returns-in_err-makes_room-clause-err c =
     (subst left (sym c.requires.none)
     (subst (λ (s : CacheState). RanOut now c.args.size [] s) (sym same)
     (ran_out-first now c.args.size (subst KeepsCachePromises same c.enter.ensures.promises) c.requires.fits)))
+
+pub returns-in_err-rectangle-clause-err_full : goal.returns-in_err-rectangle-clause-err_full
+returns-in_err-rectangle-clause-err_full c =
+    λ full. let none = full 0 (omega arith) in let room = c.in_err-rectangle.ensures.err_room in absurd (cc)
