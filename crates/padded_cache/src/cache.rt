@@ -2,14 +2,14 @@
 //!
 //! Definitions: `Padded`, over those of `glyph_shelf` and `padding`. The clauses stay as they are: callers prove by them.
 
-ghost use Rattle.std.specs.Prelude.{◌≡◌, ◌↔◌, ◌≤◌, [], Err, None, IfOk, IfErr, IfSome, IsOkAnd, IsErrOf, OnErr, OnOk, length};
+ghost use Rattle.std.specs.Prelude.{◌≡◌, ◌↔◌, ◌≤◌, [], Err, None, IfOk, IfErr, IfSome, IsOkAnd, IsErrAnd, IsErrOf, OnErr, OnOk, length};
 ghost use Rattle.std.specs.NonZero.{non_zero_usize_get};
 ghost use Rattle.etagere_base.specs.Frames.{IsAccepted, atlas_frame, longest_side, options_fault};
 ghost use Rattle.etagere_base.specs.declared.faults.OptionsFault.TheVariants as faults;
 ghost use Rattle.shelf_model.specs.Growing.{grow_fault, records_needed};
 ghost use Rattle.shelf_model.specs.declared.faults.AtlasGrowFault.TheVariants as grow_faults;
 ghost use Rattle.glyph_shelf.specs.Cache.{empty_cache, evictable, frame_uses, in_new_frame, used, without_key};
-ghost use Rattle.glyph_shelf.specs.Placing.{IsFrameFull, IsLeft, IsNew, IsTooLarge, Spares};
+ghost use Rattle.glyph_shelf.specs.Placing.{EvictsNone, IsFrameFull, IsLeft, IsNew, IsTooLarge, Spares};
 ghost use Rattle.glyph_shelf.specs.Sizing.{cache_grown, surplus, surplus_keys, with_capacity};
 ghost use Rattle.glyph_shelf.specs.declared.faults.GlyphFault.TheVariants as glyph_faults;
 ghost use Rattle.padding.specs.Padding.{HasSize, padded, padding_refusal};
@@ -117,6 +117,8 @@ impl PaddedCache {
         ensures frame_full { IsErrOf result GlyphFault.FrameFull
             → IsNew self.old.cache key × IsFrameFull self.old.cache (padded self.old.padding size) }
         ensures framed { IsErrOf result GlyphFault.FrameFull → 1 ≤ frame_uses self.old.cache }
+        ensures full { IsNew self.old.cache key → IsFrameFull self.old.cache (padded self.old.padding size)
+            → IsErrAnd result EvictsNone × (self.new ≡ self.old) }
         ensures padding { self.new.padding ≡ self.old.padding }
         ensures promises { KeepsCachePadding self.new }
     {
