@@ -3,7 +3,7 @@
 //! Definitions: `Batches`, `Calls`, `Crossing`, `Statuses`, and those of both atlases.
 
 ghost use Rattle.std.specs.Prelude.{◌≡◌, ◌≢◌, ◌<◌, ◌≤◌, [], ◌∷◌, false, true, drop, length, take, slice_get, slice_index, IfSome};
-ghost use Rattle.shelf_model.specs.Atlas.{Allocates};
+ghost use Rattle.shelf_model.specs.Atlas.{Allocates, NeedsSplit};
 ghost use Rattle.shelf_model.specs.Choice.{IsRefused};
 ghost use Rattle.shelf_model.specs.Places.{is_allocated};
 ghost use Rattle.shelf_model.specs.Returning.{returned};
@@ -36,6 +36,7 @@ pub fn allocate_each(
     ensures all { result ≡ statuses.ok → count.new ≡ length sizes.now }
     ensures some { result ≢ statuses.ok → count.new < length sizes.now }
     ensures refused { result ≡ statuses.no_room → IfSome (slice_get sizes.now count.new) (λ size. IsRefused atlas.new (size_in size)) }
+    ensures split { result ≡ statuses.out_of_memory → IfSome (slice_get sizes.now count.new) (λ size. NeedsSplit atlas.new (size_in size)) }
 {
     for i in 0..sizes.len() {
         let status = allocate(atlas, sizes[i], &mut allocations[i]);
@@ -80,6 +81,7 @@ pub fn allocate_each_bucketed(
     ensures all { result ≡ statuses.ok → count.new ≡ length sizes.now }
     ensures some { result ≢ statuses.ok → count.new < length sizes.now }
     ensures refused { result ≡ statuses.no_room → IfSome (slice_get sizes.now count.new) (λ size. IsBucketRefused atlas.new (size_in size)) }
+    ensures shelf { result ≡ statuses.out_of_memory → IfSome (slice_get sizes.now count.new) (λ size. buckets.NeedsShelf atlas.new (size_in size)) }
 {
     for i in 0..sizes.len() {
         let status = allocate_bucketed(atlas, sizes[i], &mut allocations[i]);
