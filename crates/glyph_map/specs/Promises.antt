@@ -1,9 +1,8 @@
 -- What every map keeps, whatever was called before.
-use Rattle.std.specs.Prelude.{◌≡◌, Bool, map}
+use Rattle.std.specs.Prelude.{◌≡◌, ℕ, Bool, map}
 use Rattle.std.specs.List.{IsDistinct}
 use Rattle.std.specs.Map.{keys_of}
 use Rattle.etagere_base.specs.declared.ids.Allocation.{Allocation}
-use Rattle.std.specs.Prelude.{ℕ}
 use Rattle.glyph_shelf.specs.Cache.{CacheState}
 use Rattle.glyph_shelf.specs.Promises.{KeepsCachePromises}
 use Rattle.glyph_map.specs.State.{MapState, cache_of}
