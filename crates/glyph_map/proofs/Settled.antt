@@ -6,7 +6,7 @@ use Rattle.std.proofs.lemmas.List.{length-map, length-reverse, length-take, reve
 use Rattle.etagere_base.specs.declared.geometry.Rectangle.{Rectangle}
 use Rattle.etagere_base.specs.declared.geometry.Size.{Size}
 use Rattle.etagere_base.specs.declared.ids.Allocation.{Allocation}
-use Rattle.glyph_shelf.specs.Cache.{CacheState, after_dropping}
+use Rattle.glyph_shelf.specs.Cache.{CacheState, after_dropping, evictable}
 use Rattle.glyph_shelf.specs.Placing as cache
 use Rattle.glyph_shelf.proofs.Callers.{entries-after_dropping}
 use Rattle.glyph_map.specs.State.{cache_of, pairs_of}
@@ -17,7 +17,7 @@ use Rattle.glyph_map.specs.Private.Evicting.{unticketed}
 use Rattle.glyph_map.specs.Private.Lockstep.{joined, tickets_of}
 use Rattle.glyph_map.specs.declared.ticketed.Ticketed.{Ticketed}
 use Rattle.glyph_map.proofs.Joined.{AreInStep, joined-cache, joined-length, joined-pairs, map_of, same-length}
-use Rattle.glyph_map.proofs.Unkeyed.{dropped-few, room-dropping, unkeyed-dropping, unkeyed-places, unkeyed-same, zeros}
+use Rattle.glyph_map.proofs.Unkeyed.{dropped-few, evictable-unkeyed, room-dropping, unkeyed-dropping, unkeyed-places, unkeyed-same, zeros}
 
 module _ {K V : Type 0} where
   -- what stands first of both is in step
@@ -155,6 +155,16 @@ module _ {K V : Type 0} where
               ap (λ (s : CacheState). cache.has_room (after_dropping s fewer) size) same
               ∙ room-dropping c fewer size
               ∙ ran.least.least fewer (within fewer (subst (λ (k : ℕ). fewer < k) out.counted h) ran.few);
+          helps = λ some.
+              record {
+                count = ran.evictions;
+                few = subst (λ (k : ℕ). ran.evictions ≤ k) (sym (ap evictable same ∙ evictable-unkeyed c))
+                    (ran.needed (subst (λ (k : ℕ). 1 ≤ k) out.counted some));
+                room =
+                    ap (λ (s : CacheState). cache.has_room (after_dropping s ran.evictions) size) same
+                    ∙ room-dropping c ran.evictions size
+                    ∙ ran.least.room;
+              };
           evicts = record {
             listed = out-listed es c key entry n taken put step out;
             kept = joined-pairs left new.entries after ∙ ap unticketed rest ∙ rest-pairs es c n taken step out.counted;

@@ -42,12 +42,13 @@ module _ {K V : Type 0} where
     pub evicts : Evicts old evicted kept
     pub pairs : pairs_of new.entries ≡ (key, value) ∷ kept
 
-  -- memory ran out when these had gone, each of which the size needed; the layout of the atlas is as
-  -- after that
+  -- memory ran out when these had gone, each of which the size needed; none went where those that may
+  -- go make no room; the layout of the atlas is as after that
   pub record RanOut (old : MapState K V) (size : Size) (evicted : List (K × V))
       (new : MapState K V) : Type 0 where
     pub needed : (fewer : ℕ) → fewer < length evicted
         → placing.has_room (cache.after_dropping (cache_of old) fewer) size ≡ false
+    pub helps : 1 ≤ length evicted → placing.MakesRoom (cache_of old) size (evictable old)
     pub evicts : Evicts old evicted (pairs_of new.entries)
     pub rest : placing.SameLayout (cache.after_dropping (cache_of old) (length evicted)) (cache_of new)
 
