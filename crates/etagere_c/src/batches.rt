@@ -3,7 +3,7 @@
 //! Definitions: `Batches`, `Calls`, `Crossing`, `Statuses`, and those of both atlases.
 
 ghost use Rattle.std.specs.Prelude.{◌≡◌, ◌↔◌, ◌<◌, ◌≤◌, [], ◌∷◌, None, Some, false, true, drop, length, take, slice_get, slice_index, IfSome};
-ghost use Rattle.shelf_model.specs.Atlas.{Allocates};
+ghost use Rattle.shelf_model.specs.Atlas.{Allocates, NeedsSplit};
 ghost use Rattle.shelf_model.specs.Choice.{IsRefused};
 ghost use Rattle.shelf_model.specs.Places.{is_allocated};
 ghost use Rattle.shelf_model.specs.Returning.{returned};
@@ -45,7 +45,9 @@ pub extern "C" fn etagere_atlas_allocate_many(
     ensures behind { drop count.new allocations.new ≡ drop count.new allocations.old }
     ensures all { result ≡ statuses.ok → count.new ≡ length sizes.now }
     ensures some { result ≡ statuses.no_room → count.new < length sizes.now }
+    ensures some_left { result ≡ statuses.out_of_memory → count.new < length sizes.now }
     ensures refused { result ≡ statuses.no_room → IfSome atlas.new.state (λ held. IfSome (slice_get sizes.now count.new) (λ size. IsRefused held (size_in size))) }
+    ensures split { result ≡ statuses.out_of_memory → IfSome atlas.new.state (λ held. IfSome (slice_get sizes.now count.new) (λ size. NeedsSplit held (size_in size))) }
     ensures null_stays { result ≡ statuses.null_handle → (atlas.new.state ≡ atlas.old.state) × (allocations.new ≡ allocations.old) × (count.new ≡ count.old) }
     ensures short_stays { result ≡ statuses.too_short → (atlas.new.state ≡ atlas.old.state) × (allocations.new ≡ allocations.old) × (count.new ≡ count.old) }
 {
@@ -105,7 +107,9 @@ pub extern "C" fn etagere_bucketed_allocate_many(
     ensures behind { drop count.new allocations.new ≡ drop count.new allocations.old }
     ensures all { result ≡ statuses.ok → count.new ≡ length sizes.now }
     ensures some { result ≡ statuses.no_room → count.new < length sizes.now }
+    ensures some_left { result ≡ statuses.out_of_memory → count.new < length sizes.now }
     ensures refused { result ≡ statuses.no_room → IfSome atlas.new.state (λ held. IfSome (slice_get sizes.now count.new) (λ size. IsBucketRefused held (size_in size))) }
+    ensures shelf { result ≡ statuses.out_of_memory → IfSome atlas.new.state (λ held. IfSome (slice_get sizes.now count.new) (λ size. buckets.NeedsShelf held (size_in size))) }
     ensures null_stays { result ≡ statuses.null_handle → (atlas.new.state ≡ atlas.old.state) × (allocations.new ≡ allocations.old) × (count.new ≡ count.old) }
     ensures short_stays { result ≡ statuses.too_short → (atlas.new.state ≡ atlas.old.state) × (allocations.new ≡ allocations.old) × (count.new ≡ count.old) }
 {

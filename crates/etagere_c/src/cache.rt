@@ -7,7 +7,7 @@ ghost use Rattle.etagere_base.specs.Frames as frames;
 ghost use Rattle.etagere_base.specs.Frames.{longest_side, options_fault};
 ghost use Rattle.etagere_base.specs.declared.faults.OptionsFault.TheVariants as faults;
 ghost use Rattle.shelf_model.specs.Space as spaces;
-ghost use Rattle.glyph_shelf.specs.Cache.{empty_cache, frame_uses, in_new_frame, rectangle_at, used, without_key};
+ghost use Rattle.glyph_shelf.specs.Cache.{empty_cache, evictable, frame_uses, in_new_frame, rectangle_at, used, without_key};
 ghost use Rattle.glyph_shelf.specs.Placing.{IsFrameFull, IsNew, IsTooLarge, Places, RanOut};
 ghost use Rattle.glyph_shelf.specs.Promises.{KeepsCachePromises};
 ghost use Rattle.c_answers.specs.Calls.{IsAmong, IsFlag, Leads};
@@ -104,7 +104,8 @@ pub extern "C" fn etagere_cache_place(
     ensures too_large { IfSome cache.old.state (λ held. result ≡ statuses.too_large → IsNew held key × IsTooLarge held (size_in size)) }
     ensures large { IfSome cache.old.state (λ held. length held.entries ≤ length evicted.old → IsNew held key → IsTooLarge held (size_in size) → result ≡ statuses.too_large) }
     ensures memory { result ≡ statuses.cache_memory → Leads cache.old.state cache.new.state (λ before after.
-        RanOut before (size_in size) (take count.new evicted.new) after) }
+        IsNew before key × RanOut before (size_in size) (take count.new evicted.new) after) }
+    ensures spared { IsAmong (statuses.ok ∷ statuses.cache_memory ∷ []) result → IfSome cache.old.state (λ held. count.new ≤ evictable held) }
     ensures frame_full { IfSome cache.old.state (λ held. result ≡ statuses.frame_full → IsNew held key × IsFrameFull held (size_in size)) }
     ensures stays { result ≢ statuses.ok → result ≢ statuses.cache_memory → cache.new.state ≡ cache.old.state }
     ensures unwritten { result ≢ statuses.ok → rectangle.new ≡ rectangle.old }
