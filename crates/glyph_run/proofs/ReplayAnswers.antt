@@ -15,7 +15,7 @@ use Rattle.glyph_shelf.specs.Cache.{CacheState}
 use Rattle.glyph_run.specs.declared.commands.GlyphCommand.{GlyphCommand}
 use Rattle.glyph_run.specs.Replaying.{Replays}
 use Rattle.glyph_run.specs.ReplyText.{line_of, replies_text}
-use Rattle.glyph_run.specs.Runs.{RunsTo}
+use Rattle.glyph_run.specs.Runs.{RunKeepsPromisesThroughout, RunsTo}
 use Rattle.glyph_run.specs.Script.{Request, script_of}
 use Rattle.glyph_run.specs.Streaming.{StopsAt, StreamsRun}
 use Rattle.glyph_run.proofs.StreamsOn.{text-more}
@@ -41,6 +41,7 @@ module _ (input : List ℕ) (request : Request) (old new : Option (List ℕ))
             accepted = accepted;
             within = omega arith;
             runs = subst (λ (l : List GlyphCommand). RunsTo frame request.setup.capacity l run.replies) (sym all) (last, run.run);
+            promises = subst (λ (l : List GlyphCommand). RunKeepsPromisesThroughout frame request.setup.capacity l run.replies) (sym all) run.promises;
             text_is = run.text_is;
           };
           all = refl;
@@ -71,6 +72,7 @@ module _ (input : List ℕ) (request : Request) (old new : Option (List ℕ))
           accepted = accepted;
           within = omega arith;
           runs = (stopped, stops.run);
+          promises = stops.promises;
           text_is = text-more stops.replies stops.reply;
         }),
         whole,

@@ -12,7 +12,7 @@ use Rattle.run_commands.specs.declared.faults.ReplayFault.TheVariants.{Read, Wri
 use Rattle.run_scripts.specs.ReplyText.{bad_line_text, options_text}
 use Rattle.glyph_run.specs.declared.commands.GlyphReply.{GlyphReply}
 use Rattle.glyph_run.specs.ReplyText.{replies_text}
-use Rattle.glyph_run.specs.Runs.{RunsTo}
+use Rattle.glyph_run.specs.Runs.{RunKeepsPromisesThroughout, RunsTo}
 use Rattle.glyph_run.specs.Script.{Request, script_of}
 
 -- a new cache as the request asks for it may give these replies to its first commands, so many of them
@@ -21,8 +21,14 @@ RepliesTo request count replies =
     RunsTo (atlas_frame request.setup.size request.setup.options) request.setup.capacity
     (take count request.commands) replies
 
--- the input spells a request that is accepted, of which so many first commands were run, and the text is that of their
--- replies
+-- in such a run the cache keeps its promises at each moment
+abbrev pub RepliesKeepPromises : Request → ℕ → List GlyphReply → Type 0
+RepliesKeepPromises request count replies =
+    RunKeepsPromisesThroughout (atlas_frame request.setup.size request.setup.options) request.setup.capacity
+    (take count request.commands) replies
+
+-- the input spells a request that is accepted, of which so many first commands were run, which kept the promises at each
+-- moment, and the text is that of their replies
 pub record IsRunOf (input text : List ℕ) : Type 0 where
   pub request : Request
   pub count : ℕ
@@ -31,6 +37,7 @@ pub record IsRunOf (input text : List ℕ) : Type 0 where
   pub accepted : IsAccepted longest_side request.setup.size request.setup.options
   pub within : count ≤ length request.commands
   pub runs : RepliesTo request count replies
+  pub promises : RepliesKeepPromises request count replies
   pub text_is : text ≡ replies_text replies
 
 -- all of its commands were

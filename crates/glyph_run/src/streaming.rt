@@ -3,7 +3,7 @@
 //!
 //! Definition: `Streaming`, over `Runs` and `ReplyText`.
 
-ghost use Rattle.std.specs.Prelude.{◌≡◌, IfErr, OnErr, OnOk};
+ghost use Rattle.std.specs.Prelude.{◌≡◌, ◌≢◌, Err, IfErr, OnErr, OnOk};
 ghost use Rattle.std.specs.NonZero.{non_zero_usize_get};
 ghost use Rattle.etagere_base.specs.Frames.{IsAccepted, atlas_frame, longest_side};
 ghost use Rattle.run_commands.specs.Faults.{RefusesStream};
@@ -43,6 +43,7 @@ pub fn stream_cache<W: Write>(
         (W.contents writer.old) (W.contents writer.new) result }
     ensures accepted { OnOk result (IsAccepted longest_side size options.now) }
     ensures err { IfErr result (RefusesStream longest_side size options.now) }
+    ensures never { result ≢ Err StreamFault.Memory }
 {
     let mut cache = GlyphCache::new(alloc, size, options, capacity).map_err(StreamFault::Options)?;
     stream_all(&mut cache, commands, writer).map_err(|_| StreamFault::Write)
