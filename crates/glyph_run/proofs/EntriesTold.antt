@@ -65,16 +65,6 @@ entry-found {X} {Y} held key y (e ∷ es) h = here (nat_eq key e.0) refl h (entr
         }
 
 module _ {X : Type 0} where
-  -- a key that isn't there takes nothing out
-  pub removed-unknown : (test : ℕ → Bool) (es : List (ℕ × X)) → lookup test es ≡ None → remove_entry test es ≡ es
-  removed-unknown test [] unknown = refl
-  removed-unknown test (e ∷ es) unknown = here (test e.0) unknown (removed-unknown test es)
-    where
-      here : (b : Bool) → cond b (Some e.1) (lookup test es) ≡ None → (lookup test es ≡ None → remove_entry test es ≡ es)
-          → cond b es (e ∷ remove_entry test es) ≡ e ∷ es
-      here true h later = absurd (cc)
-      here false h later = ap (λ l. e ∷ l) (later h)
-
   -- the last entry goes by its key, where that stands nowhere before
   removed-last : (test : ℕ → Bool) (es : List (ℕ × X)) (e : ℕ × X) → lookup test es ≡ None → test e.0 ≡ true
       → remove_entry test (es ++ e ∷ []) ≡ es

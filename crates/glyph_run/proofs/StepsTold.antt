@@ -21,7 +21,8 @@ use Rattle.glyph_run.specs.declared.commands.GlyphCommand.TheVariants.{Place, Ge
 use Rattle.glyph_run.specs.declared.commands.GlyphReply.{GlyphReply}
 use Rattle.glyph_run.specs.declared.commands.GlyphReply.TheVariants.{Placed, TooLarge, NoMemory, At, Removed, NotThere, Cleared, Begun, FrameFull}
 use Rattle.glyph_run.specs.Runs.{GlyphStep, PlacesNew, rectangles, told_after, without}
-use Rattle.glyph_run.proofs.EntriesTold.{entry-found, held_by, removed-held, removed-unknown, without-held, without-last}
+use Rattle.glyph_run.proofs.EntriesTold.{entry-found, held_by, removed-held, without-held, without-last}
+use Rattle.used_keys.proofs.Entries.{removed-unknown}
 
 -- the rectangle of an allocation
 abbrev rectangle_of : Allocation → Rectangle

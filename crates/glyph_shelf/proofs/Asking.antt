@@ -19,7 +19,7 @@ use Rattle.glyph_shelf.specs.Cache.{CacheState, frame_uses, in_new_frame, listed
 use Rattle.glyph_shelf.specs.Private.Asking.{Asks, AsksInTurn, turned}
 use Rattle.glyph_shelf.specs.Retaining.{Retains, refused_keys, without_keys}
 use Rattle.glyph_shelf.proofs.Callers.{length-without_last}
-use Rattle.glyph_shelf.proofs.EntryLemmas.{unknown-take}
+use Rattle.used_keys.proofs.Entries.{unknown-take}
 
 abbrev Entries : Type 0
 Entries = List (ℕ × Allocation)

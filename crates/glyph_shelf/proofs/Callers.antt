@@ -9,8 +9,8 @@ use Rattle.used_keys.specs.Keys.{uses_left}
 use Rattle.shelf_model.specs.Returning.{returned}
 use Rattle.etagere_base.specs.declared.ids.Allocation.{Allocation}
 use Rattle.glyph_shelf.specs.Cache.{CacheState, after_dropping, dropped_keys, without_last}
-use Rattle.glyph_shelf.proofs.EntryLemmas.{last-none}
-pub use Rattle.glyph_shelf.proofs.EntryLemmas.{unknown-take}
+use Rattle.used_keys.proofs.Entries.{last-none}
+pub use Rattle.used_keys.proofs.Entries.{unknown-take}
 pub use Rattle.glyph_shelf.proofs.Keeping.{keeps, keeps-entered, keeps-key_returned, keeps-used, keeps-without_last, looked-unknown, unknown-rectangle, without_key-unknown}
 
 -- a cache without its last entry has the same frame and capacity, and one entry less

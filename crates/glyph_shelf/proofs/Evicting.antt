@@ -23,7 +23,7 @@ use Rattle.glyph_shelf.specs.Cache.{CacheState, after_dropping, dropped_keys, ev
 use Rattle.glyph_shelf.specs.Placing.{Enters, IsEvictionCount, MakesRoom, Places, RanOut, SameLayout, has_room}
 use Rattle.glyph_shelf.specs.Promises.{KeepsCachePromises}
 use Rattle.glyph_shelf.proofs.Callers.{frame-after_dropping, frame-without_last, length-after_dropping, length-without_last}
-use Rattle.glyph_shelf.proofs.EntryLemmas.{last-none, last-split, unknown-take}
+use Rattle.used_keys.proofs.Entries.{last-none, last-split, unknown-take}
 use Rattle.glyph_shelf.proofs.Keeping.{keeps-without_last}
 
 -- an empty atlas of the frame has a place for the size

@@ -18,7 +18,7 @@ use Rattle.glyph_shelf.specs.Cache.{CacheState, after_dropping, evictable, frame
 use Rattle.glyph_shelf.specs.Placing.{IsFrameFull, LacksRoom, MakesRoom, Places, has_room}
 use Rattle.glyph_shelf.specs.Promises.{KeepsCachePromises}
 use Rattle.glyph_shelf.proofs.Callers.{capacity-after_dropping, length-after_dropping}
-use Rattle.glyph_shelf.proofs.EntryLemmas.{last-among}
+use Rattle.used_keys.proofs.Entries.{last-among}
 use Rattle.glyph_shelf.proofs.Evicting.{Fits, HasEvicted, all-make_room, below_next, keeps-after_dropping, without_last-some}
 use Rattle.glyph_shelf.proofs.Keeping.{kept-allocated}
 

@@ -19,9 +19,9 @@ use Rattle.shelf_model.proofs.Callers.{found-allocated, not_allocated-any, promi
 use Rattle.glyph_shelf.specs.Cache.{CacheState, frame_uses, kept_allocations, rectangle_at, used, without_key, without_last}
 use Rattle.glyph_shelf.specs.Promises.{KeepsCachePromises}
 use Rattle.used_keys.specs.Keys.{uses_in, uses_left, uses_without}
-use Rattle.glyph_shelf.proofs.EntryLemmas.{found-among, last-among, length-removed, promoted-known, promoted-unknown, unknown-take}
+use Rattle.used_keys.proofs.Entries.{Among, found-among, last-among, length-removed, promoted-known, promoted-unknown, unknown-take}
 use Rattle.glyph_shelf.proofs.FrameUses.{few-entered, few-left, few-with, few-without, with-unknown}
-use Rattle.glyph_shelf.proofs.KeyCounts.{times-entered, times-last, times-promoted, times-removed}
+use Rattle.used_keys.proofs.KeyCounts.{times-entered, times-last, times-promoted, times-removed}
 use Rattle.glyph_shelf.proofs.Tying.{first-added, tied-front}
 
 -- a cache by its parts
@@ -48,19 +48,21 @@ keeps state atlas few capacity keys tied uses =
 
 -- what is kept is allocated under its id
 pub kept-allocated : (state : CacheState) (others : List Allocation) (a : Allocation) → KeepsCachePromises state
-    → Adds others a (kept_allocations state) → is_allocated state.atlas a.id ≡ true
-kept-allocated state others a promises adds =
+    → Among others a (kept_allocations state) → is_allocated state.atlas a.id ≡ true
+kept-allocated state others a promises among =
     let found = IsFound (allocations state.atlas) in
     found-allocated state.atlas a
-    (Each-middle found adds.front a adds.back (subst (AllByRecursion found) adds.after promises.tied.found))
+    (Each-middle found among.front a among.back (subst (AllByRecursion found) among.after promises.tied.found))
 
 -- a cache of which one was given back
 keeps-returned : (state : CacheState) (entries : List (ℕ × Allocation)) (uses : Option ℕ) (a : Allocation) → KeepsCachePromises state
-    → Adds (values_of entries) a (kept_allocations state) → length entries ≤ length state.entries
+    → Among (values_of entries) a (kept_allocations state) → length entries ≤ length state.entries
     → ((key : ℕ) → times key (keys_of entries) ≤ times key (keys_of state.entries)) → uses_in uses ≤ length entries
     → KeepsCachePromises (cache entries state.capacity (returned state.atlas a.id) uses)
-keeps-returned state entries uses a promises adds fewer rarer used =
+keeps-returned state entries uses a promises among fewer rarer used =
     let few = promises.few in
+    let adds : Adds (values_of entries) a (kept_allocations state) =
+    record { front = among.front; back = among.back; before = among.before; after = among.after } in
     keeps (cache entries state.capacity (returned state.atlas a.id) uses)
     (promises-returned state.atlas a.id promises.atlas.valid) (omega arith) promises.capacity
     (λ key. omega (arith, promises.keys key, rarer key))

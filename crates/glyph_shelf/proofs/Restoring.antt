@@ -27,7 +27,7 @@ use Rattle.glyph_shelf.specs.declared.faults.CacheRestoreFault.{CacheRestoreFaul
 use Rattle.glyph_shelf.specs.declared.faults.CacheRestoreFault.TheVariants.{Atlas, Memory, NoCapacity, TooManyKeys, KeyTwice, WrongId, NoKey}
 use Rattle.glyph_shelf.specs.declared.saving.CacheSnapshot.{CacheSnapshot}
 use Rattle.glyph_shelf.specs.declared.saving.SavedKey.{SavedKey}
-use Rattle.glyph_shelf.proofs.KeyCounts.{times-entered}
+use Rattle.used_keys.proofs.KeyCounts.{times-entered}
 use Rattle.glyph_shelf.proofs.Keeping.{keeps}
 use Rattle.glyph_shelf.proofs.SavedLemmas.{allocated-there, ids_of, ids-saved, keys-saved, there-allocated}
 

@@ -6,7 +6,7 @@ use Rattle.lru.specs.LruCache.{last_entry}
 use Rattle.etagere_base.specs.declared.ids.Allocation.{Allocation}
 use Rattle.glyph_shelf.specs.Cache.{CacheState, after_dropping, dropped_keys, without_last}
 use Rattle.glyph_shelf.proofs.Callers.{length-after_dropping}
-use Rattle.glyph_shelf.proofs.EntryLemmas.{last-none}
+use Rattle.used_keys.proofs.Entries.{last-none}
 use Rattle.glyph_shelf.proofs.Evicting.{HasDropped, dropped-gone, dropped-more, dropped-none, entry_of}
 
 -- so many have gone

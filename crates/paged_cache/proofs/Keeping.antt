@@ -7,8 +7,8 @@ use Rattle.std.proofs.lemmas.List.{length-map, length-take}
 use Rattle.lru.specs.LruCache.{last_entry}
 use Rattle.paged_cache.specs.Keyed.{IsKeyed, KeyedState, used, without_key, without_last}
 use Rattle.etagere_base.specs.Lists.{times}
-use Rattle.paged_cache.proofs.KeyCounts.{times-entered, times-last, times-promoted, times-removed}
-use Rattle.paged_cache.proofs.Entries.{Adds, found-among, last-among, length-removed, promoted-known, promoted-unknown}
+use Rattle.used_keys.proofs.KeyCounts.{times-entered, times-last, times-promoted, times-removed}
+use Rattle.used_keys.proofs.Entries.{Among, found-among, last-among, length-removed, promoted-known, promoted-unknown}
 
 -- keys with places by their parts
 abbrev pub keyed : {A P : Type 0} → List (ℕ × P) → ℕ → A → KeyedState A P
@@ -30,10 +30,10 @@ without_key-unknown {A} {P} returned state key unknown =
 module _ {A P : Type 0} (keeps : A → Type 0) (are_held : A → List P → Type 0) where
   -- of what is held one is held with it
   pub held-one : (is_held : A → P → Bool) → ((state : A) (front back : List P) (place : P) → are_held state (front ++ place ∷ back) → is_held state place ≡ true)
-      → (state : KeyedState A P) (others : List P) (place : P) → IsKeyed keeps are_held state → Adds others place (values_of state.entries)
+      → (state : KeyedState A P) (others : List P) (place : P) → IsKeyed keeps are_held state → Among others place (values_of state.entries)
       → is_held state.places place ≡ true
-  held-one is_held among state others place is adds =
-      among state.places adds.front adds.back place (subst (are_held state.places) adds.after is.held)
+  held-one is_held among_held state others place is among =
+      among_held state.places among.front among.back place (subst (are_held state.places) among.after is.held)
 
   -- a key entered
   pub keeps-entered : (old : KeyedState A P) (key : ℕ) (place : P) (after : A) → IsKeyed keeps are_held old
@@ -50,18 +50,18 @@ module _ {A P : Type 0} (keeps : A → Type 0) (are_held : A → List P → Type
 
   -- a key went, and its place was given back
   pub keeps-gone : (state : KeyedState A P) (entries : List (ℕ × P)) (place : P) (after : A) → IsKeyed keeps are_held state
-      → Adds (values_of entries) place (values_of state.entries) → length entries ≤ length state.entries
+      → Among (values_of entries) place (values_of state.entries) → length entries ≤ length state.entries
       → ((key : ℕ) → times key (keys_of entries) ≤ times key (keys_of state.entries)) → keeps after
       → ((front back : List P) → are_held state.places (front ++ place ∷ back) → are_held after (front ++ back))
       → IsKeyed keeps are_held (keyed entries state.capacity after)
-  keeps-gone state entries place after is adds fewer rarer kept one_less =
+  keeps-gone state entries place after is among fewer rarer kept one_less =
       let few = is.few in
       record {
         places = kept;
         few = omega arith;
         capacity = is.capacity;
         keys = λ key. omega (arith, is.keys key, rarer key);
-        held = subst (are_held after) (sym adds.before) (one_less adds.front adds.back (subst (are_held state.places) adds.after is.held));
+        held = subst (are_held after) (sym among.before) (one_less among.front among.back (subst (are_held state.places) among.after is.held));
       }
 
   -- a key went to the front
@@ -75,7 +75,7 @@ module _ {A P : Type 0} (keeps : A → Type 0) (are_held : A → List P → Type
           (sym (promoted-unknown (nat_eq key) state.entries found)) is
       by_found (Some place) found =
           let few = is.few in
-          let adds = found-among (nat_eq key) state.entries place found in
+          let among = found-among (nat_eq key) state.entries place found in
           let values = promoted-known (nat_eq key) state.entries place found in
           let held_by : ℕ × P → P = λ e. e.1 in
           let others = remove_entry (nat_eq key) state.entries in
@@ -84,8 +84,8 @@ module _ {A P : Type 0} (keeps : A → Type 0) (are_held : A → List P → Type
             few = omega (arith, ap length values, length-map (used state key).entries held_by, length-map others held_by, length-removed (nat_eq key) state.entries place found);
             capacity = is.capacity;
             keys = λ k. omega (arith, is.keys k, times-promoted (nat_eq key) state.entries k);
-            held = subst (are_held state.places) (sym (values ∙ ap (λ l. place ∷ l) adds.before))
-                (to_front state.places adds.front adds.back place (subst (are_held state.places) adds.after is.held));
+            held = subst (are_held state.places) (sym (values ∙ ap (λ l. place ∷ l) among.before))
+                (to_front state.places among.front among.back place (subst (are_held state.places) among.after is.held));
           }
 
   module _ (returned : A → P → A) (one_less : (state : A) (front back : List P) (place : P) → keeps state → are_held state (front ++ place ∷ back) → are_held (returned state place) (front ++ back)) (still_keeps : (state : A) (place : P) → keeps state → keeps (returned state place)) where

@@ -8,7 +8,8 @@ use Rattle.etagere_base.specs.declared.ids.Allocation.{Allocation}
 use Rattle.used_keys.specs.declared.stamps.Entry.{Entry}
 use Rattle.used_keys.specs.Keys.{KeysState, framed, looked, stands_among, uses_with, uses_without, without, without_last}
 use Rattle.used_keys.specs.Private.Stamps.{AreFalling, stamped_first, unstamped, used_in, with_stamp}
-use Rattle.used_keys.proofs.EntryLemmas.{length-bare, lookup-bare, lookup-entry, promoted-bare, promoted-unknown, removed-bare, removed-unknown, take-bare, unknown-take}
+use Rattle.used_keys.proofs.BareEntries.{length-bare, lookup-bare, promoted-bare, removed-bare, take-bare}
+use Rattle.used_keys.proofs.Entries.{lookup-entry, promoted-unknown, removed-unknown, unknown-take}
 use Rattle.used_keys.proofs.StampLemmas.{falling-removed, stamped-found, stamped-none, stamped-removed, stamped-take}
 
 -- the uses of a frame, if it is one
@@ -70,7 +71,7 @@ pub used-looked : (frame key cap : ℕ) (es : List (ℕ × Entry)) → AreFallin
 used-looked frame key cap es falling = by_entry (lookup_entry (nat_eq key) es) refl (lookup-entry (nat_eq key) es)
   where
     by_entry : (o : Option (ℕ × Entry)) → lookup_entry (nat_eq key) es ≡ o
-        → lookup (nat_eq key) es ≡ option_map_or (λ f. Some f.1) o None
+        → lookup (nat_eq key) es ≡ option_map (λ (f : ℕ × Entry). f.1) o
         → state_of (option_map_or (λ e. with_stamp frame e ∷ remove_entry (nat_eq key) es) o es) cap frame ≡ looked (state_of es cap frame) key
     by_entry None at found =
         let bare_unknown : lookup (nat_eq key) (unstamped es) ≡ None = lookup-bare (nat_eq key) es ∙ ap (option_map (λ (x : Entry). x.allocation)) found in

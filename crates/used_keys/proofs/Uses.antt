@@ -8,7 +8,8 @@ use Rattle.etagere_base.specs.declared.ids.Allocation.{Allocation}
 use Rattle.used_keys.specs.declared.stamps.Entry.{Entry}
 use Rattle.used_keys.specs.Keys.{rectangle_in}
 use Rattle.used_keys.specs.Private.Stamps.{StandsFirst, restamped, unstamped, used_in, with_stamp}
-use Rattle.used_keys.proofs.EntryLemmas.{found-key, lookup-bare, lookup-entry}
+use Rattle.used_keys.proofs.BareEntries.{found-key, lookup-bare}
+use Rattle.used_keys.proofs.Entries.{entry-none, lookup-entry}
 
 -- the rectangle that a key finds
 pub rectangle-bare : (key : ℕ) (es : List (ℕ × Entry))
@@ -25,13 +26,7 @@ rectangle-bare key es =
 module _ (frame key : ℕ) (es : List (ℕ × Entry)) where
   -- a key that isn't there moves nothing
   pub used-unknown : lookup (nat_eq key) es ≡ None → promoted (nat_eq key) es ≡ used_in frame key es
-  used-unknown unknown = by_entry (lookup_entry (nat_eq key) es) (sym (lookup-entry (nat_eq key) es) ∙ unknown)
-    where
-      by_entry : (o : Option (ℕ × Entry)) → option_map_or (λ f. Some f.1) o None ≡ None
-          → option_map_or (λ e. e ∷ remove_entry (nat_eq key) es) o es
-          ≡ option_map_or (λ e. with_stamp frame e ∷ remove_entry (nat_eq key) es) o es
-      by_entry None h = refl
-      by_entry (Some e) h = absurd (cc)
+  used-unknown unknown = rw (entry-none (nat_eq key) es unknown) refl
 
   -- one that has the stamp of the frame keeps it
   pub used-again : (e : Entry) → lookup (nat_eq key) es ≡ Some e → e.frame ≡ frame
@@ -41,7 +36,7 @@ module _ (frame key : ℕ) (es : List (ℕ × Entry)) where
       stamped : (f : ℕ × Entry) → f.1.frame ≡ frame → f ≡ with_stamp frame f
       stamped f is = subst (λ (n : ℕ). f ≡ with_stamp n f) is refl
 
-      by_entry : (o : Option (ℕ × Entry)) → option_map_or (λ f. Some f.1) o None ≡ Some e
+      by_entry : (o : Option (ℕ × Entry)) → option_map (λ (f : ℕ × Entry). f.1) o ≡ Some e
           → option_map_or (λ f. f ∷ remove_entry (nat_eq key) es) o es
           ≡ option_map_or (λ f. with_stamp frame f ∷ remove_entry (nat_eq key) es) o es
       by_entry None h = absurd (cc)
@@ -54,7 +49,7 @@ module _ (frame key : ℕ) (es : List (ℕ × Entry)) where
   stands-first e found = by_entry (lookup_entry (nat_eq key) es) refl (sym (lookup-entry (nat_eq key) es) ∙ found)
     where
       by_entry : (o : Option (ℕ × Entry)) → lookup_entry (nat_eq key) es ≡ o
-          → option_map_or (λ f. Some f.1) o None ≡ Some e
+          → option_map (λ (f : ℕ × Entry). f.1) o ≡ Some e
           → StandsFirst key (option_map_or (λ f. f ∷ remove_entry (nat_eq key) es) o es)
       by_entry None at h = absurd (cc)
       by_entry (Some f) at h = found-key key es f at
@@ -67,7 +62,7 @@ module _ (frame key : ℕ) (es : List (ℕ × Entry)) where
       stamp x = record { allocation = x.allocation; frame = frame }
 
       by_entry : (o : Option (ℕ × Entry)) → lookup_entry (nat_eq key) es ≡ o
-          → option_map_or (λ f. Some f.1) o None ≡ Some e
+          → option_map (λ (f : ℕ × Entry). f.1) o ≡ Some e
           → restamped key (record { allocation = e.allocation; frame = frame }) (option_map_or (λ f. f ∷ remove_entry (nat_eq key) es) o es)
           ≡ option_map_or (λ f. with_stamp frame f ∷ remove_entry (nat_eq key) es) o es
       by_entry None at h = absurd (cc)

@@ -1,7 +1,7 @@
 use Rattle.std.proofs.Common.{nat_eq, ap, ◌∙◌}
 use Rattle.std.specs.Map.{lookup}
 use Rattle.used_keys.specs.Keys.{KeysState}
-use Rattle.used_keys.proofs.EntryLemmas.{unknown-bare}
+use Rattle.used_keys.proofs.BareEntries.{unknown-bare}
 use Rattle.used_keys.proofs.keys.UsedKeys.enter.Goals as goal
 
 pub put_first-requires-clause-new : goal.put_first-requires-clause-new

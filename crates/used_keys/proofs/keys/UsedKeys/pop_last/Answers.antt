@@ -2,7 +2,7 @@ use Rattle.std.proofs.Common.{◌-◌, length, ap, sym, ◌∙◌}
 use Rattle.std.specs.Prelude.{option_map}
 use Rattle.lru.specs.LruCache.{last_entry}
 use Rattle.used_keys.specs.Keys.{KeysState, without_last}
-use Rattle.used_keys.proofs.EntryLemmas.{bare, last-bare}
+use Rattle.used_keys.proofs.BareEntries.{bare, last-bare}
 use Rattle.used_keys.proofs.StampLemmas.{falling-take}
 use Rattle.used_keys.proofs.StateLemmas.{popped-without}
 use Rattle.used_keys.proofs.keys.UsedKeys.pop_last.Goals as goal

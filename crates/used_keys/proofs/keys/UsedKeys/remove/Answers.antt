@@ -3,7 +3,7 @@ use Rattle.std.specs.Map.{lookup}
 use Rattle.std.specs.Prelude.{option_map}
 use Rattle.used_keys.specs.declared.stamps.Entry.{Entry}
 use Rattle.used_keys.specs.Keys.{KeysState, without}
-use Rattle.used_keys.proofs.EntryLemmas.{lookup-bare}
+use Rattle.used_keys.proofs.BareEntries.{lookup-bare}
 use Rattle.used_keys.proofs.StampLemmas.{falling-removed}
 use Rattle.used_keys.proofs.StateLemmas.{removed-without, unknown-without}
 use Rattle.used_keys.proofs.keys.UsedKeys.remove.Goals as goal

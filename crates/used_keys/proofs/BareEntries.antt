@@ -1,12 +1,11 @@
--- Lists of stamped entries: what a key finds in them, and what they are without their stamps.
-use Rattle.std.proofs.Common.{◌≡◌, ℕ, zero, suc, ◌-◌, ◌<◌, Bool, true, false, cond, Option, Some, None, List, [], ◌∷◌, length, take, refl, ap, sym, ◌∙◌, arith}
+-- Entries without their stamps: what a key finds in them, and what becomes of them.
+use Rattle.std.proofs.Common.{◌≡◌, ℕ, zero, suc, ◌-◌, Bool, true, false, cond, Option, Some, None, List, [], ◌∷◌, length, take, refl, ap, sym, ◌∙◌, arith}
 use Rattle.std.proofs.lemmas.Bool.Decides.{nat_tests}
-use Rattle.std.proofs.lemmas.List.{take_all}
 use Rattle.std.specs.List.{slice_get}
 use Rattle.std.specs.Map.{lookup, lookup_entry, remove_entry}
 use Rattle.std.specs.Option.{option_map_or}
 use Rattle.std.specs.Prelude.{nat_eq, option_map}
-use Rattle.lru.specs.LruCache.{LruCache, last_entry, promoted, put_entries}
+use Rattle.lru.specs.LruCache.{last_entry, promoted}
 use Rattle.etagere_base.specs.declared.ids.Allocation.{Allocation}
 use Rattle.used_keys.specs.declared.stamps.Entry.{Entry}
 use Rattle.used_keys.specs.Private.Stamps.{unstamped}
@@ -14,74 +13,6 @@ use Rattle.used_keys.specs.Private.Stamps.{unstamped}
 -- an entry without its stamp
 abbrev pub bare : ℕ × Entry → ℕ × Allocation
 bare e = (e.0, e.1.allocation)
-
-module _ {X : Type 0} where
-  -- an entry that is found, and what it holds
-  entry_here : (b : Bool) (test : ℕ → Bool) (e : ℕ × X) (es : List (ℕ × X))
-      → lookup test es ≡ option_map_or (λ f. Some f.1) (lookup_entry test es) None
-      → cond b (Some e.1) (lookup test es) ≡ option_map_or (λ f. Some f.1) (cond b (Some e) (lookup_entry test es)) None
-  entry_here true test e es later = refl
-  entry_here false test e es later = later
-
-  pub lookup-entry : (test : ℕ → Bool) (es : List (ℕ × X))
-      → lookup test es ≡ option_map_or (λ f. Some f.1) (lookup_entry test es) None
-  lookup-entry test [] = refl
-  lookup-entry test (e ∷ es) = entry_here (test e.0) test e es (lookup-entry test es)
-
-  -- a key that isn't there takes nothing out
-  pub removed-unknown : (test : ℕ → Bool) (es : List (ℕ × X)) → lookup test es ≡ None → remove_entry test es ≡ es
-  removed-unknown test [] unknown = refl
-  removed-unknown test (e ∷ es) unknown = here (test e.0) unknown (removed-unknown test es)
-    where
-      here : (b : Bool) → cond b (Some e.1) (lookup test es) ≡ None → (lookup test es ≡ None → remove_entry test es ≡ es)
-          → cond b es (e ∷ remove_entry test es) ≡ e ∷ es
-      here true h later = absurd (cc)
-      here false h later = ap (λ l. e ∷ l) (later h)
-
-  -- a key that isn't there isn't in what stands first either
-  pub unknown-take : (test : ℕ → Bool) (n : ℕ) (es : List (ℕ × X)) → lookup test es ≡ None → lookup test (take n es) ≡ None
-  unknown-take test zero es unknown = refl
-  unknown-take test (suc n) [] unknown = refl
-  unknown-take test (suc n) (e ∷ es) unknown = here (test e.0) unknown (unknown-take test n es)
-    where
-      here : (b : Bool) → cond b (Some e.1) (lookup test es) ≡ None → (lookup test es ≡ None → lookup test (take n es) ≡ None)
-          → cond b (Some e.1) (lookup test (take n es)) ≡ None
-      here true h later = absurd (cc)
-      here false h later = later h
-
-  -- where nothing stands last, there is nothing
-  pub last-none : (es : List (ℕ × X)) → last_entry es ≡ None → es ≡ []
-  last-none [] none = refl
-  last-none (e ∷ es) none = absurd (some (length es) (e ∷ es) refl (rw (less es) at none))
-    where
-      less : (es : List (ℕ × X)) → suc (length es) - 1 ≡ length es
-      less es = omega arith
-
-      some : (n : ℕ) (fs : List (ℕ × X)) → length fs ≡ suc n → slice_get fs n ≡ None → ⊥
-      some n [] len none = cc
-      some zero (f ∷ fs) len none = cc
-      some (suc n) (f ∷ fs) len none = some n fs (omega arith) none
-
-  -- a key that isn't there moves nothing
-  pub promoted-unknown : (test : ℕ → Bool) (es : List (ℕ × X)) → lookup test es ≡ None → promoted test es ≡ es
-  promoted-unknown test es unknown = by_entry (lookup_entry test es) (sym (lookup-entry test es) ∙ unknown)
-    where
-      by_entry : (o : Option (ℕ × X)) → option_map_or (λ f. Some f.1) o None ≡ None
-          → option_map_or (λ e. e ∷ remove_entry test es) o es ≡ es
-      by_entry None h = refl
-      by_entry (Some e) h = absurd (cc)
-
-  -- a key that isn't there is put in front of entries that have room
-  pub put-first : (cache : LruCache ℕ X) (key : ℕ) (x : X) → lookup (nat_eq key) cache.entries ≡ None
-      → length cache.entries < cache.cap → put_entries nat_eq cache key x ≡ (key, x) ∷ cache.entries
-  put-first cache key x unknown room =
-      by_entry (lookup_entry (nat_eq key) cache.entries) (sym (lookup-entry (nat_eq key) cache.entries) ∙ unknown)
-    where
-      by_entry : (o : Option (ℕ × X)) → option_map_or (λ f. Some f.1) o None ≡ None
-          → option_map_or (λ e. (e.0, x) ∷ remove_entry (nat_eq key) cache.entries) o ((key, x) ∷ take (cache.cap - 1) cache.entries)
-          ≡ (key, x) ∷ cache.entries
-      by_entry None h = ap (λ l. (key, x) ∷ l) (take_all (cache.cap - 1) cache.entries (omega arith))
-      by_entry (Some e) h = absurd (cc)
 
 -- an entry that a key finds is of the key
 pub found-key : (key : ℕ) (es : List (ℕ × Entry)) (e : ℕ × Entry) → lookup_entry (nat_eq key) es ≡ Some e → e.0 ≡ key
