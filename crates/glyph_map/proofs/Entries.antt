@@ -1,31 +1,12 @@
 -- Lists of entries under keys: what a test finds in them, and what stands first after it.
-use Rattle.std.proofs.Common.{◌≡◌, ◌-◌, ◌<◌, Bool, true, false, cond, Option, Some, None, List, [], ◌∷◌, length, take, refl, ap, sym, ◌∙◌, arith}
-use Rattle.std.proofs.lemmas.List.{take_all}
+use Rattle.std.proofs.Common.{◌≡◌, ◌-◌, Bool, true, false, cond, Option, Some, None, List, [], ◌∷◌, take, refl, ap, sym, ◌∙◌}
 use Rattle.std.specs.Map.{lookup, lookup_entry, remove_entry}
 use Rattle.std.specs.Option.{option_map_or}
 use Rattle.std.specs.Prelude.{option_map}
 use Rattle.lru.specs.LruCache.{LruCache, put_entries}
+use Rattle.used_keys.proofs.Entries.{lookup-entry}
 
 module _ {K X : Type 0} where
-  -- what a test finds is what it finds an entry of
-  entry_here : (b : Bool) (test : K → Bool) (e : K × X) (es : List (K × X))
-      → lookup test es ≡ option_map (λ (f : K × X). f.1) (lookup_entry test es)
-      → cond b (Some e.1) (lookup test es) ≡ option_map (λ (f : K × X). f.1) (cond b (Some e) (lookup_entry test es))
-  entry_here true test e es later = refl
-  entry_here false test e es later = later
-
-  pub lookup-entry : (test : K → Bool) (es : List (K × X)) → lookup test es ≡ option_map (λ (f : K × X). f.1) (lookup_entry test es)
-  lookup-entry test [] = refl
-  lookup-entry test (e ∷ es) = entry_here (test e.0) test e es (lookup-entry test es)
-
-  -- where nothing is found, no entry is
-  pub entry-none : (test : K → Bool) (es : List (K × X)) → lookup test es ≡ None → lookup_entry test es ≡ None
-  entry-none test es none = by_entry (lookup_entry test es) (sym (lookup-entry test es) ∙ none)
-    where
-      by_entry : (o : Option (K × X)) → option_map (λ (f : K × X). f.1) o ≡ None → o ≡ None
-      by_entry None h = refl
-      by_entry (Some e) h = absurd (cc)
-
   -- what is found has a key
   pub entry-some : (test : K → Bool) (es : List (K × X)) (x : X) → lookup test es ≡ Some x
       → (key : K) × (lookup_entry test es ≡ Some (key, x))
@@ -45,18 +26,6 @@ module _ {K X : Type 0} where
           → test e.0 ≡ true
       here true t h later = let same : f ≡ e = cc in ap (λ (x : K × X). test x.0) (sym same) ∙ t
       here false t h later = later h
-
-  -- a key that isn't there is put in front of entries that have room
-  pub put-first : (eq : K → K → Bool) (cache : LruCache K X) (key : K) (x : X) → lookup (eq key) cache.entries ≡ None
-      → length cache.entries < cache.cap → put_entries eq cache key x ≡ (key, x) ∷ cache.entries
-  put-first eq cache key x unknown room =
-      by_entry (lookup_entry (eq key) cache.entries) (entry-none (eq key) cache.entries unknown)
-    where
-      by_entry : (o : Option (K × X)) → o ≡ None
-          → option_map_or (λ e. (e.0, x) ∷ remove_entry (eq key) cache.entries) o ((key, x) ∷ take (cache.cap - 1) cache.entries)
-          ≡ (key, x) ∷ cache.entries
-      by_entry None h = ap (λ l. (key, x) ∷ l) (take_all (cache.cap - 1) cache.entries (omega arith))
-      by_entry (Some e) h = absurd (cc)
 
   -- a key that is there gets another value in front
   pub put-known : (eq : K → K → Bool) (cache : LruCache K X) (key : K) (x : X) (known : K) (old : X)

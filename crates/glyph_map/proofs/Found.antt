@@ -16,7 +16,8 @@ use Rattle.glyph_map.specs.Calls.{asked, revalued, seen, seen_at, used, with_val
 use Rattle.glyph_map.specs.State.{Held, MapState, cache_by, of_cache}
 use Rattle.glyph_map.specs.Private.Lockstep.{joined, tickets_of}
 use Rattle.glyph_map.specs.declared.ticketed.Ticketed.{Ticketed}
-use Rattle.glyph_map.proofs.Entries.{entry-none, entry-passes, lookup-entry}
+use Rattle.used_keys.proofs.Entries.{entry-none, lookup-entry}
+use Rattle.glyph_map.proofs.Entries.{entry-passes}
 use Rattle.glyph_map.proofs.Joined.{AreInStep, map_of, rest-in_step}
 use Rattle.glyph_map.proofs.Unused.{known-stands}
 
