@@ -8,10 +8,11 @@
 mod faults;
 mod listing;
 mod map;
+mod saving;
 mod ticketed;
 mod tickets;
 
-pub use faults::{MapFault, Refused};
+pub use faults::{MapFault, MapRestoreFault, NotRestored, Refused};
 pub use listing::Iter;
 pub use map::{GlyphMap, Placed};
 // A crate can name a map in a contract only if the types of its fields are exported.

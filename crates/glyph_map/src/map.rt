@@ -1,7 +1,7 @@
 //! The public calls of a map.
 //!
 //! Definitions: `State` for what the clauses see, `Calls` and `Placing` for what becomes of it, `Promises` for what every
-//! map keeps. Where they speak of a cache, they are those of `glyph_shelf`.
+//! map keeps, `Saved` for what it is saved as. Where they speak of a cache, they are those of `glyph_shelf`.
 
 ghost use Rattle.std.specs.Prelude.{◌≡◌, ◌↔◌, ◌≤◌, [], Err, None, Some, IfOk, IfErr, IfSome, IsOkAnd, IsErrAnd, OnErr, OnOk, IsTrue, length, option_map};
 ghost use Rattle.std.specs.Borrow.{sem};
@@ -13,17 +13,19 @@ ghost use Rattle.etagere_base.specs.Rectangles.{IsLarge};
 ghost use Rattle.shelf_model.specs.Growing.{grow_fault, records_needed};
 ghost use Rattle.shelf_model.specs.declared.faults.AtlasGrowFault.TheVariants as grow_faults;
 ghost use Rattle.glyph_shelf.specs.Cache.{frame_uses};
-ghost use Rattle.glyph_map.specs.State.{cache_of};
+ghost use Rattle.glyph_map.specs.State.{cache_of, pairs_of};
 ghost use Rattle.glyph_map.specs.Calls.{dropped_pairs, empty_map, in_new_frame, listed, map_grown, seen_at, surplus, used, with_capacity, with_value, without_key};
 ghost use Rattle.glyph_map.specs.Placing.{IsFrameFull, IsLeft, IsNew, IsTooLarge, Places, Spares, evictable};
 ghost use Rattle.glyph_map.specs.Promises.{KeepsMapPromises};
+ghost use Rattle.glyph_map.specs.Saved.{IsMapBroken, MapStandsFor, without_frame};
 
-use crate::faults::{MapFault, Refused};
+use crate::faults::{MapFault, MapRestoreFault, NotRestored, Refused};
 use crate::listing::Iter;
+use crate::saving::{cache_fault, under_tickets};
 use crate::ticketed::{Ticketed, promote, put_first, revalue, take, take_first, take_last};
 use crate::tickets::{evictions, unused_ticket, with_evicted};
 use etagere::{AllocatorOptions, AtlasAllocator, AtlasGrowFault, OptionsFault, Rectangle, Size};
-use glyph_shelf::GlyphCache;
+use glyph_shelf::{CacheSnapshot, GlyphCache};
 use lru::LruCache;
 use std::alloc::{AllocError, Global};
 use std::hash::Hash;
@@ -311,6 +313,57 @@ impl<K: Eq + Hash + Drop, V: Drop> GlyphMap<K, V> {
         ensures { result ≡ frame_uses (cache_of self.now) }
     {
         self.cache.used_in_frame()
+    }
+
+    /// The map as it is saved, beside its keys and values, which the caller saves in the order of `iter()`: its capacity,
+    /// its atlas, and a number for each key, in this order. What was used in the frame isn't saved.
+    ///
+    /// The error comes only where there was no memory. Takes memory for the records of the atlas and for the numbers, and
+    /// goes through them.
+    pub fn snapshot(&self) -> Result<CacheSnapshot, AllocError>
+        ensures { IfOk result
+            (λ snapshot. MapStandsFor snapshot (pairs_of self.now.entries) (without_frame self.now)) }
+    {
+        self.cache.snapshot()
+    }
+
+    /// The map for which a snapshot stands with these keys and values, whoever wrote them; no frame has begun. The first
+    /// pair belongs to the first key of the snapshot, and so on.
+    ///
+    /// After a fault all pairs come back in their order. It is a rule that the snapshot and the pairs break, or `Memory`.
+    /// Takes memory for the map, and costs what `GlyphCache::restore` does, and a few steps for each key.
+    pub fn restore(
+        alloc: Global,
+        snapshot: CacheSnapshot,
+        pairs: Vec<(K, V)>,
+    ) -> Result<GlyphMap<K, V>, NotRestored<K, V>>
+        ensures ok { IfOk result (MapStandsFor snapshot pairs.items) }
+        ensures fault { IfErr result
+            (λ refused. IsMapBroken K.eq snapshot pairs.items refused.fault) }
+        ensures returned { IfErr result (λ refused. refused.pairs.items ≡ pairs.items) }
+        ensures promises { IfOk result (KeepsMapPromises K.eq) }
+    {
+        if pairs.len() != snapshot.keys.len() {
+            return Err(NotRestored {
+                pairs,
+                fault: MapRestoreFault::WrongCount,
+            });
+        }
+        let cache = match GlyphCache::restore(alloc, snapshot) {
+            Ok(cache) => cache,
+            Err(fault) => {
+                let fault = cache_fault(fault);
+                return Err(NotRestored { pairs, fault });
+            }
+        };
+        let entries = under_tickets(alloc, &cache, pairs)?;
+        let next = entries.len() as u64;
+        Ok(GlyphMap {
+            entries,
+            cache,
+            next,
+            alloc,
+        })
     }
 
     /// Makes the atlas larger, to this size in pixels, as by `AtlasAllocator::grow`. Each key keeps its place and its

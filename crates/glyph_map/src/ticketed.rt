@@ -131,7 +131,7 @@ pub(crate) fn take<K: Eq + Hash + Drop, V>(
 }
 
 /// No key stands twice among entries: their length says so.
-fn know_distinct<K: Eq + Hash, V>(entries: &LruCache<K, Ticketed<V>>)
+pub(crate) fn know_distinct<K: Eq + Hash, V>(entries: &LruCache<K, Ticketed<V>>)
     ensures { IsDistinct K.eq (keys_of entries.now.entries) }
 {
     entries.len();

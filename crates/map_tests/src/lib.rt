@@ -6,4 +6,6 @@ mod calls;
 #[cfg(test)]
 mod memory;
 #[cfg(test)]
+mod saving;
+#[cfg(test)]
 mod support;

@@ -1,10 +1,10 @@
 //! Where memory is refused, each name and its picture is in the map or comes back. To refuse the Nth growth of memory:
 //! `rt try --test --fail-alloc N`.
 
-use crate::support::{Picture, Pictures, counts, equal, pictures};
+use crate::support::{Picture, Pictures, counts, equal, pair_of, pictures, restore, save};
 use etagere::size2;
 use glyph_map::{MapFault, Refused};
-use std::alloc::Global;
+use std::alloc::{AllocError, Global};
 use std::test::Fail;
 
 /// How many came back when a name wasn't placed.
@@ -45,5 +45,36 @@ fn nothing_is_lost(rt: HostRuntime) -> Result<(), Fail> {
     }
     let (len, _, _) = counts(&map);
     equal(&rt, &given, &back.saturating_add(len));
+    Ok(())
+}
+
+/// So many names.
+fn names(alloc: Global, count: i32) -> Result<Vec<(String, Picture)>, AllocError> {
+    let mut pairs = Vec::new(alloc);
+    for number in 0..count {
+        let name = format!(in alloc; "name {number}")?;
+        pairs.push(pair_of(alloc, name.as_str(), number)?)?;
+    }
+    Ok(pairs)
+}
+
+#[test]
+fn what_is_not_restored_comes_back(rt: HostRuntime) -> Result<(), Fail> {
+    let alloc = rt.alloc();
+    let Ok(mut map) = pictures(alloc, 20) else {
+        return Ok(());
+    };
+    for number in 0..20 {
+        place_one(&mut map, alloc, number);
+    }
+    let (len, _, _) = counts(&map);
+    let (Ok(snapshot), Ok(pairs)) = (save(&map), names(alloc, i32::try_from(len).unwrap_or(0)))
+    else {
+        return Ok(());
+    };
+    match restore(alloc, snapshot, pairs) {
+        Ok(again) => equal(&rt, &counts(&again).0, &len),
+        Err(refusal) => equal(&rt, &refusal, &(len, 11)),
+    }
     Ok(())
 }

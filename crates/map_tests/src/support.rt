@@ -1,7 +1,8 @@
 //! A map of pictures under names, by calls that promise nothing, so that a test is proved safe in little time.
 
 use etagere::{DEFAULT_OPTIONS, OptionsFault, size2};
-use glyph_map::{GlyphMap, MapFault, Placed, Refused};
+use glyph_map::{GlyphMap, MapFault, NotRestored, Placed, Refused};
+use glyph_shelf::CacheSnapshot;
 use std::alloc::{AllocError, Global};
 use std::fmt::Debug;
 use std::num::NonZeroUsize;
@@ -148,4 +149,38 @@ pub fn order(map: &Pictures, alloc: Global) -> Result<Vec<i32>, AllocError> {
         advances.push(kept.advance)?;
     }
     Ok(advances)
+}
+
+/// A name with a picture of this advance.
+pub fn pair_of(alloc: Global, name: &str, advance: i32) -> Result<(String, Picture), AllocError> {
+    Ok((name_of(alloc, name)?, Picture { advance, page: 3 }))
+}
+
+/// What is saved of a map.
+pub fn save(map: &Pictures) -> Result<CacheSnapshot, AllocError> {
+    map.snapshot()
+}
+
+/// The map of a snapshot with these names and pictures, or how many came back and the number of the fault.
+pub fn restore(
+    alloc: Global,
+    snapshot: CacheSnapshot,
+    pairs: Vec<(String, Picture)>,
+) -> Result<Pictures, (usize, u32)> {
+    match GlyphMap::restore(alloc, snapshot, pairs) {
+        Ok(map) => Ok(map),
+        Err(refused) => Err(came_back(refused)),
+    }
+}
+
+fn came_back(refused: NotRestored<String, Picture>) -> (usize, u32) {
+    (refused.pairs.len(), refused.fault.number())
+}
+
+/// The fault of a map that isn't restored: how many came back, and its number.
+pub fn refusal(tried: Result<Pictures, (usize, u32)>) -> (usize, u32) {
+    match tried {
+        Ok(_) => (0, 0),
+        Err(fault) => fault,
+    }
 }
