@@ -3,6 +3,7 @@ pub mod Entries
 pub mod Faulted
 pub mod Found
 pub mod Joined
+pub mod Numbered
 pub mod Saved
 pub mod Seen
 pub mod Settled

@@ -1,5 +1,5 @@
 -- What is saved of a map, and how its keys and values come back under numbers.
-use Rattle.std.proofs.Common.{◌≡◌, ℕ, zero, suc, ◌+◌, ◌-◌, ◌≤◌, ◌^◌, IfOk, Result, Ok, Err, Bool, true, false, cond, Some, None, List, [], ◌∷◌, ◌++◌, drop, length, refl, ap, sym, ◌∙◌, arith}
+use Rattle.std.proofs.Common.{◌≡◌, ℕ, zero, suc, ◌+◌, ◌-◌, ◌≤◌, ◌^◌, Bool, true, false, cond, Some, None, List, [], ◌∷◌, ◌++◌, drop, length, refl, ap, sym, ◌∙◌, arith}
 use Rattle.std.specs.List.{IsDistinct, slice_get}
 use Rattle.std.specs.Map.{keys_of, lookup}
 use Rattle.std.specs.Prelude.{is_some}
@@ -8,16 +8,14 @@ use Rattle.lru.specs.LruCache.{LruCache, lru_cache}
 use Rattle.etagere_base.specs.declared.geometry.Rectangle.{Rectangle}
 use Rattle.etagere_base.specs.declared.ids.Allocation.{Allocation}
 use Rattle.glyph_shelf.specs.Cache.{CacheState, listed, with_rectangles}
-use Rattle.glyph_shelf.specs.Saved as cache
 use Rattle.glyph_shelf.specs.Saved.{CacheStandsFor, IsCacheBroken, saved_key}
 use Rattle.glyph_shelf.specs.declared.faults.CacheRestoreFault.{CacheRestoreFault}
 use Rattle.glyph_shelf.specs.declared.faults.CacheRestoreFault.TheVariants as cache_faults
 use Rattle.glyph_shelf.specs.declared.saving.CacheSnapshot.{CacheSnapshot}
 use Rattle.glyph_map.specs.Private.Entering.{ArePairsRefused, EntersLast, IsLastRefused, StandUnder, cache_fault}
 use Rattle.glyph_map.specs.Private.Evicting.{unticketed}
-use Rattle.glyph_map.specs.Private.Lockstep.{joined, tickets_of}
-use Rattle.glyph_map.specs.Saved.{IsMapBroken, MapStandsFor, without_frame}
-use Rattle.glyph_map.specs.State.{pairs_of}
+use Rattle.glyph_map.specs.Private.Lockstep.{tickets_of}
+use Rattle.glyph_map.specs.Saved.{IsMapBroken, MapStandsFor}
 use Rattle.glyph_map.specs.declared.faults.MapRestoreFault.{MapRestoreFault}
 use Rattle.glyph_map.specs.declared.faults.MapRestoreFault.TheVariants.{Cache, Memory, WrongCount, SameKey}
 use Rattle.glyph_map.specs.declared.ticketed.Ticketed.{Ticketed}
@@ -82,24 +80,6 @@ keys-listed [] = refl
 keys-listed (e ∷ es) = ap (λ (l : List ℕ). e.0 ∷ l) (keys-listed es)
 
 module _ {K V : Type 0} where
-  -- a map is saved as its cache
-  pub saved-map : (es : List (K × Ticketed V)) (c : CacheState) (snapshot : CacheSnapshot) → AreInStep es c.entries
-      → CacheStandsFor snapshot (cache.without_frame c)
-      → MapStandsFor snapshot (pairs_of (joined es c.entries)) (without_frame (map_of es c))
-  saved-map es c snapshot step stands =
-      record {
-        cache = cache.without_frame c;
-        stands = stands;
-        is_cache = ap (λ (s : CacheState). cache.without_frame s) (sym (joined-cache es c step));
-        pairs_are = refl;
-      }
-
-  pub saved-if : {E : Type 0} (es : List (K × Ticketed V)) (c : CacheState) (r : Result CacheSnapshot E) → AreInStep es c.entries
-      → IfOk r (λ snapshot. CacheStandsFor snapshot (cache.without_frame c))
-      → IfOk r (λ snapshot. MapStandsFor snapshot (pairs_of (joined es c.entries)) (without_frame (map_of es c)))
-  saved-if es c (Ok snapshot) step stands = saved-map es c snapshot step stands
-  saved-if es c (Err e) step stands = tt
-
   -- a map is restored as its cache
   pub restored-map : (es : List (K × Ticketed V)) (c : CacheState) (snapshot : CacheSnapshot) (pairs : List (K × V)) → AreInStep es c.entries
       → CacheStandsFor snapshot c → unticketed es ≡ pairs → MapStandsFor snapshot pairs (map_of es c)

@@ -3,4 +3,5 @@ pub mod Entering
 pub mod Evicting
 pub mod Listed
 pub mod Lockstep
+pub mod Numbering
 pub mod Outcomes

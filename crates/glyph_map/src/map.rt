@@ -5,6 +5,7 @@
 
 ghost use Rattle.std.specs.Prelude.{◌≡◌, ◌↔◌, ◌≤◌, [], Err, None, Some, IfOk, IfErr, IfSome, IsOkAnd, IsErrAnd, OnErr, OnOk, IsTrue, length, option_map};
 ghost use Rattle.std.specs.Borrow.{sem};
+ghost use Rattle.std.specs.List.{range_with_len};
 ghost use Rattle.std.specs.NonZero.{non_zero_usize_get};
 ghost use Rattle.etagere_base.specs.Frames as frames;
 ghost use Rattle.etagere_base.specs.Frames.{IsAccepted, longest_side, options_fault};
@@ -13,6 +14,7 @@ ghost use Rattle.etagere_base.specs.Rectangles.{IsLarge};
 ghost use Rattle.shelf_model.specs.Growing.{grow_fault, records_needed};
 ghost use Rattle.shelf_model.specs.declared.faults.AtlasGrowFault.TheVariants as grow_faults;
 ghost use Rattle.glyph_shelf.specs.Cache.{frame_uses};
+ghost use Rattle.glyph_shelf.specs.Saved.{keys_saved};
 ghost use Rattle.glyph_map.specs.State.{cache_of, pairs_of};
 ghost use Rattle.glyph_map.specs.Calls.{dropped_pairs, empty_map, in_new_frame, listed, map_grown, seen_at, surplus, used, with_capacity, with_value, without_key};
 ghost use Rattle.glyph_map.specs.Placing.{IsFrameFull, IsLeft, IsNew, IsTooLarge, Places, Spares, evictable};
@@ -21,7 +23,7 @@ ghost use Rattle.glyph_map.specs.Saved.{IsMapBroken, MapStandsFor, without_frame
 
 use crate::faults::{MapFault, MapRestoreFault, NotRestored, Refused};
 use crate::listing::Iter;
-use crate::saving::{cache_fault, under_tickets};
+use crate::saving::{cache_fault, numbered, under_tickets};
 use crate::ticketed::{Ticketed, promote, put_first, revalue, take, take_first, take_last};
 use crate::tickets::{evictions, unused_ticket, with_evicted};
 use etagere::{AllocatorOptions, AtlasAllocator, AtlasGrowFault, OptionsFault, Rectangle, Size};
@@ -316,15 +318,27 @@ impl<K: Eq + Hash + Drop, V: Drop> GlyphMap<K, V> {
     }
 
     /// The map as it is saved, beside its keys and values, which the caller saves in the order of `iter()`: its capacity,
-    /// its atlas, and a number for each key, in this order. What was used in the frame isn't saved.
+    /// its atlas, and in place of the keys the numbers from 0 on, in this order. What was used in the frame isn't saved.
     ///
     /// The error comes only where there was no memory. Takes memory for the records of the atlas and for the numbers, and
-    /// goes through them.
+    /// until it returns for these once more; goes through them.
     pub fn snapshot(&self) -> Result<CacheSnapshot, AllocError>
-        ensures { IfOk result
+        ensures stands { IfOk result
             (λ snapshot. MapStandsFor snapshot (pairs_of self.now.entries) (without_frame self.now)) }
+        ensures numbers { IfOk result
+            (λ snapshot. keys_saved snapshot ≡ range_with_len 0 (length self.now.entries)) }
     {
-        self.cache.snapshot()
+        let CacheSnapshot {
+            capacity,
+            atlas,
+            keys,
+        } = self.cache.snapshot()?;
+        let keys = numbered(self.alloc, keys.as_slice())?;
+        Ok(CacheSnapshot {
+            capacity,
+            atlas,
+            keys,
+        })
     }
 
     /// The map for which a snapshot stands with these keys and values, whoever wrote them; no frame has begun. The first
@@ -357,6 +371,7 @@ impl<K: Eq + Hash + Drop, V: Drop> GlyphMap<K, V> {
             }
         };
         let entries = under_tickets(alloc, &cache, pairs)?;
+        // The numbers of a map's own snapshot are all below this one.
         let next = entries.len() as u64;
         Ok(GlyphMap {
             entries,

@@ -1,7 +1,7 @@
-//! Keys and values that come back to a map which is restored: each goes under the number that its place in the snapshot
-//! has, or all come back.
+//! What is saved of a map, whose keys go by their places; and keys and values for a map that is restored: each goes under
+//! the number that its place in the snapshot has, or all come back.
 //!
-//! Definitions: `Saved` for the rules, `Private.Entering` for what stands under which number.
+//! Definitions: `Saved` for the rules, `Private.Numbering` and `Private.Entering` for what stands under which number.
 
 ghost use Rattle.std.specs.Prelude.{◌≡◌, ◌+◌, ◌<◌, ◌≤◌, ◌++◌, IfErr, IfOk, OnErr, OnOk, length, vec_capacity, vec_len};
 ghost use Rattle.std.specs.List.{IsDistinct};
@@ -10,14 +10,28 @@ ghost use Rattle.lru.specs.LruCache.{lru_cache};
 ghost use Rattle.glyph_map.specs.Private.Entering as entering;
 ghost use Rattle.glyph_map.specs.Private.Entering.{ArePairsRefused, EntersLast, IsLastRefused, StandUnder};
 ghost use Rattle.glyph_map.specs.Private.Evicting.{unticketed};
-ghost use Rattle.glyph_map.specs.Saved.{IsMapBroken};
+ghost use Rattle.glyph_map.specs.Private.Numbering.{numbered_from};
 
 use crate::faults::{MapRestoreFault, NotRestored};
 use crate::ticketed::{Ticketed, know_distinct, put_first};
-use glyph_shelf::{CacheRestoreFault, CacheSnapshot, GlyphCache};
+use glyph_shelf::{CacheRestoreFault, GlyphCache, SavedKey};
 use lru::LruCache;
-use std::alloc::Global;
+use std::alloc::{AllocError, Global};
 use std::hash::Hash;
+
+/// Saved keys in the same order, with numbers from 0 on in place of the keys.
+pub(crate) fn numbered(alloc: Global, saved: &[SavedKey]) -> Result<Vec<SavedKey>, AllocError>
+    ensures { IfOk result (λ keys. keys.items ≡ numbered_from 0 saved.now) }
+{
+    let mut keys = Vec::with_capacity(alloc, saved.len())?;
+    let mut rest = saved;
+    while let Some((first, after)) = rest.split_first() {
+        let key = keys.len() as u64;
+        keys.push(SavedKey { key, id: first.id })?;
+        rest = after;
+    }
+    Ok(keys)
+}
 
 /// The fault of a map of whose cache this is the fault.
 pub(crate) fn cache_fault(fault: CacheRestoreFault) -> MapRestoreFault

@@ -5,6 +5,7 @@ use crate::support::{
     place, refusal, restore, save,
 };
 use etagere::Rectangle;
+use glyph_shelf::CacheSnapshot;
 use std::alloc::{AllocError, Global};
 use std::test::Fail;
 
@@ -45,12 +46,26 @@ fn rectangles(map: &Pictures, alloc: Global) -> Result<Vec<Rectangle>, AllocErro
     Ok(found)
 }
 
+/// The numbers by which the keys go.
+fn numbers(snapshot: &CacheSnapshot, alloc: Global) -> Result<Vec<u64>, AllocError> {
+    let mut found = Vec::new(alloc);
+    for saved in &snapshot.keys {
+        found.push(saved.key)?;
+    }
+    Ok(found)
+}
+
 #[test]
 fn what_is_restored_is_what_was_saved(rt: HostRuntime) -> Result<(), Fail> {
     let alloc = rt.alloc();
     let map = three_names(alloc)?;
     equal(&rt, &order(&map, alloc)?.as_slice(), &[1, 3, 2].as_slice());
     let snapshot = save(&map)?;
+    equal(
+        &rt,
+        &numbers(&snapshot, alloc)?.as_slice(),
+        &[0, 1, 2].as_slice(),
+    );
     let again = restore(alloc, snapshot, named(alloc, &["x", "y", "z"])?);
     equal(&rt, &again.is_ok(), &true);
     let Ok(mut again) = again else {
