@@ -5,6 +5,7 @@ pub mod Found
 pub mod Joined
 pub mod Numbered
 pub mod Saved
+pub mod SavedLaws
 pub mod Seen
 pub mod Settled
 pub mod Shrunk

@@ -1,7 +1,7 @@
 -- What a map is saved as, and the rules that a snapshot has to keep with its keys and values.
 use Rattle.std.specs.Prelude.{◌≡◌, ◌≢◌, ℕ, ◌+◌, Bool, true, Some, is_some, List, drop, length}
-use Rattle.std.specs.List.{slice_get}
-use Rattle.std.specs.Map.{lookup}
+use Rattle.std.specs.List.{IsDistinct, slice_get}
+use Rattle.std.specs.Map.{keys_of, lookup}
 use Rattle.glyph_shelf.specs.Cache.{CacheState}
 use Rattle.glyph_shelf.specs.Saved as cache
 use Rattle.glyph_shelf.specs.Saved.{CacheStandsFor, IsCacheBroken}
@@ -39,3 +39,15 @@ module _ {K V : Type 0} where
   IsMapBroken eq snapshot pairs Memory = Unit {0}
   IsMapBroken eq snapshot pairs WrongCount = length pairs ≢ length snapshot.keys.items
   IsMapBroken eq snapshot pairs (SameKey place) = StandsTwice eq pairs place
+
+-- a snapshot with keys and values stands for one map at most, and where these break a rule for none
+abbrev pub MapStandsForOne : (K V : Type 0) → Type 0
+MapStandsForOne K V =
+    (snapshot : CacheSnapshot) (pairs : List (K × V)) (state other : MapState K V)
+    → MapStandsFor snapshot pairs state → MapStandsFor snapshot pairs other → state ≡ other
+
+abbrev pub BrokenMapStandsForNone : {K : Type 0} (V : Type 0) → (K → K → Bool) → Type 0
+BrokenMapStandsForNone {K} V eq =
+    (snapshot : CacheSnapshot) (pairs : List (K × V)) (state : MapState K V) (fault : MapRestoreFault)
+    → IsMapBroken eq snapshot pairs fault → MapStandsFor snapshot pairs state
+    → IsDistinct eq (keys_of state.entries) → fault ≡ Memory
