@@ -18,6 +18,10 @@ pub fn size_of(words: &str) -> Size {
     size2(width, height)
 }
 
+pub fn key_of(word: &str) -> u64 {
+    word.parse().unwrap_or(0)
+}
+
 pub fn id_of(word: &str) -> AllocId {
     AllocId::deserialize(word.parse().unwrap_or(0))
 }
@@ -74,6 +78,12 @@ pub fn say_rectangle(rt: &impl Print, rectangle: Option<Rectangle>) -> io::Resul
     }
 }
 
+/// Writes in brackets a corner of a rectangle and the one past its last, within a line.
+pub fn say_bracketed(rt: &impl Print, rectangle: &Rectangle) -> io::Result<()> {
+    let Rectangle { min, max } = rectangle;
+    print!(rt; "({},{})-({},{})", min.x, min.y, max.x, max.y)
+}
+
 /// Writes the corners of a rectangle as a replay does, within a line.
 pub fn say_corners(rt: &impl Print, rectangle: Rectangle) -> io::Result<()> {
     let Rectangle { min, max } = rectangle;
@@ -100,4 +110,13 @@ pub fn say_given(rt: &impl Print, word: &str, given: &Allocation) -> io::Result<
         "{word} ({},{})-({},{}) id {id}",
         min.x, min.y, max.x, max.y
     )
+}
+
+/// Ends a line with the keys that were evicted.
+pub fn say_evicted(rt: &impl Print, evicted: &[u64]) -> io::Result<()> {
+    rt.print(" evicts")?;
+    for key in evicted {
+        print!(rt; " {key}")?;
+    }
+    say(rt, "")
 }

@@ -5,7 +5,9 @@ use etagere::{AllocId, AllocatorOptions, DEFAULT_OPTIONS, OptionsFault, Rectangl
 use glyph_shelf::laws::saved_and_restored;
 use glyph_shelf::{CacheRestoreFault, CacheSnapshot, GlyphCache, GlyphFault, Placed, SavedKey};
 use row_calls::atlases::of_options;
-use row_calls::lines::{numbers, say, say_fault, say_if, say_number, say_rectangle, size_of};
+use row_calls::lines::{
+    key_of, numbers, say, say_evicted, say_fault, say_if, say_number, say_rectangle, size_of,
+};
 use row_calls::places::{Called, NotMade};
 use saved_caches::{read_saved_cache, write_saved_cache};
 use std::alloc::Global;
@@ -80,10 +82,6 @@ impl Called for CalledCache {
     }
 }
 
-pub fn key_of(word: &str) -> u64 {
-    word.parse().unwrap_or(0)
-}
-
 /// Places a key, whose number stands before its sides.
 fn place(cache: &mut GlyphCache, rt: &impl Print, words: &str) -> io::Result<()> {
     let (key, sides) = words.split_once(' ').unwrap_or((words, ""));
@@ -99,15 +97,6 @@ fn place(cache: &mut GlyphCache, rt: &impl Print, words: &str) -> io::Result<()>
         }
         Err(fault) => say_fault(rt, fault.number()),
     }
-}
-
-/// Ends a line with the keys that were evicted.
-pub fn say_evicted(rt: &impl Print, evicted: &[u64]) -> io::Result<()> {
-    rt.print(" evicts")?;
-    for key in evicted {
-        print!(rt; " {key}")?;
-    }
-    say(rt, "")
 }
 
 fn say_restored(

@@ -3,7 +3,7 @@
 use cache_moves::{KeyMove, RearrangedCache, UnplacedKey, rearranged_cache};
 use etagere::{OptionsFault, Rectangle, Size};
 use glyph_shelf::GlyphCache;
-use row_calls::lines::{say, say_fault, size_of};
+use row_calls::lines::{say, say_bracketed, say_fault, size_of};
 use std::alloc::Global;
 use std::io;
 
@@ -39,23 +39,17 @@ pub fn rearrange(
 fn say_keys(rt: &impl Print, done: &RearrangedCache) -> io::Result<()> {
     for KeyMove { key, before, after } in &done.moves {
         print!(rt; "{key} from ")?;
-        say_corners(rt, before)?;
+        say_bracketed(rt, before)?;
         rt.print(" to ")?;
-        say_corners(rt, after)?;
+        say_bracketed(rt, after)?;
         say(rt, "")?;
     }
     for UnplacedKey { key, rectangle } in &done.unplaced {
         print!(rt; "left {key} ")?;
-        say_corners(rt, rectangle)?;
+        say_bracketed(rt, rectangle)?;
         say(rt, "")?;
     }
     say(rt, "end")
-}
-
-/// Writes a corner of a rectangle and the one past its last, within a line.
-pub fn say_corners(rt: &impl Print, rectangle: &Rectangle) -> io::Result<()> {
-    let Rectangle { min, max } = rectangle;
-    print!(rt; "({},{})-({},{})", min.x, min.y, max.x, max.y)
 }
 
 fn say_refused(rt: &impl Print, fault: OptionsFault) -> io::Result<()> {

@@ -1,7 +1,5 @@
 //! Calls of a cache of glyphs with a padding.
 
-use crate::caches::{key_of, say_evicted};
-use crate::moved_caches::say_corners;
 use etagere::{
     AllocatorOptions, AtlasGrowFault, DEFAULT_OPTIONS, OptionsFault, Rectangle, Size, size2,
 };
@@ -9,7 +7,9 @@ use glyph_shelf::{GlyphFault, Placed};
 use padded_cache::PaddedCache;
 use padding::Padding;
 use row_calls::atlases::of_options;
-use row_calls::lines::{numbers, say, say_fault, say_number, say_rectangle, size_of};
+use row_calls::lines::{
+    key_of, numbers, say, say_bracketed, say_evicted, say_fault, say_number, say_rectangle, size_of,
+};
 use row_calls::places::{Called, NotMade};
 use std::alloc::{AllocError, Global};
 use std::io;
@@ -69,7 +69,7 @@ fn place(cache: &mut PaddedCache, rt: &impl Print, words: &str) -> io::Result<()
     match placed(cache, key_of(key), size_of(sides)) {
         Ok(Placed { rectangle, evicted }) => {
             rt.print("placed ")?;
-            say_corners(rt, &rectangle)?;
+            say_bracketed(rt, &rectangle)?;
             say_evicted(rt, &evicted)
         }
         Err(GlyphFault::Memory(evicted)) => {

@@ -1,12 +1,12 @@
 //! Calls of a cache over several pages.
 
-use crate::caches::{key_of, say_evicted};
-use crate::moved_caches::say_corners;
 use crate::pages::options_of;
 use atlas_pages::{PageOptions, PagePlace};
 use etagere::Size;
 use paged_cache::{NewCacheFault, PagedCache, PlacedKey, PlacingFault};
-use row_calls::lines::{numbers, say, say_fault, say_number, size_of};
+use row_calls::lines::{
+    key_of, numbers, say, say_bracketed, say_evicted, say_fault, say_number, size_of,
+};
 use row_calls::places::{Called, NotMade};
 use std::alloc::Global;
 use std::io;
@@ -63,7 +63,7 @@ fn place(cache: &mut PagedCache, rt: &impl Print, words: &str) -> io::Result<()>
     match placed(cache, key_of(key), size_of(sides)) {
         Ok(PlacedKey { place, evicted }) => {
             print!(rt; "page {} placed ", place.page)?;
-            say_corners(rt, &place.allocation.rectangle)?;
+            say_bracketed(rt, &place.allocation.rectangle)?;
             say_evicted(rt, &evicted)
         }
         Err(PlacingFault::Memory(evicted)) => {
@@ -80,7 +80,7 @@ fn say_place(rt: &impl Print, place: Option<PagePlace>) -> io::Result<()> {
         return say(rt, "none");
     };
     print!(rt; "page {} ", place.page)?;
-    say_corners(rt, &place.allocation.rectangle)?;
+    say_bracketed(rt, &place.allocation.rectangle)?;
     say(rt, "")
 }
 
