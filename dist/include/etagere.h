@@ -98,11 +98,11 @@ enum {
     ETAGERE_RESTORE_COUNTS = 402,
     /* A link names no record, a link back another than the one before, or a record another shelf than its own. */
     ETAGERE_RESTORE_LINK = 403,
-    /* The shelves don't fill each column, column after column. */
+    /* The shelves don't stand column after column, from the column's begin on; those of a shelf atlas fill each. */
     ETAGERE_RESTORE_SHELVES = 404,
     /* The items of a shelf, or its buckets, don't fill it as they must. */
     ETAGERE_RESTORE_RUNS = 405,
-    /* Two free items stand side by side, or two empty shelves of a column. */
+    /* Two free items stand side by side, or two empty shelves of a column; the last shelf of buckets holds nothing. */
     ETAGERE_RESTORE_NEIGHBOURS = 406,
     /* The free list of a shelf hasn't each of its free items once. */
     ETAGERE_RESTORE_FREE_LIST = 407,
@@ -294,7 +294,8 @@ EtagereStatus etagere_atlas_allocate(EtagereAtlas *atlas, EtagereSize size, Etag
 
 /* Takes back the rectangle that is allocated under an id, and merges what is free with its neighbours.
  * Answers ETAGERE_OK; ETAGERE_NULL_HANDLE; ETAGERE_UNKNOWN_ID exactly where nothing is allocated under the id. Takes
- * no memory, and looks at the record and those beside it. */
+ * no memory. Looks at the record and those beside it, and finds the shelf by binary search; where shelves merge, others
+ * move in the list by height. */
 EtagereStatus etagere_atlas_deallocate(EtagereAtlas *atlas, uint32_t id);
 
 /* Gives the rectangle that is allocated under an id, as it was first given. The atlas stays.
@@ -436,7 +437,7 @@ EtagereStatus etagere_bucketed_delete(EtagereBucketed *atlas);
 
 /* Gives a rectangle that is at least as large as the size, with the id under which it is allocated.
  * Answers ETAGERE_OK; ETAGERE_NULL_HANDLE; ETAGERE_NO_ROOM where there is no place; ETAGERE_MEMORY, only where a
- * shelf is to be added and there was no memory. Goes through all shelves a few times. */
+ * shelf is to be added and there was no memory. Passes over 512 shelves at once, and goes through those that may fit. */
 EtagereStatus etagere_bucketed_allocate(EtagereBucketed *atlas, EtagereSize size, EtagereAllocation *allocation);
 
 /* Takes back the rectangle that was given under an id. The last one of a bucket makes that empty, and shelves at the
@@ -580,8 +581,8 @@ EtagereStatus etagere_cache_place(
     EtagereCache *cache, uint64_t key, EtagereSize size, EtagereRectangle *rectangle, uint64_t *evicted, size_t
     evicted_length, size_t *count);
 
-/* Begins a frame: what is placed or looked up from now on isn't evicted until the next frame begins, or the cache is
- * cleared.
+/* Begins a frame: what is placed or looked up from now on isn't evicted by etagere_cache_place until the next frame
+ * begins, or the cache is cleared.
  * Answers ETAGERE_OK; ETAGERE_NULL_HANDLE. Takes no memory, and constant time. */
 EtagereStatus etagere_cache_begin_frame(EtagereCache *cache);
 
