@@ -6,8 +6,8 @@
  *
  * Handles. A handle is a struct of one pointer that the caller keeps. It begins as ETAGERE_NULL; `.._new`, `.._clone`
  * and `.._restore` fill a null one, and `.._delete` frees what it holds and makes it null again. It may be moved, never
- * used twice: after a copy only one of the two is used. Of a null handle each call answers ETAGERE_NULL_HANDLE, and
- * changes nothing.
+ * used twice: after a copy only one of the two is used. Each other call answers ETAGERE_NULL_HANDLE of a null handle,
+ * and changes nothing.
  *
  * Statuses. Each call answers a status. After any status but ETAGERE_OK nothing has changed and nothing was written to
  * what the caller passed, unless the comment of the function says so. The last two digits of a status from 100 on are

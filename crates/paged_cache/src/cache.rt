@@ -20,8 +20,8 @@ use std::alloc::Global;
 use std::marker::Model;
 use std::num::NonZeroUsize;
 
-/// Rectangles on several pages under keys, of which those used least recently are evicted where there is no room and no
-/// page may be opened.
+/// Rectangles on several pages under keys, of which those used least recently are evicted where there are as many as may
+/// be, or there is no room and no page may be opened.
 ///
 /// ```text
 /// let mut cache = PagedCache::new(alloc, &options, capacity)?;
@@ -73,8 +73,8 @@ impl PagedCache {
     /// is taken, and the call can't fail.
     ///
     /// A new key gets a rectangle at least as large as the size in pixels, on the page that `AtlasPages::allocate`
-    /// chooses, and becomes the most recently used. Where no page has room and none may be opened, the least recently
-    /// used keys are evicted first, no more than needed; they are listed in `evicted`.
+    /// chooses, and becomes the most recently used. Where there are `capacity` keys, or no page has room and none may be
+    /// opened, the least recently used keys are evicted first, no more than needed; they are listed in `evicted`.
     ///
     /// `TooLarge` comes exactly where the key is new and an empty page has no room for the size; then nothing changes.
     /// `Memory` comes only for a new key, with the keys that were evicted before memory ran out: these are gone, and the
