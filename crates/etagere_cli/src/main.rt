@@ -6,6 +6,7 @@
 #![tactic(auto)]
 
 mod arguments;
+mod counting;
 mod explaining;
 mod input;
 mod output;

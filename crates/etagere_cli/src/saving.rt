@@ -1,10 +1,10 @@
 //! `etagere save`: the snapshot of the atlas that a script leaves.
 
+use crate::counting::saved_of;
 use saved_json::write_saved;
 use std::alloc::Global;
 use tool_answers::bad_lines::script_in;
 use tool_answers::ending::{Answer, Failure};
-use traffic_counts::saved_of;
 
 /// The JSON text of the snapshot that a script leaves.
 pub fn save(alloc: Global, input: &[u8]) -> Result<Answer, Failure> {

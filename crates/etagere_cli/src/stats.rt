@@ -1,5 +1,6 @@
 //! `etagere stats`: what a script asks for, and how full it leaves the atlas; or how full a saved one is.
 
+use crate::counting::{json_text, plain_text, report_of_saved, report_of_script};
 use crate::input::snapshot_text;
 use clap::ArgMatches;
 use saved_json::read_saved;
@@ -7,7 +8,6 @@ use std::alloc::Global;
 use tool_answers::bad_lines::script_in;
 use tool_answers::ending::{Answer, Failure};
 use tool_answers::{plot_text, series_of};
-use traffic_counts::{json_text, plain_text, report_of_saved, report_of_script};
 
 /// What is told of a script or a snapshot, in the form that the arguments ask for.
 pub fn stats(alloc: Global, input: &[u8], given: &ArgMatches<'_>) -> Result<Answer, Failure> {

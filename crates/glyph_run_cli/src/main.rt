@@ -2,8 +2,8 @@
 //! library's.
 #![tactic(auto)]
 
-use etagere_run::ReplayFault;
 use glyph_run::replay_cache;
+use run_commands::faults::ReplayFault;
 use std::io::{BufWriter, Write};
 use std::process::ExitCode;
 use std::rt::Env;

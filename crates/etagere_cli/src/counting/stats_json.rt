@@ -1,7 +1,7 @@
 //! What is told, as JSON for programs: one object on one line.
 
-use crate::report::{Asked, Fullness, Report};
-use crate::stats_text::natural;
+use crate::counting::report::{Asked, Fullness, Report};
+use crate::counting::stats_text::natural;
 use std::alloc::{AllocError, Global};
 use tool_answers::pieces::Piece::{Count, Words};
 use tool_answers::pieces::push_pieces;

@@ -1,6 +1,5 @@
 //! What is told of the atlas that a script leaves, or that was saved: how much was asked, how full it is and how tall its
 //! shelves are, as text for people and as JSON for programs; and the snapshot that a script leaves.
-#![tactic(auto)]
 
 mod heights;
 mod report;

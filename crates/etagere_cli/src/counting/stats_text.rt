@@ -1,6 +1,6 @@
 //! What is told, as text for people.
 
-use crate::report::{Asked, Fullness, Report};
+use crate::counting::report::{Asked, Fullness, Report};
 use std::alloc::{AllocError, Global};
 use tool_answers::pieces::Piece::{Count, Words};
 use tool_answers::pieces::push_pieces;
