@@ -27,7 +27,7 @@ use Rattle.bucketed_records.proofs.Spelling.KeptShelves.{length-kept, live-idle}
 use Rattle.bucket_index.specs.declared.searching.Wanted.TheVariants.{Wide}
 use Rattle.bucketed_store.specs.Private.Refusals.{idle_from, idle_in, idle_one, kept_has_width, kept_height_with, kept_idle_count, kept_items, kept_largest, kept_refusal, kept_shelves_refusal, kept_tallest, kept_usage, kept_widest}
 use Rattle.bucketed_store.proofs.Spelling.FoundFirst.{first-found, number_of}
-use Rattle.bucketed_store.proofs.Spelling.PlacedRecords.{place-is, place_by}
+use Rattle.bucketed_store.proofs.Spelling.PlacedRecords.{place-is, placement_by}
 
 -- the greatest of two lists of numbers
 greatest-append : (xs ys : List ℕ) → greatest (xs ++ ys) ≡ max (greatest xs) (greatest ys)
@@ -76,7 +76,7 @@ pub refusal-kept : (frame : Frame) (sides : Sides) (stored : Stored) (unused : L
     → Spells frame stored unused ss → kept_refusal frame (left_to frame ss) sides stored.shelves stored.buckets ≡ place_refusal frame ss sides
 refusal-kept frame sides stored unused ss wide some few spells =
     ap (λ (t : Bool). cond t None (Some (kept_shelves_refusal frame (left_to frame ss) sides stored.shelves stored.buckets)))
-    (ap is_some (place-is frame sides stored unused ss wide some few spells) ∙ is_some-map place_by (bucket_place frame ss sides))
+    (ap is_some (place-is frame sides stored unused ss wide some few spells) ∙ is_some-map placement_by (bucket_place frame ss sides))
     ∙ ap (λ (r : BucketedRefusal). cond (is_some (bucket_place frame ss sides)) None (Some r)) shelves
   where
     spacious : Bool

@@ -21,7 +21,7 @@ use etagere_base::{Frame, Sides};
 
 /// Where an item goes.
 #[derive(Clone, Copy)]
-pub enum Place {
+pub enum Placement {
     /// Into a bucket that is there.
     InBucket(Found),
     /// Into the first bucket of a shelf that is added.
@@ -30,26 +30,26 @@ pub enum Place {
     InMerged(Group),
 }
 
-impl Place {
+impl Placement {
     /// How many buckets have to be made for it.
     pub fn needed_buckets(&self) -> u32
-        requires { edits.needed_for (spec.place_seen self.now) < 2 ^ 32 }
-        ensures { result ≡ edits.needed_for (spec.place_seen self.now) }
+        requires { edits.needed_for (spec.placement_seen self.now) < 2 ^ 32 }
+        ensures { result ≡ edits.needed_for (spec.placement_seen self.now) }
     {
         match self {
-            Place::InAdded(news) => news.total_count(),
+            Placement::InAdded(news) => news.total_count(),
             _ => 0,
         }
     }
 }
 
 /// The place for these sides: the bucket that is picked, else a shelf to be added, else shelves to be merged.
-pub fn place_of(frame: &Frame, left: &Remaining, sides: &Sides, store: &Store) -> Option<Place>
+pub fn placement_of(frame: &Frame, left: &Remaining, sides: &Sides, store: &Store) -> Option<Placement>
     requires frame { IsBucketedFrame frame.now }
     requires across { (0 < sides.now.across) × (sides.now.across < 2 ^ 31) }
     requires column { left.now.column < 2 ^ 31 }
-    ensures { option_map spec.place_seen result
-        ≡ spec.kept_place frame.now left.now sides.now store.now.shelves store.now.buckets }
+    ensures { option_map spec.placement_seen result
+        ≡ spec.kept_placement frame.now left.now sides.now store.now.shelves store.now.buckets }
 {
     place_among(
         frame,
@@ -71,22 +71,22 @@ fn place_among(
     buckets: &[LinkedBucket],
     blocks: &Blocks,
     spans: &Spans,
-) -> Option<Place>
+) -> Option<Placement>
     requires frame { IsBucketedFrame frame.now }
     requires across { (0 < sides.now.across) × (sides.now.across < 2 ^ 31) }
     requires column { left.now.column < 2 ^ 31 }
     requires known { AreKnown blocks.now shelves.now }
     requires spans { AreSpans spans.now buckets.now }
-    ensures { option_map spec.place_seen result
-        ≡ spec.kept_place frame.now left.now sides.now shelves.now buckets.now }
+    ensures { option_map spec.placement_seen result
+        ≡ spec.kept_placement frame.now left.now sides.now shelves.now buckets.now }
 {
     let adds = can_add(frame, left, sides.across);
     if let Some(found) = pick(adds, sides, shelves, buckets, blocks, spans) {
-        return Some(Place::InBucket(found));
+        return Some(Placement::InBucket(found));
     }
     if adds {
-        return Some(Place::InAdded(new_shelves(frame, left, sides)));
+        return Some(Placement::InAdded(new_shelves(frame, left, sides)));
     }
     let group = mergeable_shelves(sides, shelves, blocks)?;
-    Some(Place::InMerged(group))
+    Some(Placement::InMerged(group))
 }

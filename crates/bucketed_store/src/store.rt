@@ -24,7 +24,7 @@ use crate::dropping::{drop_idle_end, next_of};
 use crate::growing::{left_after, widen_shelves};
 use crate::making::{NewBuckets, make_buckets, reserve_records};
 use crate::merging::{Group, merge};
-use crate::placing::Place;
+use crate::placing::Placement;
 use crate::returning::{is_known, return_item, returned_area, shelf_number};
 use bucket_index::blocks::Blocks;
 use bucket_index::searching::{Found, has_room, widest_room};
@@ -170,26 +170,26 @@ impl Store {
     pub fn prepare(
         &mut self,
         frame: &Frame,
-        place: &Place,
+        place: &Placement,
         in_use: u32,
     ) -> Result<Found, AllocError>
         requires frame { IsBucketedFrame frame.now }
         requires place { spec.CanPrepare frame.now
-            (placing.place_seen place.now) in_use self.old }
+            (placing.placement_seen place.now) in_use self.old }
         ensures ok { OnOk result
-            (self.new ≡ spec.stored_ready frame.now (placing.place_seen place.now) self.old) }
+            (self.new ≡ spec.stored_ready frame.now (placing.placement_seen place.now) self.old) }
         ensures found { IfOk result
-            (λ found. spec.found_of (placing.place_seen place.now) self.new ≡ Some found) }
+            (λ found. spec.found_of (placing.placement_seen place.now) self.new ≡ Some found) }
         ensures err { OnErr result (self.new ≡ self.old) }
-        ensures adds { OnErr result (spec.IsAdding (placing.place_seen place.now)) }
+        ensures adds { OnErr result (spec.IsAdding (placing.placement_seen place.now)) }
     {
         match place {
-            Place::InBucket(found) => Ok(*found),
-            Place::InAdded(news) => {
+            Placement::InBucket(found) => Ok(*found),
+            Placement::InAdded(news) => {
                 self.add(frame, news, in_use)?;
                 Ok(self.first_of_last())
             }
-            Place::InMerged(group) => {
+            Placement::InMerged(group) => {
                 self.merge(group);
                 Ok(self.first_of(group.first))
             }

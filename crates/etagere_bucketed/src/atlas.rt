@@ -41,7 +41,7 @@ use bucketed_records::snapshots::{Totals, snapshot_of};
 use bucketed_restoring::restoring::JudgedSnapshot;
 use bucketed_snapshots::BucketedSnapshot;
 use bucketed_store::drawing::push_store;
-use bucketed_store::placing::place_of;
+use bucketed_store::placing::placement_of;
 use bucketed_store::refusing::place_refusal;
 use bucketed_store::returning::bucket_number;
 use bucketed_store::store::Store;
@@ -248,7 +248,7 @@ impl BucketedAtlasAllocator {
             buckets: MOST_BUCKETS - self.buckets_in_use,
         };
         let frame = self.frame;
-        let Some(place) = place_of(&frame, &left, &sides, &self.store) else {
+        let Some(place) = placement_of(&frame, &left, &sides, &self.store) else {
             return Ok(None);
         };
         let found = self.store.prepare(&frame, &place, self.buckets_in_use)?;

@@ -1,6 +1,6 @@
 //! Calls of several pages with a padding.
 
-use crate::pages::{copy_of, options_of, place_of, say_answer, say_place, say_spaces, spaces};
+use crate::pages::{copy_of, options_of, page_and_id_of, say_answer, say_place, say_spaces, spaces};
 use atlas_pages::{AtlasPages, PaddedPages, PageOptions, PagePlace, PagesFault};
 use etagere::{AllocId, Rectangle, Size, UnknownId};
 use padding::Padding;
@@ -39,7 +39,7 @@ impl Called for CalledPaddedPages {
         match call {
             "allocate" => say_answer(rt, &asked(pages, size_of(words))),
             "deallocate" => give_back(pages, rt, words),
-            "get" => say_rectangle(rt, rectangle_of(pages, place_of(words))),
+            "get" => say_rectangle(rt, rectangle_of(pages, page_and_id_of(words))),
             "iter" => list(pages, rt),
             "shrink" => say_number(rt, shrunk(pages)),
             "spaces" => say_spaces(rt, spaces(pages.pages())),
@@ -65,7 +65,7 @@ fn list(pages: &PaddedPages, rt: &impl Print) -> io::Result<()> {
 }
 
 fn give_back(pages: &mut PaddedPages, rt: &impl Print, words: &str) -> io::Result<()> {
-    let is_known = returned(pages, place_of(words)).is_ok();
+    let is_known = returned(pages, page_and_id_of(words)).is_ok();
     say_if(rt, is_known, "returned", "unknown")
 }
 

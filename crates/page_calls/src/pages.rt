@@ -74,7 +74,7 @@ pub fn options_of(words: &str) -> PageOptions {
 }
 
 /// A page and an id.
-pub fn place_of(words: &str) -> (u32, AllocId) {
+pub fn page_and_id_of(words: &str) -> (u32, AllocId) {
     let (page, id) = words.split_once(' ').unwrap_or((words, ""));
     (
         page.parse().unwrap_or(0),
@@ -130,7 +130,7 @@ fn say_moved(rt: &impl Print, moved: &Result<RearrangedPages, AllocError>) -> io
 }
 
 fn give_back(pages: &mut AtlasPages, rt: &impl Print, words: &str) -> io::Result<()> {
-    let is_known = returned(pages, place_of(words)).is_ok();
+    let is_known = returned(pages, page_and_id_of(words)).is_ok();
     say_if(rt, is_known, "returned", "unknown")
 }
 
@@ -167,7 +167,7 @@ fn returned(pages: &mut AtlasPages, (page, id): (u32, AllocId)) -> Result<(), Un
 }
 
 fn rectangle_of(pages: &AtlasPages, words: &str) -> Option<Rectangle> {
-    let (page, id) = place_of(words);
+    let (page, id) = page_and_id_of(words);
     pages.get(page, id)
 }
 

@@ -26,23 +26,23 @@ use Rattle.bucketed_records.specs.declared.records.KeptShelf.{KeptShelf}
 use Rattle.bucketed_records.specs.Private.Store.{Spells, Stored, first_link, kept_shelf, kept_shelves}
 use Rattle.bucketed_records.proofs.Spelling.KeptShelves.{length-kept}
 use Rattle.bucket_index.specs.declared.searching.Found.{Found}
-use Rattle.bucketed_store.specs.Private.Placing.{InAdded, InBucket, InMerged, Place, kept_mergeable, kept_place}
+use Rattle.bucketed_store.specs.Private.Placing.{InAdded, InBucket, InMerged, Placement, kept_mergeable, kept_placement}
 use Rattle.bucketed_store.specs.Private.StoreEdits.{CanStore, IsGroupIn, IsNewShelf, across_of, found_first, found_of, group_height, needed_for, stored_ready, stored_shelves}
 use Rattle.bucketed_store.proofs.Spelling.FoundPlace.{found_seen, kept-at, picked-is}
 use Rattle.bucketed_store.proofs.Spelling.MadeShelves.{AreStored, stored_shelves-are}
 use Rattle.bucketed_store.proofs.Spelling.MergedShelves.{AreMergeable, IsRow, mergeable-kept, mergeable-row, numbers-merged, row-short, row-within, spells-merged}
 
 -- a place by the numbers of records
-abbrev pub place_by : BucketPlace → Place
-place_by (placing.InBucket spot) = InBucket (found_seen spot)
-place_by (placing.InAdded news) = InAdded news
-place_by (placing.InMerged group) = InMerged group
+abbrev pub placement_by : BucketPlace → Placement
+placement_by (placing.InBucket spot) = InBucket (found_seen spot)
+placement_by (placing.InAdded news) = InAdded news
+placement_by (placing.InMerged group) = InMerged group
 
 -- the place that is found among records is that among the shelves that they spell
 pub place-is : (frame : Frame) (sides : Sides) (stored : Stored) (unused : List ℕ) (ss : List BucketShelf) → 1 ≤ frame.column_width → 1 ≤ sides.along → buckets_in_use ss ≤ most_buckets
-    → Spells frame stored unused ss → kept_place frame (left_to frame ss) sides stored.shelves stored.buckets ≡ option_map place_by (bucket_place frame ss sides)
+    → Spells frame stored unused ss → kept_placement frame (left_to frame ss) sides stored.shelves stored.buckets ≡ option_map placement_by (bucket_place frame ss sides)
 place-is frame sides stored unused ss wide some few spells =
-    ap (λ (ks : List KeptShelf). kept_place frame (left_to frame ss) sides ks stored.buckets) spells.shelves
+    ap (λ (ks : List KeptShelf). kept_placement frame (left_to frame ss) sides ks stored.buckets) spells.shelves
     ∙ ap (λ (f : Option Found). or_else (option_map InBucket f) (later (kept_mergeable sides 0 (kept_shelves frame [] ss)))) (picked-is adds sides stored.buckets frame ss some few spells.buckets)
     ∙ ap (λ (g : Option Group). or_else (option_map InBucket (option_map found_seen (pick adds sides ss))) (later g)) (mergeable-kept sides 0 frame [] ss wide)
     ∙ by_parts (pick adds sides ss) adds (mergeable_shelves sides 0 ss)
@@ -50,12 +50,12 @@ place-is frame sides stored unused ss wide some few spells =
     adds : Bool
     adds = can_add frame (left_to frame ss) sides.across
 
-    later : Option Group → Option Place
+    later : Option Group → Option Placement
     later g = cond adds (Some (InAdded (new_shelves frame (left_to frame ss) sides))) (option_map InMerged g)
 
     by_parts : (found : Option Spot) (a : Bool) (g : Option Group)
         → or_else (option_map InBucket (option_map found_seen found)) (cond a (Some (InAdded (new_shelves frame (left_to frame ss) sides))) (option_map InMerged g))
-        ≡ option_map place_by (or_else (option_map placing.InBucket found) (cond a (Some (placing.InAdded (new_shelves frame (left_to frame ss) sides))) (option_map placing.InMerged g)))
+        ≡ option_map placement_by (or_else (option_map placing.InBucket found) (cond a (Some (placing.InAdded (new_shelves frame (left_to frame ss) sides))) (option_map placing.InMerged g)))
     by_parts (Some spot) a g = refl
     by_parts None true g = refl
     by_parts None false None = refl
@@ -83,7 +83,7 @@ first-kept frame ss n =
 
 -- the bucket of a place among records that were made ready is that of the place in the shelves that they spell
 pub found-is : (frame : Frame) (place : BucketPlace) (stored : Stored) (unused : List ℕ) (ss : List BucketShelf) → Spells frame stored unused ss
-    → found_of (place_by place) stored ≡ option_map found_seen (spot_of ss place)
+    → found_of (placement_by place) stored ≡ option_map found_seen (spot_of ss place)
 found-is frame (placing.InBucket spot) stored unused ss spells = refl
 found-is frame (placing.InAdded news) stored unused ss spells =
     ap (λ (ks : List KeptShelf). found_first (length ks - 1) ks) spells.shelves
@@ -93,7 +93,7 @@ found-is frame (placing.InMerged group) stored unused ss spells =
     ap (λ (ks : List KeptShelf). found_first group.first ks) spells.shelves ∙ first-kept frame ss group.first
 
 -- records can be made ready for a place, but for its first bucket
-abbrev pub CanReady : Frame → Place → ℕ → Stored → Type 0
+abbrev pub CanReady : Frame → Placement → ℕ → Stored → Type 0
 CanReady frame (InBucket found) in_use stored = Unit {0}
 CanReady frame (InAdded news) in_use stored = CanStore frame news in_use stored
 CanReady frame (InMerged group) in_use stored = IsGroupIn group stored.shelves
@@ -103,9 +103,9 @@ pub record AreReady (frame : Frame) (place : BucketPlace) (stored : Stored) (ss 
   pub tags : List Tag
   pub unused : List ℕ
   pub new_tags : AreNewTags ss (needed_buckets place) tags
-  pub spells : Spells frame (stored_ready frame (place_by place) stored) unused (prepared frame ss tags place)
-  pub in_use : buckets_in_use (prepared frame ss tags place) ≡ buckets_in_use ss + needed_for (place_by place)
-  pub can : CanReady frame (place_by place) (buckets_in_use ss) stored
+  pub spells : Spells frame (stored_ready frame (placement_by place) stored) unused (prepared frame ss tags place)
+  pub in_use : buckets_in_use (prepared frame ss tags place) ≡ buckets_in_use ss + needed_for (placement_by place)
+  pub can : CanReady frame (placement_by place) (buckets_in_use ss) stored
 
 -- new shelves have as many buckets as they get
 in-use-made : (frame : Frame) (news : List NewShelf) (tags : List Tag) → length tags ≡ total_count news → buckets_in_use (made_shelves frame news tags) ≡ total_count news
@@ -158,7 +158,7 @@ place-ready frame sides stored unused ss place is_frame asks valid spells h =
     adds : Bool
     adds = can_add frame (left_to frame ss) sides.across
 
-    none : (p : BucketPlace) → CanReady frame (place_by p) (buckets_in_use ss) stored → needed_buckets p ≡ 0 → needed_for (place_by p) ≡ 0 → Spells frame (stored_ready frame (place_by p) stored) unused (prepared frame ss [] p)
+    none : (p : BucketPlace) → CanReady frame (placement_by p) (buckets_in_use ss) stored → needed_buckets p ≡ 0 → needed_for (placement_by p) ≡ 0 → Spells frame (stored_ready frame (placement_by p) stored) unused (prepared frame ss [] p)
         → buckets_in_use (prepared frame ss [] p) ≡ buckets_in_use ss → AreReady frame p stored ss
     none p can zero_ none_ spelled same = record {
       tags = [];

@@ -11,20 +11,20 @@ use Rattle.bucketed_records.specs.declared.records.KeptShelf.{KeptShelf}
 use Rattle.bucketed_records.specs.Private.Store.{is_kept_idle}
 use Rattle.bucket_index.specs.declared.searching.Found.{Found}
 use Rattle.bucket_index.specs.Private.Searching.{picked}
-use Rattle.bucketed_store.specs.declared.placing.Place as code
-use Rattle.bucketed_store.specs.declared.placing.Place.TheVariants as places
+use Rattle.bucketed_store.specs.declared.placing.Placement as code
+use Rattle.bucketed_store.specs.declared.placing.Placement.TheVariants as places
 
 -- where an item goes: a bucket that was found, shelves to be added, or shelves to be merged
-pub data Place : Type 0 where
-  InBucket : (found : Found) → Place
-  InAdded : (news : List NewShelf) → Place
-  InMerged : (group : Group) → Place
+pub data Placement : Type 0 where
+  InBucket : (found : Found) → Placement
+  InAdded : (news : List NewShelf) → Placement
+  InMerged : (group : Group) → Placement
 
 -- the place that the code's type stands for
-abbrev pub place_seen : code.Place → Place
-place_seen (places.InBucket found) = InBucket found
-place_seen (places.InAdded news) = InAdded (news_of news)
-place_seen (places.InMerged group) = InMerged group
+abbrev pub placement_seen : code.Placement → Placement
+placement_seen (places.InBucket found) = InBucket found
+placement_seen (places.InAdded news) = InAdded (news_of news)
+placement_seen (places.InMerged group) = InMerged group
 
 -- the heights of shelves, added up
 abbrev pub kept_height : List KeptShelf → ℕ
@@ -60,8 +60,8 @@ serves_at sides others (kept ∷ shelves) = kept_serves sides others kept shelve
 
 -- the place for these sides: the bucket that is picked, else shelves to be added, else shelves to
 -- be merged
-abbrev pub kept_place : Frame → Remaining → Sides → List KeptShelf → List LinkedBucket → Option Place
-kept_place frame left sides shelves buckets =
+abbrev pub kept_placement : Frame → Remaining → Sides → List KeptShelf → List LinkedBucket → Option Placement
+kept_placement frame left sides shelves buckets =
     let adds = can_add frame left sides.across in
     or_else
     (option_map InBucket (picked adds sides shelves buckets))

@@ -17,7 +17,7 @@ use Rattle.bucketed_records.specs.declared.records.KeptShelf.{KeptShelf}
 use Rattle.bucketed_records.specs.Private.Store.{is_kept_idle}
 use Rattle.bucket_index.specs.declared.searching.Wanted.TheVariants.{Wide}
 use Rattle.bucket_index.specs.Private.Searching.{first_wanted}
-use Rattle.bucketed_store.specs.Private.Placing.{kept_place}
+use Rattle.bucketed_store.specs.Private.Placing.{kept_placement}
 
 -- the widest room in the shelves that are at least so tall
 abbrev pub kept_widest : ℕ → List KeptShelf → ℕ
@@ -42,7 +42,7 @@ kept_shelves_refusal frame left sides shelves buckets =
 -- the reason why sides have no place, none where they have one
 abbrev pub kept_refusal : Frame → Remaining → Sides → List KeptShelf → List LinkedBucket → Option BucketedRefusal
 kept_refusal frame left sides shelves buckets =
-    if is_some (kept_place frame left sides shelves buckets)
+    if is_some (kept_placement frame left sides shelves buckets)
     then None
     else Some (kept_shelves_refusal frame left sides shelves buckets)
 

@@ -19,7 +19,7 @@ pub use Rattle.bucketed_records.specs.declared.records.KeptShelf.{KeptShelf}
 use Rattle.bucketed_records.specs.Private.Store.{Stored}
 use Rattle.bucket_index.specs.declared.searching.Found.{Found}
 use Rattle.bucket_index.specs.Private.Searching.{widest_from}
-use Rattle.bucketed_store.specs.Private.Placing.{Place, InBucket, InAdded, InMerged, kept_height}
+use Rattle.bucketed_store.specs.Private.Placing.{Placement, InBucket, InAdded, InMerged, kept_height}
 -- buckets to be made side by side: the number of their shelf, their width, and where the first one
 -- begins
 pub use Rattle.bucketed_store.specs.declared.making.NewBuckets.{NewBuckets}
@@ -243,14 +243,14 @@ found_first number shelves =
     (first_bucket_of shelves number)
 
 -- records made ready for a place
-abbrev pub stored_ready : Frame → Place → Stored → Stored
+abbrev pub stored_ready : Frame → Placement → Stored → Stored
 stored_ready frame (InBucket found) stored = stored
 stored_ready frame (InAdded news) stored = stored_shelves frame news stored
 stored_ready frame (InMerged group) stored =
     record stored { shelves = kept_merged group stored.shelves }
 
 -- the bucket of a place in records that were made ready for it
-abbrev pub found_of : Place → Stored → Option Found
+abbrev pub found_of : Placement → Stored → Option Found
 found_of (InBucket found) stored = Some found
 found_of (InAdded news) stored = found_first (length stored.shelves - 1) stored.shelves
 found_of (InMerged group) stored = found_first group.first stored.shelves
@@ -289,7 +289,7 @@ pub record HasFirst (number : ℕ) (shelves : List KeptShelf) : Type 0 where
   pub some : IsSome (first_bucket_of shelves number)
 
 -- records can be made ready for a place
-abbrev pub CanPrepare : Frame → Place → ℕ → Stored → Type 0
+abbrev pub CanPrepare : Frame → Placement → ℕ → Stored → Type 0
 CanPrepare frame (InBucket found) in_use stored = Unit {0}
 CanPrepare frame (InAdded news) in_use stored =
     CanStore frame news in_use stored
@@ -309,7 +309,7 @@ kept_allocation frame width found kept bucket =
     }
 
 -- how many buckets have to be made for a place
-abbrev pub needed_for : Place → ℕ
+abbrev pub needed_for : Placement → ℕ
 needed_for (InBucket found) = 0
 needed_for (InAdded news) = total_count news
 needed_for (InMerged group) = 0
@@ -325,7 +325,7 @@ end_of frame shelves =
     (slice_get shelves (length shelves - 1)) (record { along = 0; across = across_side frame })
 
 -- a place is in shelves that have to be added
-abbrev pub IsAdding : Place → Type 0
+abbrev pub IsAdding : Placement → Type 0
 IsAdding (InBucket found) = ⊥
 IsAdding (InAdded news) = Unit {0}
 IsAdding (InMerged group) = ⊥

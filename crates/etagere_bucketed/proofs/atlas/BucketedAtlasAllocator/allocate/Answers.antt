@@ -24,8 +24,8 @@ use Rattle.bucketed_records.specs.Private.Store.{Stored, stored_state}
 use Rattle.bucketed_records.specs.Private.Witnessed.{HasTotals, Witnessed}
 use Rattle.bucketed_records.proofs.Spelling.Fresh.{space-small}
 use Rattle.bucket_index.specs.declared.searching.Found.{Found}
-use Rattle.bucketed_store.specs.declared.placing.Place as code
-use Rattle.bucketed_store.specs.Private.Placing.{Place, kept_place, place_seen}
+use Rattle.bucketed_store.specs.declared.placing.Placement as code
+use Rattle.bucketed_store.specs.Private.Placing.{Placement, kept_placement, placement_seen}
 use Rattle.bucketed_store.specs.Private.StoreEdits.{CanGive, IsShort, end_of, found_of, height_of, kept_allocation, live_items_of, stored_ready, stored_taken}
 use Rattle.bucketed_store.specs.Private.StoreEdits as store
 use Rattle.bucketed_store.proofs.Spelling.AllocatedRecords.{IsAllocation, Makes, allocation-is, makes, needed-few, needs-shelf, refused}
@@ -55,15 +55,15 @@ left-is inside is =
     ∙ ap (λ (n : ℕ). let left : Remaining = record { column = current_column (state_in inside).shelves; height = (left_to inside.frame (state_in inside).shelves).height; buckets = most_buckets - n } in left) is.totals.in_use
 
 -- the place that is found
-made : (inside : Inside) → IsConsistent inside → (size : Size) (sides : Sides) (result : Option code.Place) (place : code.Place) → asked inside.frame size ≡ Some sides
-    → option_map place_seen result ≡ kept_place inside.frame (left_in inside) sides inside.store.shelves inside.store.buckets → result ≡ Some place
-    → Makes (state_in inside) size sides inside.store (place_seen place)
+made : (inside : Inside) → IsConsistent inside → (size : Size) (sides : Sides) (result : Option code.Placement) (place : code.Placement) → asked inside.frame size ≡ Some sides
+    → option_map placement_seen result ≡ kept_placement inside.frame (left_in inside) sides inside.store.shelves inside.store.buckets → result ≡ Some place
+    → Makes (state_in inside) size sides inside.store (placement_seen place)
 made inside is size sides result place asks found some =
-    makes (state_in inside) size sides inside.store is.unused (place_seen place) is.witnessed.valid is.witnessed.spells asks
-    (ap (λ (left : Remaining). kept_place inside.frame left sides inside.store.shelves inside.store.buckets) (sym (left-is inside is)) ∙ sym found ∙ ap (option_map place_seen) some)
+    makes (state_in inside) size sides inside.store is.unused (placement_seen place) is.witnessed.valid is.witnessed.spells asks
+    (ap (λ (left : Remaining). kept_placement inside.frame left sides inside.store.shelves inside.store.buckets) (sym (left-is inside is)) ∙ sym found ∙ ap (option_map placement_seen) some)
 
 -- the bucket that is made ready
-allocation : (inside : Inside) → IsConsistent inside → (size : Size) (sides : Sides) (place : Place) (after : Stored) (found : Found) → Makes (state_in inside) size sides inside.store place
+allocation : (inside : Inside) → IsConsistent inside → (size : Size) (sides : Sides) (place : Placement) (after : Stored) (found : Found) → Makes (state_in inside) size sides inside.store place
     → after ≡ stored_ready inside.frame place inside.store → found_of place after ≡ Some found → IsAllocation (state_in inside) size sides inside.store place found
 allocation inside is size sides place after found makes_ ready h =
     allocation-is (state_in inside) size sides inside.store place found is.witnessed.valid makes_ (ap (found_of place) (sym ready) ∙ h)
@@ -71,8 +71,8 @@ allocation inside is size sides place after found makes_ ready h =
 pub returns-in_default-clause-promises : goal.returns-in_default-clause-promises
 returns-in_default-clause-promises c = subst KeepsPromises c.self.view_is (valid-promises (state_in c.self.inside) c.self.invariant.witnessed.valid)
 
-pub place_of-requires-clause-column : goal.place_of-requires-clause-column
-place_of-requires-clause-column c =
+pub placement_of-requires-clause-column : goal.placement_of-requires-clause-column
+placement_of-requires-clause-column c =
     let valid = c.self.invariant.witnessed.valid in
     let frame = c.self.inside.frame in
     omega (
@@ -84,28 +84,28 @@ place_of-requires-clause-column c =
       le-mul_of_pos_right frame.columns valid.frame.column_width,
     )
 
-pub returns-in_default-place_of-clause-refused : goal.returns-in_default-place_of-clause-refused
-returns-in_default-place_of-clause-refused c =
+pub returns-in_default-placement_of-clause-refused : goal.returns-in_default-placement_of-clause-refused
+returns-in_default-placement_of-clause-refused c =
     let inside = c.self.inside in
     let is = c.self.invariant in
     subst (λ (state : BucketedState). IsBucketRefused state c.args.size) c.self.view_is
     (refused (state_in inside) c.args.size c.in-Some.sides inside.store is.unused is.witnessed.valid is.witnessed.spells (sym c.asked.ensures ∙ c.in-Some.is)
-    (ap (λ (left : Remaining). kept_place inside.frame left c.in-Some.sides inside.store.shelves inside.store.buckets) (sym (left-is inside is)) ∙ sym c.place_of.ensures ∙ ap (option_map place_seen) c.in_default-place_of.is))
+    (ap (λ (left : Remaining). kept_placement inside.frame left c.in-Some.sides inside.store.shelves inside.store.buckets) (sym (left-is inside is)) ∙ sym c.placement_of.ensures ∙ ap (option_map placement_seen) c.in_default-placement_of.is))
 
-pub returns-in_default-place_of-clause-promises : goal.returns-in_default-place_of-clause-promises
-returns-in_default-place_of-clause-promises c = subst KeepsPromises c.self.view_is (valid-promises (state_in c.self.inside) c.self.invariant.witnessed.valid)
+pub returns-in_default-placement_of-clause-promises : goal.returns-in_default-placement_of-clause-promises
+returns-in_default-placement_of-clause-promises c = subst KeepsPromises c.self.view_is (valid-promises (state_in c.self.inside) c.self.invariant.witnessed.valid)
 
 pub prepare-requires-clause-place : goal.prepare-requires-clause-place
 prepare-requires-clause-place c =
-    subst (λ (in_use : ℕ). store.CanPrepare c.self.inside.frame (place_seen c.in-Some-place_of.place) in_use c.self.inside.store) (sym c.self.invariant.totals.in_use)
-    (made c.self.inside c.self.invariant c.args.size c.in-Some.sides c.place_of.result c.in-Some-place_of.place (sym c.asked.ensures ∙ c.in-Some.is) c.place_of.ensures c.in-Some-place_of.is).can
+    subst (λ (in_use : ℕ). store.CanPrepare c.self.inside.frame (placement_seen c.in-Some-placement_of.place) in_use c.self.inside.store) (sym c.self.invariant.totals.in_use)
+    (made c.self.inside c.self.invariant c.args.size c.in-Some.sides c.placement_of.result c.in-Some-placement_of.place (sym c.asked.ensures ∙ c.in-Some.is) c.placement_of.ensures c.in-Some-placement_of.is).can
 
 pub returns-in_err-found-clause-shelf : goal.returns-in_err-found-clause-shelf
 returns-in_err-found-clause-shelf c =
-    let m = made c.self.inside c.self.invariant c.args.size c.in-Some.sides c.place_of.result c.in-Some-place_of.place (sym c.asked.ensures ∙ c.in-Some.is) c.place_of.ensures c.in-Some-place_of.is in
+    let m = made c.self.inside c.self.invariant c.args.size c.in-Some.sides c.placement_of.result c.in-Some-placement_of.place (sym c.asked.ensures ∙ c.in-Some.is) c.placement_of.ensures c.in-Some-placement_of.is in
     on_err c.from_residual.result
     (subst (λ (state : BucketedState). NeedsShelf state c.args.size) c.self.view_is
-    (needs-shelf (state_in c.self.inside) c.args.size c.in-Some.sides c.self.inside.store (place_seen c.in-Some-place_of.place) m c.in_err-found.ensures.adds))
+    (needs-shelf (state_in c.self.inside) c.args.size c.in-Some.sides c.self.inside.store (placement_seen c.in-Some-placement_of.place) m c.in_err-found.ensures.adds))
 
 pub returns-in_err-found-clause-promises : goal.returns-in_err-found-clause-promises
 returns-in_err-found-clause-promises c =
@@ -113,75 +113,75 @@ returns-in_err-found-clause-promises c =
 
 pub allocation-allocation-requires : goal.allocation-allocation-requires
 allocation-allocation-requires c =
-    let m = made c.self.inside c.self.invariant c.args.size c.in-Some.sides c.place_of.result c.in-Some-place_of.place (sym c.asked.ensures ∙ c.in-Some.is) c.place_of.ensures c.in-Some-place_of.is in
+    let m = made c.self.inside c.self.invariant c.args.size c.in-Some.sides c.placement_of.result c.in-Some-placement_of.place (sym c.asked.ensures ∙ c.in-Some.is) c.placement_of.ensures c.in-Some-placement_of.is in
     let ready = c.in_ok-found.ensures.ok in
-    let a = allocation c.self.inside c.self.invariant c.args.size c.in-Some.sides (place_seen c.in-Some-place_of.place) c.prepare.new.self c.in_ok-found.found m ready c.in_ok-found.ensures.found in
+    let a = allocation c.self.inside c.self.invariant c.args.size c.in-Some.sides (placement_seen c.in-Some-placement_of.place) c.prepare.new.self c.in_ok-found.found m ready c.in_ok-found.ensures.found in
     subst (CanGive c.self.inside.frame c.in-Some.sides.along c.in_ok-found.found) (sym ready) a.give
 
 pub take-area-requires-clause-shelf : goal.take-area-requires-clause-shelf
 take-area-requires-clause-shelf c =
-    let m = made c.self.inside c.self.invariant c.args.size c.in-Some.sides c.place_of.result c.in-Some-place_of.place (sym c.asked.ensures ∙ c.in-Some.is) c.place_of.ensures c.in-Some-place_of.is in
+    let m = made c.self.inside c.self.invariant c.args.size c.in-Some.sides c.placement_of.result c.in-Some-placement_of.place (sym c.asked.ensures ∙ c.in-Some.is) c.placement_of.ensures c.in-Some-placement_of.is in
     let ready = c.in_ok-found.ensures.ok in
-    let a = allocation c.self.inside c.self.invariant c.args.size c.in-Some.sides (place_seen c.in-Some-place_of.place) c.prepare.new.self c.in_ok-found.found m ready c.in_ok-found.ensures.found in
+    let a = allocation c.self.inside c.self.invariant c.args.size c.in-Some.sides (placement_seen c.in-Some-placement_of.place) c.prepare.new.self c.in_ok-found.found m ready c.in_ok-found.ensures.found in
     subst (λ (stored : Stored). c.in_ok-found.found.shelf < length stored.shelves) (sym ready) a.shelf
 
 pub take-area-requires-clause-fits : goal.take-area-requires-clause-fits
 take-area-requires-clause-fits c =
-    let m = made c.self.inside c.self.invariant c.args.size c.in-Some.sides c.place_of.result c.in-Some-place_of.place (sym c.asked.ensures ∙ c.in-Some.is) c.place_of.ensures c.in-Some-place_of.is in
+    let m = made c.self.inside c.self.invariant c.args.size c.in-Some.sides c.placement_of.result c.in-Some-placement_of.place (sym c.asked.ensures ∙ c.in-Some.is) c.placement_of.ensures c.in-Some-placement_of.is in
     let ready = c.in_ok-found.ensures.ok in
-    let a = allocation c.self.inside c.self.invariant c.args.size c.in-Some.sides (place_seen c.in-Some-place_of.place) c.prepare.new.self c.in_ok-found.found m ready c.in_ok-found.ensures.found in
+    let a = allocation c.self.inside c.self.invariant c.args.size c.in-Some.sides (placement_seen c.in-Some-placement_of.place) c.prepare.new.self c.in_ok-found.found m ready c.in_ok-found.ensures.found in
     subst (λ (stored : Stored). store.CanTake c.in_ok-found.found.bucket c.in-Some.sides.along stored.buckets) (sym ready) a.take
 
 pub take-area-requires-clause-few : goal.take-area-requires-clause-few
 take-area-requires-clause-few c =
-    let m = made c.self.inside c.self.invariant c.args.size c.in-Some.sides c.place_of.result c.in-Some-place_of.place (sym c.asked.ensures ∙ c.in-Some.is) c.place_of.ensures c.in-Some-place_of.is in
+    let m = made c.self.inside c.self.invariant c.args.size c.in-Some.sides c.placement_of.result c.in-Some-placement_of.place (sym c.asked.ensures ∙ c.in-Some.is) c.placement_of.ensures c.in-Some-placement_of.is in
     let ready = c.in_ok-found.ensures.ok in
-    let a = allocation c.self.inside c.self.invariant c.args.size c.in-Some.sides (place_seen c.in-Some-place_of.place) c.prepare.new.self c.in_ok-found.found m ready c.in_ok-found.ensures.found in
+    let a = allocation c.self.inside c.self.invariant c.args.size c.in-Some.sides (placement_seen c.in-Some-placement_of.place) c.prepare.new.self c.in_ok-found.found m ready c.in_ok-found.ensures.found in
     subst (λ (stored : Stored). live_items_of stored.shelves c.in_ok-found.found.shelf + 1 < 2 ^ 32) (sym ready) a.few
 
 pub take-area-requires-clause-widest : goal.take-area-requires-clause-widest
 take-area-requires-clause-widest c =
-    let m = made c.self.inside c.self.invariant c.args.size c.in-Some.sides c.place_of.result c.in-Some-place_of.place (sym c.asked.ensures ∙ c.in-Some.is) c.place_of.ensures c.in-Some-place_of.is in
+    let m = made c.self.inside c.self.invariant c.args.size c.in-Some.sides c.placement_of.result c.in-Some-placement_of.place (sym c.asked.ensures ∙ c.in-Some.is) c.placement_of.ensures c.in-Some-placement_of.is in
     let ready = c.in_ok-found.ensures.ok in
-    let a = allocation c.self.inside c.self.invariant c.args.size c.in-Some.sides (place_seen c.in-Some-place_of.place) c.prepare.new.self c.in_ok-found.found m ready c.in_ok-found.ensures.found in
+    let a = allocation c.self.inside c.self.invariant c.args.size c.in-Some.sides (placement_seen c.in-Some-placement_of.place) c.prepare.new.self c.in_ok-found.found m ready c.in_ok-found.ensures.found in
     subst (store.IsWidest c.in_ok-found.found.shelf c.in_ok-found.found.bucket c.in-Some.sides.along) (sym ready) a.widest
 
 pub end-end-requires-clause-short : goal.end-end-requires-clause-short
 end-end-requires-clause-short c =
-    let m = made c.self.inside c.self.invariant c.args.size c.in-Some.sides c.place_of.result c.in-Some-place_of.place (sym c.asked.ensures ∙ c.in-Some.is) c.place_of.ensures c.in-Some-place_of.is in
+    let m = made c.self.inside c.self.invariant c.args.size c.in-Some.sides c.placement_of.result c.in-Some-placement_of.place (sym c.asked.ensures ∙ c.in-Some.is) c.placement_of.ensures c.in-Some-placement_of.is in
     let ready = c.in_ok-found.ensures.ok in
-    let a = allocation c.self.inside c.self.invariant c.args.size c.in-Some.sides (place_seen c.in-Some-place_of.place) c.prepare.new.self c.in_ok-found.found m ready c.in_ok-found.ensures.found in
+    let a = allocation c.self.inside c.self.invariant c.args.size c.in-Some.sides (placement_seen c.in-Some-placement_of.place) c.prepare.new.self c.in_ok-found.found m ready c.in_ok-found.ensures.found in
     let after = c.take-area.ensures.records ∙ ap (stored_taken c.in_ok-found.found.shelf c.in_ok-found.found.bucket c.in-Some.sides.along) ready in
     subst (λ (stored : Stored). IsShort c.self.inside.frame stored.shelves) (sym after) a.short
 
 pub needed_buckets-requires : goal.needed_buckets-requires
 needed_buckets-requires c =
-    let m = made c.self.inside c.self.invariant c.args.size c.in-Some.sides c.place_of.result c.in-Some-place_of.place (sym c.asked.ensures ∙ c.in-Some.is) c.place_of.ensures c.in-Some-place_of.is in
-    omega (arith, needed-few (state_in c.self.inside) c.args.size c.in-Some.sides c.self.inside.store (place_seen c.in-Some-place_of.place) c.self.invariant.witnessed.valid m)
+    let m = made c.self.inside c.self.invariant c.args.size c.in-Some.sides c.placement_of.result c.in-Some-placement_of.place (sym c.asked.ensures ∙ c.in-Some.is) c.placement_of.ensures c.in-Some-placement_of.is in
+    omega (arith, needed-few (state_in c.self.inside) c.args.size c.in-Some.sides c.self.inside.store (placement_seen c.in-Some-placement_of.place) c.self.invariant.witnessed.valid m)
 
 pub overflow_add-self : goal.overflow_add-self
 overflow_add-self c =
-    let m = made c.self.inside c.self.invariant c.args.size c.in-Some.sides c.place_of.result c.in-Some-place_of.place (sym c.asked.ensures ∙ c.in-Some.is) c.place_of.ensures c.in-Some-place_of.is in
+    let m = made c.self.inside c.self.invariant c.args.size c.in-Some.sides c.placement_of.result c.in-Some-placement_of.place (sym c.asked.ensures ∙ c.in-Some.is) c.placement_of.ensures c.in-Some-placement_of.is in
     omega (
       arith,
       c.needed_buckets.ensures,
       c.self.invariant.totals.in_use,
-      needed-few (state_in c.self.inside) c.args.size c.in-Some.sides c.self.inside.store (place_seen c.in-Some-place_of.place) c.self.invariant.witnessed.valid m,
+      needed-few (state_in c.self.inside) c.args.size c.in-Some.sides c.self.inside.store (placement_seen c.in-Some-placement_of.place) c.self.invariant.witnessed.valid m,
     )
 
 pub overflow_add-self-2 : goal.overflow_add-self-2
 overflow_add-self-2 c =
-    let m = made c.self.inside c.self.invariant c.args.size c.in-Some.sides c.place_of.result c.in-Some-place_of.place (sym c.asked.ensures ∙ c.in-Some.is) c.place_of.ensures c.in-Some-place_of.is in
+    let m = made c.self.inside c.self.invariant c.args.size c.in-Some.sides c.placement_of.result c.in-Some-placement_of.place (sym c.asked.ensures ∙ c.in-Some.is) c.placement_of.ensures c.in-Some-placement_of.is in
     let ready = c.in_ok-found.ensures.ok in
-    let a = allocation c.self.inside c.self.invariant c.args.size c.in-Some.sides (place_seen c.in-Some-place_of.place) c.prepare.new.self c.in_ok-found.found m ready c.in_ok-found.ensures.found in
+    let a = allocation c.self.inside c.self.invariant c.args.size c.in-Some.sides (placement_seen c.in-Some-placement_of.place) c.prepare.new.self c.in_ok-found.found m ready c.in_ok-found.ensures.found in
     let area = c.take-area.ensures.area ∙ ap (λ (stored : Stored). c.in-Some.sides.along * height_of stored.shelves c.in_ok-found.found.shelf) ready in
     omega (arith, area, a.space, c.self.invariant.totals.space, space-small a.new a.valid)
 
 pub invariant_of-self-2 : goal.invariant_of-self-2
 invariant_of-self-2 c =
-    let m = made c.self.inside c.self.invariant c.args.size c.in-Some.sides c.place_of.result c.in-Some-place_of.place (sym c.asked.ensures ∙ c.in-Some.is) c.place_of.ensures c.in-Some-place_of.is in
+    let m = made c.self.inside c.self.invariant c.args.size c.in-Some.sides c.placement_of.result c.in-Some-placement_of.place (sym c.asked.ensures ∙ c.in-Some.is) c.placement_of.ensures c.in-Some-placement_of.is in
     let ready = c.in_ok-found.ensures.ok in
-    let a = allocation c.self.inside c.self.invariant c.args.size c.in-Some.sides (place_seen c.in-Some-place_of.place) c.prepare.new.self c.in_ok-found.found m ready c.in_ok-found.ensures.found in
+    let a = allocation c.self.inside c.self.invariant c.args.size c.in-Some.sides (placement_seen c.in-Some-placement_of.place) c.prepare.new.self c.in_ok-found.found m ready c.in_ok-found.ensures.found in
     let frame = c.self.inside.frame in
     let after = c.take-area.ensures.records ∙ ap (stored_taken c.in_ok-found.found.shelf c.in_ok-found.found.bucket c.in-Some.sides.along) ready in
     let area = c.take-area.ensures.area ∙ ap (λ (stored : Stored). c.in-Some.sides.along * height_of stored.shelves c.in_ok-found.found.shelf) ready in
@@ -203,9 +203,9 @@ invariant_of-self-2 c =
 -- what is given, and the state after it
 allocates : (c : goal.After-self-4-1) → Allocates (state_in c.self.inside) c.args.size c.allocation-allocation.result (stored_state c.self.inside.frame c.take-area.new.self)
 allocates c =
-    let m = made c.self.inside c.self.invariant c.args.size c.in-Some.sides c.place_of.result c.in-Some-place_of.place (sym c.asked.ensures ∙ c.in-Some.is) c.place_of.ensures c.in-Some-place_of.is in
+    let m = made c.self.inside c.self.invariant c.args.size c.in-Some.sides c.placement_of.result c.in-Some-placement_of.place (sym c.asked.ensures ∙ c.in-Some.is) c.placement_of.ensures c.in-Some-placement_of.is in
     let ready = c.in_ok-found.ensures.ok in
-    let a = allocation c.self.inside c.self.invariant c.args.size c.in-Some.sides (place_seen c.in-Some-place_of.place) c.prepare.new.self c.in_ok-found.found m ready c.in_ok-found.ensures.found in
+    let a = allocation c.self.inside c.self.invariant c.args.size c.in-Some.sides (placement_seen c.in-Some-placement_of.place) c.prepare.new.self c.in_ok-found.found m ready c.in_ok-found.ensures.found in
     let after = c.take-area.ensures.records ∙ ap (stored_taken c.in_ok-found.found.shelf c.in_ok-found.found.bucket c.in-Some.sides.along) ready in
     subst (Allocates (state_in c.self.inside) c.args.size c.allocation-allocation.result) (sym (ap (stored_state c.self.inside.frame) after ∙ a.read))
     (a.allocates c.allocation-allocation.result

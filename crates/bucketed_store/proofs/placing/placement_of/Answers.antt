@@ -4,8 +4,8 @@ use Rattle.bucketed_records.specs.declared.records.KeptShelf.{KeptShelf}
 use Rattle.bucketed_records.specs.Private.Store.{Stored}
 use Rattle.bucket_index.specs.Private.Blocks.{AreKnown}
 use Rattle.bucket_index.specs.Private.Spans.{AreSpans}
-use Rattle.bucketed_store.specs.Private.Placing.{kept_place}
-use Rattle.bucketed_store.proofs.placing.place_of.Goals as goal
+use Rattle.bucketed_store.specs.Private.Placing.{kept_placement}
+use Rattle.bucketed_store.proofs.placing.placement_of.Goals as goal
 
 pub place_among-requires-clause-known : goal.place_among-requires-clause-known
 place_among-requires-clause-known c = subst (λ (shelves : List KeptShelf). AreKnown c.store.inside.blocks shelves) (sym c.deref.ensures.value) c.store.invariant.0
@@ -16,6 +16,6 @@ place_among-requires-clause-spans c = subst (AreSpans c.store.inside.spans) (sym
 pub returns : goal.returns
 returns c =
     c.place_among.ensures
-    ∙ ap (λ (shelves : List KeptShelf). kept_place c.args.frame.now c.args.left.now c.args.sides.now shelves c.deref-2.result.now) c.deref.ensures.value
-    ∙ ap (λ (buckets : List LinkedBucket). kept_place c.args.frame.now c.args.left.now c.args.sides.now c.store.inside.shelves.items buckets) c.deref-2.ensures.value
-    ∙ ap (λ (stored : Stored). kept_place c.args.frame.now c.args.left.now c.args.sides.now stored.shelves stored.buckets) c.store.view_is
+    ∙ ap (λ (shelves : List KeptShelf). kept_placement c.args.frame.now c.args.left.now c.args.sides.now shelves c.deref-2.result.now) c.deref.ensures.value
+    ∙ ap (λ (buckets : List LinkedBucket). kept_placement c.args.frame.now c.args.left.now c.args.sides.now c.store.inside.shelves.items buckets) c.deref-2.ensures.value
+    ∙ ap (λ (stored : Stored). kept_placement c.args.frame.now c.args.left.now c.args.sides.now stored.shelves stored.buckets) c.store.view_is
