@@ -37,11 +37,6 @@ NoNeighbours touch [] = Unit {0}
 NoNeighbours touch (x ∷ []) = Unit {0}
 NoNeighbours touch (x ∷ y ∷ ys) = (touch x y ≡ false) × NoNeighbours touch (y ∷ ys)
 
--- a fact of each element
-abbrev pub AllByRecursion : {X : Type 0} → (X → Type 0) → List X → Type 0
-AllByRecursion P [] = Unit {0}
-AllByRecursion P (x ∷ xs) = P x × AllByRecursion P xs
-
 -- the list without a number
 abbrev pub remove_place : ℕ → List ℕ → List ℕ
 remove_place n ns = filter (λ m. not (m == n)) ns
