@@ -110,7 +110,7 @@ told-step old (Place key size) (Placed placed) new promises (inr first) =
     told-placed old key size placed.rectangle placed.evicted.items new promises first
 told-step old (Place key size) TooLarge new promises (is_new, large, same) = ap rectangles same
 told-step old (Place key size) FrameFull new promises (fits, full, same) = ap rectangles same
-told-step old (Place key size) (NoMemory evicted) new promises (fits, ran_out, spared) =
+told-step old (Place key size) (NoMemory evicted) new promises (fits, ran_out, spared, full) =
     ap (map told_of) ran_out.rest.entries ∙ told-evicted old evicted.items promises ran_out.listed
 told-step old (Get key) (At rectangle) new promises finds =
     ap rectangles finds.after ∙ told-used old key rectangle finds.there
@@ -159,7 +159,7 @@ bounds-step old (Place key size) (Placed placed) new (inr first) =
     }
 bounds-step old (Place key size) TooLarge new (is_new, large, same) = bounds-same old new same
 bounds-step old (Place key size) FrameFull new (fits, full, same) = bounds-same old new same
-bounds-step old (Place key size) (NoMemory evicted) new (fits, ran_out, spared) =
+bounds-step old (Place key size) (NoMemory evicted) new (fits, ran_out, spared, full) =
     let n = length evicted.items in
     record {
       frame = ap (λ (s : AtlasState). s.frame) ran_out.rest.layout ∙ frame-after_dropping old n;

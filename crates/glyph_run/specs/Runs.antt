@@ -45,7 +45,10 @@ GlyphStep old (Place key size) (Placed placed) new =
     ⊎ PlacesNew old key size placed.rectangle placed.evicted.items new
 GlyphStep old (Place key size) TooLarge new = IsNew old key × IsTooLarge old size × (new ≡ old)
 GlyphStep old (Place key size) (NoMemory evicted) new =
-    Fits old key size × RanOut old size evicted.items new × (length evicted.items ≤ evictable old)
+    Fits old key size
+    × RanOut old size evicted.items new
+    × (length evicted.items ≤ evictable old)
+    × (IsFrameFull old size → (evicted.items ≡ []) × (new ≡ old))
 GlyphStep old (Place key size) FrameFull new =
     Fits old key size × IsFrameFull old size × (new ≡ old)
 GlyphStep old (Get key) (At rectangle) new = Finds old key rectangle new
