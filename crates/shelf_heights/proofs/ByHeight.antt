@@ -5,6 +5,7 @@ pub mod MovedLists
 pub mod PairedShelves
 pub mod PassedBounds
 pub mod Positions
+pub mod SameBounds
 pub mod ShiftedLists
 pub mod SortedKeys
 pub mod UsedLists

@@ -2,3 +2,4 @@
 pub mod ByHeight
 pub mod FrontRoom
 pub mod ListFields
+pub mod OneBound
