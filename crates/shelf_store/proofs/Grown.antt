@@ -14,6 +14,7 @@ pub mod HeightenedSteps
 pub mod InsertedShelves
 pub mod MadeLinked
 pub mod NextRecords
+pub mod SameShelves
 pub mod StartedGrow
 pub mod TallerRecords
 pub mod UsedRecords

@@ -20,7 +20,7 @@ pub mod widening;
 use crate::growing::appending::append_columns;
 use crate::growing::heightening::heighten_columns;
 use crate::growing::widening::widen_shelves;
-use crate::starting::sort_shelves;
+use crate::starting::{reorder_shelves, sort_shelves};
 use etagere_base::{Frame, LONGEST_SIDE, ResizeFault, Size, resize_fault};
 use shelf_heights::by_height::ShelvesByHeight;
 use shelf_heights::heights::reserve_by_height;
@@ -79,8 +79,10 @@ pub fn grow_shelves(
 {
     reserve_by_height(records, by_height, needed.shelves)?;
     grow_records(records, frame, grown, needed)?;
-    if is_extended(frame, grown) {
+    if needed.shelves > 0 {
         sort_shelves(grown, records, by_height);
+    } else if is_extended(frame, grown) {
+        reorder_shelves(grown, records, by_height);
     }
     Ok(())
 }

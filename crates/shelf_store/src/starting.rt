@@ -4,10 +4,11 @@
 //! Definitions: `FreshRecords`, and `ByHeight` for the shelves. A clear uses the memory of the records that are
 //! there, of which there is a shelf and an item for each column at least, and that of the shelves by height.
 
-ghost use Rattle.std.specs.Prelude.{◌≡◌, ◌+◌, ◌<◌, ◌≤◌, [], IfOk, length, map, max};
+ghost use Rattle.std.specs.Prelude.{◌≡◌, ℕ, ◌+◌, ◌<◌, ◌≤◌, [], IfOk, length, map, max};
 ghost use Rattle.etagere_base.specs.Frames.{HasAllColumns, IsFrame, longest_side};
+ghost use Rattle.etagere_base.specs.Lists.{times};
 ghost use Rattle.etagere_links.specs.Links.{no_link};
-ghost use Rattle.shelf_links.specs.RecordLists.{shelf_walk};
+ghost use Rattle.shelf_links.specs.RecordLists.{shelf_numbers, shelf_walk, walked_lists};
 ghost use Rattle.shelf_heights.specs.Private.ByHeight as heights;
 ghost use Rattle.shelf_heights.specs.Private.ByHeight.{AreByHeight};
 ghost use Rattle.shelf_store.specs.Private.FreshRecords as spec;
@@ -58,8 +59,7 @@ pub fn reset_by_height(frame: &Frame, by_height: &mut ShelvesByHeight)
     ensures by_height { AreByHeight frame.now (spec.fresh_records frame.now) by_height.new.items }
     ensures capacity { by_height.old.capacity ≤ by_height.new.capacity }
 {
-    by_height.clear();
-    push_columns(frame, by_height);
+    by_height.renumber(frame.columns as usize, frame.column_width as u16);
 }
 
 /// Puts the shelf of each column of a new atlas into an empty list by height, for which there is room.
@@ -85,6 +85,18 @@ pub fn sort_shelves(frame: &Frame, records: &Records, by_height: &mut ShelvesByH
     ensures capacity { by_height.old.capacity ≤ by_height.new.capacity }
 {
     collect_shelves(frame, records, by_height);
+    by_height.sort(records.shelves());
+}
+
+/// Puts a list that has the shelves in use in order by their heights, which may have changed.
+pub fn reorder_shelves(frame: &Frame, records: &Records, by_height: &mut ShelvesByHeight)
+    requires kept { AreKept frame.now records.now }
+    requires once { (shelf : ℕ) → times shelf (heights.numbers_by_height by_height.old.items)
+        ≡ times shelf (shelf_numbers (walked_lists records.now).entries) }
+    ensures by_height { AreByHeight frame.now records.now by_height.new.items }
+    ensures capacity { by_height.old.capacity ≤ by_height.new.capacity }
+{
+    by_height.set_bounds(frame.column_width as u16);
     by_height.sort(records.shelves());
 }
 

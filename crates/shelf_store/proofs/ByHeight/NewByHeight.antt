@@ -3,7 +3,8 @@
 use Rattle.std.proofs.Common.{◌≡◌, ℕ, zero, suc, ◌+◌, ◌*◌, ◌<◌, ◌≤◌, true, List, [], ◌∷◌, get_or, length, map, take, refl, ap, arith, subst, sym, ◌∙◌}
 use Rattle.std.proofs.lemmas.List.Sorted.{all_adjacent_from_non_decreasing, sum_by-IsPermutation}
 use Rattle.std.proofs.lemmas.List.Sums.{sum_by-cons}
-use Rattle.std.proofs.lemmas.List.{length-map}
+use Rattle.std.proofs.lemmas.List.{ext_get_or, length-map}
+use Rattle.std.proofs.lemmas.Option.{get_or_from_slice_get}
 use Rattle.std.specs.List.{AllAdjacentBelow, AllByRecursion, sum_by}
 use Rattle.std.specs.List.Sorted.{IsNonDecreasingBy, IsPermutation}
 use Rattle.etagere_base.specs.Frames.{HasAllColumns, IsFrame, across_side}
@@ -17,7 +18,8 @@ use Rattle.shelf_links.specs.declared.records.LinkedShelf.{LinkedShelf}
 use Rattle.shelf_links.specs.RecordLists.{Entry, Records, shelf_numbers, shelf_walk, walked_lists}
 use Rattle.shelf_records.specs.AtlasRecords.{height_of, spelled_shelf}
 use Rattle.shelf_model.specs.Listing.{RiseFrom}
-use Rattle.shelf_heights.specs.Private.ByHeight.{AreBounds, AreByHeight, IsBound, newly_bounded, order_at, order_of, chain_order, numbers_by_height}
+use Rattle.shelf_heights.specs.Private.ByHeight.{AreBounds, AreByHeight, IsBound, bounded_at, newly_bounded, order_at, order_of, chain_order, numbers_by_height}
+use Rattle.shelf_heights.specs.Private.OneBound.{all_bounded}
 use Rattle.shelf_store.specs.Private.FreshRecords.{fresh_records, fresh_shelf, numbered}
 use Rattle.shelf_records.specs.Private.Kept.{AreKept, bare, state_of}
 use Rattle.shelf_model.specs.State.{Item, is_free, total_width}
@@ -33,7 +35,7 @@ use Rattle.shelf_records.proofs.Recorded.Members.{Each-member}
 use Rattle.shelf_store.proofs.Searched.LinkedParts.{shelves-part}
 use Rattle.shelf_store.proofs.Spelled.FreshKept.{fresh-kept, fresh-met}
 use Rattle.shelf_store.proofs.Spelled.KeptCounts.{shelf_numbers-length}
-use Rattle.shelf_store.proofs.Spelled.NumberedLists.{numbered-each, numbered-field}
+use Rattle.shelf_store.proofs.Spelled.NumberedLists.{numbered-at, numbered-each, numbered-field, numbered-length}
 use Rattle.shelf_records.proofs.Spelled.Witnesses.{Each-unmap}
 
 -- items that are no wider altogether are no wider each
@@ -137,32 +139,28 @@ bounds-in_use : (frame : Frame) (numbers : List ℕ) → AllByRecursion (λ widt
 bounds-in_use frame [] = tt
 bounds-in_use frame (n ∷ ns) = (refl, bounds-in_use frame ns)
 
--- the shelves in use whose numbers were sorted by their order stand by height
-pub sorted-by_height : (frame : Frame) (records : Records) (by_height : List BoundedShelf) → AreKept frame records
-    → IsPermutation (numbers_by_height (in_use frame records)) (numbers_by_height by_height)
+-- numbers that are the same but in another order stand as often
+pub moved-times : (k : ℕ) (old new : List ℕ) → IsPermutation old new → times k new ≡ times k old
+moved-times k old new moved = times-sum k new ∙ sum_by-IsPermutation (λ n. hit n k) old new moved ∙ sym (times-sum k old)
+
+-- a list that has the shelves in use, sorted by their order, with the width of a column for bounds, is that by height
+pub ordered-by_height : (frame : Frame) (records : Records) (by_height : List BoundedShelf) → AreKept frame records
+    → ((k : ℕ) → times k (numbers_by_height by_height) ≡ times k (shelf_walk records).met)
     → IsNonDecreasingBy (order_of records.shelves) (numbers_by_height by_height)
-    → map (λ (one : BoundedShelf). one.widest) by_height ≡ map (λ (one : BoundedShelf). one.widest) (in_use frame records)
+    → AllByRecursion (λ width. width ≡ frame.column_width) (map (λ (one : BoundedShelf). one.widest) by_height)
     → AreByHeight frame records by_height
-sorted-by_height frame records by_height kept moved sorted widths =
+ordered-by_height frame records by_height kept same sorted widths =
     record {
       once = λ shelf. same shelf ∙ ap (times shelf) (sym (walked-numbers records chain));
       rising = sorted-rise (order_of records.shelves) 0 (numbers_by_height by_height)
           (all_adjacent_from_non_decreasing (order_of records.shelves) (numbers_by_height by_height) sorted)
           (λ k. omega (arith, same k, (shelves-part records kept.linked).once k)) apart low;
       bounds = column-bounds frame records by_height kept
-          (Each-unmap (λ width. width ≡ frame.column_width) (λ (one : BoundedShelf). one.widest) by_height
-          (subst (AllByRecursion (λ width. width ≡ frame.column_width)) (sym widths) (bounds-in_use frame chain)));
+          (Each-unmap (λ width. width ≡ frame.column_width) (λ (one : BoundedShelf). one.widest) by_height widths);
     }
   where
     chain : List ℕ
     chain = (shelf_walk records).met
-
-    same : (k : ℕ) → times k (numbers_by_height by_height) ≡ times k chain
-    same k =
-        times-sum k (numbers_by_height by_height)
-        ∙ sum_by-IsPermutation (λ n. hit n k) (numbers_by_height (in_use frame records)) (numbers_by_height by_height) moved
-        ∙ sym (times-sum k (numbers_by_height (in_use frame records)))
-        ∙ ap (times k) (numbers-in_use frame chain)
 
     apart : (k l : ℕ) → 1 ≤ times k (numbers_by_height by_height) → 1 ≤ times l (numbers_by_height by_height) → order_of records.shelves k ≡ order_of records.shelves l → k ≡ l
     apart k l stands also alike =
@@ -189,3 +187,72 @@ columns-by_height frame records by_height kept are =
       length-fewer (shelf_numbers entries) (numbers_by_height by_height) (λ k. omega (arith, are.once k)),
       length-map by_height (λ (one : BoundedShelf). one.shelf),
     )
+
+-- the shelves in use whose numbers were sorted by their order stand by height
+pub sorted-by_height : (frame : Frame) (records : Records) (by_height : List BoundedShelf) → AreKept frame records
+    → IsPermutation (numbers_by_height (in_use frame records)) (numbers_by_height by_height)
+    → IsNonDecreasingBy (order_of records.shelves) (numbers_by_height by_height)
+    → map (λ (one : BoundedShelf). one.widest) by_height ≡ map (λ (one : BoundedShelf). one.widest) (in_use frame records)
+    → AreByHeight frame records by_height
+sorted-by_height frame records by_height kept moved sorted widths =
+    ordered-by_height frame records by_height kept
+    (λ k. moved-times k (numbers_by_height (in_use frame records)) (numbers_by_height by_height) moved ∙ ap (times k) (numbers-in_use frame chain))
+    sorted
+    (subst (AllByRecursion (λ width. width ≡ frame.column_width)) (sym widths) (bounds-in_use frame chain))
+  where
+    chain : List ℕ
+    chain = (shelf_walk records).met
+
+-- shelves keep their numbers with other bounds
+numbers-bounded : (width : ℕ) (by_height : List BoundedShelf) → numbers_by_height (all_bounded width by_height) ≡ numbers_by_height by_height
+numbers-bounded width [] = refl
+numbers-bounded width (one ∷ others) = ap (λ (ns : List ℕ). one.shelf ∷ ns) (numbers-bounded width others)
+
+-- which are these
+bounds-bounded : (width : ℕ) (by_height : List BoundedShelf) → AllByRecursion (λ bound. bound ≡ width) (map (λ (one : BoundedShelf). one.widest) (all_bounded width by_height))
+bounds-bounded width [] = tt
+bounds-bounded width (one ∷ others) = (refl, bounds-bounded width others)
+
+-- a list that had the shelves in use stands by height once it was sorted with the width of a column for bounds
+pub reordered-by_height : (frame : Frame) (records : Records) (old by_height : List BoundedShelf) (width : ℕ) → AreKept frame records → width ≡ frame.column_width
+    → ((k : ℕ) → times k (numbers_by_height old) ≡ times k (shelf_numbers (walked_lists records).entries))
+    → IsPermutation (numbers_by_height (all_bounded width old)) (numbers_by_height by_height)
+    → IsNonDecreasingBy (order_of records.shelves) (numbers_by_height by_height)
+    → map (λ (one : BoundedShelf). one.widest) by_height ≡ map (λ (one : BoundedShelf). one.widest) (all_bounded width old)
+    → AreByHeight frame records by_height
+reordered-by_height frame records old by_height width kept wide once moved sorted widths =
+    ordered-by_height frame records by_height kept
+    (λ k.
+    moved-times k (numbers_by_height (all_bounded width old)) (numbers_by_height by_height) moved
+    ∙ ap (times k) (numbers-bounded width old)
+    ∙ once k
+    ∙ ap (times k) (walked-numbers records (shelf_walk records).met))
+    sorted
+    (subst (AllByRecursion (λ bound. bound ≡ frame.column_width)) (sym widths)
+    (subst (λ (w : ℕ). AllByRecursion (λ bound. bound ≡ w) (map (λ (one : BoundedShelf). one.widest) (all_bounded width old))) wide (bounds-bounded width old)))
+
+-- shelves numbered from 0 on with the width of a column for bounds are those of a new atlas
+pub numbered-by_height : (frame : Frame) (by_height : List BoundedShelf) (width : ℕ) → IsFrame 65535 frame → HasAllColumns frame → width ≡ frame.column_width
+    → length by_height ≡ frame.columns
+    → ((k : ℕ) → k < frame.columns → bounded_at by_height k ≡ record { widest = width; shelf = k })
+    → AreByHeight frame (fresh_records frame) by_height
+numbered-by_height frame by_height width is_frame all wide many each =
+    subst (λ (l : List BoundedShelf). AreByHeight frame (fresh_records frame) l) (sym same) (fresh-by_height frame is_frame all)
+  where
+    none : BoundedShelf
+    none = record { widest = 0; shelf = 0 }
+
+    wide_at : ℕ → ℕ → BoundedShelf
+    wide_at k w = record { widest = w; shelf = k }
+
+    new : List BoundedShelf
+    new = numbered (newly_bounded frame) 0 frame.columns
+
+    same : by_height ≡ new
+    same =
+        ext_get_or none by_height new (many ∙ sym (numbered-length (newly_bounded frame) 0 frame.columns))
+        (λ k within.
+        let below : k < frame.columns = omega (arith, within, many) in
+        each k below
+        ∙ ap (wide_at k) wide
+        ∙ sym (get_or_from_slice_get new k (newly_bounded frame k) none (numbered-at (newly_bounded frame) frame.columns k below)))

@@ -5,6 +5,7 @@ use Rattle.shelf_store.specs.Private.RecordsGrown.{records_grown}
 use Rattle.shelf_store.proofs.ByHeight.RoomByHeight.{shelves-count}
 use Rattle.shelf_store.proofs.Grown.GrownLengths.{grown-count}
 use Rattle.shelf_store.proofs.Grown.GrownNothing.{nothing-grown, by_height-elsewhere}
+use Rattle.shelf_store.proofs.Grown.SameShelves.{grown-same}
 use Rattle.shelf_store.proofs.growing.grow_shelves.Goals as goal
 
 pub sort_shelves-requires-clause-room : goal.sort_shelves-requires-clause-room
@@ -19,6 +20,21 @@ sort_shelves-requires-clause-room c =
       c.in_ok-reserve_by_height.ensures.room,
     )
 
+pub reorder_shelves-requires-clause-once : goal.reorder_shelves-requires-clause-once
+reorder_shelves-requires-clause-once c =
+    grown-same c.args.frame.now c.args.grown.now c.args.needed c.args.records.now c.grow_records.new.records c.args.by_height.now.items c.reserve_by_height.new.by_height.items
+    c.requires.by_height c.reserve_by_height.ensures.items c.requires.needed (omega (arith, c.if-needed-gt0.false)) c.in_ok-grow_records.ensures.ok
+
+pub returns-then-needed-gt0-clause-room : goal.returns-then-needed-gt0-clause-room
+returns-then-needed-gt0-clause-room c =
+    omega (
+      arith,
+      ap (λ (r : Records). length r.shelves) c.in_ok-grow_records.ensures.ok,
+      grown-count c.args.frame.now c.args.grown.now c.args.needed c.args.records.now,
+      c.in_ok-reserve_by_height.ensures.room,
+      c.sort_shelves.ensures.capacity,
+    )
+
 pub returns-then-is_extended-clause-room : goal.returns-then-is_extended-clause-room
 returns-then-is_extended-clause-room c =
     omega (
@@ -26,7 +42,7 @@ returns-then-is_extended-clause-room c =
       ap (λ (r : Records). length r.shelves) c.in_ok-grow_records.ensures.ok,
       grown-count c.args.frame.now c.args.grown.now c.args.needed c.args.records.now,
       c.in_ok-reserve_by_height.ensures.room,
-      c.sort_shelves.ensures.capacity,
+      c.reorder_shelves.ensures.capacity,
     )
 
 pub returns-else-is_extended-clause-room : goal.returns-else-is_extended-clause-room
