@@ -136,10 +136,12 @@ pub fn reset_records(frame: &Frame, records: &mut Records)
     requires items { frame.now.columns ≤ length records.old.items }
     ensures { records.new ≡ spec.fresh_records frame.now }
 {
+    // A copy, since what is borrowed would be read again after each write.
+    let frame = *frame;
     records.truncate(frame.columns as usize);
     for column in 0..frame.columns {
-        records.write_shelf(column as usize, fresh_shelf(frame, column));
-        records.write_item(column as usize, fresh_item(frame, column));
+        records.write_shelf(column as usize, fresh_shelf(&frame, column));
+        records.write_item(column as usize, fresh_item(&frame, column));
     }
     records.restart();
 }
