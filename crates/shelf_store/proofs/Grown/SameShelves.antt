@@ -20,7 +20,7 @@ use Rattle.shelf_links.proofs.FirstLinks.{to_first_free}
 use Rattle.shelf_heights.specs.Private.ByHeight.{AreByHeight, numbers_by_height}
 use Rattle.shelf_heights.specs.declared.by_height.BoundedShelf.{BoundedShelf}
 use Rattle.shelf_records.specs.AtlasRecords.{along_of, height_of, is_allocated_at, is_empty_at}
-use Rattle.shelf_store.specs.Private.RecordsGrown.{Growing, columns_heightened, counted_from, end_heightened, ends_column_at, filled_ends_of, is_filled_end, last_item, needed_of, next_item, records_grown, shelf_widened, shelves_widened, widened_after, with_columns, with_height, with_missing, with_width}
+use Rattle.shelf_store.specs.Private.RecordsGrown.{Growing, columns_heightened, counted_from, end_heightened, ends_column_at, filled_ends_of, is_filled_end, last_item, needed_of, next_item, records_grown, shelf_widened, shelves_widened, widened_after, with_height, with_missing, with_width}
 use Rattle.shelf_store.specs.declared.growing.Needed.{Needed}
 
 -- shelves that follow each other in the same columns, and are empty as before
