@@ -1,9 +1,11 @@
+pub mod Asked
 pub mod Calling
 pub mod Entries
 pub mod Faulted
 pub mod Found
 pub mod Joined
 pub mod Numbered
+pub mod Retained
 pub mod Saved
 pub mod SavedLaws
 pub mod Seen

@@ -4,5 +4,6 @@ pub mod Lending
 pub mod Placing
 pub mod Private
 pub mod Promises
+pub mod Retaining
 pub mod Saved
 pub mod State

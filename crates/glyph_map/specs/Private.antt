@@ -5,3 +5,4 @@ pub mod Listed
 pub mod Lockstep
 pub mod Numbering
 pub mod Outcomes
+pub mod Refusing

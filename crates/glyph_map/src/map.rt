@@ -19,10 +19,12 @@ ghost use Rattle.glyph_map.specs.State.{cache_of, pairs_of};
 ghost use Rattle.glyph_map.specs.Calls.{dropped_pairs, empty_map, in_new_frame, listed, map_grown, seen_at, surplus, used, with_capacity, with_value, without_key};
 ghost use Rattle.glyph_map.specs.Placing.{IsFrameFull, IsLeft, IsNew, IsTooLarge, Places, Spares, evictable};
 ghost use Rattle.glyph_map.specs.Promises.{KeepsMapPromises};
+ghost use Rattle.glyph_map.specs.Retaining.{AreClonesEqual, Retains, without_keys};
 ghost use Rattle.glyph_map.specs.Saved.{IsMapBroken, MapStandsFor, without_frame};
 
 use crate::faults::{MapFault, MapRestoreFault, NotRestored, Refused};
 use crate::listing::Iter;
+use crate::refusing::clones_of_refused;
 use crate::saving::{cache_fault, numbered, under_tickets};
 use crate::ticketed::{Ticketed, promote, put_first, revalue, take, take_first, take_last};
 use crate::tickets::{evictions, unused_ticket, with_evicted};
@@ -460,6 +462,40 @@ impl<K: Eq + Hash + Drop, V: Drop> GlyphMap<K, V> {
         ensures { result.now ≡ self.now.atlas }
     {
         self.cache.atlas()
+    }
+}
+
+impl<K: Eq + Hash + Clone, V: Drop> GlyphMap<K, V> {
+    /// Keeps the keys of which a test says so. It is asked once of each key and its value, the least recently used first;
+    /// the others are removed in this order, and dropped with their values. The order of use stays, and so does what was
+    /// used in the frame.
+    ///
+    /// The error comes only where there was no memory; then nothing changes, but that the test may have been asked. Takes
+    /// memory for a clone of each key that goes. A key that goes costs a `remove`, another one constant time.
+    pub fn retain<F: FnMut(&K, &V) -> bool>(&mut self, keeps: F) -> Result<(), AllocError>
+        requires { F.IsAlwaysCallable keeps }
+        ensures retained { AreClonesEqual K.is_clone K.eq
+            → OnOk result (Retains F.FnMut K.eq keeps self.old self.new) }
+        ensures err { OnErr result (self.new ≡ self.old) }
+        ensures promises { KeepsMapPromises K.eq self.new }
+    {
+        self.len();
+        let refused = clones_of_refused(self.alloc, &self.entries, keeps)?;
+        self.remove_all(refused.as_slice());
+        Ok(())
+    }
+
+    /// Removes these keys, one after another.
+    fn remove_all(&mut self, keys: &[K])
+        requires { KeepsMapPromises K.eq self.old }
+        ensures removed { self.new ≡ without_keys K.eq self.old keys.now }
+        ensures promises { KeepsMapPromises K.eq self.new }
+    {
+        let mut rest = keys;
+        while let Some((key, after)) = rest.split_first() {
+            self.remove(key);
+            rest = after;
+        }
     }
 }
 

@@ -1,8 +1,8 @@
 //! Each call once, with ample memory.
 
 use crate::support::{
-    begin_frame, clear, counts, equal, get, grow, is_empty, keep_one, name_of, order, peek,
-    pictures, place, remove, use_name,
+    begin_frame, clear, counts, equal, get, grow, is_empty, keep_even, keep_one, name_of, order,
+    peek, pictures, place, remove, use_name,
 };
 use std::test::Fail;
 
@@ -47,6 +47,23 @@ fn what_is_removed_is_gone(rt: HostRuntime) -> Result<(), Fail> {
     equal(&rt, &remove(&mut map, &a), &-1);
     equal(&rt, &use_name(&mut map, &a), &false);
     equal(&rt, &(get(&mut map, &a), peek(&map, &a)), &(-1, -1));
+    Ok(())
+}
+
+#[test]
+fn what_a_test_refuses_goes(rt: HostRuntime) -> Result<(), Fail> {
+    let alloc = rt.alloc();
+    let mut map = pictures(alloc, 9)?;
+    for (name, advance) in [("a", 1), ("b", 2), ("c", 3), ("d", 4)] {
+        place(&mut map, alloc, name, advance, 10)?;
+    }
+    begin_frame(&mut map);
+    get(&mut map, &name_of(alloc, "a")?);
+    get(&mut map, &name_of(alloc, "b")?);
+    equal(&rt, &keep_even(&mut map), &true);
+    equal(&rt, &order(&map, alloc)?.as_slice(), &[2, 4].as_slice());
+    equal(&rt, &counts(&map), &(2, 9, 1));
+    equal(&rt, &peek(&map, &name_of(alloc, "c")?), &-1);
     Ok(())
 }
 

@@ -1,7 +1,9 @@
 //! Where memory is refused, each name and its picture is in the map or comes back. To refuse the Nth growth of memory:
 //! `rt try --test --fail-alloc N`.
 
-use crate::support::{Picture, Pictures, counts, equal, pair_of, pictures, restore, save};
+use crate::support::{
+    Picture, Pictures, counts, equal, keep_even, pair_of, pictures, restore, save,
+};
 use etagere::size2;
 use glyph_map::{MapFault, Refused};
 use std::alloc::{AllocError, Global};
@@ -45,6 +47,25 @@ fn nothing_is_lost(rt: HostRuntime) -> Result<(), Fail> {
     }
     let (len, _, _) = counts(&map);
     equal(&rt, &given, &back.saturating_add(len));
+    Ok(())
+}
+
+#[test]
+fn a_refused_retain_changes_nothing(rt: HostRuntime) -> Result<(), Fail> {
+    let alloc = rt.alloc();
+    let Ok(mut map) = pictures(alloc, 20) else {
+        return Ok(());
+    };
+    for number in 0..20 {
+        place_one(&mut map, alloc, number);
+    }
+    let (len, _, _) = counts(&map);
+    let mut even = 0usize;
+    for (_, _, kept) in &map {
+        even = even.saturating_add(usize::from(kept.advance % 2 == 0));
+    }
+    let left = if keep_even(&mut map) { even } else { len };
+    equal(&rt, &counts(&map).0, &left);
     Ok(())
 }
 

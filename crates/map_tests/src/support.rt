@@ -120,6 +120,11 @@ pub fn keep_one(map: &mut Pictures) -> i32 {
     }
 }
 
+/// Keeps the names of which the advance is even; none goes where there is no memory.
+pub fn keep_even(map: &mut Pictures) -> bool {
+    map.retain(|_, kept| kept.advance % 2 == 0).is_ok()
+}
+
 pub fn begin_frame(map: &mut Pictures) {
     map.begin_frame();
 }
