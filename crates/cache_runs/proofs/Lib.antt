@@ -1,0 +1,4 @@
+pub mod MapAnswers
+pub mod MapLeft
+pub mod MapRunsOn
+pub mod MapStepsTold

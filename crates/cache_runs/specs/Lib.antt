@@ -1,0 +1,2 @@
+pub mod MapRuns
+pub mod MapTold

@@ -1,0 +1,104 @@
+//! Each call of a map does what the definition of runs says, and what holds of every run.
+//!
+//! Definitions: `MapRuns` for what a call does and what holds, `MapTold` for what replies tell.
+
+ghost use Rattle.cache_runs.specs.MapRuns.{EveryRunKeepsPromises, Step};
+
+use crate::map_calls::{MapCall, MapReply};
+use etagere::Size;
+use glyph_map::GlyphMap;
+use std::hash::Hash;
+use std::num::NonZeroUsize;
+
+/// A new map keeps its promises after each of the calls, whatever these are and whichever of the replies that the
+/// definition allows are given, and what they tell is what is there.
+pub fn every_run_keeps_promises<K: Eq + Hash, V>()
+    ensures { EveryRunKeepsPromises V K.eq }
+{}
+
+/// Calls a map, and gives what it answers.
+///
+/// Takes the memory of that call, and costs what it does.
+pub fn answer_on_map<K: Eq + Hash + Drop, V: Drop>(
+    map: &mut GlyphMap<K, V>,
+    call: MapCall<K, V>,
+) -> MapReply<K, V>
+    ensures { Step K.eq map.old call result map.new }
+{
+    match call {
+        MapCall::Place(key, value, size) => place(map, key, value, size),
+        MapCall::UseKey(key) => use_key(map, key),
+        MapCall::Remove(key) => remove(map, key),
+        MapCall::BeginFrame => begin_frame(map),
+        MapCall::Grow(size) => grow(map, size),
+        MapCall::SetCapacity(capacity) => set_capacity(map, capacity),
+        MapCall::Clear => clear(map),
+    }
+}
+
+fn place<K: Eq + Hash + Drop, V: Drop>(
+    map: &mut GlyphMap<K, V>,
+    key: K,
+    value: V,
+    size: Size,
+) -> MapReply<K, V>
+    ensures { Step K.eq map.old (MapCall.Place key value size) result map.new }
+{
+    match map.place(key, value, size) {
+        Ok(placed) => MapReply::Placed(placed),
+        Err(refused) => MapReply::Refused(refused),
+    }
+}
+
+fn use_key<K: Eq + Hash + Drop, V: Drop>(map: &mut GlyphMap<K, V>, key: K) -> MapReply<K, V>
+    ensures { Step K.eq map.old (MapCall.UseKey key) result map.new }
+{
+    match map.use_key(&key) {
+        Some(rectangle) => MapReply::At(rectangle),
+        None => MapReply::NotThere,
+    }
+}
+
+fn remove<K: Eq + Hash + Drop, V: Drop>(map: &mut GlyphMap<K, V>, key: K) -> MapReply<K, V>
+    ensures { Step K.eq map.old (MapCall.Remove key) result map.new }
+{
+    match map.remove(&key) {
+        Some((rectangle, value)) => MapReply::Removed(rectangle, value),
+        None => MapReply::NotThere,
+    }
+}
+
+fn begin_frame<K: Eq + Hash + Drop, V: Drop>(map: &mut GlyphMap<K, V>) -> MapReply<K, V>
+    ensures { Step K.eq map.old MapCall.BeginFrame result map.new }
+{
+    map.begin_frame();
+    MapReply::Begun
+}
+
+fn grow<K: Eq + Hash + Drop, V: Drop>(map: &mut GlyphMap<K, V>, size: Size) -> MapReply<K, V>
+    ensures { Step K.eq map.old (MapCall.Grow size) result map.new }
+{
+    match map.grow(size) {
+        Ok(()) => MapReply::Grown,
+        Err(fault) => MapReply::NotGrown(fault),
+    }
+}
+
+fn set_capacity<K: Eq + Hash + Drop, V: Drop>(
+    map: &mut GlyphMap<K, V>,
+    capacity: NonZeroUsize,
+) -> MapReply<K, V>
+    ensures { Step K.eq map.old (MapCall.SetCapacity capacity) result map.new }
+{
+    match map.set_capacity(capacity) {
+        Ok(evicted) => MapReply::Evicted(evicted),
+        Err(_) => MapReply::NoMemory,
+    }
+}
+
+fn clear<K: Eq + Hash + Drop, V: Drop>(map: &mut GlyphMap<K, V>) -> MapReply<K, V>
+    ensures { Step K.eq map.old MapCall.Clear result map.new }
+{
+    map.clear();
+    MapReply::Cleared
+}
