@@ -479,7 +479,6 @@ impl<K: Eq + Hash + Clone, V: Drop> GlyphMap<K, V> {
         ensures err { OnErr result (self.new ≡ self.old) }
         ensures promises { KeepsMapPromises K.eq self.new }
     {
-        self.len();
         let refused = clones_of_refused(self.alloc, &self.entries, keeps)?;
         self.remove_all(refused.as_slice());
         Ok(())
