@@ -1,2 +1,3 @@
 pub mod MapRuns
 pub mod MapTold
+pub mod PagedRuns

@@ -1,8 +1,12 @@
-//! What holds of a map whatever it is called, one call after another: `maps` has the law, and answers a call that is
-//! given as a value; `map_calls` has what is asked and answered. Public, but not meant for users.
+//! What holds of a map, and of a cache over pages, whatever they are called, one call after another: `maps` and `paged`
+//! have the laws, and answer calls that are given as values; `map_calls` and `paged_calls` have what is asked and answered.
+//! Public, but not meant for users.
 #![tactic(auto)]
 
 mod map_calls;
 pub mod maps;
+pub mod paged;
+mod paged_calls;
 
 pub use map_calls::{MapCall, MapReply};
+pub use paged_calls::{PagedCall, PagedReply};
