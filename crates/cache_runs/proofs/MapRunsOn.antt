@@ -1,6 +1,5 @@
 -- A run keeps its promises at each moment.
 use Rattle.std.proofs.Common.{◌≡◌, ℕ, zero, suc, Bool, List, [], ◌∷◌, take, refl, ap, sym, ◌∙◌}
-use Rattle.glyph_map.specs.Calls.{empty_map}
 use Rattle.glyph_map.specs.Promises.{KeepsMapPromises}
 use Rattle.glyph_map.specs.State.{MapState}
 use Rattle.cache_runs.specs.declared.map_calls.MapCall.{MapCall}
@@ -32,6 +31,6 @@ module _ {K V : Type 0} (eq : K → K → Bool) where
       record { state = later.state; run = (middle, step, later.run); told_is = later.told_is; promises = later.promises }
 
 pub every_run : {K : Type 0} (V : Type 0) (eq : K → K → Bool) → EveryRunKeepsPromises V eq
-every_run V eq frame capacity calls answers last promises run n within =
-    let holds = holds-throughout eq (empty_map frame capacity) [] calls answers last n refl promises run in
+every_run V eq start last calls answers promises run n within =
+    let holds = holds-throughout eq start (entries_seen start) calls answers last n refl promises run in
     record { state = holds.state; run = holds.run; told_is = holds.told_is; promises = holds.promises }

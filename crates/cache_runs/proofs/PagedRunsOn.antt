@@ -1,6 +1,6 @@
 -- A run of a cache over pages keeps its promises at each moment.
 use Rattle.std.proofs.Common.{◌≡◌, ℕ, zero, suc, List, [], ◌∷◌, take, refl, ap, sym, ◌∙◌}
-use Rattle.paged_cache.specs.Paged.{KeepsPagedPromises, PagedCacheState, empty_cache}
+use Rattle.paged_cache.specs.Paged.{KeepsPagedPromises, PagedCacheState}
 use Rattle.cache_runs.specs.declared.paged_calls.PagedCall.{PagedCall}
 use Rattle.cache_runs.specs.declared.paged_calls.PagedReply.{PagedReply}
 use Rattle.cache_runs.specs.PagedRuns.{EveryRunKeepsPromises, Runs, Told, told_after, told_from}
@@ -27,6 +27,6 @@ holds-throughout start told (c ∷ calls) (r ∷ replies) last (suc n) is promis
     record { state = later.state; run = (middle, step, later.run); told_is = later.told_is; promises = later.promises }
 
 pub every_run : EveryRunKeepsPromises
-every_run options capacity calls replies last promises run n within =
-    let holds = holds-throughout (empty_cache options capacity) [] calls replies last n refl promises run in
+every_run start last calls replies promises run n within =
+    let holds = holds-throughout start start.entries calls replies last n refl promises run in
     record { state = holds.state; run = holds.run; told_is = holds.told_is; promises = holds.promises }

@@ -1,7 +1,6 @@
 -- Lists of calls of a map: what each call may answer and leave, and what holds after them.
 use Rattle.std.specs.Prelude.{◌≡◌, ℕ, ◌≤◌, ◌⊎◌, Bool, None, Some, option_map, List, [], ◌∷◌, length, take}
 use Rattle.std.specs.NonZero.{non_zero_usize_get}
-use Rattle.etagere_base.specs.declared.frames.Frame.{Frame}
 use Rattle.etagere_base.specs.declared.geometry.Size.{Size}
 use Rattle.etagere_base.specs.Rectangles.{IsLarge}
 use Rattle.shelf_model.specs.Growing.{grow_fault, records_needed}
@@ -11,7 +10,7 @@ use Rattle.glyph_map.specs.Calls.{dropped_pairs, empty_map, in_new_frame, map_gr
 use Rattle.glyph_map.specs.Placing.{IsFrameFull, IsLeft, IsNew, IsTooLarge, Places, Spares, evictable}
 use Rattle.glyph_map.specs.Promises.{KeepsMapPromises}
 use Rattle.glyph_map.specs.State.{MapState}
-use Rattle.cache_runs.specs.MapTold.{entries_seen, told}
+use Rattle.cache_runs.specs.MapTold.{entries_seen, told_from}
 use Rattle.cache_runs.specs.declared.map_calls.MapCall.{MapCall}
 use Rattle.cache_runs.specs.declared.map_calls.MapCall.TheVariants.{Place, UseKey, Remove, BeginFrame, Grow, SetCapacity, Clear}
 use Rattle.cache_runs.specs.declared.map_calls.MapReply.{MapReply}
@@ -98,23 +97,22 @@ module _ {K V : Type 0} (eq : K → K → Bool) where
       (middle : MapState K V) × Step old call answer middle × Runs middle calls answers new
   Runs old calls answers new = ⊥
 
-  -- What holds after each list of calls of a new map. What its replies tell is just what is there: each key at the
+  -- What holds after calls of a map. What the replies tell, from what was there, is just what is there: each key at the
   -- rectangle that it was first given, with the value that was placed last, in the order of use. The map keeps its promises.
-  pub record RunKeepsPromises (frame : Frame) (capacity : ℕ) (calls : List (MapCall K V)) (answers : List (MapReply K V))
+  pub record RunKeepsPromises (start : MapState K V) (calls : List (MapCall K V)) (answers : List (MapReply K V))
       : Type 0 where
     pub state : MapState K V
-    pub run : Runs (empty_map frame capacity) calls answers state
-    pub told_is : told eq calls answers ≡ entries_seen state
+    pub run : Runs start calls answers state
+    pub told_is : told_from eq (entries_seen start) calls answers ≡ entries_seen state
     pub promises : KeepsMapPromises eq state
 
   -- that holds at each moment: of every prefix of the calls, with the replies to it
-  abbrev pub RunKeepsPromisesThroughout : Frame → ℕ → List (MapCall K V) → List (MapReply K V) → Type 0
-  RunKeepsPromisesThroughout frame capacity calls answers =
-      (n : ℕ) → n ≤ length calls → RunKeepsPromises frame capacity (take n calls) (take n answers)
+  abbrev pub RunKeepsPromisesThroughout : MapState K V → List (MapCall K V) → List (MapReply K V) → Type 0
+  RunKeepsPromisesThroughout start calls answers =
+      (n : ℕ) → n ≤ length calls → RunKeepsPromises start (take n calls) (take n answers)
 
--- Of every list of calls of a new map, which keeps its promises, that holds.
+-- That holds of every list of calls of a map that keeps its promises: a new one, where nothing is there, or any other.
 abbrev pub EveryRunKeepsPromises : {K : Type 0} → Type 0 → (K → K → Bool) → Type 0
 EveryRunKeepsPromises {K} V eq =
-    (frame : Frame) (capacity : ℕ) (calls : List (MapCall K V)) (answers : List (MapReply K V)) (last : MapState K V)
-    → KeepsMapPromises {K = K} {V = V} eq (empty_map frame capacity) → Runs eq (empty_map frame capacity) calls answers last
-    → RunKeepsPromisesThroughout eq frame capacity calls answers
+    (start last : MapState K V) (calls : List (MapCall K V)) (answers : List (MapReply K V))
+    → KeepsMapPromises eq start → Runs eq start calls answers last → RunKeepsPromisesThroughout eq start calls answers

@@ -53,7 +53,3 @@ module _ {K V : Type 0} where
     abbrev pub told_from : Told K V → List (MapCall K V) → List (MapReply K V) → Told K V
     told_from told (call ∷ calls) (answer ∷ answers) = told_from (told_after call answer told) calls answers
     told_from told calls answers = told
-
-    -- what replies tell from the first one on
-    abbrev pub told : List (MapCall K V) → List (MapReply K V) → Told K V
-    told calls answers = told_from [] calls answers

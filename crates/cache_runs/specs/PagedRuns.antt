@@ -5,12 +5,11 @@ use Rattle.std.specs.Map.{remove_entry}
 use Rattle.lru.specs.LruCache.{promoted}
 use Rattle.etagere_base.specs.declared.geometry.Size.{Size}
 use Rattle.etagere_base.specs.Rectangles.{IsLarge}
-use Rattle.atlas_pages.specs.declared.options.PageOptions.{PageOptions}
 use Rattle.atlas_pages.specs.declared.places.PagePlace.{PagePlace}
 use Rattle.atlas_pages.specs.Pages.{page_frame}
 use Rattle.paged_cache.specs.Held.{GivesPlace, has_page, place_returned}
 use Rattle.paged_cache.specs.Keyed.{IsNew, RanOut, place_at, used}
-use Rattle.paged_cache.specs.Paged.{IsTooLarge, KeepsPagedPromises, PagedCacheState, PlacesKey, empty_cache, emptied_cache, without_key}
+use Rattle.paged_cache.specs.Paged.{IsTooLarge, KeepsPagedPromises, PagedCacheState, PlacesKey, emptied_cache, without_key}
 use Rattle.paged_cache.specs.declared.keyed.PlacedKey.{PlacedKey}
 use Rattle.cache_runs.specs.declared.paged_calls.PagedCall.{PagedCall}
 use Rattle.cache_runs.specs.declared.paged_calls.PagedCall.TheVariants.{Place, Get, Remove, Clear}
@@ -80,23 +79,21 @@ abbrev pub told_from : Told → List PagedCall → List PagedReply → Told
 told_from told (call ∷ calls) (reply ∷ replies) = told_from (told_after call reply told) calls replies
 told_from told calls replies = told
 
--- What holds after each list of calls of a new cache. What its replies tell is just what is there: each key at the place
--- that it was first given, in the order of use. The cache keeps its promises.
-pub record RunKeepsPromises (options : PageOptions) (capacity : ℕ) (calls : List PagedCall) (replies : List PagedReply)
-    : Type 0 where
+-- What holds after calls of a cache. What the replies tell, from what was there, is just what is there: each key at the
+-- place that it was first given, in the order of use. The cache keeps its promises.
+pub record RunKeepsPromises (start : PagedCacheState) (calls : List PagedCall) (replies : List PagedReply) : Type 0 where
   pub state : PagedCacheState
-  pub run : Runs (empty_cache options capacity) calls replies state
-  pub told_is : told_from [] calls replies ≡ state.entries
+  pub run : Runs start calls replies state
+  pub told_is : told_from start.entries calls replies ≡ state.entries
   pub promises : KeepsPagedPromises state
 
 -- that holds at each moment: of every prefix of the calls, with the replies to it
-abbrev pub RunKeepsPromisesThroughout : PageOptions → ℕ → List PagedCall → List PagedReply → Type 0
-RunKeepsPromisesThroughout options capacity calls replies =
-    (n : ℕ) → n ≤ length calls → RunKeepsPromises options capacity (take n calls) (take n replies)
+abbrev pub RunKeepsPromisesThroughout : PagedCacheState → List PagedCall → List PagedReply → Type 0
+RunKeepsPromisesThroughout start calls replies =
+    (n : ℕ) → n ≤ length calls → RunKeepsPromises start (take n calls) (take n replies)
 
--- Of every list of calls of a new cache, which keeps its promises, that holds.
+-- That holds of every list of calls of a cache that keeps its promises: a new one, where nothing is there, or any other.
 abbrev pub EveryRunKeepsPromises : Type 0
 EveryRunKeepsPromises =
-    (options : PageOptions) (capacity : ℕ) (calls : List PagedCall) (replies : List PagedReply) (last : PagedCacheState)
-    → KeepsPagedPromises (empty_cache options capacity) → Runs (empty_cache options capacity) calls replies last
-    → RunKeepsPromisesThroughout options capacity calls replies
+    (start last : PagedCacheState) (calls : List PagedCall) (replies : List PagedReply)
+    → KeepsPagedPromises start → Runs start calls replies last → RunKeepsPromisesThroughout start calls replies
