@@ -21,8 +21,10 @@ use Rattle.glyph_map.specs.declared.faults.Refused.{Refused}
 use Rattle.glyph_map.specs.declared.map.Placed.{Placed}
 
 module _ {K V : Type 0} (eq : K → K → Bool) where
-  -- a key that is there keeps its rectangle and gets another value; the key as given and the value that it had come back
-  pub record PlacesAgain (old : MapState K V) (key : K) (value : V) (placed : Placed K V) (new : MapState K V) : Type 0 where
+  -- a key that is there keeps its rectangle and gets another value; the key as given and the value that it had come
+  -- back
+  pub record PlacesAgain (old : MapState K V) (key : K) (value : V) (placed : Placed K V) (new : MapState K V)
+      : Type 0 where
     pub had : V
     pub there : seen_at (eq key) old ≡ Some (placed.rectangle, had)
     pub replaced : placed.replaced ≡ Some (key, had)
@@ -98,7 +100,8 @@ module _ {K V : Type 0} (eq : K → K → Bool) where
   Runs old calls answers new = ⊥
 
   -- What holds after calls of a map. What the replies tell, from what was there, is just what is there: each key at the
-  -- rectangle that it was first given, with the value that was placed last, in the order of use. The map keeps its promises.
+  -- rectangle that it was first given, with the value that was placed last, in the order of use. The map keeps its
+  -- promises.
   pub record RunKeepsPromises (start : MapState K V) (calls : List (MapCall K V)) (answers : List (MapReply K V))
       : Type 0 where
     pub state : MapState K V

@@ -1,5 +1,5 @@
--- Lists of calls of a cache over pages: what each call may answer and leave, what the replies tell of what is there, and
--- what holds after them.
+-- Lists of calls of a cache over pages: what each call may answer and leave, what the replies tell of what is there,
+-- and what holds after them.
 use Rattle.std.specs.Prelude.{◌≡◌, ℕ, ◌-◌, ◌≤◌, ◌⊎◌, Some, nat_eq, List, [], ◌∷◌, length, take}
 use Rattle.std.specs.Map.{remove_entry}
 use Rattle.lru.specs.LruCache.{promoted}
@@ -17,14 +17,15 @@ use Rattle.cache_runs.specs.declared.paged_calls.PagedReply.{PagedReply}
 use Rattle.cache_runs.specs.declared.paged_calls.PagedReply.TheVariants.{Placed, TooLarge, NoMemory, At, Removed, NotThere, Cleared}
 
 -- a key that is there keeps its place, and nothing is evicted for it
-pub record PlacesAgain (old : PagedCacheState) (key : ℕ) (placed : PlacedKey PagePlace) (new : PagedCacheState) : Type 0 where
+pub record PlacesAgain (old : PagedCacheState) (key : ℕ) (placed : PlacedKey PagePlace) (new : PagedCacheState)
+    : Type 0 where
   pub there : place_at old key ≡ Some placed.place
   pub none : placed.evicted.items ≡ []
   pub after : new ≡ used old key
 
 -- a new key is placed after the evictions that its size needs, in a rectangle that is large enough
-pub record PlacesNew (old : PagedCacheState) (key : ℕ) (size : Size) (placed : PlacedKey PagePlace) (new : PagedCacheState)
-    : Type 0 where
+pub record PlacesNew (old : PagedCacheState) (key : ℕ) (size : Size) (placed : PlacedKey PagePlace)
+    (new : PagedCacheState) : Type 0 where
   pub is_new : IsNew old key
   pub fits : ¬ (IsTooLarge old size)
   pub places : PlacesKey old key size placed.place placed.evicted.items new
@@ -81,7 +82,8 @@ told_from told calls replies = told
 
 -- What holds after calls of a cache. What the replies tell, from what was there, is just what is there: each key at the
 -- place that it was first given, in the order of use. The cache keeps its promises.
-pub record RunKeepsPromises (start : PagedCacheState) (calls : List PagedCall) (replies : List PagedReply) : Type 0 where
+pub record RunKeepsPromises (start : PagedCacheState) (calls : List PagedCall) (replies : List PagedReply)
+    : Type 0 where
   pub state : PagedCacheState
   pub run : Runs start calls replies state
   pub told_is : told_from start.entries calls replies ≡ state.entries
@@ -92,7 +94,8 @@ abbrev pub RunKeepsPromisesThroughout : PagedCacheState → List PagedCall → L
 RunKeepsPromisesThroughout start calls replies =
     (n : ℕ) → n ≤ length calls → RunKeepsPromises start (take n calls) (take n replies)
 
--- That holds of every list of calls of a cache that keeps its promises: a new one, where nothing is there, or any other.
+-- That holds of every list of calls of a cache that keeps its promises: a new one, where nothing is there, or any
+-- other.
 abbrev pub EveryRunKeepsPromises : Type 0
 EveryRunKeepsPromises =
     (start last : PagedCacheState) (calls : List PagedCall) (replies : List PagedReply)

@@ -1,6 +1,6 @@
-//! What holds of a map, and of a cache over pages, whatever they are called, one call after another: `maps` and `paged`
-//! have the laws, and answer calls that are given as values; `map_calls` and `paged_calls` have what is asked and answered.
-//! Public, but not meant for users.
+//! What holds of a map, and of a cache over pages, whatever they are called, one call after another. `maps` and `paged`
+//! have the laws, and answer calls that are given as values; `map_calls` and `paged_calls` have what is asked and
+//! answered. Public, but not meant for users.
 #![tactic(auto)]
 
 mod map_calls;

@@ -10,8 +10,8 @@ use glyph_map::GlyphMap;
 use std::hash::Hash;
 use std::num::NonZeroUsize;
 
-/// A map, new or not, keeps its promises after each of its calls, whatever these are and whichever of the replies that the
-/// definition allows are given, and what they tell is what is there.
+/// A map, new or not, keeps its promises after each of its calls, whatever these are and whichever of the replies that
+/// the definition allows are given, and what they tell is what is there.
 pub fn every_run_keeps_promises<K: Eq + Hash, V>()
     ensures { EveryRunKeepsPromises V K.eq }
 {}

@@ -8,8 +8,8 @@ use crate::paged_calls::{PagedCall, PagedReply};
 use etagere::Size;
 use paged_cache::{PagedCache, PlacingFault};
 
-/// A cache, new or not, keeps its promises after each of its calls, whatever these are and whichever of the replies that
-/// the definition allows are given, and what they tell is what is there.
+/// A cache, new or not, keeps its promises after each of its calls, whatever these are and whichever of the replies
+/// that the definition allows are given, and what they tell is what is there.
 pub fn every_run_keeps_promises()
     ensures { EveryRunKeepsPromises }
 {}

@@ -3,8 +3,8 @@
 //!
 //! `map` has the public calls, over a `GlyphCache` that knows each key by a ticket: a number that no other key has.
 //! `tickets` gives these out, `ticketed` has what is kept under a key and how it comes out, `saving` how keys and values
-//! come under numbers again, `refusing` which keys a test refuses, and `listing` the iterator. `laws` states what snapshots
-//! stand for.
+//! come under numbers again, `refusing` which keys a test refuses, and `listing` the iterator. `laws` states what
+//! snapshots stand for.
 #![tactic(auto)]
 
 mod faults;

@@ -466,12 +466,12 @@ impl<K: Eq + Hash + Drop, V: Drop> GlyphMap<K, V> {
 }
 
 impl<K: Eq + Hash + Clone, V: Drop> GlyphMap<K, V> {
-    /// Keeps the keys of which a test says so. It is asked once of each key and its value, the least recently used first;
-    /// the others are removed in this order, and dropped with their values. The order of use stays, and so does what was
-    /// used in the frame.
+    /// Keeps the keys of which a test says so. It is asked once of each key and its value, the least recently used
+    /// first; the others are removed in this order, and dropped with their values. The order of use stays, and so does
+    /// what was used in the frame. That holds where a clone of a key equals it.
     ///
-    /// The error comes only where there was no memory; then nothing changes, but that the test may have been asked. Takes
-    /// memory for a clone of each key that goes. A key that goes costs a `remove`, another one constant time.
+    /// The error comes only where there was no memory; then nothing changes, but that the test may have been asked.
+    /// Takes memory for a clone of each key that goes. A key that goes costs a `remove`, another one constant time.
     pub fn retain<F: FnMut(&K, &V) -> bool>(&mut self, keeps: F) -> Result<(), AllocError>
         requires { F.IsAlwaysCallable keeps }
         ensures retained { AreClonesEqual K.is_clone K.eq
