@@ -5,7 +5,7 @@ use Rattle.etagere_links.specs.Edits.{unlinked}
 use Rattle.etagere_links.specs.Families.{Family, IsUnchanged}
 use Rattle.etagere_links.specs.Neighbours.{HasNeighbours}
 use Rattle.shelf_links.specs.Records.{item_chain, free_list}
-use Rattle.shelf_links.proofs.AllLists.LinkedItems.{frees-keep_next, frees-keep_previous}
+use Rattle.shelf_links.proofs.AllLists.LinkedItems.{frees-keep}
 use Rattle.etagere_links.proofs.RecordChanges.{link_at-same}
 use Rattle.etagere_links.proofs.RecordFrames.{length-unlinked, map-unlinked}
 
@@ -22,4 +22,4 @@ neighbours-unlinked {T} family other next previous records at number has =
 
 -- an item is taken out of the free list of its shelf
 pub items-free_unlinked : (items : List LinkedItem) (at number : ℕ) → HasNeighbours item_chain items number → HasNeighbours item_chain (unlinked free_list at items) number
-items-free_unlinked = neighbours-unlinked item_chain free_list frees-keep_next frees-keep_previous
+items-free_unlinked = neighbours-unlinked item_chain free_list frees-keep.next frees-keep.previous

@@ -1,38 +1,68 @@
--- Linked records stay linked where the lists of one shelf change, or records become unused or are taken.
-use Rattle.std.proofs.Common.{◌≡◌, ℕ, ◌+◌, List, ◌∷◌, ◌++◌, length, ap, arith, sym, ◌∙◌}
-use Rattle.etagere_base.proofs.EachLemmas.{Each-append, Each-front, Each-back}
+-- Linked records stay linked where the lists of one shelf change.
+use Rattle.std.proofs.Common.{◌≡◌, ◌≢◌, ℕ, ◌+◌, ◌<◌, ◌≤◌, Some, List, [], ◌∷◌, ◌++◌, length, ap, arith, sym, ◌∙◌}
+use Rattle.std.specs.Prelude.{slice_get}
+use Rattle.etagere_base.proofs.EachLemmas.{Each-append, Each-front, Each-back, Each-middle}
 use Rattle.etagere_base.proofs.TimesLemmas.{times-append}
 use Rattle.std.specs.List.{AllByRecursion}
 use Rattle.etagere_base.specs.Lists.{times}
-use Rattle.etagere_links.specs.Edits.{link_at}
 use Rattle.shelf_links.specs.RecordLists.{Records, Entry, Lists, shelf_numbers, item_numbers, IsEntry, IsLinkedExcept}
 use Rattle.shelf_links.specs.Records.{item_chain, shelf_chain}
-use Rattle.shelf_links.proofs.AllLists.LinkedFrames.{SameAt, SameFirsts, chain-same, pile-frame, pile-same, entries-frame, item_numbers-append, shelf_numbers-append}
+use Rattle.shelf_links.proofs.FirstLinks.{SameChain}
+use Rattle.shelf_links.proofs.AllLists.LinkedFrames.{chain-same, pile-frame, pile-same, entries-frame, item_numbers-append, shelf_numbers-append}
+use Rattle.etagere_links.proofs.ListEnds.{times-here}
+use Rattle.etagere_links.proofs.WalkedLists.{once-part}
 
--- lists with one shelf among others
-abbrev pub with_entry : List Entry → Entry → List Entry → List ℕ → List ℕ → Lists
-with_entry before entry after unused_items unused_shelves =
-    record { entries = before ++ entry ∷ after; unused_items = unused_items; unused_shelves = unused_shelves }
+-- a shelf's place among all lists: the shelves before and after it, and what became unused
+pub record Around : Type 0 where
+  pub before : List Entry
+  pub after : List Entry
+  pub unused_items : List ℕ
+  pub unused_shelves : List ℕ
 
--- the records where one shelf's lists were edited: those of other lists stay, and no item is lost
-pub record EditsEntry (records new : Records) (before after : List Entry) (unused loose loose' : List ℕ) (entry edited : Entry) : Type 0 where
+abbrev pub around_of : List Entry → List Entry → List ℕ → List ℕ → Around
+around_of before after unused_items unused_shelves =
+    record { before = before; after = after; unused_items = unused_items; unused_shelves = unused_shelves }
+
+-- all lists, with this shelf at that place
+abbrev pub with_entry : Around → Entry → Lists
+with_entry around entry =
+    record { entries = around.before ++ entry ∷ around.after; unused_items = around.unused_items; unused_shelves = around.unused_shelves }
+
+-- what is apart in linked records: a shelf's items from those of the others, and it from the other shelves
+pub record IsApart (records : Records) (around : Around) (loose : List ℕ) (entry_ : Entry) : Type 0 where
+  pub once : (k : ℕ) → times k entry_.items ≤ 1
+  pub within : (k : ℕ) → 1 ≤ times k entry_.items → k < length records.items
+  pub free_once : (k : ℕ) → times k entry_.free_list ≤ 1
+  pub free_within : (k : ℕ) → 1 ≤ times k entry_.free_list → k < length records.items
+  pub loose_within : (k : ℕ) → 1 ≤ times k loose → k < length records.items
+  pub others : (k : ℕ) → 1 ≤ times k (item_numbers around.before) + times k (item_numbers around.after) + times k around.unused_items → times k entry_.items + times k loose ≡ 0
+  pub loose_items : (k : ℕ) → 1 ≤ times k loose → times k entry_.items ≡ 0
+  pub number : entry_.number < length records.shelves
+  pub numbers : (k : ℕ) → 1 ≤ times k (shelf_numbers around.before) + times k (shelf_numbers around.after) → Some entry_.number ≢ Some k
+
+-- the records where one shelf's lists were edited: items elsewhere stay, and none is lost
+pub record EditsEntry (records new : Records) (loose loose' : List ℕ) (entry edited : Entry) : Type 0 where
   pub number : edited.number ≡ entry.number
-  pub items : SameAt records.items new.items (item_numbers before ++ item_numbers after ++ unused)
+  pub items : (k : ℕ) → times k entry.items + times k loose ≡ 0 → slice_get new.items k ≡ slice_get records.items k
   pub item_count : length new.items ≡ length records.items
-  pub shelf_count : length new.shelves ≡ length records.shelves
-  pub shelf_next : (k : ℕ) → link_at shelf_chain.next new.shelves k ≡ link_at shelf_chain.next records.shelves k
-  pub shelf_previous : (k : ℕ) → link_at shelf_chain.previous new.shelves k ≡ link_at shelf_chain.previous records.shelves k
-  pub firsts : SameFirsts records.shelves new.shelves (shelf_numbers before ++ shelf_numbers after)
+  pub shelves : SameChain records.shelves new.shelves entry.number
   pub first_shelf : new.first_shelf ≡ records.first_shelf
   pub unused_items : new.unused_items ≡ records.unused_items
   pub unused_shelves : new.unused_shelves ≡ records.unused_shelves
   pub lists : IsEntry new edited
   pub members : (k : ℕ) → times k edited.items + times k loose' ≡ times k entry.items + times k loose
 
--- how often an item stands in all lists
-items-count : (before after : List Entry) (entry : Entry) (unused loose : List ℕ) (k : ℕ) → times k (item_numbers (before ++ entry ∷ after) ++ unused ++ loose) ≡ times k (item_numbers before) + (times k entry.items + times k (item_numbers after)) + times k unused + times k loose
-items-count before after entry unused loose k =
-    omega (arith, times-append k (item_numbers (before ++ entry ∷ after) ++ unused) loose, times-append k (item_numbers (before ++ entry ∷ after)) unused, item_numbers-append before (entry ∷ after) k, times-append k entry.items (item_numbers after))
+-- how often an item stands in all lists, by where
+items-count : (around : Around) (entry : Entry) (loose : List ℕ) (k : ℕ) → times k (item_numbers (around.before ++ entry ∷ around.after) ++ around.unused_items ++ loose) ≡ times k entry.items + times k loose + (times k (item_numbers around.before) + times k (item_numbers around.after) + times k around.unused_items)
+items-count around entry loose k =
+    let entries : List Entry = around.before ++ entry ∷ around.after in
+    omega (arith, times-append k (item_numbers entries ++ around.unused_items) loose, times-append k (item_numbers entries) around.unused_items, item_numbers-append around.before (entry ∷ around.after) k, times-append k entry.items (item_numbers around.after))
+
+-- how often a shelf stands in all lists
+shelves-count : (around : Around) (entry : Entry) (loose : List ℕ) (k : ℕ) → times k (shelf_numbers (around.before ++ entry ∷ around.after) ++ around.unused_shelves ++ loose) ≡ times k (entry.number ∷ []) + (times k (shelf_numbers around.before) + times k (shelf_numbers around.after)) + times k around.unused_shelves + times k loose
+shelves-count around entry loose k =
+    let numbers : List ℕ = shelf_numbers around.before ++ shelf_numbers (entry ∷ around.after) in
+    rw (shelf_numbers-append around.before (entry ∷ around.after)) (omega (arith, times-append k (numbers ++ around.unused_shelves) loose, times-append k numbers around.unused_shelves, times-append k (shelf_numbers around.before) (shelf_numbers (entry ∷ around.after))))
 
 -- the numbers of the shelves where one was edited
 pub same-numbers : (before after : List Entry) (entry edited : Entry) → edited.number ≡ entry.number → shelf_numbers (before ++ edited ∷ after) ≡ shelf_numbers (before ++ entry ∷ after)
@@ -41,31 +71,51 @@ same-numbers before after entry edited same =
     ∙ ap (λ n. shelf_numbers before ++ n ∷ shelf_numbers after) same
     ∙ sym (shelf_numbers-append before (entry ∷ after))
 
--- the lists of one shelf were edited
-pub entry-edited : (records new : Records) (before after : List Entry) (entry edited : Entry) (unused_items unused_shelves loose loose' loose_shelves : List ℕ) → EditsEntry records new before after unused_items loose loose' entry edited → IsLinkedExcept records (with_entry before entry after unused_items unused_shelves) loose loose_shelves → IsLinkedExcept new (with_entry before edited after unused_items unused_shelves) loose' loose_shelves
-entry-edited records new before after entry edited unused_items unused_shelves loose loose' loose_shelves edits linked =
-    let numbers : shelf_numbers (before ++ edited ∷ after) ≡ shelf_numbers (before ++ entry ∷ after) = same-numbers before after entry edited edits.number in
-    let others : (k : ℕ) → times k (item_numbers before ++ item_numbers after ++ unused_items) ≡ times k (item_numbers before) + times k (item_numbers after) + times k unused_items =
-    λ k. omega (arith, times-append k (item_numbers before ++ item_numbers after) unused_items, times-append k (item_numbers before) (item_numbers after)) in
-    let other_shelves : (k : ℕ) → times k (shelf_numbers before ++ shelf_numbers after) ≡ times k (shelf_numbers before) + times k (shelf_numbers after) =
-    λ k. times-append k (shelf_numbers before) (shelf_numbers after) in
-    let front : AllByRecursion (IsEntry new) before =
-    entries-frame records new before
-    (λ k stands. edits.items k (omega (arith, others k, stands)))
-    (λ k stands. edits.firsts k (omega (arith, other_shelves k, stands)))
-    (Each-front (IsEntry records) before (entry ∷ after) linked.entries) in
-    let back : AllByRecursion (IsEntry new) after =
-    entries-frame records new after
-    (λ k stands. edits.items k (omega (arith, others k, stands)))
-    (λ k stands. edits.firsts k (omega (arith, other_shelves k, stands)))
-    (Each-back (IsEntry records) before (entry ∷ after) linked.entries).1 in
-    let same_count : (k : ℕ) → times k (item_numbers (before ++ edited ∷ after) ++ unused_items ++ loose') ≡ times k (item_numbers (before ++ entry ∷ after) ++ unused_items ++ loose) =
-    λ k. omega (arith, edits.members k, items-count before after edited unused_items loose' k, items-count before after entry unused_items loose k) in
-    record {
-      shelves = rw (numbers, edits.first_shelf) (chain-same shelf_chain records.shelves new.shelves records.first_shelf (shelf_numbers (before ++ entry ∷ after)) edits.shelf_next edits.shelf_previous linked.shelves);
-      entries = Each-append (IsEntry new) before (edited ∷ after) front (edits.lists, back);
-      unused_items = rw edits.unused_items (pile-frame item_chain records.items new.items records.unused_items unused_items (λ k stands. edits.items k (omega (arith, others k, stands))) linked.unused_items);
-      unused_shelves = rw edits.unused_shelves (pile-same shelf_chain records.shelves new.shelves records.unused_shelves unused_shelves edits.shelf_next linked.unused_shelves);
-      shelves_once = rw (numbers, edits.shelf_count) linked.shelves_once;
-      items_once = λ k. rw edits.item_count (same_count k ∙ linked.items_once k);
-    }
+module _ {records : Records} (around : Around) (entry : Entry) {loose loose_shelves : List ℕ} (linked : IsLinkedExcept records (with_entry around entry) loose loose_shelves) where
+  -- linked records are apart
+  pub linked-apart : IsApart records around loose entry
+  linked-apart =
+      let all : List ℕ = item_numbers (around.before ++ entry ∷ around.after) ++ around.unused_items ++ loose in
+      let all_shelves : List ℕ = shelf_numbers (around.before ++ entry ∷ around.after) ++ around.unused_shelves ++ loose_shelves in
+      let count : (k : ℕ) → times k all ≡ times k entry.items + times k loose + (times k (item_numbers around.before) + times k (item_numbers around.after) + times k around.unused_items) = items-count around entry loose in
+      let shelf_count : (k : ℕ) → times k all_shelves ≡ times k (entry.number ∷ []) + (times k (shelf_numbers around.before) + times k (shelf_numbers around.after)) + times k around.unused_shelves + times k loose_shelves = shelves-count around entry loose_shelves in
+      let members : (k : ℕ) → times k entry.free_list ≤ times k entry.items = (Each-middle (IsEntry records) around.before entry around.after linked.entries).members in
+      let part : (k p : ℕ) → p ≤ times k all → (p ≤ 1) × (1 ≤ p → k < length records.items) = λ k p less. once-part (length records.items) all k p linked.items_once less in
+      record {
+        once = λ k. (part k (times k entry.items) (omega (arith, count k))).0;
+        within = λ k. (part k (times k entry.items) (omega (arith, count k))).1;
+        free_once = λ k. (part k (times k entry.free_list) (omega (arith, count k, members k))).0;
+        free_within = λ k. (part k (times k entry.free_list) (omega (arith, count k, members k))).1;
+        loose_within = λ k. (part k (times k loose) (omega (arith, count k))).1;
+        others = λ k stands. let most : times k all ≤ 1 = (part k (times k all) (omega arith)).0 in omega (arith, most, count k, stands);
+        loose_items = λ k stands. let most : times k all ≤ 1 = (part k (times k all) (omega arith)).0 in omega (arith, most, count k, stands);
+        number = (once-part (length records.shelves) all_shelves entry.number (times entry.number (entry.number ∷ [])) linked.shelves_once (omega (arith, shelf_count entry.number))).1 (omega (arith, times-here entry.number []));
+        numbers = λ k stands e.
+            let same : entry.number ≡ k = cc in
+            let here : times k (entry.number ∷ []) ≡ 1 = rw same (times-here k []) in
+            let most : times k all_shelves ≤ 1 = (once-part (length records.shelves) all_shelves k (times k all_shelves) linked.shelves_once (omega arith)).0 in
+            omega (arith, most, here, shelf_count k, stands);
+      }
+
+  -- the lists of one shelf were edited
+  pub entry-edited : (new : Records) (edited : Entry) (loose' : List ℕ) → EditsEntry records new loose loose' entry edited → IsLinkedExcept new (with_entry around edited) loose' loose_shelves
+  entry-edited new edited loose' edits =
+      let before : List Entry = around.before in
+      let after : List Entry = around.after in
+      let numbers : shelf_numbers (before ++ edited ∷ after) ≡ shelf_numbers (before ++ entry ∷ after) = same-numbers before after entry edited edits.number in
+      let frame : (es : List Entry) → ((k : ℕ) → times k (item_numbers es) ≤ times k (item_numbers before) + times k (item_numbers after)) → ((k : ℕ) → times k (shelf_numbers es) ≤ times k (shelf_numbers before) + times k (shelf_numbers after)) → AllByRecursion (IsEntry records) es → AllByRecursion (IsEntry new) es =
+      λ es fewer fewer_shelves are. entries-frame records new es
+      (λ k stands. edits.items k (linked-apart.others k (omega (arith, fewer k, stands))))
+      (λ k stands. edits.shelves.firsts k (linked-apart.numbers k (omega (arith, fewer_shelves k, stands)))) are in
+      record {
+        shelves = rw (numbers, edits.first_shelf) (chain-same shelf_chain records.shelves new.shelves records.first_shelf (shelf_numbers (before ++ entry ∷ after)) edits.shelves.next edits.shelves.previous linked.shelves);
+        entries = Each-append (IsEntry new) before (edited ∷ after)
+            (frame before (λ k. omega arith) (λ k. omega arith) (Each-front (IsEntry records) before (entry ∷ after) linked.entries))
+            (edits.lists, frame after (λ k. omega arith) (λ k. omega arith) (Each-back (IsEntry records) before (entry ∷ after) linked.entries).1);
+        unused_items = rw edits.unused_items (pile-frame item_chain records.items new.items records.unused_items around.unused_items (λ k stands. edits.items k (linked-apart.others k (omega (arith, stands)))) linked.unused_items);
+        unused_shelves = rw edits.unused_shelves (pile-same shelf_chain records.shelves new.shelves records.unused_shelves around.unused_shelves edits.shelves.next linked.unused_shelves);
+        shelves_once = rw (numbers, edits.shelves.count) linked.shelves_once;
+        items_once = λ k.
+            let same : times k (item_numbers (before ++ edited ∷ after) ++ around.unused_items ++ loose') ≡ times k (item_numbers (before ++ entry ∷ after) ++ around.unused_items ++ loose) = omega (arith, edits.members k, items-count around edited loose' k, items-count around entry loose k) in
+            rw edits.item_count (same ∙ linked.items_once k);
+      }

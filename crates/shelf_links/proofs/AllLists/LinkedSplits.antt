@@ -2,15 +2,17 @@
 use Rattle.std.proofs.Common.{◌≡◌, ℕ, ◌<◌, None, Some, List, [], ◌∷◌, ◌++◌, length, refl, arith}
 use Rattle.shelf_links.specs.declared.records.LinkedItem.{LinkedItem}
 use Rattle.shelf_links.specs.declared.records.LinkedShelf.{LinkedShelf}
-use Rattle.shelf_links.specs.RecordEdits.{item_changed, shelf_changed, shelf_inserted_after}
+use Rattle.shelf_links.specs.RecordEdits.{item_changed, shelf_changed}
 use Rattle.shelf_links.specs.RecordLists.{Records, Entry, shelf_numbers, item_numbers, IsEntry, IsLinkedExcept}
 use Rattle.shelf_links.specs.RecordMerges.{shelf_split}
 use Rattle.shelf_links.specs.Records.{item_chain, free_list}
 use Rattle.etagere_links.proofs.FieldChanges.{field_at-changed}
+use Rattle.shelf_links.proofs.AllLists.LinkedEdits.{Around, with_entry}
 use Rattle.shelf_links.proofs.AllLists.LinkedFields.{item_written-linked, shelf_written-linked, shelf_changed-linked}
-use Rattle.shelf_links.proofs.AllLists.LinkedMerges.{entry_of, keeps-height}
+use Rattle.shelf_links.proofs.AllLists.LinkedItems.{entry_of}
+use Rattle.shelf_links.proofs.AllLists.LinkedMerges.{keeps-height}
 use Rattle.shelf_links.proofs.AllLists.LinkedShelves.{shelf_inserted_after-linked}
-use Rattle.shelf_links.proofs.AllLists.LinkedUnused.{lists_of, IsLoose, loose-of}
+use Rattle.shelf_links.proofs.AllLists.LinkedUnused.{IsLoose, loose-of}
 use Rattle.etagere_links.proofs.RecordChanges.{link_at-changed}
 
 -- records for a shelf of one free item, which stands in no list yet
@@ -46,18 +48,12 @@ alone-entry records shelf item shelf_record item_record alone shelf_within item_
     }
 
 -- a shelf was split: the rest stands after it, with one free item
-pub shelf_split-linked : (records : Records) (before after : List Entry) (entry : Entry) (rest rest_item height : ℕ) (rest_shelf : LinkedShelf) (item : LinkedItem) (unused_items unused_shelves loose loose_shelves : List ℕ) → IsAlone item rest_shelf rest_item → IsLinkedExcept records (lists_of (before ++ entry ∷ after) unused_items unused_shelves) (rest_item ∷ loose) (rest ∷ loose_shelves) → IsLinkedExcept (shelf_split entry.number rest rest_item height rest_shelf item records) (lists_of (before ++ entry ∷ entry_of rest (rest_item ∷ []) (rest_item ∷ []) ∷ after) unused_items unused_shelves) loose loose_shelves
-shelf_split-linked records before after entry rest rest_item height rest_shelf item unused_items unused_shelves loose loose_shelves alone linked =
-    let entries : List Entry = before ++ entry ∷ after in
-    let added : Entry = entry_of rest (rest_item ∷ []) (rest_item ∷ []) in
-    let one : Records = item_changed rest_item (λ _. item) records in
-    let two : Records = shelf_changed rest (λ _. rest_shelf) one in
-    let three : Records = shelf_inserted_after entry.number rest two in
-    let loose_item : IsLoose (length records.items) (item_numbers entries) unused_items rest_item = loose-of (length records.items) (item_numbers entries) unused_items loose rest_item linked.items_once in
-    let loose_shelf : IsLoose (length records.shelves) (shelf_numbers entries) unused_shelves rest = loose-of (length records.shelves) (shelf_numbers entries) unused_shelves loose_shelves rest linked.shelves_once in
-    let written : IsLinkedExcept two (lists_of entries unused_items unused_shelves) (rest_item ∷ loose) (rest ∷ loose_shelves) =
-    shelf_written-linked one rest (λ _. rest_shelf) entries unused_items unused_shelves (rest_item ∷ loose) loose_shelves
-    (item_written-linked records rest_item (λ _. item) entries unused_items unused_shelves loose (rest ∷ loose_shelves) linked) in
-    shelf_changed-linked three entry.number (λ (here : LinkedShelf). record here { height = height }) (before ++ entry ∷ added ∷ after) unused_items unused_shelves loose loose_shelves (keeps-height height)
-    (shelf_inserted_after-linked two before after entry added unused_items unused_shelves loose loose_shelves
-    (alone-entry records rest rest_item rest_shelf item alone loose_shelf.within loose_item.within) written)
+pub shelf_split-linked : {records : Records} (around : Around) (entry : Entry) (rest rest_item height : ℕ) (rest_shelf : LinkedShelf) (item : LinkedItem) {loose loose_shelves : List ℕ} → IsAlone item rest_shelf rest_item → IsLinkedExcept records (with_entry around entry) (rest_item ∷ loose) (rest ∷ loose_shelves) → IsLinkedExcept (shelf_split entry.number rest rest_item height rest_shelf item records) (with_entry (record around { after = entry_of rest (rest_item ∷ []) (rest_item ∷ []) ∷ around.after }) entry) loose loose_shelves
+shelf_split-linked {records} around entry rest rest_item height rest_shelf item {loose} {loose_shelves} alone linked =
+    let entries : List Entry = around.before ++ entry ∷ around.after in
+    let loose_item : IsLoose (length records.items) (item_numbers entries) around.unused_items rest_item = loose-of (length records.items) (item_numbers entries) around.unused_items loose rest_item linked.items_once in
+    let loose_shelf : IsLoose (length records.shelves) (shelf_numbers entries) around.unused_shelves rest = loose-of (length records.shelves) (shelf_numbers entries) around.unused_shelves loose_shelves rest linked.shelves_once in
+    shelf_changed-linked entry.number (λ (here : LinkedShelf). record here { height = height }) (keeps-height height)
+    (shelf_inserted_after-linked around entry (entry_of rest (rest_item ∷ []) (rest_item ∷ []))
+    (alone-entry records rest rest_item rest_shelf item alone loose_shelf.within loose_item.within)
+    (shelf_written-linked rest (λ _. rest_shelf) (item_written-linked rest_item (λ _. item) linked)))

@@ -48,74 +48,75 @@ loose-of count used unused loose number once =
 differs : (n k : ℕ) (xs : List ℕ) → times n xs ≡ 0 → 1 ≤ times k xs → n ≢ k
 differs n k xs absent stands e = let again : 1 ≤ times n xs = rw e stands in omega (arith, absent)
 
--- an item record in no list became unused
-pub item_made_unused-linked : (records : Records) (entries : List Entry) (number : ℕ) (unused_items unused_shelves loose loose_shelves : List ℕ) → IsLinkedExcept records (lists_of entries unused_items unused_shelves) (number ∷ loose) loose_shelves → IsLinkedExcept (item_made_unused number records) (lists_of entries (number ∷ unused_items) unused_shelves) loose loose_shelves
-item_made_unused-linked records entries number unused_items unused_shelves loose loose_shelves linked =
-    let items : List LinkedItem = records.items in
-    let new : List LinkedItem = made_unused item_chain records.unused_items number items in
-    let used : List ℕ = item_numbers entries in
-    let is : IsLoose (length items) used unused_items number = loose-of (length items) used unused_items loose number linked.items_once in
-    record {
-      shelves = linked.shelves;
-      entries = entries-frame records (item_made_unused number records) entries
-          (λ k stands. get-made_unused item_chain items records.unused_items number k (differs number k used is.no_used stands))
-          (λ k stands. (refl, refl)) linked.entries;
-      unused_items = made_unused-spells item_chain item_chain-laws items records.unused_items unused_items number is.within is.no_unused linked.unused_items;
-      unused_shelves = linked.unused_shelves;
-      shelves_once = linked.shelves_once;
-      items_once = λ k. rw (length-made_unused item_chain items records.unused_items number) (moved k ∙ linked.items_once k);
-    }
-  where
-    moved : (k : ℕ) → times k (item_numbers entries ++ (number ∷ unused_items) ++ loose) ≡ times k (item_numbers entries ++ unused_items ++ number ∷ loose)
-    moved k = omega (arith, three-count (item_numbers entries) (number ∷ unused_items) loose k, three-count (item_numbers entries) unused_items (number ∷ loose) k)
-
 -- the item record that became unused last was taken: it stands in no list
-pub item_taken-linked : (records : Records) (entries : List Entry) (number : ℕ) (unused_items unused_shelves loose loose_shelves : List ℕ) → IsLinkedExcept records (lists_of entries (number ∷ unused_items) unused_shelves) loose loose_shelves → IsLinkedExcept (item_taken records) (lists_of entries unused_items unused_shelves) (number ∷ loose) loose_shelves
-item_taken-linked records entries number unused_items unused_shelves loose loose_shelves linked =
+pub item_taken-linked : {records : Records} (lists : Lists) (number : ℕ) {loose loose_shelves : List ℕ} → IsLinkedExcept records (record lists { unused_items = number ∷ lists.unused_items }) loose loose_shelves → IsLinkedExcept (item_taken records) lists (number ∷ loose) loose_shelves
+item_taken-linked {records} lists number {loose} {loose_shelves} linked =
     let top : records.unused_items ≡ Some number = linked.unused_items.0 in
     record {
       shelves = linked.shelves;
-      entries = entries-frame records (item_taken records) entries (λ k stands. refl) (λ k stands. (refl, refl)) linked.entries;
+      entries = entries-frame records (item_taken records) lists.entries (λ k stands. refl) (λ k stands. (refl, refl)) linked.entries;
       unused_items = rw top linked.unused_items.1;
       unused_shelves = linked.unused_shelves;
       shelves_once = linked.shelves_once;
-      items_once = λ k. omega (arith, linked.items_once k, three-count (item_numbers entries) unused_items (number ∷ loose) k, three-count (item_numbers entries) (number ∷ unused_items) loose k);
+      items_once = λ k. omega (arith, linked.items_once k, three-count (item_numbers lists.entries) lists.unused_items (number ∷ loose) k, three-count (item_numbers lists.entries) (number ∷ lists.unused_items) loose k);
     }
-
--- a shelf record in no list became unused
-pub shelf_made_unused-linked : (records : Records) (entries : List Entry) (number : ℕ) (unused_items unused_shelves loose loose_shelves : List ℕ) → IsLinkedExcept records (lists_of entries unused_items unused_shelves) loose (number ∷ loose_shelves) → IsLinkedExcept (shelf_made_unused number records) (lists_of entries unused_items (number ∷ unused_shelves)) loose loose_shelves
-shelf_made_unused-linked records entries number unused_items unused_shelves loose loose_shelves linked =
-    let shelves : List LinkedShelf = records.shelves in
-    let new : List LinkedShelf = made_unused shelf_chain records.unused_shelves number shelves in
-    let used : List ℕ = shelf_numbers entries in
-    let is : IsLoose (length shelves) used unused_shelves number = loose-of (length shelves) used unused_shelves loose_shelves number linked.shelves_once in
-    record {
-      shelves = chain-frame shelf_chain shelves new records.first_shelf used
-          (λ k stands. get-made_unused shelf_chain shelves records.unused_shelves number k (differs number k used is.no_used stands)) linked.shelves;
-      entries = entries-frame records (shelf_made_unused number records) entries (λ k stands. refl)
-          (λ k stands. (
-            field_at-kept (λ (x : LinkedShelf). x.first_item) None (shelf_chain.with_next records.unused_shelves) shelves number k (λ x. refl),
-            field_at-kept (λ (x : LinkedShelf). x.first_unallocated) None (shelf_chain.with_next records.unused_shelves) shelves number k (λ x. refl),
-          ))
-          linked.entries;
-      unused_items = linked.unused_items;
-      unused_shelves = made_unused-spells shelf_chain shelf_chain-laws shelves records.unused_shelves unused_shelves number is.within is.no_unused linked.unused_shelves;
-      shelves_once = λ k. rw (length-made_unused shelf_chain shelves records.unused_shelves number) (moved k ∙ linked.shelves_once k);
-      items_once = linked.items_once;
-    }
-  where
-    moved : (k : ℕ) → times k (shelf_numbers entries ++ (number ∷ unused_shelves) ++ loose_shelves) ≡ times k (shelf_numbers entries ++ unused_shelves ++ number ∷ loose_shelves)
-    moved k = omega (arith, three-count (shelf_numbers entries) (number ∷ unused_shelves) loose_shelves k, three-count (shelf_numbers entries) unused_shelves (number ∷ loose_shelves) k)
 
 -- the shelf record that became unused last was taken: it stands in no list
-pub shelf_taken-linked : (records : Records) (entries : List Entry) (number : ℕ) (unused_items unused_shelves loose loose_shelves : List ℕ) → IsLinkedExcept records (lists_of entries unused_items (number ∷ unused_shelves)) loose loose_shelves → IsLinkedExcept (shelf_taken records) (lists_of entries unused_items unused_shelves) loose (number ∷ loose_shelves)
-shelf_taken-linked records entries number unused_items unused_shelves loose loose_shelves linked =
+pub shelf_taken-linked : {records : Records} (lists : Lists) (number : ℕ) {loose loose_shelves : List ℕ} → IsLinkedExcept records (record lists { unused_shelves = number ∷ lists.unused_shelves }) loose loose_shelves → IsLinkedExcept (shelf_taken records) lists loose (number ∷ loose_shelves)
+shelf_taken-linked {records} lists number {loose} {loose_shelves} linked =
     let top : records.unused_shelves ≡ Some number = linked.unused_shelves.0 in
     record {
       shelves = linked.shelves;
-      entries = entries-frame records (shelf_taken records) entries (λ k stands. refl) (λ k stands. (refl, refl)) linked.entries;
+      entries = entries-frame records (shelf_taken records) lists.entries (λ k stands. refl) (λ k stands. (refl, refl)) linked.entries;
       unused_items = linked.unused_items;
       unused_shelves = rw top linked.unused_shelves.1;
-      shelves_once = λ k. omega (arith, linked.shelves_once k, three-count (shelf_numbers entries) unused_shelves (number ∷ loose_shelves) k, three-count (shelf_numbers entries) (number ∷ unused_shelves) loose_shelves k);
+      shelves_once = λ k. omega (arith, linked.shelves_once k, three-count (shelf_numbers lists.entries) lists.unused_shelves (number ∷ loose_shelves) k, three-count (shelf_numbers lists.entries) (number ∷ lists.unused_shelves) loose_shelves k);
       items_once = linked.items_once;
     }
+
+module _ {records : Records} {lists : Lists} {loose loose_shelves : List ℕ} where
+  -- an item record in no list became unused
+  pub item_made_unused-linked : (number : ℕ) → IsLinkedExcept records lists (number ∷ loose) loose_shelves → IsLinkedExcept (item_made_unused number records) (record lists { unused_items = number ∷ lists.unused_items }) loose loose_shelves
+  item_made_unused-linked number linked =
+      let items : List LinkedItem = records.items in
+      let new : List LinkedItem = made_unused item_chain records.unused_items number items in
+      let used : List ℕ = item_numbers lists.entries in
+      let is : IsLoose (length items) used lists.unused_items number = loose-of (length items) used lists.unused_items loose number linked.items_once in
+      record {
+        shelves = linked.shelves;
+        entries = entries-frame records (item_made_unused number records) lists.entries
+            (λ k stands. get-made_unused item_chain items records.unused_items number k (differs number k used is.no_used stands))
+            (λ k stands. (refl, refl)) linked.entries;
+        unused_items = made_unused-spells item_chain item_chain-laws items records.unused_items lists.unused_items number is.within is.no_unused linked.unused_items;
+        unused_shelves = linked.unused_shelves;
+        shelves_once = linked.shelves_once;
+        items_once = λ k. rw (length-made_unused item_chain items records.unused_items number) (moved k ∙ linked.items_once k);
+      }
+    where
+      moved : (k : ℕ) → times k (item_numbers lists.entries ++ (number ∷ lists.unused_items) ++ loose) ≡ times k (item_numbers lists.entries ++ lists.unused_items ++ number ∷ loose)
+      moved k = omega (arith, three-count (item_numbers lists.entries) (number ∷ lists.unused_items) loose k, three-count (item_numbers lists.entries) lists.unused_items (number ∷ loose) k)
+
+  -- a shelf record in no list became unused
+  pub shelf_made_unused-linked : (number : ℕ) → IsLinkedExcept records lists loose (number ∷ loose_shelves) → IsLinkedExcept (shelf_made_unused number records) (record lists { unused_shelves = number ∷ lists.unused_shelves }) loose loose_shelves
+  shelf_made_unused-linked number linked =
+      let shelves : List LinkedShelf = records.shelves in
+      let new : List LinkedShelf = made_unused shelf_chain records.unused_shelves number shelves in
+      let used : List ℕ = shelf_numbers lists.entries in
+      let is : IsLoose (length shelves) used lists.unused_shelves number = loose-of (length shelves) used lists.unused_shelves loose_shelves number linked.shelves_once in
+      record {
+        shelves = chain-frame shelf_chain shelves new records.first_shelf used
+            (λ k stands. get-made_unused shelf_chain shelves records.unused_shelves number k (differs number k used is.no_used stands)) linked.shelves;
+        entries = entries-frame records (shelf_made_unused number records) lists.entries (λ k stands. refl)
+            (λ k stands. (
+              field_at-kept (λ (x : LinkedShelf). x.first_item) None (shelf_chain.with_next records.unused_shelves) shelves number k (λ x. refl),
+              field_at-kept (λ (x : LinkedShelf). x.first_unallocated) None (shelf_chain.with_next records.unused_shelves) shelves number k (λ x. refl),
+            ))
+            linked.entries;
+        unused_items = linked.unused_items;
+        unused_shelves = made_unused-spells shelf_chain shelf_chain-laws shelves records.unused_shelves lists.unused_shelves number is.within is.no_unused linked.unused_shelves;
+        shelves_once = λ k. rw (length-made_unused shelf_chain shelves records.unused_shelves number) (moved k ∙ linked.shelves_once k);
+        items_once = linked.items_once;
+      }
+    where
+      moved : (k : ℕ) → times k (shelf_numbers lists.entries ++ (number ∷ lists.unused_shelves) ++ loose_shelves) ≡ times k (shelf_numbers lists.entries ++ lists.unused_shelves ++ number ∷ loose_shelves)
+      moved k = omega (arith, three-count (shelf_numbers lists.entries) (number ∷ lists.unused_shelves) loose_shelves k, three-count (shelf_numbers lists.entries) lists.unused_shelves (number ∷ loose_shelves) k)
