@@ -1,12 +1,13 @@
 -- Shelves by height stay by height where an item became free and was merged with its free neighbours, once the bound of its
 -- shelf was raised to the width of what became free.
+use Rattle.shelf_links.proofs.AllLists.LinkedEdits.{around_of}
 use Rattle.std.proofs.Common.{◌≡◌, ℕ, Some, List, ◌∷◌, ◌++◌, map, refl, subst, arith, sym, ◌∙◌}
 use Rattle.std.proofs.lemmas.List.{map-append}
 use Rattle.etagere_base.proofs.EachLemmas.{Each-middle}
 use Rattle.std.specs.List.{AllByRecursion}
+use Rattle.shelf_links.proofs.AllLists.LinkedItems.{entry_of}
 use Rattle.shelf_links.specs.declared.records.LinkedShelf.{LinkedShelf}
 use Rattle.shelf_links.specs.RecordLists.{Records, Entry, IsEntry, first_item_of}
-use Rattle.shelf_links.proofs.AllLists.LinkedMerges.{entry_of}
 use Rattle.shelf_links.proofs.AllLists.LinkedUnused.{lists_of}
 use Rattle.etagere_links.proofs.FieldChanges.{field_at-kept}
 use Rattle.etagere_links.proofs.RecordChanges.{length-changed_by}
@@ -32,7 +33,7 @@ pub record FreesByHeight (atlas new : AtlasRecords) (merged : List LinkedShelf) 
   pub in_list : (by_height : List BoundedShelf) → HoldsByHeight atlas entries by_height → HoldsByHeight new edited (raised shelf width by_height)
 
 -- an item became free, and its shelf says whether it is empty
-pub frees-by_height : (atlas : AtlasRecords) (before after : List Entry) (shelf number : ℕ) (front back free unused shelves : List ℕ) → IsShelf atlas.frame (spelled_shelf atlas (entry_of shelf (front ++ number ∷ back) free)) → IsSpelled atlas (lists_of (before ++ entry_of shelf (front ++ number ∷ back) free ∷ after) unused shelves) → (merges : MergesItem atlas (item_merged shelf number atlas.records) before after shelf number front back free unused shelves) → map (spelled_shelf (with_lists atlas (emptiness_said shelf (item_merged shelf number atlas.records).records))) (before ++ entry_of shelf merges.numbers merges.free_list ∷ after) ≡ map (spelled_shelf (with_lists atlas (item_merged shelf number atlas.records).records)) (before ++ entry_of shelf merges.numbers merges.free_list ∷ after) → FreesByHeight atlas (with_lists atlas (emptiness_said shelf (item_merged shelf number atlas.records).records)) (item_merged shelf number atlas.records).records.shelves (before ++ entry_of shelf (front ++ number ∷ back) free ∷ after) (before ++ entry_of shelf merges.numbers merges.free_list ∷ after) shelf (freed_width atlas.records.items number)
+pub frees-by_height : (atlas : AtlasRecords) (before after : List Entry) (shelf number : ℕ) (front back free unused shelves : List ℕ) → IsShelf atlas.frame (spelled_shelf atlas (entry_of shelf (front ++ number ∷ back) free)) → IsSpelled atlas (lists_of (before ++ entry_of shelf (front ++ number ∷ back) free ∷ after) unused shelves) → (merges : MergesItem atlas (item_merged shelf number atlas.records) (around_of before after unused shelves) shelf number front back free) → map (spelled_shelf (with_lists atlas (emptiness_said shelf (item_merged shelf number atlas.records).records))) (before ++ entry_of shelf merges.numbers merges.free_list ∷ after) ≡ map (spelled_shelf (with_lists atlas (item_merged shelf number atlas.records).records)) (before ++ entry_of shelf merges.numbers merges.free_list ∷ after) → FreesByHeight atlas (with_lists atlas (emptiness_said shelf (item_merged shelf number atlas.records).records)) (item_merged shelf number atlas.records).records.shelves (before ++ entry_of shelf (front ++ number ∷ back) free ∷ after) (before ++ entry_of shelf merges.numbers merges.free_list ∷ after) shelf (freed_width atlas.records.items number)
 frees-by_height atlas before after shelf number front back free unused shelves valid spelled merges said =
     let old : List LinkedShelf = atlas.records.shelves in
     let entry : Entry = entry_of shelf (front ++ number ∷ back) free in

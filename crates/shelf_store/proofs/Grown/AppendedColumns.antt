@@ -8,10 +8,10 @@ use Rattle.std.specs.List.{AllByRecursion}
 use Rattle.etagere_base.proofs.EachLemmas.{Each-append, Each-weaken}
 use Rattle.etagere_links.specs.Chains.{Leads}
 use Rattle.etagere_links.specs.Edits.{link_at}
+use Rattle.shelf_links.proofs.AllLists.LinkedItems.{entry_of}
 use Rattle.shelf_links.specs.RecordLists.{Entry, IsLinkedExcept, Records, shelf_numbers}
 use Rattle.shelf_links.specs.Records.{shelf_chain}
 use Rattle.shelf_links.proofs.AllLists.LinkedFrames.{shelf_numbers-append}
-use Rattle.shelf_links.proofs.AllLists.LinkedMerges.{entry_of}
 use Rattle.shelf_links.proofs.AllLists.LinkedUnused.{lists_of, three-count}
 use Rattle.shelf_links.proofs.AllLists.LinkedUses.{but_first}
 use Rattle.etagere_links.proofs.WalkedLists.{IsPart, part-of}

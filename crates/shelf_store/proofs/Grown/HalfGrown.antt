@@ -4,8 +4,8 @@ use Rattle.std.specs.List.{AllByRecursion}
 use Rattle.etagere_base.specs.Lists.{NoNeighbours, times, total}
 use Rattle.etagere_base.specs.declared.frames.Frame.{Frame}
 use Rattle.etagere_base.specs.declared.geometry.Size.{Size}
+use Rattle.shelf_links.proofs.AllLists.LinkedItems.{entry_of}
 use Rattle.shelf_links.specs.RecordLists.{Entry, Records, shelf_numbers}
-use Rattle.shelf_links.proofs.AllLists.LinkedMerges.{entry_of}
 use Rattle.shelf_links.proofs.AllLists.LinkedUnused.{lists_of}
 use Rattle.shelf_links.proofs.AllLists.LinkedUses.{but_first}
 use Rattle.shelf_records.specs.AtlasRecords.{along_of, spelled_shelf}

@@ -5,6 +5,8 @@ use Rattle.std.specs.Prelude.{◌%◌, ◌==◌, is_some, slice_get}
 use Rattle.etagere_base.specs.declared.frames.Frame.{Frame}
 use Rattle.std.specs.List.{AllByRecursion}
 use Rattle.etagere_base.specs.Lists.{times}
+use Rattle.shelf_links.proofs.AllLists.LinkedItems.{entry_of}
+use Rattle.shelf_links.proofs.AllLists.LinkedEdits.{IsApart, linked-apart, around_of}
 use Rattle.shelf_links.specs.declared.records.LinkedItem.{LinkedItem}
 use Rattle.shelf_links.specs.declared.records.LinkedShelf.{LinkedShelf}
 use Rattle.etagere_links.specs.Edits.{changed_by, link_at, linked_between}
@@ -17,8 +19,6 @@ use Rattle.etagere_links.proofs.FieldChanges.{field_at-changed}
 use Rattle.etagere_links.proofs.ListEnds.{times-here}
 use Rattle.shelf_links.proofs.AllLists.LinkedFields.{item_written-linked, shelf_written-linked}
 use Rattle.shelf_links.proofs.AllLists.LinkedFrames.{shelf_numbers-append}
-use Rattle.shelf_links.proofs.AllLists.LinkedItems.{IsApart, linked-apart}
-use Rattle.shelf_links.proofs.AllLists.LinkedMerges.{entry_of}
 use Rattle.shelf_links.proofs.AllLists.LinkedShelves.{shelf_inserted_after-linked}
 use Rattle.shelf_links.proofs.AllLists.LinkedUnused.{IsLoose, lists_of, loose-of}
 use Rattle.shelf_links.proofs.AllLists.LinkedUses.{but_first}
@@ -221,10 +221,10 @@ module _ (frame : Frame) (records : Records) (before after : List Entry) (entry 
       let entries : List Entry = before ++ entry ∷ after in
       let one : Records = item_changed item (started along_column frame.column_width shelf) records in
       let two : Records = shelf_changed shelf (λ _. empty_shelf_record along_column across height item) one in
-      shelf_inserted_after-linked two before after entry (entry_of shelf (item ∷ []) (item ∷ [])) unused_items unused_shelves loose loose_shelves
+      shelf_inserted_after-linked (around_of before after unused_items unused_shelves) entry (entry_of shelf (item ∷ []) (item ∷ []))
       (empty-entry records entry.number shelf item frame.column_width along_column across height within item_within)
-      (shelf_written-linked one shelf (λ _. empty_shelf_record along_column across height item) entries unused_items unused_shelves (item ∷ loose) loose_shelves
-      (item_written-linked records item (started along_column frame.column_width shelf) entries unused_items unused_shelves loose (shelf ∷ loose_shelves) linked))
+      (shelf_written-linked shelf (λ _. empty_shelf_record along_column across height item)
+      (item_written-linked item (started along_column frame.column_width shelf) linked))
 
   -- the empty shelf is placed
   added-placed : 1 ≤ frame.column_width → IsInserted records new_records shelf item frame.column_width along_column across height
@@ -387,8 +387,7 @@ module _ (frame : Frame) (old : ℕ) (growing : Growing) (before after : List En
       loose-of (length used.records.shelves) (shelf_numbers entries) rest_shelves (left_shelves used rest_shelves shelves) (next_shelf (after_item growing)) is_ready.spelled.linked.shelves_once in
       let free : IsLoose (length used.records.items) (item_numbers entries) rest_items (next_item growing) =
       loose-of (length used.records.items) (item_numbers entries) rest_items (left_items used rest_items items) (next_item growing) is_ready.spelled.linked.items_once in
-      let apart : IsApart growing.records before after unused_items (left_items growing unused_items (suc items)) entry =
-      linked-apart growing.records before after entry unused_items unused_shelves (left_items growing unused_items (suc items)) (left_shelves growing unused_shelves (suc shelves)) is.spelled.linked in
+      let apart = linked-apart (around_of before after unused_items unused_shelves) entry is.spelled.linked in
       let shelf_count : length used.records.shelves ≡ length growing.records.shelves = ap (λ (s : List LinkedShelf). length s) is_ready.same_shelves in
       record {
         small = omega (arith, apart.number, is.counts.shelves.1);

@@ -59,7 +59,7 @@ items-made (suc count) records entries unused_items unused_shelves loose loose_s
     (numbers_from (length records.items) (suc count) ++ loose) loose_shelves loose_shelves
     (λ k. moved (length records.items) (length (records.items ++ new_item ∷ [])) count loose k last) (λ k. refl)
     (items-made count (item_made new_item records) entries unused_items unused_shelves (length records.items ∷ loose) loose_shelves
-    (item_made-linked records new_item entries unused_items unused_shelves loose loose_shelves linked))
+    (item_made-linked new_item linked))
 
 -- shelf records were made
 pub shelves-made : (count : ℕ) (records : Records) (entries : List Entry) (unused_items unused_shelves loose loose_shelves : List ℕ)
@@ -73,7 +73,7 @@ shelves-made (suc count) records entries unused_items unused_shelves loose loose
     (numbers_from (length records.shelves) (suc count) ++ loose_shelves) (λ k. refl)
     (λ k. moved (length records.shelves) (length (records.shelves ++ new_shelf ∷ [])) count loose_shelves k last)
     (shelves-made count (shelf_made new_shelf records) entries unused_items unused_shelves loose (length records.shelves ∷ loose_shelves)
-    (shelf_made-linked records new_shelf entries unused_items unused_shelves loose loose_shelves linked))
+    (shelf_made-linked new_shelf linked))
 
 -- records of both kinds were made
 pub records-made : (items shelves : ℕ) (records : Records) (entries : List Entry) (unused_items unused_shelves : List ℕ)

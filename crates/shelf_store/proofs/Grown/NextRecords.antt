@@ -64,8 +64,7 @@ item-next growing entries [] unused_shelves held loose_shelves needed some linke
 item-next growing entries (x ∷ xs) unused_shelves held loose_shelves needed some linked =
     let loose : List ℕ = numbers_from growing.made.item (needed - length (x ∷ xs)) ++ held in
     let top : growing.records.unused_items ≡ Some x = linked.unused_items.0 in
-    let uses : UsesItem growing.records entries (x ∷ xs) unused_shelves loose loose_shelves =
-    uses-item growing.records entries (x ∷ xs) unused_shelves loose loose_shelves linked in
+    let uses = uses-item linked in
     let same : x ≡ uses.number = used-number growing.records.unused_items growing.records.items x uses.number top uses.is in
     subst (λ (l : List ℕ). IsLinkedExcept (after_item growing).records (lists_of entries xs unused_shelves) l loose_shelves)
     (sym (items-used growing.records.unused_items growing.made x uses.number (needed - 1 - length xs) (needed - length (x ∷ xs)) held top same (omega arith)))
@@ -91,8 +90,7 @@ shelf-next growing entries unused_items [] loose held needed some linked =
 shelf-next growing entries unused_items (x ∷ xs) loose held needed some linked =
     let loose_shelves : List ℕ = numbers_from growing.made.shelf (needed - length (x ∷ xs)) ++ held in
     let top : growing.records.unused_shelves ≡ Some x = linked.unused_shelves.0 in
-    let uses : UsesShelf growing.records entries unused_items (x ∷ xs) loose loose_shelves =
-    uses-shelf growing.records entries unused_items (x ∷ xs) loose loose_shelves linked in
+    let uses = uses-shelf linked in
     let same : x ≡ uses.number = used-number growing.records.unused_shelves growing.records.shelves x uses.number top uses.is in
     subst (λ (l : List ℕ). IsLinkedExcept (after_shelf growing).records (lists_of entries unused_items xs) loose l)
     (sym (shelves-used growing.records.unused_shelves growing.made x uses.number (needed - 1 - length xs) (needed - length (x ∷ xs)) held top same (omega arith)))

@@ -7,12 +7,12 @@ use Rattle.std.specs.List.{AllByRecursion}
 use Rattle.etagere_base.specs.Lists.{times}
 use Rattle.etagere_base.proofs.EachLemmas.{Each-append, Each-back, Each-front}
 use Rattle.etagere_base.proofs.TimesLemmas.{times-append}
+use Rattle.shelf_links.proofs.AllLists.LinkedEdits.{IsApart, linked-apart, around_of}
 use Rattle.shelf_links.specs.declared.records.LinkedShelf.{LinkedShelf}
 use Rattle.shelf_links.specs.RecordEdits.{shelf_changed}
 use Rattle.shelf_links.specs.RecordLists.{Entry, IsEntry, Records, shelf_numbers}
 use Rattle.shelf_links.proofs.AllLists.LinkedFields.{shelf_changed-linked}
 use Rattle.shelf_links.proofs.AllLists.LinkedFrames.{shelf_numbers-append}
-use Rattle.shelf_links.proofs.AllLists.LinkedItems.{IsApart, linked-apart}
 use Rattle.etagere_links.proofs.FieldChanges.{field_at-changed, field_at-kept}
 use Rattle.etagere_links.proofs.ListEnds.{times-here}
 use Rattle.etagere_links.proofs.RecordChanges.{length-changed_by}
@@ -161,7 +161,7 @@ end-taller frame old growing before after entry unused_items unused_shelves item
     let new : Records = with_tall entry.number tall records in
     let atlas : AtlasRecords = bare frame records in
     let entries : List Entry = before ++ entry ∷ after in
-    let apart : IsApart records before after unused_items _ entry = linked-apart records before after entry unused_items unused_shelves _ _ is.spelled.linked in
+    let apart = linked-apart (around_of before after unused_items unused_shelves) entry is.spelled.linked in
     let taller : IsTaller records new entry.number tall = tall-values records entry.number tall apart.number in
     let among : (k : ℕ) → times k (shelf_numbers before ++ shelf_numbers after) ≡ times k (shelf_numbers before) + times k (shelf_numbers after) =
     λ k. times-append k (shelf_numbers before) (shelf_numbers after) in
@@ -181,7 +181,7 @@ end-taller frame old growing before after entry unused_items unused_shelves item
           record {
             spelled =
                 record {
-                  linked = shelf_changed-linked records entry.number (λ (here : LinkedShelf). record here { height = tall }) entries unused_items unused_shelves _ _
+                  linked = shelf_changed-linked entry.number (λ (here : LinkedShelf). record here { height = tall })
                       (record { next = λ x. refl; prev = λ x. refl; first_item = λ x. refl; first_unallocated = λ x. refl }) is.spelled.linked;
                   placed = still-placed atlas new entries taller.along taller.items is.spelled.placed;
                   stacked = rw numbers

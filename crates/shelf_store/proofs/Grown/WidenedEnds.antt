@@ -6,6 +6,7 @@ use Rattle.etagere_base.specs.declared.frames.Frame.{Frame}
 use Rattle.etagere_base.specs.Lists.{times}
 use Rattle.etagere_base.proofs.EachLemmas.{Each-middle}
 use Rattle.etagere_base.proofs.TimesLemmas.{times-append, times-here}
+use Rattle.shelf_links.proofs.AllLists.LinkedEdits.{IsApart, linked-apart, around_of}
 use Rattle.shelf_links.specs.declared.records.LinkedItem.{LinkedItem}
 use Rattle.etagere_links.specs.Edits.{changed_by}
 use Rattle.shelf_links.specs.RecordEdits.{item_changed, item_inserted_after}
@@ -13,8 +14,7 @@ use Rattle.shelf_links.specs.RecordLists.{Entry, IsEntry, IsLinkedExcept, Record
 use Rattle.shelf_links.specs.RecordMaking.{started}
 use Rattle.shelf_links.proofs.AllLists.LinkedFields.{item_changed-linked, item_written-linked}
 use Rattle.shelf_links.proofs.AllLists.LinkedFrames.{item_numbers-append}
-use Rattle.shelf_links.proofs.AllLists.LinkedItems.{IsApart, free_inserted_front-linked, item_inserted_after-linked, linked-apart}
-use Rattle.shelf_links.proofs.AllLists.LinkedMerges.{entry_of}
+use Rattle.shelf_links.proofs.AllLists.LinkedItems.{free_inserted_front-linked, item_inserted_after-linked, entry_of}
 use Rattle.shelf_links.proofs.AllLists.LinkedUnused.{IsLoose, lists_of, loose-of}
 use Rattle.shelf_links.proofs.AllLists.LinkedUses.{but_first}
 use Rattle.etagere_links.proofs.FieldChanges.{field_at-kept}
@@ -76,19 +76,16 @@ module _ (frame grown : Frame) (old : ℕ) (growing : Growing) (before after : L
       let change : LinkedItem → LinkedItem = λ item. record item { width = wide } in
       let new : List LinkedItem = changed_by (Some last) change old_items in
       let atlas : AtlasRecords = bare grown growing.records in
-      let apart : IsApart growing.records before after unused_items (loose growing items unused_items) entry =
-      linked-apart growing.records before after entry unused_items unused_shelves (loose growing items unused_items) (loose_shelves growing) is.spelled.linked in
+      let apart = linked-apart (around_of before after unused_items unused_shelves) entry is.spelled.linked in
       let placed : IsPlaced atlas entry = Each-middle (IsPlaced atlas) before entry after is.spelled.placed in
       let now : IsWidened old_items new last wide =
       widened old_items last wide (apart.within last (omega (arith, times-append last front (last ∷ []), times-here last []))) in
       let own : (k : ℕ) → 1 ≤ times k front → last ≢ k = λ k stands. before-other front [] last k (apart.once k) stands in
-      let others : (k : ℕ) → 1 ≤ times k (item_numbers before ++ item_numbers after ++ unused_items) → SameItem old_items new k = λ k stands.
+      let others : (k : ℕ) → 1 ≤ times k (item_numbers before) + times k (item_numbers after) + times k unused_items → SameItem old_items new k = λ k stands.
       now.others k (not-member front [] last k (omega (arith, apart.others k stands))) in
-      let count : (k : ℕ) → times k (item_numbers before ++ item_numbers after ++ unused_items) ≡ times k (item_numbers before) + times k (item_numbers after) + times k unused_items =
-      λ k. omega (arith, times-append k (item_numbers before ++ item_numbers after) unused_items, times-append k (item_numbers before) (item_numbers after)) in
       record {
         number = refl;
-        linked = item_changed-linked growing.records last change (before ++ entry ∷ after) unused_items unused_shelves (loose growing items unused_items) (loose_shelves growing)
+        linked = item_changed-linked last change
             (record { next = λ x. refl; prev = λ x. refl; next_unallocated = λ x. refl; prev_unallocated = λ x. refl }) is.spelled.linked;
         placed = record {
           owners = wide-owners old_items new number wide front last now own placed.owners;
@@ -103,9 +100,9 @@ module _ (frame grown : Frame) (old : ℕ) (growing : Growing) (before after : L
             (map-agrees (item_place_of new) (item_place_of old_items) free (λ k stands. field_at-kept (λ (x : LinkedItem). x.x) 0 change old_items last k (λ x. refl))
             ∙ sym (cond-true _ _ _ (ends-spelled old_items front last false unmarked)));
         flag = is_one_free-wider_end width shelf.items (some-end (item_at old_items) front last);
-        others = λ k stands. others k (omega (arith, count k, stands));
+        others = λ k stands. others k (omega (arith, stands));
         same = same-shelf growing.records.shelves;
-        unused = unmarked-same old_items new unused_items (λ k stands. others k (omega (arith, count k, stands))) is.spelled.unused;
+        unused = unmarked-same old_items new unused_items (λ k stands. others k (omega (arith, stands))) is.spelled.unused;
         as_many = length-changed_by change old_items (Some last);
         as_many_shelves = refl;
         used_up = is.used_up;
@@ -174,10 +171,10 @@ module _ (frame grown : Frame) (old : ℕ) (growing : Growing) (before after : L
       map-agrees (item_place_of new) (item_place_of old_items) free (λ k stands. (has.others k (own k (omega (arith, stands, entry_is.members k)))).place) in
       record {
         number = refl;
-        linked = free_inserted_front-linked three before after number next (front ++ last ∷ next ∷ []) free rest unused_shelves held (loose_shelves (after_item growing))
+        linked = free_inserted_front-linked (around_of before after rest unused_shelves) number next (front ++ last ∷ next ∷ []) free
             (omega (arith, times-append next front (last ∷ next ∷ []), times-here next [])) absent
-            (item_inserted_after-linked two before after number last next front [] free rest unused_shelves held (loose_shelves (after_item growing))
-            (item_written-linked one next (started place width number) entries rest unused_shelves held (loose_shelves (after_item growing)) linked));
+            (item_inserted_after-linked (around_of before after rest unused_shelves) number next last front [] free
+            (item_written-linked next (started place width number) linked));
         placed = record {
           owners = end-owners old_items new number next place width front last has own placed.owners;
           along = ap (λ a. a % grown.column_width) (same number).along ∙ placed.along;

@@ -6,10 +6,10 @@ use Rattle.etagere_base.specs.declared.frames.Frame.{Frame}
 use Rattle.etagere_base.proofs.AlignedPlaces.{multiple}
 use Rattle.etagere_base.proofs.EachLemmas.{Each-middle}
 use Rattle.etagere_links.specs.Links.{no_link}
+use Rattle.shelf_links.proofs.AllLists.LinkedItems.{entry_of}
+use Rattle.shelf_links.proofs.AllLists.LinkedEdits.{IsApart, linked-apart, around_of}
 use Rattle.shelf_links.specs.Records.{item_chain}
 use Rattle.shelf_links.specs.RecordLists.{Entry, IsEntry, Records, first_item_of}
-use Rattle.shelf_links.proofs.AllLists.LinkedItems.{IsApart, linked-apart}
-use Rattle.shelf_links.proofs.AllLists.LinkedMerges.{entry_of}
 use Rattle.shelf_links.proofs.AllLists.LinkedUses.{but_first}
 use Rattle.etagere_links.proofs.Tallies.{length-once}
 use Rattle.shelf_records.specs.AtlasRecords.{along_of, is_allocated_at, item_at, spelled_shelf, width_of}
@@ -56,7 +56,7 @@ module _ (frame grown : Frame) (old : ℕ) (growing : Growing) (before after : L
   -- its number is that of a link
   number-small : (needed : ℕ) → Needing needed → number < no_link
   number-small needed is =
-      omega (arith, is.counts.shelves.1, (linked-apart growing.records before after entry unused_items unused_shelves _ _ is.spelled.linked).number)
+      omega (arith, is.counts.shelves.1, (linked-apart (around_of before after unused_items unused_shelves) entry is.spelled.linked).number)
 
   -- the last item is no other
   last-only : (b c : Bool) (other : ℕ) → is_allocated_at growing.records.items last ≡ b → last_item growing.records number ≡ Some other
@@ -159,8 +159,7 @@ shelf-widening frame grown old growing before after number [] free unused_items 
     absurd (omega (arith, narrow.some, narrow.width))
 shelf-widening frame grown old growing before after number (x ∷ xs) free unused_items unused_shelves items shelves width narrow is =
     let entry : Entry = entry_of number (x ∷ xs) free in
-    let apart : IsApart growing.records before after unused_items _ entry =
-    linked-apart growing.records before after entry unused_items unused_shelves _ _ is.spelled.linked in
+    let apart = linked-apart (around_of before after unused_items unused_shelves) entry is.spelled.linked in
     let chain : IsEntry growing.records entry = Each-middle (IsEntry growing.records) before entry after is.spelled.linked.entries in
     let first : first_item_of growing.records.shelves number ≡ Some x = chain.items.forward.0 in
     let few : length (x ∷ xs) ≤ length growing.records.items = length-once (length growing.records.items) (x ∷ xs) apart.once apart.within in

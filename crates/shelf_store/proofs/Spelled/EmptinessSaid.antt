@@ -5,13 +5,13 @@ use Rattle.etagere_base.proofs.EachLemmas.{Each-append, Each-middle}
 use Rattle.etagere_base.proofs.TimesLemmas.{times-append}
 use Rattle.std.specs.List.{AllByRecursion}
 use Rattle.etagere_base.specs.Lists.{times}
+use Rattle.shelf_links.proofs.AllLists.LinkedEdits.{IsApart, linked-apart, around_of, Around, with_entry}
 use Rattle.shelf_links.specs.declared.records.LinkedItem.{LinkedItem}
 use Rattle.shelf_links.specs.declared.records.LinkedShelf.{LinkedShelf}
 use Rattle.etagere_links.specs.Chains.{IsChainIn}
 use Rattle.shelf_links.specs.RecordLists.{Records, Entry, Lists, IsEntry, first_item_of, shelf_numbers}
 use Rattle.shelf_links.specs.Records.{item_chain}
 use Rattle.shelf_links.proofs.AllLists.LinkedFields.{KeepsShelfLinks, shelf_changed-linked}
-use Rattle.shelf_links.proofs.AllLists.LinkedItems.{IsApart, linked-apart}
 use Rattle.shelf_links.proofs.AllLists.LinkedUnused.{lists_of}
 use Rattle.etagere_links.proofs.FieldChanges.{field_at-changed, field_at-kept, field_at-other}
 use Rattle.etagere_links.proofs.ListEnds.{times-here}
@@ -86,37 +86,37 @@ keeps-emptiness : (is_empty : Bool) → KeepsShelfLinks (λ (shelf : LinkedShelf
 keeps-emptiness is_empty = record { next = λ x. refl; prev = λ x. refl; first_item = λ x. refl; first_unallocated = λ x. refl }
 
 -- the records after a shelf was made to say whether it is empty: they spell the same, and every shelf says it
-pub emptiness_said-flagged : (atlas : AtlasRecords) (before after : List Entry) (entry : Entry) (unused shelves : List ℕ) → AllByRecursion (HasFlag atlas) before → AllByRecursion (HasFlag atlas) after → IsSpelled atlas (lists_of (before ++ entry ∷ after) unused shelves) → IsFlagged (with_lists atlas (emptiness_said entry.number atlas.records)) (lists_of (before ++ entry ∷ after) unused shelves) × (map (spelled_shelf (with_lists atlas (emptiness_said entry.number atlas.records))) (before ++ entry ∷ after) ≡ map (spelled_shelf atlas) (before ++ entry ∷ after))
-emptiness_said-flagged atlas before after entry unused shelves flags_before flags_after spelled =
+pub emptiness_said-flagged : {atlas : AtlasRecords} (around : Around) (entry : Entry) → AllByRecursion (HasFlag atlas) around.before → AllByRecursion (HasFlag atlas) around.after → IsSpelled atlas (with_entry around entry) → IsFlagged (with_lists atlas (emptiness_said entry.number atlas.records)) (with_entry around entry) × (map (spelled_shelf (with_lists atlas (emptiness_said entry.number atlas.records))) (around.before ++ entry ∷ around.after) ≡ map (spelled_shelf atlas) (around.before ++ entry ∷ around.after))
+emptiness_said-flagged {atlas} around entry flags_before flags_after spelled =
     let old : List LinkedShelf = atlas.records.shelves in
     let items : List LinkedItem = atlas.records.items in
-    let entries : List Entry = before ++ entry ∷ after in
+    let entries : List Entry = around.before ++ entry ∷ around.after in
     let value : Bool = names_one_free items (first_item_of old entry.number) in
     let change : LinkedShelf → LinkedShelf = λ x. record x { is_empty = value } in
     let lists : Records = emptiness_said entry.number atlas.records in
     let new : AtlasRecords = with_lists atlas lists in
-    let apart : IsApart atlas.records before after unused [] entry = linked-apart atlas.records before after entry unused shelves [] [] spelled.linked in
+    let apart = linked-apart around entry spelled.linked in
     let along : (k : ℕ) → along_of lists.shelves k ≡ along_of old k = λ k. field_at-kept (λ (x : LinkedShelf). x.x) 0 change old entry.number k (λ x. refl) in
     let across : (k : ℕ) → across_of lists.shelves k ≡ across_of old k = λ k. field_at-kept (λ (x : LinkedShelf). x.y) 0 change old entry.number k (λ x. refl) in
     let height : (k : ℕ) → height_of lists.shelves k ≡ height_of old k = λ k. field_at-kept (λ (x : LinkedShelf). x.height) 0 change old entry.number k (λ x. refl) in
     let same : (k : ℕ) → SameItem items lists.items k = λ k. items-same items lists.items k refl in
     let each : (es : List Entry) → map (spelled_shelf new) es ≡ map (spelled_shelf atlas) es = λ es. shelves-stay atlas lists along height same es in
-    let is : IsEntry atlas.records entry = Each-middle (IsEntry atlas.records) before entry after spelled.linked.entries in
-    let among : (k : ℕ) → times k (shelf_numbers before ++ shelf_numbers after) ≡ times k (shelf_numbers before) + times k (shelf_numbers after) = λ k. times-append k (shelf_numbers before) (shelf_numbers after) in
+    let is : IsEntry atlas.records entry = Each-middle (IsEntry atlas.records) around.before entry around.after spelled.linked.entries in
+    let among : (k : ℕ) → times k (shelf_numbers around.before ++ shelf_numbers around.after) ≡ times k (shelf_numbers around.before) + times k (shelf_numbers around.after) = λ k. times-append k (shelf_numbers around.before) (shelf_numbers around.after) in
     let other : (k : ℕ) → Some entry.number ≢ Some k → is_empty_at lists.shelves k ≡ is_empty_at old k = λ k stranger. field_at-other (λ (x : LinkedShelf). x.is_empty) false change old (Some entry.number) k stranger in
     let own : is_empty_at lists.shelves entry.number ≡ value = field_at-changed (λ (x : LinkedShelf). x.is_empty) false change old entry.number value apart.number (λ x. refl) in (
       record {
         spelled =
             record {
-              linked = shelf_changed-linked atlas.records entry.number change entries unused shelves [] [] (keeps-emptiness value) spelled.linked;
+              linked = shelf_changed-linked entry.number change (keeps-emptiness value) spelled.linked;
               placed = still-placed atlas lists entries along same spelled.placed;
               stacked = stacked-stay old lists.shelves atlas.frame.column_width along across height [] (shelf_numbers entries) spelled.stacked;
               unused = spelled.unused;
             };
-        flags = Each-append (HasFlag new) before (entry ∷ after)
-            (flags-same atlas new before (λ k stands. other k (apart.numbers k (omega (arith, among k, stands)))) (each before) flags_before) (
+        flags = Each-append (HasFlag new) around.before (entry ∷ around.after)
+            (flags-same atlas new around.before (λ k stands. other k (apart.numbers k (omega (arith, among k, stands)))) (each around.before) flags_before) (
               own ∙ one-free items (first_item_of old entry.number) entry.items is.items,
-              flags-same atlas new after (λ k stands. other k (apart.numbers k (omega (arith, among k, stands)))) (each after) flags_after,
+              flags-same atlas new around.after (λ k stands. other k (apart.numbers k (omega (arith, among k, stands)))) (each around.after) flags_after,
             );
       },
       each entries,

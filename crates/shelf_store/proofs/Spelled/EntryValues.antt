@@ -79,25 +79,34 @@ width-changed [] label number width within = absurd (omega arith)
 width-changed (x ∷ xs) label zero width within = refl
 width-changed (x ∷ xs) label (suc number) width within = width-changed xs label number width (omega arith)
 
--- what an item says after its width was changed
-pub record IsWidened (items new : List LinkedItem) (number width : ℕ) : Type 0 where
-  pub item : item_at new number ≡ record { width = width; id = (item_at items number).id }
+-- what an item says after it was changed, and that the others say what they said
+pub record SaysNow (items new : List LinkedItem) (number : ℕ) (item_ : Item) (allocated_ : Bool) : Type 0 where
+  pub item : item_at new number ≡ item_
   pub place : item_place_of new number ≡ item_place_of items number
   pub shelf : shelf_of new number ≡ shelf_of items number
-  pub allocated : is_allocated_at new number ≡ is_allocated_at items number
+  pub allocated : is_allocated_at new number ≡ allocated_
   pub others : (k : ℕ) → number ≢ k → SameItem items new k
+
+-- an item was changed, and neither its place nor its shelf
+says-now : (items : List LinkedItem) (number : ℕ) (change : LinkedItem → LinkedItem) {item : Item} {allocated : Bool} → item_at (changed_by (Some number) change items) number ≡ item → is_allocated_at (changed_by (Some number) change items) number ≡ allocated → ((x : LinkedItem) → (change x).x ≡ x.x) → ((x : LinkedItem) → (change x).shelf ≡ x.shelf) → SaysNow items (changed_by (Some number) change items) number item allocated
+says-now items number change is mark place shelf =
+    record {
+      item = is;
+      place = field_at-kept (λ (x : LinkedItem). x.x) 0 change items number number place;
+      shelf = field_at-kept (λ (x : LinkedItem). x.shelf) 0 change items number number shelf;
+      allocated = mark;
+      others = λ k other. item-same items (changed_by (Some number) change items) k
+          (get-changed_by-other change items (Some number) k (λ e. let same : number ≡ k = cc in other same));
+    }
+
+-- what an item says after its width was changed
+abbrev pub IsWidened : List LinkedItem → List LinkedItem → ℕ → ℕ → Type 0
+IsWidened items new number width = SaysNow items new number (record { width = width; id = (item_at items number).id }) (is_allocated_at items number)
 
 pub widened : (items : List LinkedItem) (number width : ℕ) → number < length items → IsWidened items (changed_by (Some number) (λ (x : LinkedItem). record x { width = width }) items) number width
 widened items number width within =
     let change : LinkedItem → LinkedItem = λ x. record x { width = width } in
-    record {
-      item = width-changed items number number width within;
-      place = field_at-kept (λ (x : LinkedItem). x.x) 0 change items number number (λ x. refl);
-      shelf = field_at-kept (λ (x : LinkedItem). x.shelf) 0 change items number number (λ x. refl);
-      allocated = field_at-kept (λ (x : LinkedItem). x.allocated) false change items number number (λ x. refl);
-      others = λ k other. item-same items (changed_by (Some number) change items) k
-          (get-changed_by-other change items (Some number) k (λ e. let same : number ≡ k = cc in other same));
-    }
+    says-now items number change (width-changed items number number width within) (field_at-kept (λ (x : LinkedItem). x.allocated) false change items number number (λ x. refl)) (λ x. refl) (λ x. refl)
 
 -- an allocated one is no free one
 pub free_count-none : (items : List LinkedItem) (k : ℕ) (xs : List ℕ) → is_allocated_at items k ≡ true → free_count items k xs ≡ 0
@@ -117,24 +126,13 @@ marked-changed (x ∷ xs) label zero within = refl
 marked-changed (x ∷ xs) label (suc number) within = marked-changed xs label number (omega arith)
 
 -- what an item says after it became free
-pub record IsFreed (items new : List LinkedItem) (number : ℕ) : Type 0 where
-  pub item : item_at new number ≡ record { width = (item_at items number).width; id = None }
-  pub place : item_place_of new number ≡ item_place_of items number
-  pub shelf : shelf_of new number ≡ shelf_of items number
-  pub allocated : is_allocated_at new number ≡ false
-  pub others : (k : ℕ) → number ≢ k → SameItem items new k
+abbrev pub IsFreed : List LinkedItem → List LinkedItem → ℕ → Type 0
+IsFreed items new number = SaysNow items new number (record { width = (item_at items number).width; id = None }) false
 
 pub unmarked : (items : List LinkedItem) (number : ℕ) → number < length items → IsFreed items (changed_by (Some number) (λ (x : LinkedItem). record x { allocated = false }) items) number
 unmarked items number within =
     let change : LinkedItem → LinkedItem = λ x. record x { allocated = false } in
-    record {
-      item = marked-changed items number number within;
-      place = field_at-kept (λ (x : LinkedItem). x.x) 0 change items number number (λ x. refl);
-      shelf = field_at-kept (λ (x : LinkedItem). x.shelf) 0 change items number number (λ x. refl);
-      allocated = field_at-changed (λ (x : LinkedItem). x.allocated) false change items number false within (λ x. refl);
-      others = λ k other. item-same items (changed_by (Some number) change items) k
-          (get-changed_by-other change items (Some number) k (λ e. let same : number ≡ k = cc in other same));
-    }
+    says-now items number change (marked-changed items number number within) (field_at-changed (λ (x : LinkedItem). x.allocated) false change items number false within (λ x. refl)) (λ x. refl) (λ x. refl)
 
 -- the items of a shelf that stand before one of them begin before it
 pub place-before : (items : List LinkedItem) (here : ℕ) (front back : List ℕ) (number k : ℕ) → ((n : ℕ) → 1 ≤ times n (front ++ number ∷ back) → 1 ≤ (item_at items n).width) → LieFrom items here (front ++ number ∷ back) → 1 ≤ times k front → item_place_of items k < item_place_of items number
@@ -178,24 +176,13 @@ given-changed (x ∷ xs) label zero within = refl
 given-changed (x ∷ xs) label (suc number) within = given-changed xs label number (omega arith)
 
 -- what an item says after it was given whole
-pub record IsGiven (items new : List LinkedItem) (number : ℕ) : Type 0 where
-  pub item : item_at new number ≡ record { width = (item_at items number).width; id = Some (id_at items number) }
-  pub place : item_place_of new number ≡ item_place_of items number
-  pub shelf : shelf_of new number ≡ shelf_of items number
-  pub allocated : is_allocated_at new number ≡ true
-  pub others : (k : ℕ) → number ≢ k → SameItem items new k
+abbrev pub IsGiven : List LinkedItem → List LinkedItem → ℕ → Type 0
+IsGiven items new number = SaysNow items new number (record { width = (item_at items number).width; id = Some (id_at items number) }) true
 
 pub marked : (items : List LinkedItem) (number : ℕ) → number < length items → IsGiven items (changed_by (Some number) (λ (x : LinkedItem). record x { allocated = true }) items) number
 marked items number within =
     let change : LinkedItem → LinkedItem = λ x. record x { allocated = true } in
-    record {
-      item = given-changed items number number within;
-      place = field_at-kept (λ (x : LinkedItem). x.x) 0 change items number number (λ x. refl);
-      shelf = field_at-kept (λ (x : LinkedItem). x.shelf) 0 change items number number (λ x. refl);
-      allocated = field_at-changed (λ (x : LinkedItem). x.allocated) false change items number true within (λ x. refl);
-      others = λ k other. item-same items (changed_by (Some number) change items) k
-          (get-changed_by-other change items (Some number) k (λ e. let same : number ≡ k = cc in other same));
-    }
+    says-now items number change (given-changed items number number within) (field_at-changed (λ (x : LinkedItem). x.allocated) false change items number true within (λ x. refl)) (λ x. refl) (λ x. refl)
 
 -- items of which one only changed its mark still lie side by side
 pub remarked-places : (items new : List LinkedItem) (here : ℕ) (front back : List ℕ) (number : ℕ) → ((k : ℕ) → 1 ≤ times k front → SameItem items new k) → ((k : ℕ) → 1 ≤ times k back → SameItem items new k) → item_place_of new number ≡ item_place_of items number → (item_at new number).width ≡ (item_at items number).width → LieFrom items here (front ++ number ∷ back) → LieFrom new here (front ++ number ∷ back)

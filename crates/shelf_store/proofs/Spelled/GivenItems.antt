@@ -7,6 +7,8 @@ use Rattle.etagere_base.proofs.EachLemmas.{Each-append, Each-front, Each-back, E
 use Rattle.etagere_base.proofs.TimesLemmas.{times-append}
 use Rattle.std.specs.List.{AllByRecursion}
 use Rattle.etagere_base.specs.Lists.{times}
+use Rattle.shelf_links.proofs.AllLists.LinkedItems.{entry_of}
+use Rattle.shelf_links.proofs.AllLists.LinkedEdits.{IsApart, linked-apart, around_of, Around}
 use Rattle.shelf_links.specs.declared.records.LinkedItem.{LinkedItem}
 use Rattle.shelf_links.specs.declared.records.LinkedShelf.{LinkedShelf}
 use Rattle.etagere_links.specs.Edits.{first_without, link_at, linked_between, unlinked, field_at}
@@ -17,8 +19,6 @@ use Rattle.shelf_links.specs.RecordMerges.{item_given, front_given}
 use Rattle.shelf_links.specs.Records.{item_chain, free_list}
 use Rattle.etagere_links.proofs.FieldChanges.{field_at-changed}
 use Rattle.shelf_links.proofs.AllLists.LinkedFrames.{item_numbers-append}
-use Rattle.shelf_links.proofs.AllLists.LinkedItems.{IsApart, linked-apart}
-use Rattle.shelf_links.proofs.AllLists.LinkedMerges.{entry_of}
 use Rattle.shelf_links.proofs.AllLists.LinkedUnused.{lists_of}
 use Rattle.etagere_links.proofs.ListEnds.{times-here}
 use Rattle.etagere_links.proofs.RecordChanges.{length-changed_by}
@@ -38,58 +38,58 @@ use Rattle.shelf_store.proofs.Spelled.SpelledUses.{SameEntries, same-entries}
 use Rattle.shelf_store.proofs.Spelled.TakenItemSpelled.{taken_from, IsPlacedAt, KeepsOthers, whole-spelled, front-spelled}
 
 -- the records after an item was given: what they spell, and that other shelves say what they said
-pub record IsItemGiven (atlas : AtlasRecords) (new : Records) (before added after : List Entry) (entry : Entry) (unused_items unused_shelves : List ℕ) (shelf : Shelf) (rests : List Shelf) : Type 0 where
+pub record IsItemGiven (atlas : AtlasRecords) (new : Records) (around : Around) (added : List Entry) (entry : Entry) (shelf : Shelf) (rests : List Shelf) : Type 0 where
   pub edited : Entry
   pub number : edited.number ≡ entry.number
-  pub spelled : IsSpelled (with_lists atlas new) (lists_of (before ++ edited ∷ (added ++ after)) unused_items unused_shelves)
-  pub shelves : map (spelled_shelf (with_lists atlas new)) (before ++ edited ∷ (added ++ after)) ≡ map (spelled_shelf atlas) before ++ shelf ∷ (rests ++ map (spelled_shelf atlas) after)
+  pub spelled : IsSpelled (with_lists atlas new) (lists_of (around.before ++ edited ∷ (added ++ around.after)) around.unused_items around.unused_shelves)
+  pub shelves : map (spelled_shelf (with_lists atlas new)) (around.before ++ edited ∷ (added ++ around.after)) ≡ map (spelled_shelf atlas) around.before ++ shelf ∷ (rests ++ map (spelled_shelf atlas) around.after)
   pub own : spelled_shelf (with_lists atlas new) edited ≡ shelf
-  pub flags_before : AllByRecursion (HasFlag atlas) before → AllByRecursion (HasFlag (with_lists atlas new)) before
-  pub flags_after : AllByRecursion (HasFlag atlas) after → AllByRecursion (HasFlag (with_lists atlas new)) (added ++ after)
+  pub flags_before : AllByRecursion (HasFlag atlas) around.before → AllByRecursion (HasFlag (with_lists atlas new)) around.before
+  pub flags_after : AllByRecursion (HasFlag atlas) around.after → AllByRecursion (HasFlag (with_lists atlas new)) (added ++ around.after)
   pub more : length atlas.records.items ≤ length new.items
-  pub made : 1 ≤ length unused_items → length new.items ≡ length atlas.records.items
+  pub made : 1 ≤ length around.unused_items → length new.items ≡ length atlas.records.items
   pub few : length new.shelves ≤ no_link
 
 -- from what an edit of the items of the shelf says: the other shelves are those that they were, and the edited one is this
-given-after : (atlas : AtlasRecords) (split_records new : Records) (before added after : List Entry) (entry edited : Entry) (unused_items unused_shelves loose : List ℕ) (tall : ℕ) (rests : List Shelf) (shelf : Shelf) → AllByRecursion (IsEntry atlas.records) (before ++ entry ∷ after) → HasShelfSplit atlas split_records before added after entry unused_items unused_shelves loose tall rests → EditsItems (with_lists atlas split_records) new before (added ++ after) unused_items unused_items unused_shelves entry edited → spelled_shelf (with_lists atlas new) edited ≡ shelf → length new.items ≡ length split_records.items → length new.shelves ≡ length split_records.shelves → IsItemGiven atlas new before added after entry unused_items unused_shelves shelf rests
-given-after atlas split_records new before added after entry edited unused_items unused_shelves loose tall rests shelf are_old is_split edits spelled long long_shelves =
+given-after : {atlas : AtlasRecords} (split_records new : Records) (around : Around) (added : List Entry) (entry edited : Entry) (loose : List ℕ) (tall : ℕ) (rests : List Shelf) (shelf : Shelf) → AllByRecursion (IsEntry atlas.records) (around.before ++ entry ∷ around.after) → HasShelfSplit atlas split_records around added entry loose tall rests → EditsItems (with_lists atlas split_records) new (record around { after = added ++ around.after }) around.unused_items entry edited → spelled_shelf (with_lists atlas new) edited ≡ shelf → length new.items ≡ length split_records.items → length new.shelves ≡ length split_records.shelves → IsItemGiven atlas new around added entry shelf rests
+given-after {atlas} split_records new around added entry edited loose tall rests shelf are_old is_split edits spelled long long_shelves =
     let base : AtlasRecords = with_lists atlas split_records in
     let last : AtlasRecords = with_lists atlas new in
-    let entries : List Entry = before ++ entry ∷ (added ++ after) in
+    let entries : List Entry = around.before ++ entry ∷ (added ++ around.after) in
     let are : AllByRecursion (IsEntry split_records) entries = is_split.spelled.linked.entries in
-    let done = items-edited-but base new before (added ++ after) unused_items unused_items unused_shelves loose entry edited is_split.spelled edits in
-    let apart : IsApart split_records before (added ++ after) unused_items loose entry = linked-apart split_records before (added ++ after) entry unused_items unused_shelves loose [] is_split.spelled.linked in
-    let count : (k : ℕ) → times k (item_numbers before ++ item_numbers (added ++ after) ++ unused_items) ≡ times k (item_numbers before) + times k (item_numbers (added ++ after)) + times k unused_items =
-    λ k. omega (arith, times-append k (item_numbers before ++ item_numbers (added ++ after)) unused_items, times-append k (item_numbers before) (item_numbers (added ++ after))) in
-    let other : (k : ℕ) → 1 ≤ times k (item_numbers before) + times k (item_numbers (added ++ after)) → SameItem split_records.items new.items k =
+    let done = items-edited-but new (record around { after = added ++ around.after }) around.unused_items loose entry edited is_split.spelled edits in
+    let apart = linked-apart (record around { after = added ++ around.after }) entry is_split.spelled.linked in
+    let count : (k : ℕ) → times k (item_numbers around.before ++ item_numbers (added ++ around.after) ++ around.unused_items) ≡ times k (item_numbers around.before) + times k (item_numbers (added ++ around.after)) + times k around.unused_items =
+    λ k. omega (arith, times-append k (item_numbers around.before ++ item_numbers (added ++ around.after)) around.unused_items, times-append k (item_numbers around.before) (item_numbers (added ++ around.after))) in
+    let other : (k : ℕ) → 1 ≤ times k (item_numbers around.before) + times k (item_numbers (added ++ around.after)) → SameItem split_records.items new.items k =
     λ k stands. edits.items k (omega (arith, apart.others k (omega (arith, count k, stands)))) in
-    let tail = Each-back (IsEntry split_records) before (entry ∷ (added ++ after)) are in
-    let old_tail = Each-back (IsEntry atlas.records) before (entry ∷ after) are_old in
-    let fewer : (k : ℕ) → times k (item_numbers (before ++ entry ∷ after)) ≡ times k (item_numbers before) + (times k entry.items + times k (item_numbers after)) =
-    λ k. omega (arith, item_numbers-append before (entry ∷ after) k, times-append k entry.items (item_numbers after)) in
-    let among : (k : ℕ) → times k (shelf_numbers before ++ shelf_numbers after) ≡ times k (shelf_numbers before) + times k (shelf_numbers after) = λ k. times-append k (shelf_numbers before) (shelf_numbers after) in
-    let to_split : (k : ℕ) → 1 ≤ times k (item_numbers (before ++ entry ∷ after)) → SameItem atlas.records.items split_records.items k = λ k stands. item-same atlas.records.items split_records.items k (is_split.items k stands) in
-    let first_before : SameEntries atlas split_records before =
-    same-entries atlas split_records before (λ k stands. is_split.others k (omega (arith, among k, stands))) (λ k stands. to_split k (omega (arith, fewer k, stands))) (Each-front (IsEntry atlas.records) before (entry ∷ after) are_old) in
-    let first_after : SameEntries atlas split_records after =
-    same-entries atlas split_records after (λ k stands. is_split.others k (omega (arith, among k, stands))) (λ k stands. to_split k (omega (arith, fewer k, stands))) old_tail.1 in
-    let then_before : SameEntries base new before =
-    same-entries base new before (λ k stands. edits.shelf k) (λ k stands. other k (omega (arith, stands))) (Each-front (IsEntry split_records) before (entry ∷ (added ++ after)) are) in
-    let then_after : SameEntries base new (added ++ after) =
-    same-entries base new (added ++ after) (λ k stands. edits.shelf k) (λ k stands. other k (omega (arith, stands))) tail.1 in
+    let tail = Each-back (IsEntry split_records) around.before (entry ∷ (added ++ around.after)) are in
+    let old_tail = Each-back (IsEntry atlas.records) around.before (entry ∷ around.after) are_old in
+    let fewer : (k : ℕ) → times k (item_numbers (around.before ++ entry ∷ around.after)) ≡ times k (item_numbers around.before) + (times k entry.items + times k (item_numbers around.after)) =
+    λ k. omega (arith, item_numbers-append around.before (entry ∷ around.after) k, times-append k entry.items (item_numbers around.after)) in
+    let among : (k : ℕ) → times k (shelf_numbers around.before ++ shelf_numbers around.after) ≡ times k (shelf_numbers around.before) + times k (shelf_numbers around.after) = λ k. times-append k (shelf_numbers around.before) (shelf_numbers around.after) in
+    let to_split : (k : ℕ) → 1 ≤ times k (item_numbers (around.before ++ entry ∷ around.after)) → SameItem atlas.records.items split_records.items k = λ k stands. item-same atlas.records.items split_records.items k (is_split.items k stands) in
+    let first_before : SameEntries atlas split_records around.before =
+    same-entries atlas split_records around.before (λ k stands. is_split.others k (omega (arith, among k, stands))) (λ k stands. to_split k (omega (arith, fewer k, stands))) (Each-front (IsEntry atlas.records) around.before (entry ∷ around.after) are_old) in
+    let first_after : SameEntries atlas split_records around.after =
+    same-entries atlas split_records around.after (λ k stands. is_split.others k (omega (arith, among k, stands))) (λ k stands. to_split k (omega (arith, fewer k, stands))) old_tail.1 in
+    let then_before : SameEntries base new around.before =
+    same-entries base new around.before (λ k stands. edits.shelf k) (λ k stands. other k (omega (arith, stands))) (Each-front (IsEntry split_records) around.before (entry ∷ (added ++ around.after)) are) in
+    let then_after : SameEntries base new (added ++ around.after) =
+    same-entries base new (added ++ around.after) (λ k stands. edits.shelf k) (λ k stands. other k (omega (arith, stands))) tail.1 in
     record {
       edited = edited;
       number = edits.number;
       spelled = done.0;
       shelves = done.1
-          ∙ ap (λ (ss : List Shelf). ss ++ spelled_shelf last edited ∷ map (spelled_shelf base) (added ++ after)) first_before.spelled
-          ∙ ap (λ (s : Shelf). map (spelled_shelf atlas) before ++ s ∷ map (spelled_shelf base) (added ++ after)) spelled
-          ∙ ap (λ (ss : List Shelf). map (spelled_shelf atlas) before ++ shelf ∷ ss) (map-append (spelled_shelf base) added after)
-          ∙ ap (λ (ss : List Shelf). map (spelled_shelf atlas) before ++ shelf ∷ (ss ++ map (spelled_shelf base) after)) is_split.rests
-          ∙ ap (λ (ss : List Shelf). map (spelled_shelf atlas) before ++ shelf ∷ (rests ++ ss)) first_after.spelled;
+          ∙ ap (λ (ss : List Shelf). ss ++ spelled_shelf last edited ∷ map (spelled_shelf base) (added ++ around.after)) first_before.spelled
+          ∙ ap (λ (s : Shelf). map (spelled_shelf atlas) around.before ++ s ∷ map (spelled_shelf base) (added ++ around.after)) spelled
+          ∙ ap (λ (ss : List Shelf). map (spelled_shelf atlas) around.before ++ shelf ∷ ss) (map-append (spelled_shelf base) added around.after)
+          ∙ ap (λ (ss : List Shelf). map (spelled_shelf atlas) around.before ++ shelf ∷ (ss ++ map (spelled_shelf base) around.after)) is_split.rests
+          ∙ ap (λ (ss : List Shelf). map (spelled_shelf atlas) around.before ++ shelf ∷ (rests ++ ss)) first_after.spelled;
       own = spelled;
       flags_before = λ flags. then_before.flags (first_before.flags flags);
-      flags_after = λ flags. then_after.flags (Each-append (HasFlag base) added after is_split.flags (first_after.flags flags));
+      flags_after = λ flags. then_after.flags (Each-append (HasFlag base) added around.after is_split.flags (first_after.flags flags));
       more = omega (arith, long, is_split.more);
       made = λ some. long ∙ is_split.made some;
       few = omega (arith, long_shelves, is_split.few);
@@ -114,15 +114,15 @@ width-read (x ∷ items) label zero = refl
 width-read (x ∷ items) label (suc k) = width-read items label k
 
 -- what was said of the items of a shelf before one of them was given is said of the others still
-keeps-others : (atlas : AtlasRecords) (split_records : Records) (new : List LinkedItem) (before added after : List Entry) (shelf number : ℕ) (front back free_front free_back unused_items unused_shelves loose : List ℕ) (tall : ℕ) (rests : List Shelf) → HasShelfSplit atlas split_records before added after (entry_of shelf (front ++ number ∷ back) (free_front ++ number ∷ free_back)) unused_items unused_shelves loose tall rests → ((k : ℕ) → number ≢ k → SameItem split_records.items new k) → KeepsOthers atlas.records.items new front back free_front free_back
-keeps-others atlas split_records new before added after shelf number front back free_front free_back unused_items unused_shelves loose tall rests is_split others =
+keeps-others : {atlas : AtlasRecords} (split_records : Records) (new : List LinkedItem) (around : Around) (added : List Entry) (shelf number : ℕ) (front back free_front free_back loose : List ℕ) (tall : ℕ) (rests : List Shelf) → HasShelfSplit atlas split_records around added (entry_of shelf (front ++ number ∷ back) (free_front ++ number ∷ free_back)) loose tall rests → ((k : ℕ) → number ≢ k → SameItem split_records.items new k) → KeepsOthers atlas.records.items new front back free_front free_back
+keeps-others {atlas} split_records new around added shelf number front back free_front free_back loose tall rests is_split others =
     let numbers : List ℕ = front ++ number ∷ back in
     let free : List ℕ = free_front ++ number ∷ free_back in
     let entry : Entry = entry_of shelf numbers free in
-    let apart : IsApart split_records before (added ++ after) unused_items loose entry = linked-apart split_records before (added ++ after) entry unused_items unused_shelves loose [] is_split.spelled.linked in
-    let members : (k : ℕ) → times k free ≤ times k numbers = (Each-middle (IsEntry split_records) before entry (added ++ after) is_split.spelled.linked.entries).members in
-    let fewer : (k : ℕ) → times k (item_numbers (before ++ entry ∷ after)) ≡ times k (item_numbers before) + (times k numbers + times k (item_numbers after)) =
-    λ k. omega (arith, item_numbers-append before (entry ∷ after) k, times-append k numbers (item_numbers after)) in
+    let apart = linked-apart (record around { after = added ++ around.after }) entry is_split.spelled.linked in
+    let members : (k : ℕ) → times k free ≤ times k numbers = (Each-middle (IsEntry split_records) around.before entry (added ++ around.after) is_split.spelled.linked.entries).members in
+    let fewer : (k : ℕ) → times k (item_numbers (around.before ++ entry ∷ around.after)) ≡ times k (item_numbers around.before) + (times k numbers + times k (item_numbers around.after)) =
+    λ k. omega (arith, item_numbers-append around.before (entry ∷ around.after) k, times-append k numbers (item_numbers around.after)) in
     let same : (k : ℕ) → 1 ≤ times k numbers → number ≢ k → SameItem atlas.records.items new k =
     λ k stands other. SameItem-then atlas.records.items split_records.items new k (item-same atlas.records.items split_records.items k (is_split.items k (omega (arith, fewer k, stands)))) (others k other) in
     let count : (k : ℕ) → times k numbers ≡ times k front + times k (number ∷ back) = λ k. times-append k front (number ∷ back) in
@@ -163,8 +163,8 @@ front-shelves records shelf number rest width =
     length-changed_by (λ (x : LinkedShelf). record x { first_unallocated = link }) records.shelves (Some shelf)
 
 -- an item was given whole
-pub item-whole : (atlas : AtlasRecords) (split_records : Records) (before added after : List Entry) (shelf number : ℕ) (front back free_front free_back unused_items unused_shelves : List ℕ) (placement : Placement) (rests : List Shelf) → number < length atlas.records.items → IsPlacedAt atlas.records.items placement front back free_front free_back number → placement.splits_item ≡ false → AllByRecursion (IsEntry atlas.records) (before ++ entry_of shelf (front ++ number ∷ back) (free_front ++ number ∷ free_back) ∷ after) → HasShelfSplit atlas split_records before added after (entry_of shelf (front ++ number ∷ back) (free_front ++ number ∷ free_back)) unused_items unused_shelves [] placement.height rests → IsItemGiven atlas (item_given shelf number split_records) before added after (entry_of shelf (front ++ number ∷ back) (free_front ++ number ∷ free_back)) unused_items unused_shelves (taken_from false placement (id_of atlas.records.items number) (spelled_shelf atlas (entry_of shelf (front ++ number ∷ back) (free_front ++ number ∷ free_back)))) rests
-item-whole atlas split_records before added after shelf number front back free_front free_back unused_items unused_shelves placement rests within is no_split are_old is_split =
+pub item-whole : {atlas : AtlasRecords} (split_records : Records) (around : Around) (added : List Entry) (shelf number : ℕ) (front back free_front free_back : List ℕ) (placement : Placement) (rests : List Shelf) → number < length atlas.records.items → IsPlacedAt atlas.records.items placement front back free_front free_back number → placement.splits_item ≡ false → AllByRecursion (IsEntry atlas.records) (around.before ++ entry_of shelf (front ++ number ∷ back) (free_front ++ number ∷ free_back) ∷ around.after) → HasShelfSplit atlas split_records around added (entry_of shelf (front ++ number ∷ back) (free_front ++ number ∷ free_back)) [] placement.height rests → IsItemGiven atlas (item_given shelf number split_records) around added (entry_of shelf (front ++ number ∷ back) (free_front ++ number ∷ free_back)) (taken_from false placement (id_of atlas.records.items number) (spelled_shelf atlas (entry_of shelf (front ++ number ∷ back) (free_front ++ number ∷ free_back)))) rests
+item-whole {atlas} split_records around added shelf number front back free_front free_back placement rests within is no_split are_old is_split =
     let old : List LinkedItem = atlas.records.items in
     let new : Records = item_given shelf number split_records in
     let numbers : List ℕ = front ++ number ∷ back in
@@ -172,28 +172,28 @@ item-whole atlas split_records before added after shelf number front back free_f
     let entry : Entry = entry_of shelf numbers free in
     let edited : Entry = entry_of shelf numbers (free_front ++ free_back) in
     let id : ℕ = id_of old number in
-    let apart : IsApart split_records before (added ++ after) unused_items [] entry = linked-apart split_records before (added ++ after) entry unused_items unused_shelves [] [] is_split.spelled.linked in
+    let apart = linked-apart (record around { after = added ++ around.after }) entry is_split.spelled.linked in
     let stands : 1 ≤ times number numbers = omega (arith, times-append number front (number ∷ back), times-here number back) in
     let own : slice_get split_records.items number ≡ slice_get old number =
-    is_split.items number (omega (arith, item_numbers-append before (entry ∷ after) number, times-append number numbers (item_numbers after), stands)) in
+    is_split.items number (omega (arith, item_numbers-append around.before (entry ∷ around.after) number, times-append number numbers (item_numbers around.after), stands)) in
     let same : SameItem old split_records.items number = item-same old split_records.items number own in
-    let edits : EditsItems (with_lists atlas split_records) new before (added ++ after) unused_items unused_items unused_shelves entry edited =
-    item_given-spelled (with_lists atlas split_records) before (added ++ after) shelf number front back free_front free_back unused_items unused_shelves (same.allocated ∙ is.free) is_split.spelled in
+    let edits : EditsItems (with_lists atlas split_records) new (record around { after = added ++ around.after }) around.unused_items entry edited =
+    item_given-spelled (record around { after = added ++ around.after }) shelf number front back free_front free_back (same.allocated ∙ is.free) is_split.spelled in
     let given : IsGiven split_records.items new.items number = given-values split_records shelf number (apart.within number stands) in
     let item : item_at new.items number ≡ record { width = placement.width; id = Some id } =
     given.item
     ∙ ap (λ (i : Item). record { width = i.width; id = Some (id_at split_records.items number) }) same.item
     ∙ ap (λ w. record { width = w; id = Some (id_at split_records.items number) }) (sym (is.whole no_split))
     ∙ ap (λ n. record { width = placement.width; id = Some n }) (id-same old split_records.items number within own) in
-    given-after atlas split_records new before added after entry edited unused_items unused_shelves [] placement.height rests (taken_from false placement id (spelled_shelf atlas entry)) are_old is_split edits
+    given-after split_records new around added entry edited [] placement.height rests (taken_from false placement id (spelled_shelf atlas entry)) are_old is_split edits
     (whole-spelled atlas new placement id shelf number front back free_front free_back is
-    (keeps-others atlas split_records new.items before added after shelf number front back free_front free_back unused_items unused_shelves [] placement.height rests is_split given.others)
+    (keeps-others split_records new.items around added shelf number front back free_front free_back [] placement.height rests is_split given.others)
     ((edits.shelf shelf).along ∙ is_split.along) ((edits.shelf shelf).height ∙ is_split.height) item)
     (given-length split_records shelf number) (given-shelves split_records shelf number)
 
 -- the front of an item was given, after the record of the rest was written
-pub item-front : (atlas : AtlasRecords) (split_records : Records) (before added after : List Entry) (shelf number rest generation : ℕ) (front back free_front free_back unused_items unused_shelves : List ℕ) (placement : Placement) (rests : List Shelf) → number < length atlas.records.items → IsPlacedAt atlas.records.items placement front back free_front free_back number → placement.splits_item ≡ true → AllByRecursion (IsEntry atlas.records) (before ++ entry_of shelf (front ++ number ∷ back) (free_front ++ number ∷ free_back) ∷ after) → HasShelfSplit atlas split_records before added after (entry_of shelf (front ++ number ∷ back) (free_front ++ number ∷ free_back)) unused_items unused_shelves (rest ∷ []) placement.height rests → IsItemGiven atlas (front_given shelf number rest placement.width (item_changed rest (λ _. rest_item (item_record split_records.items number) placement.width shelf generation) split_records)) before added after (entry_of shelf (front ++ number ∷ back) (free_front ++ number ∷ free_back)) unused_items unused_shelves (taken_from true placement (id_of atlas.records.items number) (spelled_shelf atlas (entry_of shelf (front ++ number ∷ back) (free_front ++ number ∷ free_back)))) rests
-item-front atlas split_records before added after shelf number rest generation front back free_front free_back unused_items unused_shelves placement rests within is split are_old is_split =
+pub item-front : {atlas : AtlasRecords} (split_records : Records) (around : Around) (added : List Entry) (shelf number rest generation : ℕ) (front back free_front free_back : List ℕ) (placement : Placement) (rests : List Shelf) → number < length atlas.records.items → IsPlacedAt atlas.records.items placement front back free_front free_back number → placement.splits_item ≡ true → AllByRecursion (IsEntry atlas.records) (around.before ++ entry_of shelf (front ++ number ∷ back) (free_front ++ number ∷ free_back) ∷ around.after) → HasShelfSplit atlas split_records around added (entry_of shelf (front ++ number ∷ back) (free_front ++ number ∷ free_back)) (rest ∷ []) placement.height rests → IsItemGiven atlas (front_given shelf number rest placement.width (item_changed rest (λ _. rest_item (item_record split_records.items number) placement.width shelf generation) split_records)) around added (entry_of shelf (front ++ number ∷ back) (free_front ++ number ∷ free_back)) (taken_from true placement (id_of atlas.records.items number) (spelled_shelf atlas (entry_of shelf (front ++ number ∷ back) (free_front ++ number ∷ free_back)))) rests
+item-front {atlas} split_records around added shelf number rest generation front back free_front free_back placement rests within is split are_old is_split =
     let old : List LinkedItem = atlas.records.items in
     let width : ℕ = placement.width in
     let item : LinkedItem = rest_item (item_record split_records.items number) width shelf generation in
@@ -204,14 +204,14 @@ item-front atlas split_records before added after shelf number rest generation f
     let entry : Entry = entry_of shelf numbers free in
     let edited : Entry = entry_of shelf (front ++ number ∷ rest ∷ back) (free_front ++ rest ∷ free_back) in
     let id : ℕ = id_of old number in
-    let is_written : HasShelfSplit atlas written before added after entry unused_items unused_shelves (rest ∷ []) placement.height rests =
-    split-written atlas split_records before added after entry unused_items unused_shelves [] placement.height rests rest item is_split in
-    let apart : IsApart written before (added ++ after) unused_items (rest ∷ []) entry = linked-apart written before (added ++ after) entry unused_items unused_shelves (rest ∷ []) [] is_written.spelled.linked in
+    let is_written : HasShelfSplit atlas written around added entry (rest ∷ []) placement.height rests =
+    split-written split_records around added entry [] placement.height rests rest item is_split in
+    let apart = linked-apart (record around { after = added ++ around.after }) entry is_written.spelled.linked in
     let stands : 1 ≤ times number numbers = omega (arith, times-append number front (number ∷ back), times-here number back) in
     let rest_stands : 1 ≤ times rest (rest ∷ []) = omega (arith, times-here rest []) in
     let differ : number ≢ rest = λ e. let again : 1 ≤ times rest numbers = rw (← e) stands in omega (arith, again, apart.loose_items rest rest_stands) in
-    let among : 1 ≤ times number (item_numbers (before ++ entry ∷ after)) =
-    omega (arith, item_numbers-append before (entry ∷ after) number, times-append number numbers (item_numbers after), stands) in
+    let among : 1 ≤ times number (item_numbers (around.before ++ entry ∷ around.after)) =
+    omega (arith, item_numbers-append around.before (entry ∷ around.after) number, times-append number numbers (item_numbers around.after), stands) in
     let own : slice_get written.items number ≡ slice_get old number = is_written.items number among in
     let same : SameItem old written.items number = item-same old written.items number own in
     let same_split : SameItem old split_records.items number = item-same old split_records.items number (is_split.items number among) in
@@ -234,14 +234,14 @@ item-front atlas split_records before added after shelf number rest generation f
       shelf = field_at-changed (λ (x : LinkedItem). x.shelf) 0 (λ _. item) split_records.items rest shelf rest_within (λ x. refl);
       free = field_at-changed (λ (x : LinkedItem). x.allocated) false (λ _. item) split_records.items rest false rest_within (λ x. refl);
     } in
-    let edits : EditsItems (with_lists atlas written) new before (added ++ after) unused_items unused_items unused_shelves entry edited =
-    front_given-spelled (with_lists atlas written) before (added ++ after) shelf number rest width front back free_front free_back unused_items unused_shelves (same.allocated ∙ is.free) is_rest is_written.spelled in
+    let edits : EditsItems (with_lists atlas written) new (record around { after = added ++ around.after }) around.unused_items entry edited =
+    front_given-spelled (record around { after = added ++ around.after }) shelf number rest width front back free_front free_back (same.allocated ∙ is.free) is_rest is_written.spelled in
     let given : IsFront written.items new.items number width = front-values written shelf number rest width (apart.within number stands) in
     let own_item : item_at new.items number ≡ record { width = width; id = Some id } =
     given.item ∙ ap (λ n. record { width = width; id = Some n }) (id-same old written.items number within own) in
-    given-after atlas written new before added after entry edited unused_items unused_shelves (rest ∷ []) placement.height rests (taken_from true placement id (spelled_shelf atlas entry)) are_old is_written edits
+    given-after written new around added entry edited (rest ∷ []) placement.height rests (taken_from true placement id (spelled_shelf atlas entry)) are_old is_written edits
     (front-spelled atlas new placement id shelf number rest front back free_front free_back is
-    (keeps-others atlas written new.items before added after shelf number front back free_front free_back unused_items unused_shelves (rest ∷ []) placement.height rests is_written given.others)
+    (keeps-others written new.items around added shelf number front back free_front free_back (rest ∷ []) placement.height rests is_written given.others)
     ((edits.shelf shelf).along ∙ is_written.along) ((edits.shelf shelf).height ∙ is_written.height) own_item
     ((given.others rest differ).item ∙ rest_is) ((given.others rest differ).place ∙ rest_place ∙ ap (λ p. p + width) (sym is.along)))
     (front-length written shelf number rest width) (front-shelves written shelf number rest width)

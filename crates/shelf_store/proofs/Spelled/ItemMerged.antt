@@ -1,5 +1,6 @@
 -- Records that spell lists, after an allocated item became free and was merged with its free neighbours: its shelf is the
 -- one with the item freed, and merged.
+use Rattle.shelf_links.proofs.AllLists.LinkedEdits.{Around, around_of, with_entry}
 use Rattle.std.proofs.Common.{◌≡◌, ℕ, ◌+◌, ◌≤◌, Bool, true, List, ◌∷◌, ◌++◌, length, map, refl, ap, arith, sym, ◌∙◌}
 use Rattle.std.specs.Prelude.{◌/◌, if◌then◌else◌}
 use Rattle.std.proofs.lemmas.List.{map-append}
@@ -8,9 +9,9 @@ use Rattle.etagere_base.proofs.AlignedPlaces.{multiple}
 use Rattle.etagere_base.proofs.EachLemmas.{Each-middle}
 use Rattle.etagere_base.specs.Lists.{NoNeighbours, remove_place, times}
 use Rattle.etagere_base.specs.MergingAt.{merged_at, merged_before}
+use Rattle.shelf_links.proofs.AllLists.LinkedItems.{entry_of}
 use Rattle.shelf_links.specs.declared.records.LinkedItem.{LinkedItem}
 use Rattle.shelf_links.specs.RecordLists.{Entry}
-use Rattle.shelf_links.proofs.AllLists.LinkedMerges.{entry_of}
 use Rattle.shelf_links.proofs.AllLists.LinkedUnused.{lists_of}
 use Rattle.shelf_records.specs.AtlasRecords.{AtlasRecords, along_of, height_of, is_allocated_at, item_place_of, item_at, spelled_shelf, width_of}
 use Rattle.shelf_model.specs.Merging.{both_free, combined_items, merged_shelf}
@@ -31,18 +32,18 @@ use Rattle.shelf_records.proofs.Spelled.Witnesses.{Each-unmap}
 use Rattle.shelf_store.proofs.Spelled.SpelledLists.{with_lists, IsSpelled}
 
 -- what a step that frees an item and merges it makes of its shelf's lists, and what these spell
-pub record MergesItem (atlas : AtlasRecords) (step : Step) (before after : List Entry) (shelf number : ℕ) (front back free unused shelves : List ℕ) : Type 0 where
+pub record MergesItem (atlas : AtlasRecords) (step : Step) (around : Around) (shelf number : ℕ) (front back free : List ℕ) : Type 0 where
   pub numbers : List ℕ
   pub free_list : List ℕ
   pub left_unused : List ℕ
-  pub spelled : IsSpelled (with_lists atlas step.records) (lists_of (before ++ entry_of shelf numbers free_list ∷ after) left_unused shelves)
-  pub before_same : map (spelled_shelf (with_lists atlas step.records)) before ≡ map (spelled_shelf atlas) before
-  pub after_same : map (spelled_shelf (with_lists atlas step.records)) after ≡ map (spelled_shelf atlas) after
+  pub spelled : IsSpelled (with_lists atlas step.records) (with_entry (record around { unused_items = left_unused }) (entry_of shelf numbers free_list))
+  pub before_same : map (spelled_shelf (with_lists atlas step.records)) around.before ≡ map (spelled_shelf atlas) around.before
+  pub after_same : map (spelled_shelf (with_lists atlas step.records)) around.after ≡ map (spelled_shelf atlas) around.after
   pub same : (k : ℕ) → SameShelf atlas.records.shelves step.records.shelves k
   pub returned :
       spelled_shelf (with_lists atlas step.records) (entry_of shelf numbers free_list)
       ≡ merged_shelf (freed_shelf atlas.frame (length front) (spelled_shelf atlas (entry_of shelf (front ++ number ∷ back) free)))
-  pub counted : length left_unused ≡ step.made_unused + length unused
+  pub counted : length left_unused ≡ step.made_unused + length around.unused_items
 
 -- a shelf with its items freed and merged around a number, and its free list edited so
 shelf-returned : (frame : Frame) (n : ℕ) (shelf : Shelf) (along height : ℕ) (items : List Item) (places : List ℕ) → NoNeighbours both_free shelf.items → along / frame.column_width ≡ shelf.column → height ≡ shelf.height → items ≡ merged_before both_free combined_items n (merged_at both_free combined_items n (freed n shelf.items)) → places ≡ returned_free_list (column_place frame shelf) shelf.items n shelf.free_list → record { column = along / frame.column_width; height = height; items = items; free_list = places } ≡ merged_shelf (freed_shelf frame n shelf)
@@ -70,20 +71,20 @@ wide-items atlas shelf numbers free valid n stands =
     (each-member (λ k. IsItem atlas.frame (item_at atlas.records.items k)) numbers n (Each-unmap (IsItem atlas.frame) (item_at atlas.records.items) numbers valid.items) stands).width
 
 -- an allocated item became free and was merged with its free neighbours
-pub merges-item : (atlas : AtlasRecords) (before after : List Entry) (shelf number : ℕ) (front back free unused shelves : List ℕ) → IsShelf atlas.frame (spelled_shelf atlas (entry_of shelf (front ++ number ∷ back) free)) → is_allocated_at atlas.records.items number ≡ true → IsSpelled atlas (lists_of (before ++ entry_of shelf (front ++ number ∷ back) free ∷ after) unused shelves) → MergesItem atlas (item_merged shelf number atlas.records) before after shelf number front back free unused shelves
-merges-item atlas before after shelf number front back free unused shelves valid allocated spelled =
+pub merges-item : {atlas : AtlasRecords} (around : Around) (shelf number : ℕ) (front back free : List ℕ) → IsShelf atlas.frame (spelled_shelf atlas (entry_of shelf (front ++ number ∷ back) free)) → is_allocated_at atlas.records.items number ≡ true → IsSpelled atlas (with_entry around (entry_of shelf (front ++ number ∷ back) free)) → MergesItem atlas (item_merged shelf number atlas.records) around shelf number front back free
+merges-item {atlas} around shelf number front back free valid allocated spelled =
     let items : List LinkedItem = atlas.records.items in
     let entry : Entry = entry_of shelf (front ++ number ∷ back) free in
     let old : Shelf = spelled_shelf atlas entry in
     let one : Step = next_absorbed shelf number (free_next items number) atlas.records in
-    let next : MergesNext atlas one before after shelf number front back free unused shelves =
-    merges-next atlas before after shelf number front back free unused shelves (wide-items atlas shelf (front ++ number ∷ back) free valid) allocated spelled in
+    let next : MergesNext atlas one around shelf number front back free =
+    merges-next around shelf number front back free (wide-items atlas shelf (front ++ number ∷ back) free valid) allocated spelled in
     let middle : AtlasRecords = with_lists atlas one.records in
     let two : Step = freed_after shelf number (free_previous one.records.items number) one.records in
-    let own : FreesItem middle two before after shelf number front next.rest next.free_list next.left_unused shelves =
-    frees-item middle before after shelf number front next.rest next.free_list next.left_unused shelves next.allocated next.spelled in
+    let own : FreesItem middle two (record around { unused_items = next.left_unused }) shelf number front next.rest next.free_list =
+    frees-item (record around { unused_items = next.left_unused }) shelf number front next.rest next.free_list next.allocated next.spelled in
     let new : AtlasRecords = with_lists atlas two.records in
-    let placed : IsPlaced atlas entry = Each-middle (IsPlaced atlas) before entry after spelled.placed in
+    let placed : IsPlaced atlas entry = Each-middle (IsPlaced atlas) around.before entry around.after spelled.placed in
     let along : ℕ = along_of atlas.records.shelves shelf in
     let here : along ≡ column_place atlas.frame old = multiple along atlas.frame.column_width placed.along in
     let whole : map (item_at items) (front ++ number ∷ back) ≡ map (item_at items) front ++ item_at items number ∷ map (item_at items) back = map-append (item_at items) front (number ∷ back) in

@@ -1,4 +1,5 @@
 -- A return on records that keep every rule: they keep every rule again, and spell the state after the return.
+use Rattle.shelf_links.proofs.AllLists.LinkedEdits.{Around, around_of, with_entry}
 use Rattle.std.proofs.Common.{◌≡◌, ◌≢◌, ℕ, zero, suc, Bool, ◌*◌, ◌+◌, ◌≤◌, true, false, None, Some, List, [], ◌∷◌, ◌++◌, length, map, refl, ap, subst, arith, sym, ◌∙◌}
 use Rattle.std.proofs.lemmas.List.{length-map, map-append}
 use Rattle.std.specs.Prelude.{nat_lt}
@@ -9,11 +10,11 @@ use Rattle.etagere_base.proofs.TimesLemmas.{times-append}
 use Rattle.std.specs.List.{AllByRecursion}
 use Rattle.etagere_base.specs.Lists.{times}
 use Rattle.etagere_base.specs.MergingAt.{merged_at, merged_before}
+use Rattle.shelf_links.proofs.AllLists.LinkedItems.{entry_of}
 use Rattle.shelf_links.specs.declared.records.LinkedItem.{LinkedItem}
 use Rattle.shelf_links.specs.RecordLists.{Records, Entry, Lists, IsLinked, shelf_numbers, walked_lists}
 use Rattle.etagere_links.specs.Edits.{field_at}
 use Rattle.shelf_links.proofs.AllLists.LinkedFrames.{shelf_numbers-append}
-use Rattle.shelf_links.proofs.AllLists.LinkedMerges.{entry_of}
 use Rattle.shelf_links.proofs.AllLists.LinkedUnused.{lists_of}
 use Rattle.shelf_links.proofs.AllLists.LinkedWalks.{linked-lists, linked-walks}
 use Rattle.etagere_links.proofs.ListEnds.{times-here}
@@ -47,29 +48,29 @@ use Rattle.shelf_store.proofs.Spelled.SpelledLists.{with_lists}
 use Rattle.shelf_records.proofs.Spelled.Witnesses.{witnessed-kept}
 
 -- records of a shelf whose item was freed and merged, and that says whether it is empty
-record IsFreed (atlas : AtlasRecords) (records : Records) (made_unused : ℕ) (before after : List Entry) (shelf number : ℕ) (front back free unused shelves : List ℕ) : Type 0 where
+record IsFreed (atlas : AtlasRecords) (records : Records) (made_unused : ℕ) (around : Around) (shelf number : ℕ) (front back free : List ℕ) : Type 0 where
   numbers : List ℕ
   free_list : List ℕ
   left_unused : List ℕ
-  flagged : IsFlagged (with_lists atlas records) (lists_of (before ++ entry_of shelf numbers free_list ∷ after) left_unused shelves)
+  flagged : IsFlagged (with_lists atlas records) (with_entry (record around { unused_items = left_unused }) (entry_of shelf numbers free_list))
   spelled :
-      map (spelled_shelf (with_lists atlas records)) (before ++ entry_of shelf numbers free_list ∷ after)
-      ≡ map (spelled_shelf atlas) before ++ merged_shelf (freed_shelf atlas.frame (length front) (spelled_shelf atlas (entry_of shelf (front ++ number ∷ back) free))) ∷ map (spelled_shelf atlas) after
-  counted : length left_unused ≡ made_unused + length unused
-  in_list : FreesByHeight atlas (with_lists atlas records) (item_merged shelf number atlas.records).records.shelves (before ++ entry_of shelf (front ++ number ∷ back) free ∷ after) (before ++ entry_of shelf numbers free_list ∷ after) shelf (freed_width atlas.records.items number)
+      map (spelled_shelf (with_lists atlas records)) (around.before ++ entry_of shelf numbers free_list ∷ around.after)
+      ≡ map (spelled_shelf atlas) around.before ++ merged_shelf (freed_shelf atlas.frame (length front) (spelled_shelf atlas (entry_of shelf (front ++ number ∷ back) free))) ∷ map (spelled_shelf atlas) around.after
+  counted : length left_unused ≡ made_unused + length around.unused_items
+  in_list : FreesByHeight atlas (with_lists atlas records) (item_merged shelf number atlas.records).records.shelves (around.before ++ entry_of shelf (front ++ number ∷ back) free ∷ around.after) (around.before ++ entry_of shelf numbers free_list ∷ around.after) shelf (freed_width atlas.records.items number)
 
 -- an item was freed and merged, and its shelf says whether it is empty
-freed-flagged : (atlas : AtlasRecords) (before after : List Entry) (shelf number : ℕ) (front back free unused shelves : List ℕ) → IsShelf atlas.frame (spelled_shelf atlas (entry_of shelf (front ++ number ∷ back) free)) → is_allocated_at atlas.records.items number ≡ true → IsFlagged atlas (lists_of (before ++ entry_of shelf (front ++ number ∷ back) free ∷ after) unused shelves) → IsFreed atlas (emptiness_said shelf (item_merged shelf number atlas.records).records) (item_merged shelf number atlas.records).made_unused before after shelf number front back free unused shelves
-freed-flagged atlas before after shelf number front back free unused shelves valid allocated flagged =
+freed-flagged : {atlas : AtlasRecords} (around : Around) (shelf number : ℕ) (front back free : List ℕ) → IsShelf atlas.frame (spelled_shelf atlas (entry_of shelf (front ++ number ∷ back) free)) → is_allocated_at atlas.records.items number ≡ true → IsFlagged atlas (with_entry around (entry_of shelf (front ++ number ∷ back) free)) → IsFreed atlas (emptiness_said shelf (item_merged shelf number atlas.records).records) (item_merged shelf number atlas.records).made_unused around shelf number front back free
+freed-flagged {atlas} around shelf number front back free valid allocated flagged =
     let entry : Entry = entry_of shelf (front ++ number ∷ back) free in
     let one : Step = item_merged shelf number atlas.records in
-    let merges : MergesItem atlas one before after shelf number front back free unused shelves =
-    merges-item atlas before after shelf number front back free unused shelves valid allocated flagged.spelled in
+    let merges : MergesItem atlas one around shelf number front back free =
+    merges-item around shelf number front back free valid allocated flagged.spelled in
     let middle : AtlasRecords = with_lists atlas one.records in
     let new : Entry = entry_of shelf merges.numbers merges.free_list in
-    let said = emptiness_said-flagged middle before after new merges.left_unused shelves
-    (flags-same atlas middle before (λ k stands. (merges.same k).is_empty) merges.before_same (Each-front (HasFlag atlas) before (entry ∷ after) flagged.flags))
-    (flags-same atlas middle after (λ k stands. (merges.same k).is_empty) merges.after_same (Each-back (HasFlag atlas) before (entry ∷ after) flagged.flags).1)
+    let said = emptiness_said-flagged (record around { unused_items = merges.left_unused }) new
+    (flags-same atlas middle around.before (λ k stands. (merges.same k).is_empty) merges.before_same (Each-front (HasFlag atlas) around.before (entry ∷ around.after) flagged.flags))
+    (flags-same atlas middle around.after (λ k stands. (merges.same k).is_empty) merges.after_same (Each-back (HasFlag atlas) around.before (entry ∷ around.after) flagged.flags).1)
     merges.spelled in
     record {
       numbers = merges.numbers;
@@ -77,12 +78,12 @@ freed-flagged atlas before after shelf number front back free unused shelves val
       left_unused = merges.left_unused;
       flagged = said.0;
       spelled = said.1
-          ∙ map-append (spelled_shelf middle) before (new ∷ after)
-          ∙ ap (λ (ss : List Shelf). ss ++ spelled_shelf middle new ∷ map (spelled_shelf middle) after) merges.before_same
-          ∙ ap (λ (s : Shelf). map (spelled_shelf atlas) before ++ s ∷ map (spelled_shelf middle) after) merges.returned
-          ∙ ap (λ (ss : List Shelf). map (spelled_shelf atlas) before ++ merged_shelf (freed_shelf atlas.frame (length front) (spelled_shelf atlas entry)) ∷ ss) merges.after_same;
+          ∙ map-append (spelled_shelf middle) around.before (new ∷ around.after)
+          ∙ ap (λ (ss : List Shelf). ss ++ spelled_shelf middle new ∷ map (spelled_shelf middle) around.after) merges.before_same
+          ∙ ap (λ (s : Shelf). map (spelled_shelf atlas) around.before ++ s ∷ map (spelled_shelf middle) around.after) merges.returned
+          ∙ ap (λ (ss : List Shelf). map (spelled_shelf atlas) around.before ++ merged_shelf (freed_shelf atlas.frame (length front) (spelled_shelf atlas entry)) ∷ ss) merges.after_same;
       counted = merges.counted;
-      in_list = frees-by_height atlas before after shelf number front back free unused shelves valid flagged.spelled merges said.1;
+      in_list = frees-by_height atlas around.before around.after shelf number front back free around.unused_items around.unused_shelves valid flagged.spelled merges said.1;
     }
 
 -- no column of a valid state is taller than 16 bits can say
@@ -199,12 +200,12 @@ returned-there frame records number has kept allocated flagged =
     let shelves : state.shelves ≡ front ++ old ∷ back = ap (map (spelled_shelf atlas)) has.whole ∙ map-append (spelled_shelf atlas) has.before (entry ∷ has.after) in
     let valid : IsShelf frame old = Each-middle (IsShelf frame) front old back (subst (λ (ss : List Shelf). AllByRecursion (IsShelf frame) ss) shelves kept.valid.shelves) in
     let three : Records = emptiness_said shelf (item_merged shelf number records).records in
-    let freed : IsFreed atlas three (item_merged shelf number records).made_unused has.before has.after shelf number has.front has.back has.free unused gone =
-    freed-flagged atlas has.before has.after shelf number has.front has.back has.free unused gone valid allocated flagged in
+    let freed : IsFreed atlas three (item_merged shelf number records).made_unused (around_of has.before has.after unused gone) shelf number has.front has.back has.free =
+    freed-flagged (around_of has.before has.after unused gone) shelf number has.front has.back has.free valid allocated flagged in
     let middle : AtlasRecords = with_lists atlas three in
     let edited : Entry = entry_of shelf freed.numbers freed.free_list in
     let two : Step = shelves_merged shelf three in
-    let merges : MergesShelves middle two (shelves_merged_by_height shelf three) has.before has.after edited freed.left_unused gone = merges-shelves middle has.before has.after edited freed.left_unused gone freed.flagged in
+    let merges : MergesShelves middle two (shelves_merged_by_height shelf three) (around_of has.before has.after freed.left_unused gone) edited = merges-shelves (around_of has.before has.after freed.left_unused gone) edited freed.flagged in
     let at = returned-at state (id_at records.items number) (length has.before) (length has.front) front back old (map (item_at records.items) has.front) (map (item_at records.items) has.back) (item_at records.items number)
     (length-map has.before (spelled_shelf atlas)) (length-map has.front (item_at records.items)) kept.valid shelves
     (map-append (item_at records.items) has.front (number ∷ has.back)) (allocated-id records.items number number allocated) in
@@ -212,7 +213,7 @@ returned-there frame records number has kept allocated flagged =
     let same : column_height column (new ∷ back) ≡ column_height column (old ∷ back) = refl in
     rw freed.spelled (omega (arith, same, column_height-append column front (new ∷ back), column_height-append column front (old ∷ back), low-valid state kept.valid column, ap (column_height column) shelves)) in
     let remaining : IsRemaining shelf number records × (merged_width shelf number records ≡ freed_width records.items number) =
-    item-remaining atlas has.before has.after shelf number has.front has.back has.free unused gone valid allocated flagged in
+    item-remaining (around_of has.before has.after unused gone) shelf number has.front has.back has.free valid allocated flagged in
     let start : (by_height : List BoundedShelf) → HoldsByHeight atlas (walked_lists records).entries by_height → HoldsByHeight atlas (has.before ++ entry ∷ has.after) by_height = λ by_height in_list.
     subst (λ (es : List Entry). HoldsByHeight atlas es by_height) has.whole in_list in
     record {
@@ -226,9 +227,9 @@ returned-there frame records number has kept allocated flagged =
             in_list = λ by_height in_list. merges.in_list (raised shelf (freed_width records.items number) by_height) (freed.in_list.in_list by_height (start by_height in_list));
           };
       remains = remaining.0;
-      can_item = can-merge-item atlas has.before has.after shelf number has.front has.back has.free unused gone kept.valid.frame valid allocated flagged.spelled;
-      linked = shelf-before middle has.before has.after edited freed.left_unused gone freed.flagged;
-      can_shelves = can-merge-shelves middle has.before has.after edited freed.left_unused gone low freed.flagged;
+      can_item = can-merge-item (around_of has.before has.after unused gone) shelf number has.front has.back has.free kept.valid.frame valid allocated flagged.spelled;
+      linked = shelf-before (around_of has.before has.after freed.left_unused gone) edited freed.flagged;
+      can_shelves = can-merge-shelves (around_of has.before has.after freed.left_unused gone) edited low freed.flagged;
       can_by_height = λ by_height are.
           let in_list : HoldsByHeight atlas (has.before ++ entry ∷ has.after) by_height = start by_height (kept-by_height frame records by_height kept are) in
           let stands : 1 ≤ times shelf (numbers_by_height by_height) =
@@ -243,7 +244,7 @@ returned-there frame records number has kept allocated flagged =
             width = remaining.1;
             stands = stands;
             order = freed.in_list.order by_height in_list.order;
-            shelves = can-merge-all-by_height middle has.before has.after edited freed.left_unused gone (raised shelf (freed_width records.items number) by_height) freed.flagged (freed.in_list.in_list by_height in_list);
+            shelves = can-merge-all-by_height (around_of has.before has.after freed.left_unused gone) edited (raised shelf (freed_width records.items number) by_height) freed.flagged (freed.in_list.in_list by_height in_list);
           };
     }
 

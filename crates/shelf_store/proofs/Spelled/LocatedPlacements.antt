@@ -10,10 +10,10 @@ use Rattle.std.specs.List.{AllByRecursion}
 use Rattle.etagere_base.specs.Lists.{times}
 use Rattle.etagere_base.specs.declared.frames.Frame.{Frame}
 use Rattle.etagere_base.specs.declared.geometry.Size.{Size}
+use Rattle.shelf_links.proofs.AllLists.LinkedItems.{entry_of}
+use Rattle.shelf_links.proofs.AllLists.LinkedEdits.{IsApart, linked-apart, around_of}
 use Rattle.shelf_links.specs.declared.records.LinkedItem.{LinkedItem}
 use Rattle.shelf_links.specs.RecordLists.{Records, Entry, Lists, IsEntry, IsLinkedExcept, walked_lists}
-use Rattle.shelf_links.proofs.AllLists.LinkedItems.{IsApart, linked-apart}
-use Rattle.shelf_links.proofs.AllLists.LinkedMerges.{entry_of}
 use Rattle.shelf_links.proofs.AllLists.LinkedUnused.{lists_of}
 use Rattle.etagere_links.proofs.ListEnds.{times-here}
 use Rattle.shelf_records.specs.AtlasRecords.{AtlasRecords, is_allocated_at, along_of, item_at, spelled_shelf}
@@ -128,8 +128,7 @@ located frame records size placement found kept h locates =
     ∙ widths-total items front in
     let column : column_place frame shelf ≡ here = multiple here frame.column_width placed.along in
     let split : entry ≡ entry_of entry.number numbers places = entry-split entry numbers places whole free_member.whole in
-    let apart : IsApart records at.front at.back lists.unused_items [] entry =
-    linked-apart records at.front at.back entry lists.unused_items lists.unused_shelves [] []
+    let apart = linked-apart (around_of at.front at.back lists.unused_items lists.unused_shelves) entry
     (subst (λ (es : List Entry). IsLinkedExcept records (lists_of es lists.unused_items lists.unused_shelves) [] []) at.whole kept.linked) in
     let is_entry : IsEntry records entry = Each-get (IsEntry records) lists.entries placement.shelf entry locates.at kept.linked.entries in
     let once : (k : ℕ) → times k (free_member.front ++ number ∷ free_member.back) ≤ 1 = λ k. omega (arith, apart.free_once k, times-same k entry.free_list places free_member.whole) in

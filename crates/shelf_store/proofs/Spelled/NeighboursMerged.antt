@@ -1,4 +1,5 @@
 -- Records that spell lists, and whose shelves say whether they are empty, after a shelf was merged with its neighbours.
+use Rattle.shelf_links.proofs.AllLists.LinkedEdits.{Around, around_of, with_entry}
 use Rattle.std.proofs.Common.{◌≡◌, ◌≢◌, ℕ, suc, ◌+◌, ◌≤◌, ◌<◌, Bool, true, false, Option, None, Some, List, [], ◌∷◌, ◌++◌, length, map, refl, ap, subst, arith, sym, ◌∙◌, append_assoc}
 use Rattle.std.proofs.lemmas.List.{length-append}
 use Rattle.std.specs.Prelude.{slice_get}
@@ -27,34 +28,34 @@ use Rattle.shelf_store.proofs.Spelled.ShelvesMerged.{AreNeighbours, MergesShelf,
 use Rattle.shelf_store.proofs.Spelled.SpelledLists.{with_lists}
 
 -- what a step that merges a shelf with its neighbours makes of the lists of shelves, and what these spell
-pub record MergesShelves (atlas : AtlasRecords) (step : Step) (change : List BoundedShelf → List BoundedShelf) (before after : List Entry) (entry : Entry) (unused shelves : List ℕ) : Type 0 where
+pub record MergesShelves (atlas : AtlasRecords) (step : Step) (change : List BoundedShelf → List BoundedShelf) (around : Around) (entry : Entry) : Type 0 where
   pub entries : List Entry
   pub left_unused : List ℕ
   pub gone : List ℕ
   pub flagged : IsFlagged (with_lists atlas step.records) (lists_of entries left_unused gone)
   pub merged :
       map (spelled_shelf (with_lists atlas step.records)) entries
-      ≡ merged_before both_empty combined_shelves (length before)
-      (merged_at both_empty combined_shelves (length before) (map (spelled_shelf atlas) (before ++ entry ∷ after)))
-  pub counted : length left_unused ≡ step.made_unused + length unused
-  pub in_list : (by_height : List BoundedShelf) → HoldsByHeight atlas (before ++ entry ∷ after) by_height → HoldsByHeight (with_lists atlas step.records) entries (change by_height)
+      ≡ merged_before both_empty combined_shelves (length around.before)
+      (merged_at both_empty combined_shelves (length around.before) (map (spelled_shelf atlas) (around.before ++ entry ∷ around.after)))
+  pub counted : length left_unused ≡ step.made_unused + length around.unused_items
+  pub in_list : (by_height : List BoundedShelf) → HoldsByHeight atlas (around.before ++ entry ∷ around.after) by_height → HoldsByHeight (with_lists atlas step.records) entries (change by_height)
 
 -- one more than the elements of a front
 one-more : {X : Type 0} (front : List X) (x : X) → length (front ++ x ∷ []) ≡ suc (length front)
 one-more front x = omega (arith, length-append front (x ∷ []))
 
 -- the shelf before one, which has one before it
-last-named : (atlas : AtlasRecords) (before after : List Entry) (last entry : Entry) (unused shelves : List ℕ) → IsFlagged atlas (lists_of ((before ++ last ∷ []) ++ entry ∷ after) unused shelves) → link_at shelf_chain.previous atlas.records.shelves entry.number ≡ Some last.number
-last-named atlas before after last entry unused shelves flagged =
-    previous-link atlas (before ++ last ∷ []) after entry unused shelves flagged.spelled
-    ∙ ap (last_or None) (shelf_numbers-append before (last ∷ []))
-    ∙ last-append (shelf_numbers before) last.number None
+last-named : {atlas : AtlasRecords} (around : Around) (last entry : Entry) → IsFlagged atlas (lists_of ((around.before ++ last ∷ []) ++ entry ∷ around.after) around.unused_items around.unused_shelves) → link_at shelf_chain.previous atlas.records.shelves entry.number ≡ Some last.number
+last-named {atlas} around last entry flagged =
+    previous-link (record around { before = around.before ++ last ∷ [] }) entry flagged.spelled
+    ∙ ap (last_or None) (shelf_numbers-append around.before (last ∷ []))
+    ∙ last-append (shelf_numbers around.before) last.number None
 
 -- a shelf was merged with its neighbours, where they are empty and stand in one column
-pub merges-shelves : (atlas : AtlasRecords) (before after : List Entry) (entry : Entry) (unused shelves : List ℕ) → IsFlagged atlas (lists_of (before ++ entry ∷ after) unused shelves) → MergesShelves atlas (shelves_merged entry.number atlas.records) (shelves_merged_by_height entry.number atlas.records) before after entry unused shelves
-merges-shelves atlas before after entry unused shelves flagged =
-    by_end (λ (xs : List Entry). MergesShelf atlas (shelf_merged entry.number atlas.records) (shelf_merged_by_height entry.number atlas.records) xs after entry unused shelves → MergesShelves atlas (shelves_merged entry.number atlas.records) (shelves_merged_by_height entry.number atlas.records) xs after entry unused shelves)
-    first some before (merges-shelf atlas before after entry unused shelves flagged)
+pub merges-shelves : {atlas : AtlasRecords} (around : Around) (entry : Entry) → IsFlagged atlas (with_entry around entry) → MergesShelves atlas (shelves_merged entry.number atlas.records) (shelves_merged_by_height entry.number atlas.records) around entry
+merges-shelves {atlas} around entry flagged =
+    by_end (λ (xs : List Entry). MergesShelf atlas (shelf_merged entry.number atlas.records) (shelf_merged_by_height entry.number atlas.records) (record around { before = xs }) entry → MergesShelves atlas (shelves_merged entry.number atlas.records) (shelves_merged_by_height entry.number atlas.records) (record around { before = xs }) entry)
+    first some around.before (merges-shelf atlas around.before around.after entry around.unused_items around.unused_shelves flagged)
   where
     one : Step
     one = shelf_merged entry.number atlas.records
@@ -71,20 +72,20 @@ merges-shelves atlas before after entry unused shelves flagged =
     change : Option ℕ → List BoundedShelf → List BoundedShelf
     change named by_height = named_shelf_merged_by_height named one.records (shelf_merged_by_height entry.number atlas.records by_height)
 
-    first : MergesShelf atlas one (shelf_merged_by_height entry.number atlas.records) [] after entry unused shelves → MergesShelves atlas (whole link) (change link) [] after entry unused shelves
+    first : MergesShelf atlas one (shelf_merged_by_height entry.number atlas.records) (record around { before = [] }) entry → MergesShelves atlas (whole link) (change link) (record around { before = [] }) entry
     first merges =
-        let none : link ≡ None = previous-link middle [] merges.rest entry merges.left_unused merges.gone merges.flagged.spelled in
-        subst (λ (o : Option ℕ). MergesShelves atlas (whole o) (change o) [] after entry unused shelves) (sym none)
+        let none : link ≡ None = previous-link (around_of [] merges.rest merges.left_unused merges.gone) entry merges.flagged.spelled in
+        subst (λ (o : Option ℕ). MergesShelves atlas (whole o) (change o) (record around { before = [] }) entry) (sym none)
         (record { entries = entry ∷ merges.rest; left_unused = merges.left_unused; gone = merges.gone; flagged = merges.flagged; merged = merges.merged; counted = omega (arith, merges.counted); in_list = merges.in_list })
 
-    some : (xs : List Entry) (last : Entry) → MergesShelf atlas one (shelf_merged_by_height entry.number atlas.records) (xs ++ last ∷ []) after entry unused shelves → MergesShelves atlas (whole link) (change link) (xs ++ last ∷ []) after entry unused shelves
+    some : (xs : List Entry) (last : Entry) → MergesShelf atlas one (shelf_merged_by_height entry.number atlas.records) (record around { before = xs ++ last ∷ [] }) entry → MergesShelves atlas (whole link) (change link) (record around { before = xs ++ last ∷ [] }) entry
     some xs last merges =
-        let named : link ≡ Some last.number = last-named middle xs merges.rest last entry merges.left_unused merges.gone merges.flagged in
+        let named : link ≡ Some last.number = last-named (around_of xs merges.rest merges.left_unused merges.gone) last entry merges.flagged in
         let regrouped : (xs ++ last ∷ []) ++ entry ∷ merges.rest ≡ xs ++ last ∷ entry ∷ merges.rest = append_assoc xs (last ∷ []) (entry ∷ merges.rest) in
-        let two : MergesShelf middle (shelf_merged last.number one.records) (shelf_merged_by_height last.number one.records) xs (entry ∷ merges.rest) last merges.left_unused merges.gone =
+        let two : MergesShelf middle (shelf_merged last.number one.records) (shelf_merged_by_height last.number one.records) (around_of xs (entry ∷ merges.rest) merges.left_unused merges.gone) last =
         merges-shelf middle xs (entry ∷ merges.rest) last merges.left_unused merges.gone
         (subst (λ (es : List Entry). IsFlagged middle (lists_of es merges.left_unused merges.gone)) regrouped merges.flagged) in
-        subst (λ (o : Option ℕ). MergesShelves atlas (whole o) (change o) (xs ++ last ∷ []) after entry unused shelves) (sym named)
+        subst (λ (o : Option ℕ). MergesShelves atlas (whole o) (change o) (record around { before = xs ++ last ∷ [] }) entry) (sym named)
         (record {
           entries = xs ++ last ∷ two.rest;
           left_unused = two.left_unused;
@@ -93,7 +94,7 @@ merges-shelves atlas before after entry unused shelves flagged =
           merged = two.merged
               ∙ ap (λ (es : List Entry). merged_at both_empty combined_shelves (length xs) (map (spelled_shelf middle) es)) (sym regrouped)
               ∙ ap (merged_at both_empty combined_shelves (length xs)) merges.merged
-              ∙ ap (λ n. merged_before both_empty combined_shelves n (merged_at both_empty combined_shelves (length (xs ++ last ∷ [])) (map (spelled_shelf atlas) ((xs ++ last ∷ []) ++ entry ∷ after)))) (sym (one-more xs last));
+              ∙ ap (λ n. merged_before both_empty combined_shelves n (merged_at both_empty combined_shelves (length (xs ++ last ∷ [])) (map (spelled_shelf atlas) ((xs ++ last ∷ []) ++ entry ∷ around.after)))) (sym (one-more xs last));
           counted = omega (arith, two.counted, merges.counted);
           in_list = λ by_height in_list. two.in_list (shelf_merged_by_height entry.number atlas.records by_height)
               (subst (λ (es : List Entry). HoldsByHeight middle es (shelf_merged_by_height entry.number atlas.records by_height)) regrouped (merges.in_list by_height in_list));
@@ -113,30 +114,30 @@ abbrev pub AreLow : List Shelf → Type 0
 AreLow shelves = (column : ℕ) → column_height column shelves ≤ 65535
 
 -- the shelf before one links to it
-pub shelf-before : (atlas : AtlasRecords) (before after : List Entry) (entry : Entry) (unused shelves : List ℕ) → IsFlagged atlas (lists_of (before ++ entry ∷ after) unused shelves) → IsLinkedBack entry.number atlas.records.shelves
-shelf-before atlas before after entry unused shelves =
-    by_end (λ (xs : List Entry). IsFlagged atlas (lists_of (xs ++ entry ∷ after) unused shelves) → IsLinkedBack entry.number atlas.records.shelves)
-    (λ flagged n e. let none : link_at shelf_chain.previous atlas.records.shelves entry.number ≡ None = previous-link atlas [] after entry unused shelves flagged.spelled in absurd (cc (none, e)))
-    some before
+pub shelf-before : {atlas : AtlasRecords} (around : Around) (entry : Entry) → IsFlagged atlas (with_entry around entry) → IsLinkedBack entry.number atlas.records.shelves
+shelf-before {atlas} around entry =
+    by_end (λ (xs : List Entry). IsFlagged atlas (lists_of (xs ++ entry ∷ around.after) around.unused_items around.unused_shelves) → IsLinkedBack entry.number atlas.records.shelves)
+    (λ flagged n e. let none : link_at shelf_chain.previous atlas.records.shelves entry.number ≡ None = previous-link (record around { before = [] }) entry flagged.spelled in absurd (cc (none, e)))
+    some around.before
   where
-    some : (xs : List Entry) (last : Entry) → IsFlagged atlas (lists_of ((xs ++ last ∷ []) ++ entry ∷ after) unused shelves) → IsLinkedBack entry.number atlas.records.shelves
+    some : (xs : List Entry) (last : Entry) → IsFlagged atlas (lists_of ((xs ++ last ∷ []) ++ entry ∷ around.after) around.unused_items around.unused_shelves) → IsLinkedBack entry.number atlas.records.shelves
     some xs last flagged n e =
-        let named : link_at shelf_chain.previous atlas.records.shelves entry.number ≡ Some last.number = last-named atlas xs after last entry unused shelves flagged in
+        let named : link_at shelf_chain.previous atlas.records.shelves entry.number ≡ Some last.number = last-named (record around { before = xs }) last entry flagged in
         let same : last.number ≡ n = cc (named, e) in
-        let regrouped : IsFlagged atlas (lists_of (xs ++ last ∷ entry ∷ after) unused shelves) =
-        subst (λ (es : List Entry). IsFlagged atlas (lists_of es unused shelves)) (append_assoc xs (last ∷ []) (entry ∷ after)) flagged in
+        let regrouped : IsFlagged atlas (lists_of (xs ++ last ∷ entry ∷ around.after) around.unused_items around.unused_shelves) =
+        subst (λ (es : List Entry). IsFlagged atlas (lists_of es around.unused_items around.unused_shelves)) (append_assoc xs (last ∷ []) (entry ∷ around.after)) flagged in
         subst (λ m. link_at shelf_chain.next atlas.records.shelves m ≡ Some entry.number) same
-        (next-link atlas xs (entry ∷ after) last unused shelves regrouped.spelled)
+        (next-link (record around { before = xs; after = entry ∷ around.after }) last regrouped.spelled)
 
 -- the heights of a shelf and the next one fit 16 bits
 heights-fit : (atlas : AtlasRecords) (before after : List Entry) (entry : Entry) (unused shelves : List ℕ) → AreLow (map (spelled_shelf atlas) (before ++ entry ∷ after)) → IsFlagged atlas (lists_of (before ++ entry ∷ after) unused shelves) → HeightsFit entry.number atlas.records.shelves
 heights-fit atlas before [] entry unused shelves low flagged n e =
-    let none : empty_next atlas.records.shelves entry.number ≡ None = ap (empty_named atlas.records.shelves entry.number) (next-link atlas before [] entry unused shelves flagged.spelled) in
+    let none : empty_next atlas.records.shelves entry.number ≡ None = ap (empty_named atlas.records.shelves entry.number) (next-link (around_of before [] unused shelves) entry flagged.spelled) in
     absurd (cc (none, e))
 heights-fit atlas before (next ∷ after) entry unused shelves low flagged n e = by_test (are_both_empty atlas.records.shelves entry.number next.number) refl
   where
     near : AreNeighbours atlas entry next
-    near = neighbours atlas before after entry next unused shelves flagged
+    near = neighbours (around_of before after unused shelves) entry next flagged
 
     all : List Shelf
     all = map (spelled_shelf atlas) (before ++ entry ∷ next ∷ after)
@@ -153,13 +154,13 @@ heights-fit atlas before (next ∷ after) entry unused shelves low flagged n e =
         subst (λ m. height_of atlas.records.shelves entry.number + height_of atlas.records.shelves m < 65536) same (omega (arith, both, low (spelled_shelf atlas entry).column))
 
 -- and so do those that merging it with its neighbours adds up
-pub can-merge-shelves : (atlas : AtlasRecords) (before after : List Entry) (entry : Entry) (unused shelves : List ℕ) → AreLow (map (spelled_shelf atlas) (before ++ entry ∷ after)) → IsFlagged atlas (lists_of (before ++ entry ∷ after) unused shelves) → CanMergeShelves entry.number atlas.records
-can-merge-shelves atlas before after entry unused shelves low flagged =
+pub can-merge-shelves : {atlas : AtlasRecords} (around : Around) (entry : Entry) → AreLow (map (spelled_shelf atlas) (around.before ++ entry ∷ around.after)) → IsFlagged atlas (with_entry around entry) → CanMergeShelves entry.number atlas.records
+can-merge-shelves {atlas} around entry low flagged =
     record {
-      next = heights-fit atlas before after entry unused shelves low flagged;
+      next = heights-fit atlas around.before around.after entry around.unused_items around.unused_shelves low flagged;
       previous =
-          by_end (λ (xs : List Entry). AreLow (map (spelled_shelf atlas) (xs ++ entry ∷ after)) → MergesShelf atlas one (shelf_merged_by_height entry.number atlas.records) xs after entry unused shelves → (n : ℕ) → link ≡ Some n → HeightsFit n one.records.shelves)
-          first some before low (merges-shelf atlas before after entry unused shelves flagged);
+          by_end (λ (xs : List Entry). AreLow (map (spelled_shelf atlas) (xs ++ entry ∷ around.after)) → MergesShelf atlas one (shelf_merged_by_height entry.number atlas.records) (record around { before = xs }) entry → (n : ℕ) → link ≡ Some n → HeightsFit n one.records.shelves)
+          first some around.before low (merges-shelf atlas around.before around.after entry around.unused_items around.unused_shelves flagged);
     }
   where
     one : Step
@@ -171,20 +172,20 @@ can-merge-shelves atlas before after entry unused shelves low flagged =
     link : Option ℕ
     link = link_at shelf_chain.previous one.records.shelves entry.number
 
-    first : AreLow (map (spelled_shelf atlas) (entry ∷ after)) → MergesShelf atlas one (shelf_merged_by_height entry.number atlas.records) [] after entry unused shelves → (n : ℕ) → link ≡ Some n → HeightsFit n one.records.shelves
+    first : AreLow (map (spelled_shelf atlas) (entry ∷ around.after)) → MergesShelf atlas one (shelf_merged_by_height entry.number atlas.records) (record around { before = [] }) entry → (n : ℕ) → link ≡ Some n → HeightsFit n one.records.shelves
     first low_ merges n e =
-        let none : link ≡ None = previous-link middle [] merges.rest entry merges.left_unused merges.gone merges.flagged.spelled in
+        let none : link ≡ None = previous-link (around_of [] merges.rest merges.left_unused merges.gone) entry merges.flagged.spelled in
         absurd (cc (none, e))
 
-    some : (xs : List Entry) (last : Entry) → AreLow (map (spelled_shelf atlas) ((xs ++ last ∷ []) ++ entry ∷ after)) → MergesShelf atlas one (shelf_merged_by_height entry.number atlas.records) (xs ++ last ∷ []) after entry unused shelves → (n : ℕ) → link ≡ Some n → HeightsFit n one.records.shelves
+    some : (xs : List Entry) (last : Entry) → AreLow (map (spelled_shelf atlas) ((xs ++ last ∷ []) ++ entry ∷ around.after)) → MergesShelf atlas one (shelf_merged_by_height entry.number atlas.records) (record around { before = xs ++ last ∷ [] }) entry → (n : ℕ) → link ≡ Some n → HeightsFit n one.records.shelves
     some xs last low_ merges n e =
-        let named : link ≡ Some last.number = last-named middle xs merges.rest last entry merges.left_unused merges.gone merges.flagged in
+        let named : link ≡ Some last.number = last-named (around_of xs merges.rest merges.left_unused merges.gone) last entry merges.flagged in
         let same : last.number ≡ n = cc (named, e) in
         let regrouped : (xs ++ last ∷ []) ++ entry ∷ merges.rest ≡ xs ++ last ∷ entry ∷ merges.rest = append_assoc xs (last ∷ []) (entry ∷ merges.rest) in
         let still_low : AreLow (map (spelled_shelf middle) (xs ++ last ∷ entry ∷ merges.rest)) = λ column.
-        let all : map (spelled_shelf middle) (xs ++ last ∷ entry ∷ merges.rest) ≡ merged_at both_empty combined_shelves (length (xs ++ last ∷ [])) (map (spelled_shelf atlas) ((xs ++ last ∷ []) ++ entry ∷ after)) =
+        let all : map (spelled_shelf middle) (xs ++ last ∷ entry ∷ merges.rest) ≡ merged_at both_empty combined_shelves (length (xs ++ last ∷ [])) (map (spelled_shelf atlas) ((xs ++ last ∷ []) ++ entry ∷ around.after)) =
         ap (map (spelled_shelf middle)) (sym regrouped) ∙ merges.merged in
-        rw all (omega (arith, low_ column, column_height-merged_at column (length (xs ++ last ∷ [])) (map (spelled_shelf atlas) ((xs ++ last ∷ []) ++ entry ∷ after)))) in
+        rw all (omega (arith, low_ column, column_height-merged_at column (length (xs ++ last ∷ [])) (map (spelled_shelf atlas) ((xs ++ last ∷ []) ++ entry ∷ around.after)))) in
         subst (λ m. HeightsFit m one.records.shelves) same
         (heights-fit middle xs (entry ∷ merges.rest) last merges.left_unused merges.gone still_low
         (subst (λ (es : List Entry). IsFlagged middle (lists_of es merges.left_unused merges.gone)) regrouped merges.flagged))
@@ -192,13 +193,13 @@ can-merge-shelves atlas before after entry unused shelves low flagged =
 -- a shelf and the next one, if both are empty, stand by height
 can-merge-by_height : (atlas : AtlasRecords) (before after : List Entry) (entry : Entry) (unused shelves : List ℕ) (by_height : List BoundedShelf) → IsFlagged atlas (lists_of (before ++ entry ∷ after) unused shelves) → HoldsByHeight atlas (before ++ entry ∷ after) by_height → CanMergeByHeight entry.number atlas.records by_height
 can-merge-by_height atlas before [] entry unused shelves by_height flagged in_list =
-    let none : empty_next atlas.records.shelves entry.number ≡ None = ap (empty_named atlas.records.shelves entry.number) (next-link atlas before [] entry unused shelves flagged.spelled) in
+    let none : empty_next atlas.records.shelves entry.number ≡ None = ap (empty_named atlas.records.shelves entry.number) (next-link (around_of before [] unused shelves) entry flagged.spelled) in
     record { order = in_list.order; few = in_list.few; both = λ n e. absurd (cc (none, e)) }
 can-merge-by_height atlas before (next ∷ after) entry unused shelves by_height flagged in_list =
     record { order = in_list.order; few = in_list.few; both = λ n e. both n (named n e (are_both_empty atlas.records.shelves entry.number next.number) refl) }
   where
     near : AreNeighbours atlas entry next
-    near = neighbours atlas before after entry next unused shelves flagged
+    near = neighbours (around_of before after unused shelves) entry next flagged
 
     named : (n : ℕ) → empty_next atlas.records.shelves entry.number ≡ Some n → (b : Bool) → are_both_empty atlas.records.shelves entry.number next.number ≡ b → next.number ≡ n
     named n e false t =
@@ -217,13 +218,13 @@ can-merge-by_height atlas before (next ∷ after) entry unused shelves by_height
         (omega (arith, pair.own), omega (arith, pair.other), pair.differ)
 
 -- and so are they all when it is merged with its neighbours
-pub can-merge-all-by_height : (atlas : AtlasRecords) (before after : List Entry) (entry : Entry) (unused shelves : List ℕ) (by_height : List BoundedShelf) → IsFlagged atlas (lists_of (before ++ entry ∷ after) unused shelves) → HoldsByHeight atlas (before ++ entry ∷ after) by_height → CanMergeAllByHeight entry.number atlas.records by_height
-can-merge-all-by_height atlas before after entry unused shelves by_height flagged in_list =
+pub can-merge-all-by_height : {atlas : AtlasRecords} (around : Around) (entry : Entry) (by_height : List BoundedShelf) → IsFlagged atlas (with_entry around entry) → HoldsByHeight atlas (around.before ++ entry ∷ around.after) by_height → CanMergeAllByHeight entry.number atlas.records by_height
+can-merge-all-by_height {atlas} around entry by_height flagged in_list =
     record {
-      next = can-merge-by_height atlas before after entry unused shelves by_height flagged in_list;
+      next = can-merge-by_height atlas around.before around.after entry around.unused_items around.unused_shelves by_height flagged in_list;
       previous =
-          by_end (λ (xs : List Entry). HoldsByHeight atlas (xs ++ entry ∷ after) by_height → MergesShelf atlas one (shelf_merged_by_height entry.number atlas.records) xs after entry unused shelves → CanMergeNamedByHeight link one.records (shelf_merged_by_height entry.number atlas.records by_height))
-          first some before in_list (merges-shelf atlas before after entry unused shelves flagged);
+          by_end (λ (xs : List Entry). HoldsByHeight atlas (xs ++ entry ∷ around.after) by_height → MergesShelf atlas one (shelf_merged_by_height entry.number atlas.records) (record around { before = xs }) entry → CanMergeNamedByHeight link one.records (shelf_merged_by_height entry.number atlas.records by_height))
+          first some around.before in_list (merges-shelf atlas around.before around.after entry around.unused_items around.unused_shelves flagged);
     }
   where
     one : Step
@@ -235,14 +236,14 @@ can-merge-all-by_height atlas before after entry unused shelves by_height flagge
     link : Option ℕ
     link = link_at shelf_chain.previous one.records.shelves entry.number
 
-    first : HoldsByHeight atlas (entry ∷ after) by_height → MergesShelf atlas one (shelf_merged_by_height entry.number atlas.records) [] after entry unused shelves → CanMergeNamedByHeight link one.records (shelf_merged_by_height entry.number atlas.records by_height)
+    first : HoldsByHeight atlas (entry ∷ around.after) by_height → MergesShelf atlas one (shelf_merged_by_height entry.number atlas.records) (record around { before = [] }) entry → CanMergeNamedByHeight link one.records (shelf_merged_by_height entry.number atlas.records by_height)
     first in_list_ merges n e =
-        let none : link ≡ None = previous-link middle [] merges.rest entry merges.left_unused merges.gone merges.flagged.spelled in
+        let none : link ≡ None = previous-link (around_of [] merges.rest merges.left_unused merges.gone) entry merges.flagged.spelled in
         absurd (cc (none, e))
 
-    some : (xs : List Entry) (last : Entry) → HoldsByHeight atlas ((xs ++ last ∷ []) ++ entry ∷ after) by_height → MergesShelf atlas one (shelf_merged_by_height entry.number atlas.records) (xs ++ last ∷ []) after entry unused shelves → CanMergeNamedByHeight link one.records (shelf_merged_by_height entry.number atlas.records by_height)
+    some : (xs : List Entry) (last : Entry) → HoldsByHeight atlas ((xs ++ last ∷ []) ++ entry ∷ around.after) by_height → MergesShelf atlas one (shelf_merged_by_height entry.number atlas.records) (record around { before = xs ++ last ∷ [] }) entry → CanMergeNamedByHeight link one.records (shelf_merged_by_height entry.number atlas.records by_height)
     some xs last in_list_ merges n e =
-        let named : link ≡ Some last.number = last-named middle xs merges.rest last entry merges.left_unused merges.gone merges.flagged in
+        let named : link ≡ Some last.number = last-named (around_of xs merges.rest merges.left_unused merges.gone) last entry merges.flagged in
         let same : last.number ≡ n = cc (named, e) in
         let regrouped : (xs ++ last ∷ []) ++ entry ∷ merges.rest ≡ xs ++ last ∷ entry ∷ merges.rest = append_assoc xs (last ∷ []) (entry ∷ merges.rest) in
         subst (λ m. CanMergeByHeight m one.records (shelf_merged_by_height entry.number atlas.records by_height)) same

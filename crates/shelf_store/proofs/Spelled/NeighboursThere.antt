@@ -3,6 +3,8 @@ use Rattle.std.proofs.Common.{◌≡◌, ℕ, ◌+◌, ◌<◌, ◌≤◌, Bool,
 use Rattle.etagere_base.proofs.EachLemmas.{Each-middle}
 use Rattle.etagere_base.proofs.TimesLemmas.{times-append}
 use Rattle.etagere_base.specs.Lists.{times}
+use Rattle.shelf_links.proofs.AllLists.LinkedItems.{entry_of}
+use Rattle.shelf_links.proofs.AllLists.LinkedEdits.{IsApart, linked-apart, around_of, Around, with_entry}
 use Rattle.shelf_links.specs.declared.records.LinkedItem.{LinkedItem}
 use Rattle.etagere_links.specs.Chains.{IsChainIn}
 use Rattle.etagere_links.specs.Edits.{link_at}
@@ -12,8 +14,6 @@ use Rattle.etagere_links.specs.Neighbours.{HasNeighbours}
 use Rattle.shelf_links.specs.RecordLists.{Records, Entry, IsEntry, IsLinked, first_free_of, first_item_of}
 use Rattle.shelf_links.specs.Records.{free_list, item_chain}
 use Rattle.etagere_links.proofs.Chains.{Leads-start, next-is, previous-is}
-use Rattle.shelf_links.proofs.AllLists.LinkedItems.{IsApart, linked-apart}
-use Rattle.shelf_links.proofs.AllLists.LinkedMerges.{entry_of}
 use Rattle.shelf_links.proofs.AllLists.LinkedUnused.{lists_of}
 use Rattle.etagere_links.proofs.ListEnds.{first-stands, last-stands-in, times-here}
 use Rattle.shelf_records.specs.AtlasRecords.{AtlasRecords, is_allocated_at}
@@ -53,13 +53,13 @@ member-neighbours family records first xs number within chain stands =
     }
 
 -- the shelf of an item, its neighbours there and the first of the free list are there
-pub are-there : (records : Records) (before after : List Entry) (shelf number : ℕ) (front back free unused shelves : List ℕ) → IsLinked records (lists_of (before ++ entry_of shelf (front ++ number ∷ back) free ∷ after) unused shelves) → AreThere shelf number records
-are-there records before after shelf number front back free unused shelves linked =
+pub are-there : (records : Records) (around : Around) (shelf number : ℕ) (front back free : List ℕ) → IsLinked records (with_entry around (entry_of shelf (front ++ number ∷ back) free)) → AreThere shelf number records
+are-there records around shelf number front back free linked =
     let numbers : List ℕ = front ++ number ∷ back in
     let entry : Entry = entry_of shelf numbers free in
     let first : Option ℕ = first_free_of records.shelves shelf in
-    let is : IsEntry records entry = Each-middle (IsEntry records) before entry after linked.entries in
-    let apart : IsApart records before after unused [] entry = linked-apart records before after entry unused shelves [] [] linked in
+    let is : IsEntry records entry = Each-middle (IsEntry records) around.before entry around.after linked.entries in
+    let apart = linked-apart around entry linked in
     record {
       in_range = apart.number;
       item = member-neighbours item_chain records.items (first_item_of records.shelves shelf) numbers number apart.within is.items
@@ -69,8 +69,8 @@ are-there records before after shelf number front back free unused shelves linke
     }
 
 -- a free item after one has neighbours in its shelf and in the free list
-pub free-next-there : (atlas : AtlasRecords) (before after : List Entry) (shelf number : ℕ) (front back free unused shelves : List ℕ) → IsSpelled atlas (lists_of (before ++ entry_of shelf (front ++ number ∷ back) free ∷ after) unused shelves) → FreeNextIsThere number atlas.records.items
-free-next-there atlas before after shelf number front back free unused shelves spelled =
+pub free-next-there : {atlas : AtlasRecords} (around : Around) (shelf number : ℕ) (front back free : List ℕ) → IsSpelled atlas (with_entry around (entry_of shelf (front ++ number ∷ back) free)) → FreeNextIsThere number atlas.records.items
+free-next-there {atlas} around shelf number front back free spelled =
     record {
       in_shelf = λ n e. member-neighbours item_chain items first numbers n apart.within is.items (stands n e);
       in_free_list = λ n e. member-neighbours free_list items (first_free_of atlas.records.shelves shelf) free n apart.free_within is.free_list (is_free n e);
@@ -89,13 +89,13 @@ free-next-there atlas before after shelf number front back free unused shelves s
     first = first_item_of atlas.records.shelves shelf
 
     is : IsEntry atlas.records entry
-    is = Each-middle (IsEntry atlas.records) before entry after spelled.linked.entries
+    is = Each-middle (IsEntry atlas.records) around.before entry around.after spelled.linked.entries
 
     placed : IsPlaced atlas entry
-    placed = Each-middle (IsPlaced atlas) before entry after spelled.placed
+    placed = Each-middle (IsPlaced atlas) around.before entry around.after spelled.placed
 
-    apart : IsApart atlas.records before after unused [] entry
-    apart = linked-apart atlas.records before after entry unused shelves [] [] spelled.linked
+    apart : IsApart atlas.records around [] entry
+    apart = linked-apart around entry spelled.linked
 
     stands : (n : ℕ) → free_next items number ≡ Some n → 1 ≤ times n numbers
     stands n e =

@@ -6,13 +6,13 @@ use Rattle.etagere_base.proofs.EachLemmas.{Each-middle}
 use Rattle.etagere_base.proofs.TimesLemmas.{times-append, times-here}
 use Rattle.etagere_base.specs.Lists.{times, remove_place}
 use Rattle.etagere_base.specs.MergingAt.{merged_at}
+use Rattle.shelf_links.proofs.AllLists.LinkedItems.{entry_of}
+use Rattle.shelf_links.proofs.AllLists.LinkedEdits.{IsApart, linked-apart, around_of, Around, with_entry}
 use Rattle.shelf_links.specs.declared.records.LinkedItem.{LinkedItem}
 use Rattle.etagere_links.specs.Edits.{link_at}
 use Rattle.shelf_links.specs.RecordLists.{Records, Entry, IsEntry, first_item_of}
 use Rattle.shelf_links.specs.Records.{item_chain}
 use Rattle.etagere_links.proofs.Chains.{next-is}
-use Rattle.shelf_links.proofs.AllLists.LinkedItems.{IsApart, linked-apart}
-use Rattle.shelf_links.proofs.AllLists.LinkedMerges.{entry_of}
 use Rattle.shelf_links.proofs.AllLists.LinkedUnused.{lists_of}
 use Rattle.shelf_records.specs.AtlasRecords.{AtlasRecords, is_allocated_at, item_place_of, along_of, item_at, spelled_shelf, width_of}
 use Rattle.shelf_model.specs.Merging.{both_free, combined_items}
@@ -29,13 +29,13 @@ use Rattle.shelf_store.proofs.Spelled.SpelledLists.{with_lists, IsSpelled, Edits
 use Rattle.shelf_store.proofs.Spelled.SpelledMerges.{free_absorbed-spelled}
 
 -- what a step that merges an allocated item with the next one makes of its shelf's lists, and what these spell
-pub record MergesNext (atlas : AtlasRecords) (step : Step) (before after : List Entry) (shelf number : ℕ) (front back free unused shelves : List ℕ) : Type 0 where
+pub record MergesNext (atlas : AtlasRecords) (step : Step) (around : Around) (shelf number : ℕ) (front back free : List ℕ) : Type 0 where
   pub rest : List ℕ
   pub free_list : List ℕ
   pub left_unused : List ℕ
-  pub spelled : IsSpelled (with_lists atlas step.records) (lists_of (before ++ entry_of shelf (front ++ number ∷ rest) free_list ∷ after) left_unused shelves)
-  pub before_same : map (spelled_shelf (with_lists atlas step.records)) before ≡ map (spelled_shelf atlas) before
-  pub after_same : map (spelled_shelf (with_lists atlas step.records)) after ≡ map (spelled_shelf atlas) after
+  pub spelled : IsSpelled (with_lists atlas step.records) (with_entry (record around { unused_items = left_unused }) (entry_of shelf (front ++ number ∷ rest) free_list))
+  pub before_same : map (spelled_shelf (with_lists atlas step.records)) around.before ≡ map (spelled_shelf atlas) around.before
+  pub after_same : map (spelled_shelf (with_lists atlas step.records)) around.after ≡ map (spelled_shelf atlas) around.after
   pub same : (k : ℕ) → SameShelf atlas.records.shelves step.records.shelves k
   pub allocated : is_allocated_at step.records.items number ≡ true
   pub place : item_place_of step.records.items number ≡ item_place_of atlas.records.items number
@@ -51,15 +51,15 @@ pub record MergesNext (atlas : AtlasRecords) (step : Step) (before after : List 
       else map (item_place_of atlas.records.items) free)
   pub width : width_of step.records.items number ≡ width_of atlas.records.items number + named_width atlas.records.items (free_next atlas.records.items number)
   pub wide : width_of step.records.items number ≤ width_of atlas.records.items number + widths atlas.records.items back
-  pub counted : length left_unused ≡ step.made_unused + length unused
+  pub counted : length left_unused ≡ step.made_unused + length around.unused_items
 
 -- the next item is not free: nothing changes
-next-kept : (atlas : AtlasRecords) (before after : List Entry) (shelf number : ℕ) (front back free unused shelves : List ℕ) → is_allocated_at atlas.records.items number ≡ true → is_first_free (map (item_at atlas.records.items) back) ≡ false → free_next atlas.records.items number ≡ None → IsSpelled atlas (lists_of (before ++ entry_of shelf (front ++ number ∷ back) free ∷ after) unused shelves) → MergesNext atlas (record { records = atlas.records; made_unused = 0 }) before after shelf number front back free unused shelves
-next-kept atlas before after shelf number front back free unused shelves allocated none unnamed spelled =
+next-kept : {atlas : AtlasRecords} (around : Around) (shelf number : ℕ) (front back free : List ℕ) → is_allocated_at atlas.records.items number ≡ true → is_first_free (map (item_at atlas.records.items) back) ≡ false → free_next atlas.records.items number ≡ None → IsSpelled atlas (with_entry around (entry_of shelf (front ++ number ∷ back) free)) → MergesNext atlas (record { records = atlas.records; made_unused = 0 }) around shelf number front back free
+next-kept {atlas} around shelf number front back free allocated none unnamed spelled =
     record {
       rest = back;
       free_list = free;
-      left_unused = unused;
+      left_unused = around.unused_items;
       spelled = spelled;
       before_same = refl;
       after_same = refl;
@@ -84,21 +84,21 @@ widened-places items new number width k widened = by_test (number == k) refl
     by_test false e = (widened.others k (grind arith)).place
 
 -- the next item is free: it is absorbed
-next-taken : (atlas : AtlasRecords) (before after : List Entry) (shelf number next : ℕ) (front back free_front free_back unused shelves : List ℕ) → ((n : ℕ) → 1 ≤ times n (front ++ number ∷ next ∷ back) → 1 ≤ width_of atlas.records.items n) → is_allocated_at atlas.records.items number ≡ true → is_allocated_at atlas.records.items next ≡ false → free_next atlas.records.items number ≡ Some next → IsSpelled atlas (lists_of (before ++ entry_of shelf (front ++ number ∷ next ∷ back) (free_front ++ next ∷ free_back) ∷ after) unused shelves) → MergesNext atlas (next_absorbed shelf number (Some next) atlas.records) before after shelf number front (next ∷ back) (free_front ++ next ∷ free_back) unused shelves
-next-taken atlas before after shelf number next front back free_front free_back unused shelves wide allocated is_free named spelled =
+next-taken : {atlas : AtlasRecords} (around : Around) (shelf number next : ℕ) (front back free_front free_back : List ℕ) → ((n : ℕ) → 1 ≤ times n (front ++ number ∷ next ∷ back) → 1 ≤ width_of atlas.records.items n) → is_allocated_at atlas.records.items number ≡ true → is_allocated_at atlas.records.items next ≡ false → free_next atlas.records.items number ≡ Some next → IsSpelled atlas (with_entry around (entry_of shelf (front ++ number ∷ next ∷ back) (free_front ++ next ∷ free_back))) → MergesNext atlas (next_absorbed shelf number (Some next) atlas.records) around shelf number front (next ∷ back) (free_front ++ next ∷ free_back)
+next-taken {atlas} around shelf number next front back free_front free_back wide allocated is_free named spelled =
     let items : List LinkedItem = atlas.records.items in
     let numbers : List ℕ = front ++ number ∷ next ∷ back in
     let free : List ℕ = free_front ++ next ∷ free_back in
     let entry : Entry = entry_of shelf numbers free in
     let new : Records = (next_absorbed shelf number (Some next) atlas.records).records in
-    let edits : EditsItems atlas new before after unused (next ∷ unused) shelves entry (entry_of shelf (front ++ number ∷ back) (free_front ++ free_back)) =
-    free_absorbed-spelled atlas before after shelf number next front back free_front free_back unused shelves is_free spelled in
-    let edited = items-edited atlas new before after unused (next ∷ unused) shelves entry (entry_of shelf (front ++ number ∷ back) (free_front ++ free_back)) spelled edits in
-    let others = map-parts (spelled_shelf (with_lists atlas new)) (spelled_shelf atlas) before (entry_of shelf (front ++ number ∷ back) (free_front ++ free_back))
-    (spelled_shelf (with_lists atlas new) (entry_of shelf (front ++ number ∷ back) (free_front ++ free_back))) after edited.1 in
-    let apart : IsApart atlas.records before after unused [] entry = linked-apart atlas.records before after entry unused shelves [] [] spelled.linked in
-    let placed : IsPlaced atlas entry = Each-middle (IsPlaced atlas) before entry after spelled.placed in
-    let is : IsEntry atlas.records entry = Each-middle (IsEntry atlas.records) before entry after spelled.linked.entries in
+    let edits : EditsItems atlas new around (next ∷ around.unused_items) entry (entry_of shelf (front ++ number ∷ back) (free_front ++ free_back)) =
+    free_absorbed-spelled around shelf number next front back free_front free_back is_free spelled in
+    let edited = items-edited new around (next ∷ around.unused_items) entry (entry_of shelf (front ++ number ∷ back) (free_front ++ free_back)) spelled edits in
+    let others = map-parts (spelled_shelf (with_lists atlas new)) (spelled_shelf atlas) around.before (entry_of shelf (front ++ number ∷ back) (free_front ++ free_back))
+    (spelled_shelf (with_lists atlas new) (entry_of shelf (front ++ number ∷ back) (free_front ++ free_back))) around.after edited.1 in
+    let apart = linked-apart around entry spelled.linked in
+    let placed : IsPlaced atlas entry = Each-middle (IsPlaced atlas) around.before entry around.after spelled.placed in
+    let is : IsEntry atlas.records entry = Each-middle (IsEntry atlas.records) around.before entry around.after spelled.linked.entries in
     let count : (k : ℕ) → times k numbers ≡ times k front + times k (number ∷ next ∷ back) = λ k. times-append k front (number ∷ next ∷ back) in
     let rest : IsRest front back number next = rest-of front back number next apart.once in
     let widened : IsWidened items new.items number (width_of items number + width_of items next) =
@@ -129,7 +129,7 @@ next-taken atlas before after shelf number next front back free_front free_back 
     record {
       rest = back;
       free_list = free_front ++ free_back;
-      left_unused = next ∷ unused;
+      left_unused = next ∷ around.unused_items;
       spelled = edited.0;
       before_same = others.0;
       after_same = others.1;
@@ -149,40 +149,40 @@ next-taken atlas before after shelf number next front back free_front free_back 
     }
 
 -- an allocated item was merged with the next one where that is free
-pub merges-next : (atlas : AtlasRecords) (before after : List Entry) (shelf number : ℕ) (front back free unused shelves : List ℕ) → ((n : ℕ) → 1 ≤ times n (front ++ number ∷ back) → 1 ≤ width_of atlas.records.items n) → is_allocated_at atlas.records.items number ≡ true → IsSpelled atlas (lists_of (before ++ entry_of shelf (front ++ number ∷ back) free ∷ after) unused shelves) → MergesNext atlas (next_absorbed shelf number (free_next atlas.records.items number) atlas.records) before after shelf number front back free unused shelves
-merges-next atlas before after shelf number front [] free unused shelves wide allocated spelled =
+pub merges-next : {atlas : AtlasRecords} (around : Around) (shelf number : ℕ) (front back free : List ℕ) → ((n : ℕ) → 1 ≤ times n (front ++ number ∷ back) → 1 ≤ width_of atlas.records.items n) → is_allocated_at atlas.records.items number ≡ true → IsSpelled atlas (with_entry around (entry_of shelf (front ++ number ∷ back) free)) → MergesNext atlas (next_absorbed shelf number (free_next atlas.records.items number) atlas.records) around shelf number front back free
+merges-next {atlas} around shelf number front [] free wide allocated spelled =
     let items : List LinkedItem = atlas.records.items in
-    let is : IsEntry atlas.records (entry_of shelf (front ++ number ∷ []) free) = Each-middle (IsEntry atlas.records) before (entry_of shelf (front ++ number ∷ []) free) after spelled.linked.entries in
+    let is : IsEntry atlas.records (entry_of shelf (front ++ number ∷ []) free) = Each-middle (IsEntry atlas.records) around.before (entry_of shelf (front ++ number ∷ []) free) around.after spelled.linked.entries in
     let link : link_at item_chain.next items number ≡ None = next-is (link_at item_chain.next items) front [] number (first_item_of atlas.records.shelves shelf) None is.items.forward in
     let none : free_next items number ≡ None = ap (free_named items) link in
-    subst (λ (o : Option ℕ). MergesNext atlas (next_absorbed shelf number o atlas.records) before after shelf number front [] free unused shelves) (sym none)
-    (next-kept atlas before after shelf number front [] free unused shelves allocated refl none spelled)
-merges-next atlas before after shelf number front (next ∷ back) free unused shelves wide allocated spelled =
+    subst (λ (o : Option ℕ). MergesNext atlas (next_absorbed shelf number o atlas.records) around shelf number front [] free) (sym none)
+    (next-kept around shelf number front [] free allocated refl none spelled)
+merges-next {atlas} around shelf number front (next ∷ back) free wide allocated spelled =
     by_mark (is_allocated_at atlas.records.items next) refl
   where
     entry : Entry
     entry = entry_of shelf (front ++ number ∷ next ∷ back) free
 
     is : IsEntry atlas.records entry
-    is = Each-middle (IsEntry atlas.records) before entry after spelled.linked.entries
+    is = Each-middle (IsEntry atlas.records) around.before entry around.after spelled.linked.entries
 
     link : free_next atlas.records.items number ≡ free_named atlas.records.items (Some next)
     link = ap (free_named atlas.records.items) (next-is (link_at item_chain.next atlas.records.items) front (next ∷ back) number (first_item_of atlas.records.shelves shelf) None is.items.forward)
 
-    absorbed : is_allocated_at atlas.records.items next ≡ false → free_next atlas.records.items number ≡ Some next → IsMember next free → MergesNext atlas (next_absorbed shelf number (Some next) atlas.records) before after shelf number front (next ∷ back) free unused shelves
+    absorbed : is_allocated_at atlas.records.items next ≡ false → free_next atlas.records.items number ≡ Some next → IsMember next free → MergesNext atlas (next_absorbed shelf number (Some next) atlas.records) around shelf number front (next ∷ back) free
     absorbed is_free named member =
-        subst (λ (ns : List ℕ). MergesNext atlas (next_absorbed shelf number (Some next) atlas.records) before after shelf number front (next ∷ back) ns unused shelves) (sym member.whole)
-        (next-taken atlas before after shelf number next front back member.front member.back unused shelves wide allocated is_free named
-        (subst (λ (ns : List ℕ). IsSpelled atlas (lists_of (before ++ entry_of shelf (front ++ number ∷ next ∷ back) ns ∷ after) unused shelves)) member.whole spelled))
+        subst (λ (ns : List ℕ). MergesNext atlas (next_absorbed shelf number (Some next) atlas.records) around shelf number front (next ∷ back) ns) (sym member.whole)
+        (next-taken around shelf number next front back member.front member.back wide allocated is_free named
+        (subst (λ (ns : List ℕ). IsSpelled atlas (with_entry around (entry_of shelf (front ++ number ∷ next ∷ back) ns))) member.whole spelled))
 
-    by_mark : (b : Bool) → is_allocated_at atlas.records.items next ≡ b → MergesNext atlas (next_absorbed shelf number (free_next atlas.records.items number) atlas.records) before after shelf number front (next ∷ back) free unused shelves
+    by_mark : (b : Bool) → is_allocated_at atlas.records.items next ≡ b → MergesNext atlas (next_absorbed shelf number (free_next atlas.records.items number) atlas.records) around shelf number front (next ∷ back) free
     by_mark true e =
         let none : free_named atlas.records.items (Some next) ≡ None = simp e refl in
-        subst (λ (o : Option ℕ). MergesNext atlas (next_absorbed shelf number o atlas.records) before after shelf number front (next ∷ back) free unused shelves) (sym (link ∙ none))
-        (next-kept atlas before after shelf number front (next ∷ back) free unused shelves allocated (free-item atlas.records.items next true e) (link ∙ none) spelled)
+        subst (λ (o : Option ℕ). MergesNext atlas (next_absorbed shelf number o atlas.records) around shelf number front (next ∷ back) free) (sym (link ∙ none))
+        (next-kept around shelf number front (next ∷ back) free allocated (free-item atlas.records.items next true e) (link ∙ none) spelled)
     by_mark false e =
         let some : free_named atlas.records.items (Some next) ≡ Some next = simp e refl in
-        let placed : IsPlaced atlas entry = Each-middle (IsPlaced atlas) before entry after spelled.placed in
+        let placed : IsPlaced atlas entry = Each-middle (IsPlaced atlas) around.before entry around.after spelled.placed in
         let stands : 1 ≤ times next free =
         omega (
           arith,
@@ -192,5 +192,5 @@ merges-next atlas before after shelf number front (next ∷ back) free unused sh
           times-here next [],
           ap (λ ns. free_count atlas.records.items next ns) (append_assoc front (number ∷ []) (next ∷ back)),
         ) in
-        subst (λ (o : Option ℕ). MergesNext atlas (next_absorbed shelf number o atlas.records) before after shelf number front (next ∷ back) free unused shelves) (sym (link ∙ some))
+        subst (λ (o : Option ℕ). MergesNext atlas (next_absorbed shelf number o atlas.records) around shelf number front (next ∷ back) free) (sym (link ∙ some))
         (absorbed e (link ∙ some) (member-of next free stands))

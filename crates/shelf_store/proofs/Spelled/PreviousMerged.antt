@@ -7,14 +7,14 @@ use Rattle.etagere_base.proofs.EachLemmas.{Each-middle}
 use Rattle.etagere_base.proofs.TimesLemmas.{times-append, times-here}
 use Rattle.etagere_base.specs.Lists.{times}
 use Rattle.etagere_base.specs.MergingAt.{merged_before}
+use Rattle.shelf_links.proofs.AllLists.LinkedItems.{entry_of}
+use Rattle.shelf_links.proofs.AllLists.LinkedEdits.{IsApart, linked-apart, around_of, Around, with_entry}
 use Rattle.shelf_links.specs.declared.records.LinkedItem.{LinkedItem}
 use Rattle.etagere_links.specs.Edits.{link_at}
 use Rattle.etagere_links.specs.Lists.{last_or}
 use Rattle.shelf_links.specs.RecordLists.{Records, Entry, IsEntry}
 use Rattle.shelf_links.specs.Records.{item_chain}
 use Rattle.etagere_links.proofs.Chains.{previous-is}
-use Rattle.shelf_links.proofs.AllLists.LinkedItems.{IsApart, linked-apart}
-use Rattle.shelf_links.proofs.AllLists.LinkedMerges.{entry_of}
 use Rattle.shelf_links.proofs.AllLists.LinkedUnused.{lists_of}
 use Rattle.etagere_links.proofs.ListEnds.{last-append}
 use Rattle.shelf_records.specs.AtlasRecords.{AtlasRecords, is_allocated_at, item_place_of, item_at, spelled_shelf, width_of}
@@ -34,13 +34,13 @@ use Rattle.shelf_store.proofs.Spelled.SpelledMerges.{allocated_absorbed-spelled,
 
 -- what a step that frees an item, and merges it with the previous one, makes of its shelf's lists, and what these spell;
 -- and where the item that remains stands there, free, and how wide it is
-pub record FreesItem (atlas : AtlasRecords) (step : Step) (before after : List Entry) (shelf number : ℕ) (front back free unused shelves : List ℕ) : Type 0 where
+pub record FreesItem (atlas : AtlasRecords) (step : Step) (around : Around) (shelf number : ℕ) (front back free : List ℕ) : Type 0 where
   pub numbers : List ℕ
   pub free_list : List ℕ
   pub left_unused : List ℕ
-  pub spelled : IsSpelled (with_lists atlas step.records) (lists_of (before ++ entry_of shelf numbers free_list ∷ after) left_unused shelves)
-  pub before_same : map (spelled_shelf (with_lists atlas step.records)) before ≡ map (spelled_shelf atlas) before
-  pub after_same : map (spelled_shelf (with_lists atlas step.records)) after ≡ map (spelled_shelf atlas) after
+  pub spelled : IsSpelled (with_lists atlas step.records) (with_entry (record around { unused_items = left_unused }) (entry_of shelf numbers free_list))
+  pub before_same : map (spelled_shelf (with_lists atlas step.records)) around.before ≡ map (spelled_shelf atlas) around.before
+  pub after_same : map (spelled_shelf (with_lists atlas step.records)) around.after ≡ map (spelled_shelf atlas) around.after
   pub same : (k : ℕ) → SameShelf atlas.records.shelves step.records.shelves k
   pub items :
       map (item_at step.records.items) numbers
@@ -52,7 +52,7 @@ pub record FreesItem (atlas : AtlasRecords) (step : Step) (before after : List E
       ≡ (if is_free_before (length front) (map (item_at atlas.records.items) front ++ others)
       then map (item_place_of atlas.records.items) free
       else item_place_of atlas.records.items number ∷ map (item_place_of atlas.records.items) free)
-  pub counted : length left_unused ≡ step.made_unused + length unused
+  pub counted : length left_unused ≡ step.made_unused + length around.unused_items
   pub remaining_front : List ℕ
   pub stands : numbers ≡ remaining_front ++ remaining_item number (free_previous atlas.records.items number) ∷ back
   pub is_free : is_allocated_at step.records.items (remaining_item number (free_previous atlas.records.items number)) ≡ false
@@ -67,19 +67,19 @@ around-other front back number once k stands e =
     omega (arith, once k, stands, times-append k front (number ∷ back), here)
 
 -- the previous item is not free: the item becomes free
-item-freed : (atlas : AtlasRecords) (before after : List Entry) (shelf number : ℕ) (front back free unused shelves : List ℕ) → is_allocated_at atlas.records.items number ≡ true → (merged_before both_free combined_items (length front) (map (item_at atlas.records.items) front ++ free_item (width_of atlas.records.items number) ∷ map (item_at atlas.records.items) back) ≡ map (item_at atlas.records.items) front ++ free_item (width_of atlas.records.items number) ∷ map (item_at atlas.records.items) back) → ((others : List Item) → is_free_before (length front) (map (item_at atlas.records.items) front ++ others) ≡ false) → free_previous atlas.records.items number ≡ None → IsSpelled atlas (lists_of (before ++ entry_of shelf (front ++ number ∷ back) free ∷ after) unused shelves) → FreesItem atlas (freed_after shelf number None atlas.records) before after shelf number front back free unused shelves
-item-freed atlas before after shelf number front back free unused shelves allocated stays none unnamed spelled =
+item-freed : {atlas : AtlasRecords} (around : Around) (shelf number : ℕ) (front back free : List ℕ) → is_allocated_at atlas.records.items number ≡ true → (merged_before both_free combined_items (length front) (map (item_at atlas.records.items) front ++ free_item (width_of atlas.records.items number) ∷ map (item_at atlas.records.items) back) ≡ map (item_at atlas.records.items) front ++ free_item (width_of atlas.records.items number) ∷ map (item_at atlas.records.items) back) → ((others : List Item) → is_free_before (length front) (map (item_at atlas.records.items) front ++ others) ≡ false) → free_previous atlas.records.items number ≡ None → IsSpelled atlas (with_entry around (entry_of shelf (front ++ number ∷ back) free)) → FreesItem atlas (freed_after shelf number None atlas.records) around shelf number front back free
+item-freed {atlas} around shelf number front back free allocated stays none unnamed spelled =
     let items : List LinkedItem = atlas.records.items in
     let numbers : List ℕ = front ++ number ∷ back in
     let entry : Entry = entry_of shelf numbers free in
     let edited_entry : Entry = entry_of shelf numbers (number ∷ free) in
     let new : Records = (freed_after shelf number None atlas.records).records in
-    let edits : EditsItems atlas new before after unused unused shelves entry edited_entry =
-    item_freed-spelled atlas before after shelf number front back free unused shelves allocated spelled in
-    let edited = items-edited atlas new before after unused unused shelves entry edited_entry spelled edits in
-    let others = map-parts (spelled_shelf (with_lists atlas new)) (spelled_shelf atlas) before edited_entry (spelled_shelf (with_lists atlas new) edited_entry) after edited.1 in
-    let apart : IsApart atlas.records before after unused [] entry = linked-apart atlas.records before after entry unused shelves [] [] spelled.linked in
-    let placed : IsPlaced atlas entry = Each-middle (IsPlaced atlas) before entry after spelled.placed in
+    let edits : EditsItems atlas new around around.unused_items entry edited_entry =
+    item_freed-spelled around shelf number front back free allocated spelled in
+    let edited = items-edited new around around.unused_items entry edited_entry spelled edits in
+    let others = map-parts (spelled_shelf (with_lists atlas new)) (spelled_shelf atlas) around.before edited_entry (spelled_shelf (with_lists atlas new) edited_entry) around.after edited.1 in
+    let apart = linked-apart around entry spelled.linked in
+    let placed : IsPlaced atlas entry = Each-middle (IsPlaced atlas) around.before entry around.after spelled.placed in
     let freed : IsFreed items new.items number = freed-values atlas.records shelf number (apart.within number (omega (arith, times-append number front (number ∷ back), times-here number back))) in
     let absent : times number free ≡ 0 = placed.free_list number ∙ free_count-none items number numbers allocated in
     let front_same : map (item_at new.items) front ≡ map (item_at items) front =
@@ -91,7 +91,7 @@ item-freed atlas before after shelf number front back free unused shelves alloca
     record {
       numbers = numbers;
       free_list = number ∷ free;
-      left_unused = unused;
+      left_unused = around.unused_items;
       spelled = edited.0;
       before_same = others.0;
       after_same = others.1;
@@ -110,19 +110,19 @@ item-freed atlas before after shelf number front back free unused shelves alloca
     }
 
 -- the previous item is free: it absorbs the item
-item-taken : (atlas : AtlasRecords) (before after : List Entry) (shelf number previous : ℕ) (front back free unused shelves : List ℕ) → is_allocated_at atlas.records.items number ≡ true → is_allocated_at atlas.records.items previous ≡ false → free_previous atlas.records.items number ≡ Some previous → IsSpelled atlas (lists_of (before ++ entry_of shelf (front ++ previous ∷ number ∷ back) free ∷ after) unused shelves) → FreesItem atlas (freed_after shelf number (Some previous) atlas.records) before after shelf number (front ++ previous ∷ []) back free unused shelves
-item-taken atlas before after shelf number previous front back free unused shelves allocated is_free named spelled =
+item-taken : {atlas : AtlasRecords} (around : Around) (shelf number previous : ℕ) (front back free : List ℕ) → is_allocated_at atlas.records.items number ≡ true → is_allocated_at atlas.records.items previous ≡ false → free_previous atlas.records.items number ≡ Some previous → IsSpelled atlas (with_entry around (entry_of shelf (front ++ previous ∷ number ∷ back) free)) → FreesItem atlas (freed_after shelf number (Some previous) atlas.records) around shelf number (front ++ previous ∷ []) back free
+item-taken {atlas} around shelf number previous front back free allocated is_free named spelled =
     let items : List LinkedItem = atlas.records.items in
     let numbers : List ℕ = front ++ previous ∷ number ∷ back in
     let entry : Entry = entry_of shelf numbers free in
     let edited_entry : Entry = entry_of shelf (front ++ previous ∷ back) free in
     let new : Records = (freed_after shelf number (Some previous) atlas.records).records in
-    let edits : EditsItems atlas new before after unused (number ∷ unused) shelves entry edited_entry =
-    allocated_absorbed-spelled atlas before after shelf previous number front back free unused shelves allocated spelled in
-    let edited = items-edited atlas new before after unused (number ∷ unused) shelves entry edited_entry spelled edits in
-    let others = map-parts (spelled_shelf (with_lists atlas new)) (spelled_shelf atlas) before edited_entry (spelled_shelf (with_lists atlas new) edited_entry) after edited.1 in
-    let apart : IsApart atlas.records before after unused [] entry = linked-apart atlas.records before after entry unused shelves [] [] spelled.linked in
-    let placed : IsPlaced atlas entry = Each-middle (IsPlaced atlas) before entry after spelled.placed in
+    let edits : EditsItems atlas new around (number ∷ around.unused_items) entry edited_entry =
+    allocated_absorbed-spelled around shelf previous number front back free allocated spelled in
+    let edited = items-edited new around (number ∷ around.unused_items) entry edited_entry spelled edits in
+    let others = map-parts (spelled_shelf (with_lists atlas new)) (spelled_shelf atlas) around.before edited_entry (spelled_shelf (with_lists atlas new) edited_entry) around.after edited.1 in
+    let apart = linked-apart around entry spelled.linked in
+    let placed : IsPlaced atlas entry = Each-middle (IsPlaced atlas) around.before entry around.after spelled.placed in
     let rest : IsRest front back previous number = rest-of front back previous number apart.once in
     let count : times previous numbers ≡ times previous front + times previous (previous ∷ number ∷ back) = times-append previous front (previous ∷ number ∷ back) in
     let differ : previous ≢ number = λ e. let contrary : is_allocated_at items previous ≡ true = rw e allocated in cc in
@@ -135,7 +135,7 @@ item-taken atlas before after shelf number previous front back free unused shelv
     record {
       numbers = front ++ previous ∷ back;
       free_list = free;
-      left_unused = number ∷ unused;
+      left_unused = number ∷ around.unused_items;
       spelled = edited.0;
       before_same = others.0;
       after_same = others.1;
@@ -159,25 +159,25 @@ item-taken atlas before after shelf number previous front back free unused shelv
         by_test false e = (absorbs.others k (grind arith) other).place
 
 -- an allocated item became free, and was merged with the previous one where that is free
-pub frees-item : (atlas : AtlasRecords) (before after : List Entry) (shelf number : ℕ) (front back free unused shelves : List ℕ) → is_allocated_at atlas.records.items number ≡ true → IsSpelled atlas (lists_of (before ++ entry_of shelf (front ++ number ∷ back) free ∷ after) unused shelves) → FreesItem atlas (freed_after shelf number (free_previous atlas.records.items number) atlas.records) before after shelf number front back free unused shelves
-frees-item atlas before after shelf number front back free unused shelves allocated =
-    by_end (λ (xs : List ℕ). IsSpelled atlas (lists_of (before ++ entry_of shelf (xs ++ number ∷ back) free ∷ after) unused shelves) → FreesItem atlas (freed_after shelf number (free_previous atlas.records.items number) atlas.records) before after shelf number xs back free unused shelves)
+pub frees-item : {atlas : AtlasRecords} (around : Around) (shelf number : ℕ) (front back free : List ℕ) → is_allocated_at atlas.records.items number ≡ true → IsSpelled atlas (with_entry around (entry_of shelf (front ++ number ∷ back) free)) → FreesItem atlas (freed_after shelf number (free_previous atlas.records.items number) atlas.records) around shelf number front back free
+frees-item {atlas} around shelf number front back free allocated =
+    by_end (λ (xs : List ℕ). IsSpelled atlas (with_entry around (entry_of shelf (xs ++ number ∷ back) free)) → FreesItem atlas (freed_after shelf number (free_previous atlas.records.items number) atlas.records) around shelf number xs back free)
     first some front
   where
     items : List LinkedItem
     items = atlas.records.items
 
-    link : (xs : List ℕ) → IsSpelled atlas (lists_of (before ++ entry_of shelf (xs ++ number ∷ back) free ∷ after) unused shelves) → free_previous items number ≡ free_named items (last_or None xs)
+    link : (xs : List ℕ) → IsSpelled atlas (with_entry around (entry_of shelf (xs ++ number ∷ back) free)) → free_previous items number ≡ free_named items (last_or None xs)
     link xs spelled =
-        let is : IsEntry atlas.records (entry_of shelf (xs ++ number ∷ back) free) = Each-middle (IsEntry atlas.records) before (entry_of shelf (xs ++ number ∷ back) free) after spelled.linked.entries in
+        let is : IsEntry atlas.records (entry_of shelf (xs ++ number ∷ back) free) = Each-middle (IsEntry atlas.records) around.before (entry_of shelf (xs ++ number ∷ back) free) around.after spelled.linked.entries in
         ap (free_named items) (previous-is (link_at item_chain.previous items) xs back number None is.items.backward)
 
-    first : IsSpelled atlas (lists_of (before ++ entry_of shelf (number ∷ back) free ∷ after) unused shelves) → FreesItem atlas (freed_after shelf number (free_previous items number) atlas.records) before after shelf number [] back free unused shelves
+    first : IsSpelled atlas (with_entry around (entry_of shelf (number ∷ back) free)) → FreesItem atlas (freed_after shelf number (free_previous items number) atlas.records) around shelf number [] back free
     first spelled =
-        subst (λ (o : Option ℕ). FreesItem atlas (freed_after shelf number o atlas.records) before after shelf number [] back free unused shelves) (sym (link [] spelled))
-        (item-freed atlas before after shelf number [] back free unused shelves allocated refl (λ others. refl) (link [] spelled) spelled)
+        subst (λ (o : Option ℕ). FreesItem atlas (freed_after shelf number o atlas.records) around shelf number [] back free) (sym (link [] spelled))
+        (item-freed around shelf number [] back free allocated refl (λ others. refl) (link [] spelled) spelled)
 
-    some : (xs : List ℕ) (previous : ℕ) → IsSpelled atlas (lists_of (before ++ entry_of shelf ((xs ++ previous ∷ []) ++ number ∷ back) free ∷ after) unused shelves) → FreesItem atlas (freed_after shelf number (free_previous items number) atlas.records) before after shelf number (xs ++ previous ∷ []) back free unused shelves
+    some : (xs : List ℕ) (previous : ℕ) → IsSpelled atlas (with_entry around (entry_of shelf ((xs ++ previous ∷ []) ++ number ∷ back) free)) → FreesItem atlas (freed_after shelf number (free_previous items number) atlas.records) around shelf number (xs ++ previous ∷ []) back free
     some xs previous spelled = by_mark (is_allocated_at items previous) refl
       where
         named : free_previous items number ≡ free_named items (Some previous)
@@ -187,16 +187,16 @@ frees-item atlas before after shelf number front back free unused shelves alloca
         parts [] = refl
         parts (x ∷ ys) = ap (λ (is : List Item). item_at items x ∷ is) (parts ys)
 
-        by_mark : (b : Bool) → is_allocated_at items previous ≡ b → FreesItem atlas (freed_after shelf number (free_previous items number) atlas.records) before after shelf number (xs ++ previous ∷ []) back free unused shelves
+        by_mark : (b : Bool) → is_allocated_at items previous ≡ b → FreesItem atlas (freed_after shelf number (free_previous items number) atlas.records) around shelf number (xs ++ previous ∷ []) back free
         by_mark true e =
             let none : free_named items (Some previous) ≡ None = simp e refl in
             let marked = free-item items previous true e in
-            subst (λ (o : Option ℕ). FreesItem atlas (freed_after shelf number o atlas.records) before after shelf number (xs ++ previous ∷ []) back free unused shelves) (sym (named ∙ none))
-            (item-freed atlas before after shelf number (xs ++ previous ∷ []) back free unused shelves allocated
+            subst (λ (o : Option ℕ). FreesItem atlas (freed_after shelf number o atlas.records) around shelf number (xs ++ previous ∷ []) back free) (sym (named ∙ none))
+            (item-freed around shelf number (xs ++ previous ∷ []) back free allocated
             (previous-stays (item_at items) xs previous (width_of items number) (map (item_at items) back) marked ∙ sym (parts xs))
             (λ others. free-before (item_at items) xs previous others ∙ marked) (named ∙ none) spelled)
         by_mark false e =
             let one : free_named items (Some previous) ≡ Some previous = simp e refl in
-            subst (λ (o : Option ℕ). FreesItem atlas (freed_after shelf number o atlas.records) before after shelf number (xs ++ previous ∷ []) back free unused shelves) (sym (named ∙ one))
-            (item-taken atlas before after shelf number previous xs back free unused shelves allocated e (named ∙ one)
-            (subst (λ (ns : List ℕ). IsSpelled atlas (lists_of (before ++ entry_of shelf ns free ∷ after) unused shelves)) (append_assoc xs (previous ∷ []) (number ∷ back)) spelled))
+            subst (λ (o : Option ℕ). FreesItem atlas (freed_after shelf number o atlas.records) around shelf number (xs ++ previous ∷ []) back free) (sym (named ∙ one))
+            (item-taken around shelf number previous xs back free allocated e (named ∙ one)
+            (subst (λ (ns : List ℕ). IsSpelled atlas (with_entry around (entry_of shelf ns free))) (append_assoc xs (previous ∷ []) (number ∷ back)) spelled))

@@ -6,6 +6,8 @@ use Rattle.std.specs.Prelude.{not}
 use Rattle.etagere_base.proofs.EachLemmas.{Each-middle}
 use Rattle.etagere_base.proofs.TimesLemmas.{times-append, times-here}
 use Rattle.etagere_base.specs.Lists.{times}
+use Rattle.shelf_links.proofs.AllLists.LinkedItems.{entry_of}
+use Rattle.shelf_links.proofs.AllLists.LinkedEdits.{IsApart, linked-apart, around_of, Around, with_entry}
 use Rattle.shelf_links.specs.declared.records.LinkedItem.{LinkedItem}
 use Rattle.etagere_links.specs.Chains.{IsChainIn}
 use Rattle.etagere_links.specs.Edits.{link_at}
@@ -13,8 +15,6 @@ use Rattle.etagere_links.specs.Lists.{first_or, last_or}
 use Rattle.shelf_links.specs.RecordLists.{Records, Entry, IsEntry, first_item_of}
 use Rattle.shelf_links.specs.Records.{item_chain}
 use Rattle.etagere_links.proofs.Chains.{Leads-start, next-is, previous-is}
-use Rattle.shelf_links.proofs.AllLists.LinkedItems.{IsApart, linked-apart}
-use Rattle.shelf_links.proofs.AllLists.LinkedMerges.{entry_of}
 use Rattle.shelf_links.proofs.AllLists.LinkedUnused.{lists_of}
 use Rattle.etagere_links.proofs.ListEnds.{last-stands-in}
 use Rattle.shelf_records.specs.AtlasRecords.{AtlasRecords, is_allocated_at, is_empty_at, item_at, spelled_shelf, width_of}
@@ -74,31 +74,31 @@ named-same items new xs same = by_link (last_or None xs) (λ n e. same n (last-s
 
 -- the item that remains is there, stands alone just where its shelf has one free item, and is as wide as the freed one
 -- was with its free neighbours
-pub item-remaining : (atlas : AtlasRecords) (before after : List Entry) (shelf number : ℕ) (front back free unused shelves : List ℕ) → IsShelf atlas.frame (spelled_shelf atlas (entry_of shelf (front ++ number ∷ back) free)) → is_allocated_at atlas.records.items number ≡ true → IsFlagged atlas (lists_of (before ++ entry_of shelf (front ++ number ∷ back) free ∷ after) unused shelves) → IsRemaining shelf number atlas.records × (width_of (item_merged shelf number atlas.records).records.items (remaining_in shelf number atlas.records) ≡ freed_width atlas.records.items number)
-item-remaining atlas before after shelf number front back free unused shelves valid allocated flagged =
-    let spelled : IsSpelled atlas (lists_of (before ++ entry_of shelf (front ++ number ∷ back) free ∷ after) unused shelves) = flagged.spelled in
+pub item-remaining : {atlas : AtlasRecords} (around : Around) (shelf number : ℕ) (front back free : List ℕ) → IsShelf atlas.frame (spelled_shelf atlas (entry_of shelf (front ++ number ∷ back) free)) → is_allocated_at atlas.records.items number ≡ true → IsFlagged atlas (with_entry around (entry_of shelf (front ++ number ∷ back) free)) → IsRemaining shelf number atlas.records × (width_of (item_merged shelf number atlas.records).records.items (remaining_in shelf number atlas.records) ≡ freed_width atlas.records.items number)
+item-remaining {atlas} around shelf number front back free valid allocated flagged =
+    let spelled : IsSpelled atlas (with_entry around (entry_of shelf (front ++ number ∷ back) free)) = flagged.spelled in
     let items : List LinkedItem = atlas.records.items in
     let one : Step = next_absorbed shelf number (free_next items number) atlas.records in
-    let next : MergesNext atlas one before after shelf number front back free unused shelves =
-    merges-next atlas before after shelf number front back free unused shelves (wide-items atlas shelf (front ++ number ∷ back) free valid) allocated spelled in
+    let next : MergesNext atlas one around shelf number front back free =
+    merges-next around shelf number front back free (wide-items atlas shelf (front ++ number ∷ back) free valid) allocated spelled in
     let middle : AtlasRecords = with_lists atlas one.records in
     let two : Step = freed_after shelf number (free_previous one.records.items number) one.records in
-    let own : FreesItem middle two before after shelf number front next.rest next.free_list next.left_unused shelves =
-    frees-item middle before after shelf number front next.rest next.free_list next.left_unused shelves next.allocated next.spelled in
+    let own : FreesItem middle two (record around { unused_items = next.left_unused }) shelf number front next.rest next.free_list =
+    frees-item (record around { unused_items = next.left_unused }) shelf number front next.rest next.free_list next.allocated next.spelled in
     let new : Records = two.records in
     let remaining : ℕ = remaining_in shelf number atlas.records in
     let old_entry : Entry = entry_of shelf (front ++ number ∷ back) free in
     let entry : Entry = entry_of shelf (front ++ number ∷ next.rest) next.free_list in
     let new_entry : Entry = entry_of shelf own.numbers own.free_list in
-    let was : IsEntry atlas.records old_entry = Each-middle (IsEntry atlas.records) before old_entry after spelled.linked.entries in
-    let still : IsEntry one.records entry = Each-middle (IsEntry one.records) before entry after next.spelled.linked.entries in
-    let is : IsEntry new new_entry = Each-middle (IsEntry new) before new_entry after own.spelled.linked.entries in
-    let apart : IsApart new before after own.left_unused [] new_entry = linked-apart new before after new_entry own.left_unused shelves [] [] own.spelled.linked in
+    let was : IsEntry atlas.records old_entry = Each-middle (IsEntry atlas.records) around.before old_entry around.after spelled.linked.entries in
+    let still : IsEntry one.records entry = Each-middle (IsEntry one.records) around.before entry around.after next.spelled.linked.entries in
+    let is : IsEntry new new_entry = Each-middle (IsEntry new) around.before new_entry around.after own.spelled.linked.entries in
+    let apart = linked-apart (record around { unused_items = own.left_unused }) new_entry own.spelled.linked in
     let stands : 1 ≤ times remaining own.numbers =
     omega (arith, ap (times remaining) own.stands, times-append remaining own.remaining_front (remaining ∷ next.rest), times-here remaining next.rest) in
     let chain : IsChainIn item_chain new.items (first_item_of new.shelves shelf) (own.remaining_front ++ remaining ∷ next.rest) =
     subst (λ (ns : List ℕ). IsChainIn item_chain new.items (first_item_of new.shelves shelf) ns) own.stands is.items in
-    let flag : is_empty_at atlas.records.shelves shelf ≡ is_one_free (map (item_at items) (front ++ number ∷ back)) = Each-middle (HasFlag atlas) before old_entry after flagged.flags in
+    let flag : is_empty_at atlas.records.shelves shelf ≡ is_one_free (map (item_at items) (front ++ number ∷ back)) = Each-middle (HasFlag atlas) around.before old_entry around.after flagged.flags in
     let busy : is_one_free (map (item_at items) (front ++ number ∷ back)) ≡ false =
     ap is_one_free (map-append (item_at items) front (number ∷ back))
     ∙ allocated-not_empty (map (item_at items) front) (map (item_at items) back) (item_at items number) (free-item items number true allocated) in

@@ -8,6 +8,8 @@ use Rattle.etagere_base.proofs.EachLemmas.{Each-append, Each-front, Each-back}
 use Rattle.etagere_base.proofs.TimesLemmas.{times-append}
 use Rattle.etagere_base.specs.Lists.{times}
 use Rattle.etagere_base.specs.MergingAt.{merged_at}
+use Rattle.shelf_links.proofs.AllLists.LinkedItems.{entry_of}
+use Rattle.shelf_links.proofs.AllLists.LinkedEdits.{IsApart, linked-apart, around_of, Around, with_entry}
 use Rattle.shelf_links.specs.declared.records.LinkedItem.{LinkedItem}
 use Rattle.shelf_links.specs.declared.records.LinkedShelf.{LinkedShelf}
 use Rattle.etagere_links.specs.Edits.{link_at}
@@ -16,8 +18,6 @@ use Rattle.shelf_links.specs.RecordLists.{Records, Entry, IsEntry, first_item_of
 use Rattle.shelf_links.specs.Records.{item_chain, shelf_chain}
 use Rattle.etagere_links.proofs.Chains.{Leads-start, next-is, previous-is}
 use Rattle.shelf_links.proofs.AllLists.LinkedFrames.{shelf_numbers-append}
-use Rattle.shelf_links.proofs.AllLists.LinkedItems.{IsApart, linked-apart}
-use Rattle.shelf_links.proofs.AllLists.LinkedMerges.{entry_of}
 use Rattle.shelf_links.proofs.AllLists.LinkedUnused.{lists_of}
 use Rattle.etagere_links.proofs.ListEnds.{times-here}
 use Rattle.shelf_records.specs.AtlasRecords.{AtlasRecords, along_of, height_of, is_empty_at, is_allocated_at, item_at, spelled_shelf}
@@ -51,27 +51,27 @@ module _ {X Y : Type 0} (f : Y → X) (touch : X → X → Bool) (combine : X �
   merged-touching (y ∷ front) x next back e = ap (λ (xs : List X). f y ∷ xs) (merged-touching front x next back e)
 
 -- what a step that merges a shelf with the next one makes of the lists of shelves, and what these spell
-pub record MergesShelf (atlas : AtlasRecords) (step : Step) (change : List BoundedShelf → List BoundedShelf) (before after : List Entry) (entry : Entry) (unused shelves : List ℕ) : Type 0 where
+pub record MergesShelf (atlas : AtlasRecords) (step : Step) (change : List BoundedShelf → List BoundedShelf) (around : Around) (entry : Entry) : Type 0 where
   pub rest : List Entry
   pub left_unused : List ℕ
   pub gone : List ℕ
-  pub flagged : IsFlagged (with_lists atlas step.records) (lists_of (before ++ entry ∷ rest) left_unused gone)
+  pub flagged : IsFlagged (with_lists atlas step.records) (lists_of (around.before ++ entry ∷ rest) left_unused gone)
   pub merged :
-      map (spelled_shelf (with_lists atlas step.records)) (before ++ entry ∷ rest)
-      ≡ merged_at both_empty combined_shelves (length before) (map (spelled_shelf atlas) (before ++ entry ∷ after))
-  pub counted : length left_unused ≡ step.made_unused + length unused
-  pub in_list : (by_height : List BoundedShelf) → HoldsByHeight atlas (before ++ entry ∷ after) by_height → HoldsByHeight (with_lists atlas step.records) (before ++ entry ∷ rest) (change by_height)
+      map (spelled_shelf (with_lists atlas step.records)) (around.before ++ entry ∷ rest)
+      ≡ merged_at both_empty combined_shelves (length around.before) (map (spelled_shelf atlas) (around.before ++ entry ∷ around.after))
+  pub counted : length left_unused ≡ step.made_unused + length around.unused_items
+  pub in_list : (by_height : List BoundedShelf) → HoldsByHeight atlas (around.before ++ entry ∷ around.after) by_height → HoldsByHeight (with_lists atlas step.records) (around.before ++ entry ∷ rest) (change by_height)
 
 -- nothing is merged
-shelf-kept : (atlas : AtlasRecords) (before after : List Entry) (entry : Entry) (unused shelves : List ℕ) → merged_at both_empty combined_shelves (length before) (map (spelled_shelf atlas) before ++ map (spelled_shelf atlas) (entry ∷ after)) ≡ map (spelled_shelf atlas) before ++ map (spelled_shelf atlas) (entry ∷ after) → IsFlagged atlas (lists_of (before ++ entry ∷ after) unused shelves) → MergesShelf atlas (record { records = atlas.records; made_unused = 0 }) (λ by_height. by_height) before after entry unused shelves
-shelf-kept atlas before after entry unused shelves stays flagged =
-    let whole : map (spelled_shelf atlas) (before ++ entry ∷ after) ≡ map (spelled_shelf atlas) before ++ map (spelled_shelf atlas) (entry ∷ after) = map-append (spelled_shelf atlas) before (entry ∷ after) in
+shelf-kept : {atlas : AtlasRecords} (around : Around) (entry : Entry) → merged_at both_empty combined_shelves (length around.before) (map (spelled_shelf atlas) around.before ++ map (spelled_shelf atlas) (entry ∷ around.after)) ≡ map (spelled_shelf atlas) around.before ++ map (spelled_shelf atlas) (entry ∷ around.after) → IsFlagged atlas (with_entry around entry) → MergesShelf atlas (record { records = atlas.records; made_unused = 0 }) (λ by_height. by_height) around entry
+shelf-kept {atlas} around entry stays flagged =
+    let whole : map (spelled_shelf atlas) (around.before ++ entry ∷ around.after) ≡ map (spelled_shelf atlas) around.before ++ map (spelled_shelf atlas) (entry ∷ around.after) = map-append (spelled_shelf atlas) around.before (entry ∷ around.after) in
     record {
-      rest = after;
-      left_unused = unused;
-      gone = shelves;
+      rest = around.after;
+      left_unused = around.unused_items;
+      gone = around.unused_shelves;
       flagged = flagged;
-      merged = whole ∙ sym stays ∙ ap (merged_at both_empty combined_shelves (length before)) (sym whole);
+      merged = whole ∙ sym stays ∙ ap (merged_at both_empty combined_shelves (length around.before)) (sym whole);
       counted = omega arith;
       in_list = λ by_height in_list. in_list;
     }
@@ -108,8 +108,8 @@ one-free-of items (x ∷ []) e =
 one-free-of items (x ∷ y ∷ ys) e = absurd (cc)
 
 -- the next shelf is absorbed with its item
-shelf-taken : (atlas : AtlasRecords) (before after : List Entry) (entry : Entry) (next item : ℕ) (free unused shelves : List ℕ) → both_empty (spelled_shelf atlas entry) (spelled_shelf atlas (entry_of next (item ∷ []) free)) ≡ true → along_of atlas.records.shelves next ≡ along_of atlas.records.shelves entry.number → is_allocated_at atlas.records.items item ≡ false → IsFlagged atlas (lists_of (before ++ entry ∷ entry_of next (item ∷ []) free ∷ after) unused shelves) → MergesShelf atlas (shelf_of_item_absorbed entry.number next (Some item) atlas.records) (shelf_of_item_absorbed_by_height entry.number next (Some item) atlas.records) before (entry_of next (item ∷ []) free ∷ after) entry unused shelves
-shelf-taken atlas before after entry next item free unused shelves touch column is_free flagged =
+shelf-taken : {atlas : AtlasRecords} (around : Around) (entry : Entry) (next item : ℕ) (free : List ℕ) → both_empty (spelled_shelf atlas entry) (spelled_shelf atlas (entry_of next (item ∷ []) free)) ≡ true → along_of atlas.records.shelves next ≡ along_of atlas.records.shelves entry.number → is_allocated_at atlas.records.items item ≡ false → IsFlagged atlas (lists_of (around.before ++ entry ∷ entry_of next (item ∷ []) free ∷ around.after) around.unused_items around.unused_shelves) → MergesShelf atlas (shelf_of_item_absorbed entry.number next (Some item) atlas.records) (shelf_of_item_absorbed_by_height entry.number next (Some item) atlas.records) (record around { after = entry_of next (item ∷ []) free ∷ around.after }) entry
+shelf-taken {atlas} around entry next item free touch column is_free flagged =
     let old : List LinkedShelf = atlas.records.shelves in
     let items : List LinkedItem = atlas.records.items in
     let spelled = flagged.spelled in
@@ -117,35 +117,35 @@ shelf-taken atlas before after entry next item free unused shelves touch column 
     let height : ℕ = height_of old entry.number + height_of old next in
     let lists : Records = (shelf_of_item_absorbed entry.number next (Some item) atlas.records).records in
     let new : AtlasRecords = with_lists atlas lists in
-    let apart : IsApart atlas.records before (gone ∷ after) unused [] entry = linked-apart atlas.records before (gone ∷ after) entry unused shelves [] [] spelled.linked in
+    let apart = linked-apart (record around { after = gone ∷ around.after }) entry spelled.linked in
     let taller : IsTaller atlas.records lists entry.number height = shelf_absorbed-values atlas.records entry.number next item height apart.number in
-    let among : (k : ℕ) → times k (shelf_numbers before ++ shelf_numbers (gone ∷ after)) ≡ times k (shelf_numbers before) + times k (shelf_numbers (gone ∷ after)) =
-    λ k. times-append k (shelf_numbers before) (shelf_numbers (gone ∷ after)) in
-    let before_same : map (spelled_shelf new) before ≡ map (spelled_shelf atlas) before =
-    others-spelled atlas lists before taller.along (λ k stands. (taller.others k (apart.numbers k (omega (arith, among k, stands)))).height) taller.items in
-    let after_same : map (spelled_shelf new) after ≡ map (spelled_shelf atlas) after =
-    others-spelled atlas lists after taller.along (λ k stands. (taller.others k (apart.numbers k (omega (arith, among k, stands)))).height) taller.items in
+    let among : (k : ℕ) → times k (shelf_numbers around.before ++ shelf_numbers (gone ∷ around.after)) ≡ times k (shelf_numbers around.before) + times k (shelf_numbers (gone ∷ around.after)) =
+    λ k. times-append k (shelf_numbers around.before) (shelf_numbers (gone ∷ around.after)) in
+    let before_same : map (spelled_shelf new) around.before ≡ map (spelled_shelf atlas) around.before =
+    others-spelled atlas lists around.before taller.along (λ k stands. (taller.others k (apart.numbers k (omega (arith, among k, stands)))).height) taller.items in
+    let after_same : map (spelled_shelf new) around.after ≡ map (spelled_shelf atlas) around.after =
+    others-spelled atlas lists around.after taller.along (λ k stands. (taller.others k (apart.numbers k (omega (arith, among k, stands)))).height) taller.items in
     let own : spelled_shelf new entry ≡ combined_shelves (spelled_shelf atlas entry) (spelled_shelf atlas gone) = shelf-is atlas lists entry height (taller.along entry.number) taller.own taller.items in
-    let tail = Each-back (HasFlag atlas) before (entry ∷ gone ∷ after) flagged.flags in
+    let tail = Each-back (HasFlag atlas) around.before (entry ∷ gone ∷ around.after) flagged.flags in
     record {
-      rest = after;
-      left_unused = item ∷ unused;
-      gone = next ∷ shelves;
+      rest = around.after;
+      left_unused = item ∷ around.unused_items;
+      gone = next ∷ around.unused_shelves;
       flagged =
           record {
-            spelled = shelf_absorbed-spelled atlas before after entry next item free unused shelves column is_free spelled;
-            flags = Each-append (HasFlag new) before (entry ∷ after)
-                (flags-same atlas new before (λ k stands. taller.is_empty k) before_same (Each-front (HasFlag atlas) before (entry ∷ gone ∷ after) flagged.flags))
-                (taller.is_empty entry.number ∙ tail.0 ∙ ap is_empty (sym own), flags-same atlas new after (λ k stands. taller.is_empty k) after_same tail.1.1);
+            spelled = shelf_absorbed-spelled around entry next item free column is_free spelled;
+            flags = Each-append (HasFlag new) around.before (entry ∷ around.after)
+                (flags-same atlas new around.before (λ k stands. taller.is_empty k) before_same (Each-front (HasFlag atlas) around.before (entry ∷ gone ∷ around.after) flagged.flags))
+                (taller.is_empty entry.number ∙ tail.0 ∙ ap is_empty (sym own), flags-same atlas new around.after (λ k stands. taller.is_empty k) after_same tail.1.1);
           };
-      merged = map-append (spelled_shelf new) before (entry ∷ after)
-          ∙ ap (λ (ss : List Shelf). ss ++ spelled_shelf new entry ∷ map (spelled_shelf new) after) before_same
-          ∙ ap (λ (s : Shelf). map (spelled_shelf atlas) before ++ s ∷ map (spelled_shelf new) after) own
-          ∙ ap (λ (ss : List Shelf). map (spelled_shelf atlas) before ++ combined_shelves (spelled_shelf atlas entry) (spelled_shelf atlas gone) ∷ ss) after_same
-          ∙ sym (merged-touching (spelled_shelf atlas) both_empty combined_shelves before (spelled_shelf atlas entry) (spelled_shelf atlas gone) (map (spelled_shelf atlas) after) touch)
-          ∙ ap (merged_at both_empty combined_shelves (length before)) (sym (map-append (spelled_shelf atlas) before (entry ∷ gone ∷ after)));
+      merged = map-append (spelled_shelf new) around.before (entry ∷ around.after)
+          ∙ ap (λ (ss : List Shelf). ss ++ spelled_shelf new entry ∷ map (spelled_shelf new) around.after) before_same
+          ∙ ap (λ (s : Shelf). map (spelled_shelf atlas) around.before ++ s ∷ map (spelled_shelf new) around.after) own
+          ∙ ap (λ (ss : List Shelf). map (spelled_shelf atlas) around.before ++ combined_shelves (spelled_shelf atlas entry) (spelled_shelf atlas gone) ∷ ss) after_same
+          ∙ sym (merged-touching (spelled_shelf atlas) both_empty combined_shelves around.before (spelled_shelf atlas entry) (spelled_shelf atlas gone) (map (spelled_shelf atlas) around.after) touch)
+          ∙ ap (merged_at both_empty combined_shelves (length around.before)) (sym (map-append (spelled_shelf atlas) around.before (entry ∷ gone ∷ around.after)));
       counted = omega arith;
-      in_list = λ by_height in_list. absorbed-by_height atlas lists before after entry gone height by_height taller in_list apart.number;
+      in_list = λ by_height in_list. absorbed-by_height atlas lists around.before around.after entry gone height by_height taller in_list apart.number;
     }
   where
     others-spelled : (atlas : AtlasRecords) (lists : Records) (es : List Entry) → ((k : ℕ) → along_of lists.shelves k ≡ along_of atlas.records.shelves k) → ((k : ℕ) → 1 ≤ times k (shelf_numbers es) → height_of lists.shelves k ≡ height_of atlas.records.shelves k) → ((k : ℕ) → SameItem atlas.records.items lists.items k) → map (spelled_shelf (with_lists atlas lists)) es ≡ map (spelled_shelf atlas) es
@@ -155,16 +155,16 @@ shelf-taken atlas before after entry next item free unused shelves touch column 
         ∙ ap (λ (ss : List Shelf). spelled_shelf atlas e ∷ ss) (others-spelled atlas lists es along (λ k stands. height k (omega (arith, stands))) same)
 
 -- the link from a shelf to the next one
-pub next-link : (atlas : AtlasRecords) (before after : List Entry) (entry : Entry) (unused shelves : List ℕ) → IsSpelled atlas (lists_of (before ++ entry ∷ after) unused shelves) → link_at shelf_chain.next atlas.records.shelves entry.number ≡ first_or None (shelf_numbers after)
-next-link atlas before after entry unused shelves spelled =
-    next-is (link_at shelf_chain.next atlas.records.shelves) (shelf_numbers before) (shelf_numbers after) entry.number atlas.records.first_shelf None
-    (rw (← shelf_numbers-append before (entry ∷ after)) spelled.linked.shelves.forward)
+pub next-link : {atlas : AtlasRecords} (around : Around) (entry : Entry) → IsSpelled atlas (with_entry around entry) → link_at shelf_chain.next atlas.records.shelves entry.number ≡ first_or None (shelf_numbers around.after)
+next-link {atlas} around entry spelled =
+    next-is (link_at shelf_chain.next atlas.records.shelves) (shelf_numbers around.before) (shelf_numbers around.after) entry.number atlas.records.first_shelf None
+    (rw (← shelf_numbers-append around.before (entry ∷ around.after)) spelled.linked.shelves.forward)
 
 -- the link from a shelf to the previous one
-pub previous-link : (atlas : AtlasRecords) (before after : List Entry) (entry : Entry) (unused shelves : List ℕ) → IsSpelled atlas (lists_of (before ++ entry ∷ after) unused shelves) → link_at shelf_chain.previous atlas.records.shelves entry.number ≡ last_or None (shelf_numbers before)
-previous-link atlas before after entry unused shelves spelled =
-    previous-is (link_at shelf_chain.previous atlas.records.shelves) (shelf_numbers before) (shelf_numbers after) entry.number None
-    (rw (← shelf_numbers-append before (entry ∷ after)) spelled.linked.shelves.backward)
+pub previous-link : {atlas : AtlasRecords} (around : Around) (entry : Entry) → IsSpelled atlas (with_entry around entry) → link_at shelf_chain.previous atlas.records.shelves entry.number ≡ last_or None (shelf_numbers around.before)
+previous-link {atlas} around entry spelled =
+    previous-is (link_at shelf_chain.previous atlas.records.shelves) (shelf_numbers around.before) (shelf_numbers around.after) entry.number None
+    (rw (← shelf_numbers-append around.before (entry ∷ around.after)) spelled.linked.shelves.backward)
 
 -- what is known of a shelf and the next one
 pub record AreNeighbours (atlas : AtlasRecords) (entry next : Entry) : Type 0 where
@@ -172,29 +172,29 @@ pub record AreNeighbours (atlas : AtlasRecords) (entry next : Entry) : Type 0 wh
   pub named : empty_next atlas.records.shelves entry.number ≡ empty_named atlas.records.shelves entry.number (Some next.number)
   pub is : IsEntry atlas.records next
 
-pub neighbours : (atlas : AtlasRecords) (before after : List Entry) (entry next : Entry) (unused shelves : List ℕ) → IsFlagged atlas (lists_of (before ++ entry ∷ next ∷ after) unused shelves) → AreNeighbours atlas entry next
-neighbours atlas before after entry next unused shelves flagged =
-    let placed = Each-back (IsPlaced atlas) before (entry ∷ next ∷ after) flagged.spelled.placed in
-    let flags = Each-back (HasFlag atlas) before (entry ∷ next ∷ after) flagged.flags in
-    let are = Each-back (IsEntry atlas.records) before (entry ∷ next ∷ after) flagged.spelled.linked.entries in
+pub neighbours : {atlas : AtlasRecords} (around : Around) (entry next : Entry) → IsFlagged atlas (lists_of (around.before ++ entry ∷ next ∷ around.after) around.unused_items around.unused_shelves) → AreNeighbours atlas entry next
+neighbours {atlas} around entry next flagged =
+    let placed = Each-back (IsPlaced atlas) around.before (entry ∷ next ∷ around.after) flagged.spelled.placed in
+    let flags = Each-back (HasFlag atlas) around.before (entry ∷ next ∷ around.after) flagged.flags in
+    let are = Each-back (IsEntry atlas.records) around.before (entry ∷ next ∷ around.after) flagged.spelled.linked.entries in
     record {
       touch = touch-same atlas entry next placed.0.along placed.1.0.along flags.0 flags.1.0;
-      named = ap (empty_named atlas.records.shelves entry.number) (next-link atlas before (next ∷ after) entry unused shelves flagged.spelled);
+      named = ap (empty_named atlas.records.shelves entry.number) (next-link (record around { after = next ∷ around.after }) entry flagged.spelled);
       is = are.1.0;
     }
 
 -- a shelf was merged with the next one, where both are empty and stand in one column
-pub merges-shelf : (atlas : AtlasRecords) (before after : List Entry) (entry : Entry) (unused shelves : List ℕ) → IsFlagged atlas (lists_of (before ++ entry ∷ after) unused shelves) → MergesShelf atlas (shelf_merged entry.number atlas.records) (shelf_merged_by_height entry.number atlas.records) before after entry unused shelves
+pub merges-shelf : (atlas : AtlasRecords) (before after : List Entry) (entry : Entry) (unused shelves : List ℕ) → IsFlagged atlas (lists_of (before ++ entry ∷ after) unused shelves) → MergesShelf atlas (shelf_merged entry.number atlas.records) (shelf_merged_by_height entry.number atlas.records) (around_of before after unused shelves) entry
 merges-shelf atlas before [] entry unused shelves flagged =
-    let none : empty_next atlas.records.shelves entry.number ≡ None = ap (empty_named atlas.records.shelves entry.number) (next-link atlas before [] entry unused shelves flagged.spelled) in
-    subst (λ (o : Option ℕ). MergesShelf atlas (shelf_next_absorbed entry.number o atlas.records) (next_absorbed_by_height entry.number o atlas.records) before [] entry unused shelves) (sym none)
-    (shelf-kept atlas before [] entry unused shelves (merged-end (spelled_shelf atlas) both_empty combined_shelves before (spelled_shelf atlas entry)) flagged)
+    let none : empty_next atlas.records.shelves entry.number ≡ None = ap (empty_named atlas.records.shelves entry.number) (next-link (around_of before [] unused shelves) entry flagged.spelled) in
+    subst (λ (o : Option ℕ). MergesShelf atlas (shelf_next_absorbed entry.number o atlas.records) (next_absorbed_by_height entry.number o atlas.records) (around_of before [] unused shelves) entry) (sym none)
+    (shelf-kept (around_of before [] unused shelves) entry (merged-end (spelled_shelf atlas) both_empty combined_shelves before (spelled_shelf atlas entry)) flagged)
 merges-shelf atlas before (next ∷ after) entry unused shelves flagged = by_test (are_both_empty atlas.records.shelves entry.number next.number) refl
   where
     near : AreNeighbours atlas entry next
-    near = neighbours atlas before after entry next unused shelves flagged
+    near = neighbours (around_of before after unused shelves) entry next flagged
 
-    absorbed : are_both_empty atlas.records.shelves entry.number next.number ≡ true → HasOneFree atlas.records.items next.items → MergesShelf atlas (shelf_next_absorbed entry.number (Some next.number) atlas.records) (next_absorbed_by_height entry.number (Some next.number) atlas.records) before (next ∷ after) entry unused shelves
+    absorbed : are_both_empty atlas.records.shelves entry.number next.number ≡ true → HasOneFree atlas.records.items next.items → MergesShelf atlas (shelf_next_absorbed entry.number (Some next.number) atlas.records) (next_absorbed_by_height entry.number (Some next.number) atlas.records) (around_of before (next ∷ after) unused shelves) entry
     absorbed e one =
         let same : entry_of next.number (one.item ∷ []) next.free_list ≡ next = ap (λ ns. entry_of next.number ns next.free_list) (sym one.alone) in
         let first : first_item_of atlas.records.shelves next.number ≡ Some one.item =
@@ -202,22 +202,22 @@ merges-shelf atlas before (next ∷ after) entry unused shelves flagged = by_tes
         let column : along_of atlas.records.shelves entry.number ≡ along_of atlas.records.shelves next.number =
         eqb-true (along_of atlas.records.shelves entry.number) (along_of atlas.records.shelves next.number)
         (and_parts (along_of atlas.records.shelves entry.number == along_of atlas.records.shelves next.number) (is_empty_at atlas.records.shelves entry.number && is_empty_at atlas.records.shelves next.number) e).0 in
-        subst (λ (o : Option ℕ). MergesShelf atlas (shelf_of_item_absorbed entry.number next.number o atlas.records) (shelf_of_item_absorbed_by_height entry.number next.number o atlas.records) before (next ∷ after) entry unused shelves) (sym first)
-        (subst (λ (n : Entry). MergesShelf atlas (shelf_of_item_absorbed entry.number next.number (Some one.item) atlas.records) (shelf_of_item_absorbed_by_height entry.number next.number (Some one.item) atlas.records) before (n ∷ after) entry unused shelves) same
-        (shelf-taken atlas before after entry next.number one.item next.free_list unused shelves
+        subst (λ (o : Option ℕ). MergesShelf atlas (shelf_of_item_absorbed entry.number next.number o atlas.records) (shelf_of_item_absorbed_by_height entry.number next.number o atlas.records) (around_of before (next ∷ after) unused shelves) entry) (sym first)
+        (subst (λ (n : Entry). MergesShelf atlas (shelf_of_item_absorbed entry.number next.number (Some one.item) atlas.records) (shelf_of_item_absorbed_by_height entry.number next.number (Some one.item) atlas.records) (around_of before (n ∷ after) unused shelves) entry) same
+        (shelf-taken (around_of before after unused shelves) entry next.number one.item next.free_list
         (subst (λ (n : Entry). both_empty (spelled_shelf atlas entry) (spelled_shelf atlas n) ≡ true) (sym same) (near.touch ∙ e))
         (sym column) one.free
         (subst (λ (n : Entry). IsFlagged atlas (lists_of (before ++ entry ∷ n ∷ after) unused shelves)) (sym same) flagged)))
 
-    by_test : (b : Bool) → are_both_empty atlas.records.shelves entry.number next.number ≡ b → MergesShelf atlas (shelf_merged entry.number atlas.records) (shelf_merged_by_height entry.number atlas.records) before (next ∷ after) entry unused shelves
+    by_test : (b : Bool) → are_both_empty atlas.records.shelves entry.number next.number ≡ b → MergesShelf atlas (shelf_merged entry.number atlas.records) (shelf_merged_by_height entry.number atlas.records) (around_of before (next ∷ after) unused shelves) entry
     by_test false e =
         let none : empty_named atlas.records.shelves entry.number (Some next.number) ≡ None = simp e refl in
-        subst (λ (o : Option ℕ). MergesShelf atlas (shelf_next_absorbed entry.number o atlas.records) (next_absorbed_by_height entry.number o atlas.records) before (next ∷ after) entry unused shelves) (sym (near.named ∙ none))
-        (shelf-kept atlas before (next ∷ after) entry unused shelves
+        subst (λ (o : Option ℕ). MergesShelf atlas (shelf_next_absorbed entry.number o atlas.records) (next_absorbed_by_height entry.number o atlas.records) (around_of before (next ∷ after) unused shelves) entry) (sym (near.named ∙ none))
+        (shelf-kept (around_of before (next ∷ after) unused shelves) entry
         (merged-apart (spelled_shelf atlas) both_empty combined_shelves before (spelled_shelf atlas entry) (spelled_shelf atlas next) (map (spelled_shelf atlas) after) (near.touch ∙ e)) flagged)
     by_test true e =
         let some : empty_named atlas.records.shelves entry.number (Some next.number) ≡ Some next.number = simp e refl in
         let empty = and_parts (is_empty (spelled_shelf atlas entry)) (is_empty (spelled_shelf atlas next))
         (and_parts ((spelled_shelf atlas entry).column == (spelled_shelf atlas next).column) (is_empty (spelled_shelf atlas entry) && is_empty (spelled_shelf atlas next)) (near.touch ∙ e)).1 in
-        subst (λ (o : Option ℕ). MergesShelf atlas (shelf_next_absorbed entry.number o atlas.records) (next_absorbed_by_height entry.number o atlas.records) before (next ∷ after) entry unused shelves) (sym (near.named ∙ some))
+        subst (λ (o : Option ℕ). MergesShelf atlas (shelf_next_absorbed entry.number o atlas.records) (next_absorbed_by_height entry.number o atlas.records) (around_of before (next ∷ after) unused shelves) entry) (sym (near.named ∙ some))
         (absorbed e (one-free-of atlas.records.items next.items empty.1))

@@ -4,14 +4,15 @@ use Rattle.std.specs.Prelude.{◌%◌}
 use Rattle.etagere_base.proofs.EachLemmas.{Each-append, Each-front, Each-back, Each-middle}
 use Rattle.etagere_base.proofs.TimesLemmas.{times-append}
 use Rattle.etagere_base.specs.Lists.{times}
+use Rattle.shelf_links.proofs.AllLists.LinkedItems.{entry_of}
+use Rattle.shelf_links.proofs.AllLists.LinkedEdits.{IsApart, linked-apart, around_of, Around, with_entry}
 use Rattle.shelf_links.specs.declared.records.LinkedItem.{LinkedItem}
 use Rattle.etagere_links.specs.Edits.{changed_by, link_at, first_without, linked_between, unlinked, field_at}
 use Rattle.shelf_links.specs.RecordLists.{Records, Entry, first_free_of, item_numbers}
 use Rattle.shelf_links.specs.RecordMerges.{front_given}
 use Rattle.shelf_links.specs.Records.{item_chain, free_list}
 use Rattle.etagere_links.proofs.FieldChanges.{field_at-changed, field_at-kept}
-use Rattle.shelf_links.proofs.AllLists.LinkedItems.{IsApart, linked-apart}
-use Rattle.shelf_links.proofs.AllLists.LinkedMerges.{entry_of, front_given-linked}
+use Rattle.shelf_links.proofs.AllLists.LinkedMerges.{front_given-linked}
 use Rattle.shelf_links.proofs.AllLists.LinkedUnused.{lists_of}
 use Rattle.etagere_links.proofs.ListEnds.{times-here}
 use Rattle.etagere_links.proofs.RecordChanges.{get-changed_by-other}
@@ -93,15 +94,15 @@ front-places items new here front back shelf number rest width apart same_front 
     LieFrom-append new here front (number ∷ rest ∷ back) (LieFrom-same items new here front same_front (LieFrom-front items here front (number ∷ back) lies)) tail
 
 -- the records after the front of a free item was given
-pub front_given-spelled : (atlas : AtlasRecords) (before after : List Entry) (shelf number rest width : ℕ) (front back free_front free_back unused shelves : List ℕ) → is_allocated_at atlas.records.items number ≡ false → IsRestItem atlas.records.items shelf number rest width → IsSpelledBut atlas (lists_of (before ++ entry_of shelf (front ++ number ∷ back) (free_front ++ number ∷ free_back) ∷ after) unused shelves) (rest ∷ []) [] → EditsItems atlas (front_given shelf number rest width atlas.records) before after unused unused shelves (entry_of shelf (front ++ number ∷ back) (free_front ++ number ∷ free_back)) (entry_of shelf (front ++ number ∷ rest ∷ back) (free_front ++ rest ∷ free_back))
-front_given-spelled atlas before after shelf number rest width front back free_front free_back unused shelves is_free is_rest spelled =
+pub front_given-spelled : {atlas : AtlasRecords} (around : Around) (shelf number rest width : ℕ) (front back free_front free_back : List ℕ) → is_allocated_at atlas.records.items number ≡ false → IsRestItem atlas.records.items shelf number rest width → IsSpelledBut atlas (with_entry around (entry_of shelf (front ++ number ∷ back) (free_front ++ number ∷ free_back))) (rest ∷ []) [] → EditsItems atlas (front_given shelf number rest width atlas.records) around around.unused_items (entry_of shelf (front ++ number ∷ back) (free_front ++ number ∷ free_back)) (entry_of shelf (front ++ number ∷ rest ∷ back) (free_front ++ rest ∷ free_back))
+front_given-spelled {atlas} around shelf number rest width front back free_front free_back is_free is_rest spelled =
     let items : List LinkedItem = atlas.records.items in
     let lists : Records = front_given shelf number rest width atlas.records in
     let numbers : List ℕ = front ++ number ∷ back in
     let free : List ℕ = free_front ++ number ∷ free_back in
     let entry : Entry = entry_of shelf numbers free in
-    let apart : IsApart atlas.records before after unused (rest ∷ []) entry = linked-apart atlas.records before after entry unused shelves (rest ∷ []) [] spelled.linked in
-    let placed : IsPlaced atlas entry = Each-middle (IsPlaced atlas) before entry after spelled.placed in
+    let apart = linked-apart around entry spelled.linked in
+    let placed : IsPlaced atlas entry = Each-middle (IsPlaced atlas) around.before entry around.after spelled.placed in
     let own_stands : 1 ≤ times number numbers = omega (arith, times-append number front (number ∷ back), times-here number back) in
     let within : number < length items = apart.within number own_stands in
     let rest_absent : times rest numbers ≡ 0 = apart.loose_items rest (omega (arith, times-here rest [])) in
@@ -117,7 +118,7 @@ front_given-spelled atlas before after shelf number rest width front back free_f
     let kept_back : (k : ℕ) → free_count lists.items k back ≡ free_count items k back = λ k. free_count-same items lists.items k back (λ n stands. (same_back n stands).allocated) in
     record {
       number = refl;
-      linked = front_given-linked atlas.records before after shelf number rest width front back free_front free_back unused shelves [] [] spelled.linked;
+      linked = front_given-linked around shelf number rest width front back free_front free_back spelled.linked;
       placed =
           record {
             owners = Each-append (λ item. shelf_of lists.items item ≡ shelf) front (number ∷ rest ∷ back)
@@ -141,8 +142,8 @@ front_given-spelled atlas before after shelf number rest width front back free_f
           };
       items = λ k gone. given.others k (not-member front back number k gone);
       shelf = same;
-      left_unused = unmarked-same items lists.items unused
-          (λ k stands. given.others k (not-member front back number k (omega (arith, apart.others k (omega (arith, stands, times-append k (item_numbers before ++ item_numbers after) unused)))))) spelled.unused;
+      left_unused = unmarked-same items lists.items around.unused_items
+          (λ k stands. given.others k (not-member front back number k (omega (arith, apart.others k (omega (arith, stands)))))) spelled.unused;
     }
   where
     first-kept : map shelf_values (front_given shelf number rest width atlas.records).shelves ≡ map shelf_values atlas.records.shelves

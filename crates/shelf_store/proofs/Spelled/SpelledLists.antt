@@ -8,8 +8,7 @@ use Rattle.std.specs.List.{AllByRecursion}
 use Rattle.etagere_base.specs.Lists.{times}
 use Rattle.shelf_links.specs.declared.records.LinkedShelf.{LinkedShelf}
 use Rattle.shelf_links.specs.RecordLists.{Records, Entry, Lists, shelf_numbers, item_numbers, IsEntry, IsLinkedExcept}
-use Rattle.shelf_links.proofs.AllLists.LinkedEdits.{same-numbers}
-use Rattle.shelf_links.proofs.AllLists.LinkedItems.{IsApart, linked-apart}
+use Rattle.shelf_links.proofs.AllLists.LinkedEdits.{same-numbers, IsApart, linked-apart, around_of, Around, with_entry}
 use Rattle.shelf_links.proofs.AllLists.LinkedUnused.{lists_of}
 use Rattle.shelf_records.specs.AtlasRecords.{AtlasRecords, is_allocated_at, item_place_of, along_of, height_of, item_at, spelled_shelf}
 use Rattle.shelf_records.specs.StandsFor.{AreStacked, height_before}
@@ -70,9 +69,9 @@ abbrev pub IsSpelled : AtlasRecords → Lists → Type 0
 IsSpelled atlas lists = IsSpelledBut atlas lists [] []
 
 -- an edit of the items of one shelf: what the records of other items and of all shelves say stays
-pub record EditsItems (atlas : AtlasRecords) (lists : Records) (before after : List Entry) (unused unused' shelves : List ℕ) (entry edited : Entry) : Type 0 where
+pub record EditsItems (atlas : AtlasRecords) (lists : Records) (around : Around) (unused' : List ℕ) (entry edited : Entry) : Type 0 where
   pub number : edited.number ≡ entry.number
-  pub linked : IsLinkedExcept lists (lists_of (before ++ edited ∷ after) unused' shelves) [] []
+  pub linked : IsLinkedExcept lists (with_entry (record around { unused_items = unused' }) edited) [] []
   pub placed : IsPlaced (with_lists atlas lists) edited
   pub items : (k : ℕ) → times k entry.items ≡ 0 → SameItem atlas.records.items lists.items k
   pub shelf : (k : ℕ) → SameShelf atlas.records.shelves lists.shelves k
@@ -91,33 +90,33 @@ untouched atlas lists (entry ∷ entries) shelf items are placed =
 
 -- the records after an edit of the items of one shelf that puts all loose records into it spell the lists with that
 -- shelf edited, and the same other shelves
-pub items-edited-but : (atlas : AtlasRecords) (lists : Records) (before after : List Entry) (unused unused' shelves loose : List ℕ) (entry edited : Entry) → IsSpelledBut atlas (lists_of (before ++ entry ∷ after) unused shelves) loose [] → EditsItems atlas lists before after unused unused' shelves entry edited → IsSpelled (with_lists atlas lists) (lists_of (before ++ edited ∷ after) unused' shelves) × (map (spelled_shelf (with_lists atlas lists)) (before ++ edited ∷ after) ≡ map (spelled_shelf atlas) before ++ spelled_shelf (with_lists atlas lists) edited ∷ map (spelled_shelf atlas) after)
-items-edited-but atlas lists before after unused unused' shelves loose entry edited spelled edits =
+pub items-edited-but : {atlas : AtlasRecords} (lists : Records) (around : Around) (unused' loose : List ℕ) (entry edited : Entry) → IsSpelledBut atlas (with_entry around entry) loose [] → EditsItems atlas lists around unused' entry edited → IsSpelled (with_lists atlas lists) (with_entry (record around { unused_items = unused' }) edited) × (map (spelled_shelf (with_lists atlas lists)) (around.before ++ edited ∷ around.after) ≡ map (spelled_shelf atlas) around.before ++ spelled_shelf (with_lists atlas lists) edited ∷ map (spelled_shelf atlas) around.after)
+items-edited-but {atlas} lists around unused' loose entry edited spelled edits =
     let new : AtlasRecords = with_lists atlas lists in
-    let apart : IsApart atlas.records before after unused loose entry = linked-apart atlas.records before after entry unused shelves loose [] spelled.linked in
-    let count : (k : ℕ) → times k (item_numbers before ++ item_numbers after ++ unused) ≡ times k (item_numbers before) + times k (item_numbers after) + times k unused =
-    λ k. omega (arith, times-append k (item_numbers before ++ item_numbers after) unused, times-append k (item_numbers before) (item_numbers after)) in
-    let front = untouched atlas lists before edits.shelf
+    let apart = linked-apart around entry spelled.linked in
+    let count : (k : ℕ) → times k (item_numbers around.before ++ item_numbers around.after ++ around.unused_items) ≡ times k (item_numbers around.before) + times k (item_numbers around.after) + times k around.unused_items =
+    λ k. omega (arith, times-append k (item_numbers around.before ++ item_numbers around.after) around.unused_items, times-append k (item_numbers around.before) (item_numbers around.after)) in
+    let front = untouched atlas lists around.before edits.shelf
     (λ k stands. edits.items k (omega (arith, apart.others k (omega (arith, count k, stands)))))
-    (Each-front (IsEntry atlas.records) before (entry ∷ after) spelled.linked.entries)
-    (Each-front (IsPlaced atlas) before (entry ∷ after) spelled.placed) in
-    let back = untouched atlas lists after edits.shelf
+    (Each-front (IsEntry atlas.records) around.before (entry ∷ around.after) spelled.linked.entries)
+    (Each-front (IsPlaced atlas) around.before (entry ∷ around.after) spelled.placed) in
+    let back = untouched atlas lists around.after edits.shelf
     (λ k stands. edits.items k (omega (arith, apart.others k (omega (arith, count k, stands)))))
-    (Each-back (IsEntry atlas.records) before (entry ∷ after) spelled.linked.entries).1
-    (Each-back (IsPlaced atlas) before (entry ∷ after) spelled.placed).1 in
-    let numbers : shelf_numbers (before ++ edited ∷ after) ≡ shelf_numbers (before ++ entry ∷ after) = same-numbers before after entry edited edits.number in (
+    (Each-back (IsEntry atlas.records) around.before (entry ∷ around.after) spelled.linked.entries).1
+    (Each-back (IsPlaced atlas) around.before (entry ∷ around.after) spelled.placed).1 in
+    let numbers : shelf_numbers (around.before ++ edited ∷ around.after) ≡ shelf_numbers (around.before ++ entry ∷ around.after) = same-numbers around.before around.after entry edited edits.number in (
       record {
         linked = edits.linked;
-        placed = Each-append (IsPlaced new) before (edited ∷ after) front.0 (edits.placed, back.0);
-        stacked = rw numbers (stacked-same atlas.records.shelves lists.shelves atlas.frame.column_width edits.shelf [] (shelf_numbers (before ++ entry ∷ after)) spelled.stacked);
+        placed = Each-append (IsPlaced new) around.before (edited ∷ around.after) front.0 (edits.placed, back.0);
+        stacked = rw numbers (stacked-same atlas.records.shelves lists.shelves atlas.frame.column_width edits.shelf [] (shelf_numbers (around.before ++ entry ∷ around.after)) spelled.stacked);
         unused = edits.left_unused;
       },
-      map-append (spelled_shelf new) before (edited ∷ after)
-          ∙ ap (λ (ss : List Shelf). ss ++ spelled_shelf new edited ∷ map (spelled_shelf new) after) front.1
-          ∙ ap (λ (ss : List Shelf). map (spelled_shelf atlas) before ++ spelled_shelf new edited ∷ ss) back.1,
+      map-append (spelled_shelf new) around.before (edited ∷ around.after)
+          ∙ ap (λ (ss : List Shelf). ss ++ spelled_shelf new edited ∷ map (spelled_shelf new) around.after) front.1
+          ∙ ap (λ (ss : List Shelf). map (spelled_shelf atlas) around.before ++ spelled_shelf new edited ∷ ss) back.1,
     )
 
 -- the same of an edit that puts no other records into it
-pub items-edited : (atlas : AtlasRecords) (lists : Records) (before after : List Entry) (unused unused' shelves : List ℕ) (entry edited : Entry) → IsSpelled atlas (lists_of (before ++ entry ∷ after) unused shelves) → EditsItems atlas lists before after unused unused' shelves entry edited → IsSpelled (with_lists atlas lists) (lists_of (before ++ edited ∷ after) unused' shelves) × (map (spelled_shelf (with_lists atlas lists)) (before ++ edited ∷ after) ≡ map (spelled_shelf atlas) before ++ spelled_shelf (with_lists atlas lists) edited ∷ map (spelled_shelf atlas) after)
-items-edited atlas lists before after unused unused' shelves entry edited spelled edits =
-    items-edited-but atlas lists before after unused unused' shelves [] entry edited spelled edits
+pub items-edited : {atlas : AtlasRecords} (lists : Records) (around : Around) (unused' : List ℕ) (entry edited : Entry) → IsSpelled atlas (with_entry around entry) → EditsItems atlas lists around unused' entry edited → IsSpelled (with_lists atlas lists) (with_entry (record around { unused_items = unused' }) edited) × (map (spelled_shelf (with_lists atlas lists)) (around.before ++ edited ∷ around.after) ≡ map (spelled_shelf atlas) around.before ++ spelled_shelf (with_lists atlas lists) edited ∷ map (spelled_shelf atlas) around.after)
+items-edited {atlas} lists around unused' entry edited spelled edits =
+    items-edited-but lists around unused' [] entry edited spelled edits

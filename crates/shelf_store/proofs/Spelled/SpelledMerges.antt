@@ -1,19 +1,20 @@
 -- Records that spell lists, after an item took the place of the one after it.
-use Rattle.std.proofs.Common.{◌≡◌, ◌≢◌, ℕ, ◌+◌, ◌<◌, ◌≤◌, true, false, Option, None, Some, List, [], ◌∷◌, ◌++◌, length, map, refl, ap, arith, ◌∙◌, ◌*◌}
+use Rattle.std.proofs.Common.{◌≡◌, ◌≢◌, ℕ, ◌+◌, ◌<◌, ◌≤◌, Bool, true, false, Option, None, Some, List, [], ◌∷◌, ◌++◌, length, map, refl, ap, arith, ◌∙◌, ◌*◌}
 use Rattle.std.specs.Prelude.{◌%◌}
 use Rattle.etagere_base.proofs.EachLemmas.{Each-append, Each-front, Each-back, Each-middle}
 use Rattle.etagere_base.proofs.TimesLemmas.{times-append}
 use Rattle.std.specs.List.{AllByRecursion}
 use Rattle.etagere_base.specs.Lists.{times}
+use Rattle.shelf_links.proofs.AllLists.LinkedItems.{entry_of}
+use Rattle.shelf_links.proofs.AllLists.LinkedEdits.{IsApart, linked-apart, around_of, Around, with_entry}
 use Rattle.shelf_links.specs.declared.records.LinkedItem.{LinkedItem}
 use Rattle.shelf_links.specs.declared.records.LinkedShelf.{LinkedShelf}
 use Rattle.etagere_links.specs.Edits.{changed_by, link_at, first_without, linked_between, unlinked, field_at}
 use Rattle.shelf_links.specs.RecordEdits.{free_unlinked, with_first_item, with_first_free}
-use Rattle.shelf_links.specs.RecordLists.{Records, Entry, first_item_of, first_free_of, item_numbers}
+use Rattle.shelf_links.specs.RecordLists.{IsLinkedExcept, Records, Entry, first_item_of, first_free_of, item_numbers}
 use Rattle.shelf_links.specs.RecordMerges.{free_absorbed, allocated_absorbed, item_freed, item_given}
 use Rattle.shelf_links.specs.Records.{item_chain, free_list}
-use Rattle.shelf_links.proofs.AllLists.LinkedItems.{IsApart, linked-apart}
-use Rattle.shelf_links.proofs.AllLists.LinkedMerges.{entry_of, free_absorbed-linked, allocated_absorbed-linked, item_freed-linked, item_given-linked}
+use Rattle.shelf_links.proofs.AllLists.LinkedMerges.{free_absorbed-linked, allocated_absorbed-linked, item_freed-linked, item_given-linked}
 use Rattle.shelf_links.proofs.AllLists.LinkedUnused.{lists_of}
 use Rattle.etagere_links.proofs.ListEnds.{times-here}
 use Rattle.etagere_links.proofs.RecordChanges.{map-changed_by}
@@ -21,7 +22,7 @@ use Rattle.etagere_links.proofs.RecordFrames.{length-unlinked, map-linked_betwee
 use Rattle.shelf_records.specs.AtlasRecords.{AtlasRecords, is_allocated_at, shelf_of, along_of, item_at}
 use Rattle.shelf_model.specs.State.{Item}
 use Rattle.shelf_store.proofs.Spelled.AbsorbedItems.{Absorbs, IsRest, rest-of, absorbed-places, absorbed-owners, absorbed-free, free-widens, widened-absorbs, allocated-absorbs, allocated-unmarked, frees-keep_values}
-use Rattle.shelf_store.proofs.Spelled.EntryValues.{IsWidened, IsFreed, IsGiven, id_at, marked, unmarked, remarked-places, free_count, free_count-append, free_count-free, free_count-allocated, free_count-none, free_count-same}
+use Rattle.shelf_store.proofs.Spelled.EntryValues.{SaysNow, IsWidened, IsFreed, IsGiven, id_at, marked, unmarked, remarked-places, free_count, free_count-append, free_count-free, free_count-allocated, free_count-none, free_count-same}
 use Rattle.shelf_records.proofs.Spelled.RecordValues.{ItemValues, item_values, shelf_values, values-same, SameItem, SameShelf, SameItem-then, items-same, shelves-same, owners-same}
 use Rattle.shelf_store.proofs.Spelled.SpelledLists.{with_lists, IsSpelled, EditsItems}
 use Rattle.shelf_records.specs.Private.Kept.{IsPlaced}
@@ -59,15 +60,15 @@ neither front back number next k absent =
     )
 
 -- the records after an item took the place of the free one after it
-pub free_absorbed-spelled : (atlas : AtlasRecords) (before after : List Entry) (shelf number next : ℕ) (front back free_front free_back unused shelves : List ℕ) → is_allocated_at atlas.records.items next ≡ false → IsSpelled atlas (lists_of (before ++ entry_of shelf (front ++ number ∷ next ∷ back) (free_front ++ next ∷ free_back) ∷ after) unused shelves) → EditsItems atlas (free_absorbed shelf number next ((item_at atlas.records.items number).width + (item_at atlas.records.items next).width) atlas.records) before after unused (next ∷ unused) shelves (entry_of shelf (front ++ number ∷ next ∷ back) (free_front ++ next ∷ free_back)) (entry_of shelf (front ++ number ∷ back) (free_front ++ free_back))
-free_absorbed-spelled atlas before after shelf number next front back free_front free_back unused shelves is_free spelled =
+pub free_absorbed-spelled : {atlas : AtlasRecords} (around : Around) (shelf number next : ℕ) (front back free_front free_back : List ℕ) → is_allocated_at atlas.records.items next ≡ false → IsSpelled atlas (with_entry around (entry_of shelf (front ++ number ∷ next ∷ back) (free_front ++ next ∷ free_back))) → EditsItems atlas (free_absorbed shelf number next ((item_at atlas.records.items number).width + (item_at atlas.records.items next).width) atlas.records) around (next ∷ around.unused_items) (entry_of shelf (front ++ number ∷ next ∷ back) (free_front ++ next ∷ free_back)) (entry_of shelf (front ++ number ∷ back) (free_front ++ free_back))
+free_absorbed-spelled {atlas} around shelf number next front back free_front free_back is_free spelled =
     let items : List LinkedItem = atlas.records.items in
     let width : ℕ = (item_at items number).width + (item_at items next).width in
     let lists : Records = free_absorbed shelf number next width atlas.records in
     let numbers : List ℕ = front ++ number ∷ next ∷ back in
     let entry : Entry = entry_of shelf numbers (free_front ++ next ∷ free_back) in
-    let apart : IsApart atlas.records before after unused [] entry = linked-apart atlas.records before after entry unused shelves [] [] spelled.linked in
-    let placed : IsPlaced atlas entry = Each-middle (IsPlaced atlas) before entry after spelled.placed in
+    let apart = linked-apart around entry spelled.linked in
+    let placed : IsPlaced atlas entry = Each-middle (IsPlaced atlas) around.before entry around.after spelled.placed in
     let count : (k : ℕ) → times k numbers ≡ times k front + times k (number ∷ next ∷ back) = λ k. times-append k front (number ∷ next ∷ back) in
     let rest : IsRest front back number next = rest-of front back number next apart.once in
     let wide : IsWidened items lists.items number width = free-widens atlas.records shelf number next (apart.within number (omega (arith, count number, times-here number (next ∷ back)))) in
@@ -82,28 +83,28 @@ free_absorbed-spelled atlas before after shelf number next front back free_front
     ∙ free-first shelf (first_without (link_at free_list.previous items next) (link_at free_list.next items next) (first_free_of atlas.records.shelves shelf)) atlas.records.shelves) in
     record {
       number = refl;
-      linked = free_absorbed-linked atlas.records before after shelf number next width front back free_front free_back unused shelves [] [] spelled.linked;
+      linked = free_absorbed-linked around shelf number next width front back free_front free_back spelled.linked;
       placed = absorbed-placed atlas lists shelf number next front back (free_front ++ next ∷ free_back) (free_front ++ free_back) rest absorbs same
           (λ k. omega (arith, times-append k free_front (next ∷ free_back), times-append k free_front free_back, free_count-free items k next [] is_free)) placed;
       items = λ k absent. absorbs.others k (neither front back number next k absent).0 (neither front back number next k absent).1;
       shelf = same;
       left_unused = (
         (wide.others next differ).allocated ∙ is_free,
-        unmarked-same items lists.items unused
-            (λ k stands. wide.others k (neither front back number next k (omega (arith, apart.others k (omega (arith, stands, times-append k (item_numbers before ++ item_numbers after) unused))))).0) spelled.unused,
+        unmarked-same items lists.items around.unused_items
+            (λ k stands. wide.others k (neither front back number next k (omega (arith, apart.others k (omega (arith, stands))))).0) spelled.unused,
       );
     }
 
 -- the records after a free item took the place of the allocated one after it
-pub allocated_absorbed-spelled : (atlas : AtlasRecords) (before after : List Entry) (shelf number next : ℕ) (front back free unused shelves : List ℕ) → is_allocated_at atlas.records.items next ≡ true → IsSpelled atlas (lists_of (before ++ entry_of shelf (front ++ number ∷ next ∷ back) free ∷ after) unused shelves) → EditsItems atlas (allocated_absorbed shelf number next ((item_at atlas.records.items number).width + (item_at atlas.records.items next).width) atlas.records) before after unused (next ∷ unused) shelves (entry_of shelf (front ++ number ∷ next ∷ back) free) (entry_of shelf (front ++ number ∷ back) free)
-allocated_absorbed-spelled atlas before after shelf number next front back free unused shelves is_allocated spelled =
+pub allocated_absorbed-spelled : {atlas : AtlasRecords} (around : Around) (shelf number next : ℕ) (front back free : List ℕ) → is_allocated_at atlas.records.items next ≡ true → IsSpelled atlas (with_entry around (entry_of shelf (front ++ number ∷ next ∷ back) free)) → EditsItems atlas (allocated_absorbed shelf number next ((item_at atlas.records.items number).width + (item_at atlas.records.items next).width) atlas.records) around (next ∷ around.unused_items) (entry_of shelf (front ++ number ∷ next ∷ back) free) (entry_of shelf (front ++ number ∷ back) free)
+allocated_absorbed-spelled {atlas} around shelf number next front back free is_allocated spelled =
     let items : List LinkedItem = atlas.records.items in
     let width : ℕ = (item_at items number).width + (item_at items next).width in
     let lists : Records = allocated_absorbed shelf number next width atlas.records in
     let numbers : List ℕ = front ++ number ∷ next ∷ back in
     let entry : Entry = entry_of shelf numbers free in
-    let apart : IsApart atlas.records before after unused [] entry = linked-apart atlas.records before after entry unused shelves [] [] spelled.linked in
-    let placed : IsPlaced atlas entry = Each-middle (IsPlaced atlas) before entry after spelled.placed in
+    let apart = linked-apart around entry spelled.linked in
+    let placed : IsPlaced atlas entry = Each-middle (IsPlaced atlas) around.before entry around.after spelled.placed in
     let count : (k : ℕ) → times k numbers ≡ times k front + times k (number ∷ next ∷ back) = λ k. times-append k front (number ∷ next ∷ back) in
     let rest : IsRest front back number next = rest-of front back number next apart.once in
     let differ : number ≢ next = λ e.
@@ -118,16 +119,16 @@ allocated_absorbed-spelled atlas before after shelf number next front back free 
     (item-first shelf (first_without (link_at item_chain.previous items next) (link_at item_chain.next items next) (first_item_of atlas.records.shelves shelf)) atlas.records.shelves) in
     record {
       number = refl;
-      linked = allocated_absorbed-linked atlas.records before after shelf number next width front back free unused shelves [] [] absent spelled.linked;
+      linked = allocated_absorbed-linked around shelf number next width front back free absent spelled.linked;
       placed = absorbed-placed atlas lists shelf number next front back free free rest absorbs same
           (λ k. omega (arith, free_count-allocated items k next [] is_allocated)) placed;
       items = λ k absent_. absorbs.others k (neither front back number next k absent_).0 (neither front back number next k absent_).1;
       shelf = same;
       left_unused = (
         allocated-unmarked atlas.records shelf number next width differ next_within,
-        unmarked-same items lists.items unused
+        unmarked-same items lists.items around.unused_items
             (λ k stands.
-            let gone = neither front back number next k (omega (arith, apart.others k (omega (arith, stands, times-append k (item_numbers before ++ item_numbers after) unused)))) in
+            let gone = neither front back number next k (omega (arith, apart.others k (omega (arith, stands)))) in
             absorbs.others k gone.0 gone.1) spelled.unused,
       );
     }
@@ -166,53 +167,52 @@ after-other front back number k once stands e =
     let here : times k (number ∷ back) ≡ 1 + times k back = rw e (times-here k back) in
     omega (arith, once, stands, times-append k front (number ∷ back), here)
 
--- the records after an allocated item became free
-pub item_freed-spelled : (atlas : AtlasRecords) (before after : List Entry) (shelf number : ℕ) (front back free unused shelves : List ℕ) → is_allocated_at atlas.records.items number ≡ true → IsSpelled atlas (lists_of (before ++ entry_of shelf (front ++ number ∷ back) free ∷ after) unused shelves) → EditsItems atlas (item_freed shelf number atlas.records) before after unused unused shelves (entry_of shelf (front ++ number ∷ back) free) (entry_of shelf (front ++ number ∷ back) (number ∷ free))
-item_freed-spelled atlas before after shelf number front back free unused shelves is_allocated spelled =
+-- an item of a shelf became free or allocated, and its free list was changed for that
+item_marked-spelled : {atlas : AtlasRecords} (around : Around) (shelf number : ℕ) (front back free free' : List ℕ) (lists : Records) {item : Item} {allocated : Bool} → IsSpelled atlas (with_entry around (entry_of shelf (front ++ number ∷ back) free)) → SaysNow atlas.records.items lists.items number item allocated → item.width ≡ (item_at atlas.records.items number).width → ((k : ℕ) → SameShelf atlas.records.shelves lists.shelves k) → IsLinkedExcept lists (with_entry around (entry_of shelf (front ++ number ∷ back) free')) [] [] → ((k : ℕ) → times k free' + free_count atlas.records.items k (number ∷ []) ≡ times k free + free_count lists.items k (number ∷ [])) → EditsItems atlas lists around around.unused_items (entry_of shelf (front ++ number ∷ back) free) (entry_of shelf (front ++ number ∷ back) free')
+item_marked-spelled {atlas} around shelf number front back free free' lists spelled says width same linked counts =
     let items : List LinkedItem = atlas.records.items in
-    let lists : Records = item_freed shelf number atlas.records in
-    let numbers : List ℕ = front ++ number ∷ back in
-    let entry : Entry = entry_of shelf numbers free in
-    let apart : IsApart atlas.records before after unused [] entry = linked-apart atlas.records before after entry unused shelves [] [] spelled.linked in
-    let placed : IsPlaced atlas entry = Each-middle (IsPlaced atlas) before entry after spelled.placed in
-    let within : number < length items = apart.within number (omega (arith, times-append number front (number ∷ back), times-here number back)) in
-    let absent : times number free ≡ 0 = placed.free_list number ∙ free_count-none items number numbers is_allocated in
-    let freed : IsFreed items lists.items number = freed-values atlas.records shelf number within in
-    let same : (k : ℕ) → SameShelf atlas.records.shelves lists.shelves k = λ k.
-    shelves-same atlas.records.shelves lists.shelves k (free-first shelf (Some number) atlas.records.shelves) in
-    let same_front : (k : ℕ) → 1 ≤ times k front → SameItem items lists.items k = λ k stands. freed.others k (before-other front back number k (apart.once k) stands) in
-    let same_back : (k : ℕ) → 1 ≤ times k back → SameItem items lists.items k = λ k stands. freed.others k (after-other front back number k (apart.once k) stands) in
-    let here : ℕ = along_of atlas.records.shelves shelf in
-    let own_width : (item_at lists.items number).width ≡ (item_at items number).width = ap (λ (i : Item). i.width) freed.item in
+    let entry : Entry = entry_of shelf (front ++ number ∷ back) free in
+    let apart = linked-apart around entry spelled.linked in
+    let placed : IsPlaced atlas entry = Each-middle (IsPlaced atlas) around.before entry around.after spelled.placed in
+    let same_front : (k : ℕ) → 1 ≤ times k front → SameItem items lists.items k = λ k stands. says.others k (before-other front back number k (apart.once k) stands) in
+    let same_back : (k : ℕ) → 1 ≤ times k back → SameItem items lists.items k = λ k stands. says.others k (after-other front back number k (apart.once k) stands) in
+    let own_width : (item_at lists.items number).width ≡ (item_at items number).width = ap (λ (i : Item). i.width) says.item ∙ width in
     let owned = Each-back (λ item. shelf_of items item ≡ shelf) front (number ∷ back) placed.owners in
     let kept_front : (k : ℕ) → free_count lists.items k front ≡ free_count items k front = λ k. free_count-same items lists.items k front (λ n stands. (same_front n stands).allocated) in
     let kept_back : (k : ℕ) → free_count lists.items k back ≡ free_count items k back = λ k. free_count-same items lists.items k back (λ n stands. (same_back n stands).allocated) in
+    let split : (is : List LinkedItem) (k : ℕ) → free_count is k (number ∷ back) ≡ free_count is k (number ∷ []) + free_count is k back = λ is k. free_count-append is k (number ∷ []) back in
     record {
       number = refl;
-      linked = item_freed-linked atlas.records before after shelf number front back free unused shelves [] [] absent spelled.linked;
+      linked = linked;
       placed =
           record {
             owners = Each-append (λ item. shelf_of lists.items item ≡ shelf) front (number ∷ back)
                 (owners-same items lists.items shelf front same_front (Each-front (λ item. shelf_of items item ≡ shelf) front (number ∷ back) placed.owners))
-                (freed.shelf ∙ owned.0, owners-same items lists.items shelf back same_back owned.1);
+                (says.shelf ∙ owned.0, owners-same items lists.items shelf back same_back owned.1);
             along = ap (λ a. a % atlas.frame.column_width) (same shelf).along ∙ placed.along;
-            places = rw (same shelf).along (remarked-places items lists.items here front back number same_front same_back freed.place own_width placed.places);
-            free_list = λ k. omega (
-              arith,
-              placed.free_list k,
-              kept_front k,
-              kept_back k,
-              free_count-append lists.items k front (number ∷ back),
-              free_count-append items k front (number ∷ back),
-              free_count-free lists.items k number back freed.allocated,
-              free_count-allocated items k number back is_allocated,
-            );
+            places = rw (same shelf).along (remarked-places items lists.items (along_of atlas.records.shelves shelf) front back number same_front same_back says.place own_width placed.places);
+            free_list = λ k. omega (arith, placed.free_list k, counts k, kept_front k, kept_back k, split items k, split lists.items k, free_count-append lists.items k front (number ∷ back), free_count-append items k front (number ∷ back));
           };
-      items = λ k gone. freed.others k (not-member front back number k gone);
+      items = λ k gone. says.others k (not-member front back number k gone);
       shelf = same;
-      left_unused = unmarked-same items lists.items unused
-          (λ k stands. freed.others k (not-member front back number k (omega (arith, apart.others k (omega (arith, stands, times-append k (item_numbers before ++ item_numbers after) unused)))))) spelled.unused;
+      left_unused = unmarked-same items lists.items around.unused_items
+          (λ k stands. says.others k (not-member front back number k (omega (arith, apart.others k (omega (arith, stands)))))) spelled.unused;
     }
+
+-- the records after an allocated item became free
+pub item_freed-spelled : {atlas : AtlasRecords} (around : Around) (shelf number : ℕ) (front back free : List ℕ) → is_allocated_at atlas.records.items number ≡ true → IsSpelled atlas (with_entry around (entry_of shelf (front ++ number ∷ back) free)) → EditsItems atlas (item_freed shelf number atlas.records) around around.unused_items (entry_of shelf (front ++ number ∷ back) free) (entry_of shelf (front ++ number ∷ back) (number ∷ free))
+item_freed-spelled {atlas} around shelf number front back free is_allocated spelled =
+    let items : List LinkedItem = atlas.records.items in
+    let entry : Entry = entry_of shelf (front ++ number ∷ back) free in
+    let within : number < length items = (linked-apart around entry spelled.linked).within number (omega (arith, times-append number front (number ∷ back), times-here number back)) in
+    let placed : IsPlaced atlas entry = Each-middle (IsPlaced atlas) around.before entry around.after spelled.placed in
+    let absent : times number free ≡ 0 = placed.free_list number ∙ free_count-none items number (front ++ number ∷ back) is_allocated in
+    let lists : Records = item_freed shelf number atlas.records in
+    let freed : IsFreed items lists.items number = freed-values atlas.records shelf number within in
+    item_marked-spelled around shelf number front back free (number ∷ free) lists spelled freed refl
+    (λ k. shelves-same atlas.records.shelves lists.shelves k (free-first shelf (Some number) atlas.records.shelves))
+    (item_freed-linked around shelf number front back free absent spelled.linked)
+    (λ k. omega (arith, free_count-free lists.items k number [] freed.allocated, free_count-allocated items k number [] is_allocated))
 
 -- what an item says after it was given whole
 pub given-values : (records : Records) (shelf number : ℕ) → number < length records.items → IsGiven records.items (item_given shelf number records).items number
@@ -236,51 +236,16 @@ given-values records shelf number within =
     }
 
 -- the records after a free item was given whole
-pub item_given-spelled : (atlas : AtlasRecords) (before after : List Entry) (shelf number : ℕ) (front back free_front free_back unused shelves : List ℕ) → is_allocated_at atlas.records.items number ≡ false → IsSpelled atlas (lists_of (before ++ entry_of shelf (front ++ number ∷ back) (free_front ++ number ∷ free_back) ∷ after) unused shelves) → EditsItems atlas (item_given shelf number atlas.records) before after unused unused shelves (entry_of shelf (front ++ number ∷ back) (free_front ++ number ∷ free_back)) (entry_of shelf (front ++ number ∷ back) (free_front ++ free_back))
-item_given-spelled atlas before after shelf number front back free_front free_back unused shelves is_free spelled =
+pub item_given-spelled : {atlas : AtlasRecords} (around : Around) (shelf number : ℕ) (front back free_front free_back : List ℕ) → is_allocated_at atlas.records.items number ≡ false → IsSpelled atlas (with_entry around (entry_of shelf (front ++ number ∷ back) (free_front ++ number ∷ free_back))) → EditsItems atlas (item_given shelf number atlas.records) around around.unused_items (entry_of shelf (front ++ number ∷ back) (free_front ++ number ∷ free_back)) (entry_of shelf (front ++ number ∷ back) (free_front ++ free_back))
+item_given-spelled {atlas} around shelf number front back free_front free_back is_free spelled =
     let items : List LinkedItem = atlas.records.items in
-    let lists : Records = item_given shelf number atlas.records in
     let numbers : List ℕ = front ++ number ∷ back in
     let free : List ℕ = free_front ++ number ∷ free_back in
-    let entry : Entry = entry_of shelf numbers free in
-    let apart : IsApart atlas.records before after unused [] entry = linked-apart atlas.records before after entry unused shelves [] [] spelled.linked in
-    let placed : IsPlaced atlas entry = Each-middle (IsPlaced atlas) before entry after spelled.placed in
-    let within : number < length items = apart.within number (omega (arith, times-append number front (number ∷ back), times-here number back)) in
+    let within : number < length items = (linked-apart around (entry_of shelf numbers free) spelled.linked).within number (omega (arith, times-append number front (number ∷ back), times-here number back)) in
+    let lists : Records = item_given shelf number atlas.records in
     let given : IsGiven items lists.items number = given-values atlas.records shelf number within in
-    let same : (k : ℕ) → SameShelf atlas.records.shelves lists.shelves k = λ k.
-    shelves-same atlas.records.shelves lists.shelves k
-    (free-first shelf (first_without (link_at free_list.previous items number) (link_at free_list.next items number) (first_free_of atlas.records.shelves shelf)) atlas.records.shelves) in
-    let same_front : (k : ℕ) → 1 ≤ times k front → SameItem items lists.items k = λ k stands. given.others k (before-other front back number k (apart.once k) stands) in
-    let same_back : (k : ℕ) → 1 ≤ times k back → SameItem items lists.items k = λ k stands. given.others k (after-other front back number k (apart.once k) stands) in
-    let own_width : (item_at lists.items number).width ≡ (item_at items number).width = ap (λ (i : Item). i.width) given.item in
-    let owned = Each-back (λ item. shelf_of items item ≡ shelf) front (number ∷ back) placed.owners in
-    let kept_front : (k : ℕ) → free_count lists.items k front ≡ free_count items k front = λ k. free_count-same items lists.items k front (λ n stands. (same_front n stands).allocated) in
-    let kept_back : (k : ℕ) → free_count lists.items k back ≡ free_count items k back = λ k. free_count-same items lists.items k back (λ n stands. (same_back n stands).allocated) in
-    record {
-      number = refl;
-      linked = item_given-linked atlas.records before after shelf number numbers free_front free_back unused shelves [] [] spelled.linked;
-      placed =
-          record {
-            owners = Each-append (λ item. shelf_of lists.items item ≡ shelf) front (number ∷ back)
-                (owners-same items lists.items shelf front same_front (Each-front (λ item. shelf_of items item ≡ shelf) front (number ∷ back) placed.owners))
-                (given.shelf ∙ owned.0, owners-same items lists.items shelf back same_back owned.1);
-            along = ap (λ a. a % atlas.frame.column_width) (same shelf).along ∙ placed.along;
-            places = rw (same shelf).along (remarked-places items lists.items (along_of atlas.records.shelves shelf) front back number same_front same_back given.place own_width placed.places);
-            free_list = λ k. omega (
-              arith,
-              placed.free_list k,
-              kept_front k,
-              kept_back k,
-              times-append k free_front (number ∷ free_back),
-              times-append k free_front free_back,
-              free_count-append lists.items k front (number ∷ back),
-              free_count-append items k front (number ∷ back),
-              free_count-allocated lists.items k number back given.allocated,
-              free_count-free items k number back is_free,
-            );
-          };
-      items = λ k gone. given.others k (not-member front back number k gone);
-      shelf = same;
-      left_unused = unmarked-same items lists.items unused
-          (λ k stands. given.others k (not-member front back number k (omega (arith, apart.others k (omega (arith, stands, times-append k (item_numbers before ++ item_numbers after) unused)))))) spelled.unused;
-    }
+    item_marked-spelled around shelf number front back free (free_front ++ free_back) lists spelled given refl
+    (λ k. shelves-same atlas.records.shelves lists.shelves k
+    (free-first shelf (first_without (link_at free_list.previous items number) (link_at free_list.next items number) (first_free_of atlas.records.shelves shelf)) atlas.records.shelves))
+    (item_given-linked around shelf number numbers free_front free_back spelled.linked)
+    (λ k. omega (arith, times-append k free_front (number ∷ free_back), times-append k free_front free_back, free_count-allocated lists.items k number [] given.allocated, free_count-free items k number [] is_free))

@@ -4,6 +4,8 @@ use Rattle.etagere_base.proofs.EachLemmas.{Each-append, Each-front, Each-back}
 use Rattle.etagere_base.proofs.TimesLemmas.{times-append}
 use Rattle.std.specs.List.{AllByRecursion}
 use Rattle.etagere_base.specs.Lists.{times}
+use Rattle.shelf_links.proofs.AllLists.LinkedItems.{entry_of}
+use Rattle.shelf_links.proofs.AllLists.LinkedEdits.{IsApart, linked-apart, around_of, Around}
 use Rattle.shelf_links.specs.declared.records.LinkedItem.{LinkedItem}
 use Rattle.shelf_links.specs.declared.records.LinkedShelf.{LinkedShelf}
 use Rattle.etagere_links.specs.Edits.{unlinked, made_unused}
@@ -12,8 +14,7 @@ use Rattle.shelf_links.specs.RecordLists.{Records, Entry, shelf_numbers}
 use Rattle.shelf_links.specs.RecordMerges.{shelf_absorbed}
 use Rattle.shelf_links.specs.Records.{item_chain, shelf_chain}
 use Rattle.etagere_links.proofs.FieldChanges.{field_at-changed, field_at-kept}
-use Rattle.shelf_links.proofs.AllLists.LinkedItems.{IsApart, linked-apart}
-use Rattle.shelf_links.proofs.AllLists.LinkedMerges.{entry_of, shelf_absorbed-linked}
+use Rattle.shelf_links.proofs.AllLists.LinkedMerges.{shelf_absorbed-linked}
 use Rattle.shelf_links.proofs.AllLists.LinkedFrames.{shelf_numbers-append}
 use Rattle.shelf_links.proofs.AllLists.LinkedUnused.{lists_of}
 use Rattle.etagere_links.proofs.RecordChanges.{length-changed_by}
@@ -67,30 +68,30 @@ shelf_absorbed-values records number next item height within =
     }
 
 -- the records after an empty shelf took the place of the empty one after it in its column
-pub shelf_absorbed-spelled : (atlas : AtlasRecords) (before after : List Entry) (entry : Entry) (next item : ℕ) (free unused shelves : List ℕ) → along_of atlas.records.shelves next ≡ along_of atlas.records.shelves entry.number → is_allocated_at atlas.records.items item ≡ false → IsSpelled atlas (lists_of (before ++ entry ∷ entry_of next (item ∷ []) free ∷ after) unused shelves) → IsSpelled (with_lists atlas (shelf_absorbed entry.number next item (height_of atlas.records.shelves entry.number + height_of atlas.records.shelves next) atlas.records)) (lists_of (before ++ entry ∷ after) (item ∷ unused) (next ∷ shelves))
-shelf_absorbed-spelled atlas before after entry next item free unused shelves column is_free spelled =
+pub shelf_absorbed-spelled : {atlas : AtlasRecords} (around : Around) (entry : Entry) (next item : ℕ) (free : List ℕ) → along_of atlas.records.shelves next ≡ along_of atlas.records.shelves entry.number → is_allocated_at atlas.records.items item ≡ false → IsSpelled atlas (lists_of (around.before ++ entry ∷ entry_of next (item ∷ []) free ∷ around.after) around.unused_items around.unused_shelves) → IsSpelled (with_lists atlas (shelf_absorbed entry.number next item (height_of atlas.records.shelves entry.number + height_of atlas.records.shelves next) atlas.records)) (lists_of (around.before ++ entry ∷ around.after) (item ∷ around.unused_items) (next ∷ around.unused_shelves))
+shelf_absorbed-spelled {atlas} around entry next item free column is_free spelled =
     let old : List LinkedShelf = atlas.records.shelves in
     let items : List LinkedItem = atlas.records.items in
     let height : ℕ = height_of old entry.number + height_of old next in
     let lists : Records = shelf_absorbed entry.number next item height atlas.records in
     let gone : Entry = entry_of next (item ∷ []) free in
-    let apart : IsApart atlas.records before (gone ∷ after) unused [] entry = linked-apart atlas.records before (gone ∷ after) entry unused shelves [] [] spelled.linked in
+    let apart = linked-apart (record around { after = gone ∷ around.after }) entry spelled.linked in
     let taller : IsTaller atlas.records lists entry.number height = shelf_absorbed-values atlas.records entry.number next item height apart.number in
     let absorbs : AbsorbsShelf old lists.shelves entry.number next =
     record { along = taller.along entry.number; across = taller.across entry.number; height = taller.own; column = column } in
-    let numbers : shelf_numbers (before ++ entry ∷ gone ∷ after) ≡ shelf_numbers before ++ entry.number ∷ next ∷ shelf_numbers after = shelf_numbers-append before (entry ∷ gone ∷ after) in
-    let fewer : shelf_numbers (before ++ entry ∷ after) ≡ shelf_numbers before ++ entry.number ∷ shelf_numbers after = shelf_numbers-append before (entry ∷ after) in
-    let among : (k : ℕ) → times k (shelf_numbers before ++ shelf_numbers (gone ∷ after)) ≡ times k (shelf_numbers before) + times k (shelf_numbers (gone ∷ after)) =
-    λ k. times-append k (shelf_numbers before) (shelf_numbers (gone ∷ after)) in
-    let tail = Each-back (IsPlaced atlas) before (entry ∷ gone ∷ after) spelled.placed in
+    let numbers : shelf_numbers (around.before ++ entry ∷ gone ∷ around.after) ≡ shelf_numbers around.before ++ entry.number ∷ next ∷ shelf_numbers around.after = shelf_numbers-append around.before (entry ∷ gone ∷ around.after) in
+    let fewer : shelf_numbers (around.before ++ entry ∷ around.after) ≡ shelf_numbers around.before ++ entry.number ∷ shelf_numbers around.after = shelf_numbers-append around.before (entry ∷ around.after) in
+    let among : (k : ℕ) → times k (shelf_numbers around.before ++ shelf_numbers (gone ∷ around.after)) ≡ times k (shelf_numbers around.before) + times k (shelf_numbers (gone ∷ around.after)) =
+    λ k. times-append k (shelf_numbers around.before) (shelf_numbers (gone ∷ around.after)) in
+    let tail = Each-back (IsPlaced atlas) around.before (entry ∷ gone ∷ around.after) spelled.placed in
     record {
-      linked = shelf_absorbed-linked atlas.records before after entry next item height free unused shelves [] [] spelled.linked;
-      placed = Each-append (IsPlaced (with_lists atlas lists)) before (entry ∷ after)
-          (still-placed atlas lists before taller.along taller.items (Each-front (IsPlaced atlas) before (entry ∷ gone ∷ after) spelled.placed))
-          (still-placed atlas lists (entry ∷ after) taller.along taller.items (tail.0, tail.1.1));
-      stacked = rw fewer (stacked-absorbed old lists.shelves atlas.frame.column_width [] [] (shelf_numbers before) (shelf_numbers after) entry.number next absorbs (λ c. refl)
+      linked = shelf_absorbed-linked around entry next item height free spelled.linked;
+      placed = Each-append (IsPlaced (with_lists atlas lists)) around.before (entry ∷ around.after)
+          (still-placed atlas lists around.before taller.along taller.items (Each-front (IsPlaced atlas) around.before (entry ∷ gone ∷ around.after) spelled.placed))
+          (still-placed atlas lists (entry ∷ around.after) taller.along taller.items (tail.0, tail.1.1));
+      stacked = rw fewer (stacked-absorbed old lists.shelves atlas.frame.column_width [] [] (shelf_numbers around.before) (shelf_numbers around.after) entry.number next absorbs (λ c. refl)
           (λ k stands. taller.others k (apart.numbers k (omega (arith, among k, stands))))
           (λ k stands. taller.others k (apart.numbers k (omega (arith, among k, stands))))
           (rw (← numbers) spelled.stacked));
-      unused = ((taller.items item).allocated ∙ is_free, unmarked-same items lists.items unused (λ k stands. taller.items k) spelled.unused);
+      unused = ((taller.items item).allocated ∙ is_free, unmarked-same items lists.items around.unused_items (λ k stands. taller.items k) spelled.unused);
     }

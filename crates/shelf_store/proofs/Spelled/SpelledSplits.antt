@@ -6,6 +6,8 @@ use Rattle.etagere_base.proofs.EachLemmas.{Each-append, Each-front, Each-back, E
 use Rattle.etagere_base.proofs.TimesLemmas.{times-append}
 use Rattle.std.specs.List.{AllByRecursion}
 use Rattle.etagere_base.specs.Lists.{times}
+use Rattle.shelf_links.proofs.AllLists.LinkedItems.{entry_of}
+use Rattle.shelf_links.proofs.AllLists.LinkedEdits.{IsApart, linked-apart, around_of, Around}
 use Rattle.shelf_links.specs.declared.records.LinkedItem.{LinkedItem}
 use Rattle.shelf_links.specs.declared.records.LinkedShelf.{LinkedShelf}
 use Rattle.etagere_links.specs.Edits.{changed_by, link_at, linked_between, field_at}
@@ -17,8 +19,6 @@ use Rattle.shelf_links.specs.Records.{shelf_chain}
 use Rattle.etagere_links.proofs.FieldChanges.{field_at-changed, field_at-kept}
 use Rattle.shelf_links.proofs.AllLists.LinkedFields.{item_written-linked}
 use Rattle.shelf_links.proofs.AllLists.LinkedFrames.{item_numbers-append, shelf_numbers-append}
-use Rattle.shelf_links.proofs.AllLists.LinkedItems.{IsApart, linked-apart}
-use Rattle.shelf_links.proofs.AllLists.LinkedMerges.{entry_of}
 use Rattle.shelf_links.proofs.AllLists.LinkedSplits.{shelf_split-linked}
 use Rattle.shelf_links.proofs.AllLists.LinkedUnused.{lists_of, IsLoose, loose-of}
 use Rattle.etagere_links.proofs.RecordChanges.{get-changed_by-other, length-changed_by}
@@ -58,21 +58,21 @@ pub shelf-parts : (column column' height height' : ℕ) (items items' : List Ite
 shelf-parts column column' height height' items items' free free' a b c d = rw (a, b, c, d) refl
 
 -- records of which a shelf was split where that was due: it is this tall, and these shelves stand after it
-pub record HasShelfSplit (atlas : AtlasRecords) (new : Records) (before added after : List Entry) (entry : Entry) (unused_items unused_shelves loose : List ℕ) (tall : ℕ) (pieces : List Shelf) : Type 0 where
-  pub spelled : IsSpelledBut (with_lists atlas new) (lists_of (before ++ entry ∷ (added ++ after)) unused_items unused_shelves) loose []
-  pub items : (k : ℕ) → 1 ≤ times k (item_numbers (before ++ entry ∷ after)) → slice_get new.items k ≡ slice_get atlas.records.items k
-  pub others : (k : ℕ) → 1 ≤ times k (shelf_numbers before ++ shelf_numbers after) → SameShelf atlas.records.shelves new.shelves k
+pub record HasShelfSplit (atlas : AtlasRecords) (new : Records) (around : Around) (added : List Entry) (entry : Entry) (loose : List ℕ) (tall : ℕ) (pieces : List Shelf) : Type 0 where
+  pub spelled : IsSpelledBut (with_lists atlas new) (lists_of (around.before ++ entry ∷ (added ++ around.after)) around.unused_items around.unused_shelves) loose []
+  pub items : (k : ℕ) → 1 ≤ times k (item_numbers (around.before ++ entry ∷ around.after)) → slice_get new.items k ≡ slice_get atlas.records.items k
+  pub others : (k : ℕ) → 1 ≤ times k (shelf_numbers around.before ++ shelf_numbers around.after) → SameShelf atlas.records.shelves new.shelves k
   pub along : along_of new.shelves entry.number ≡ along_of atlas.records.shelves entry.number
   pub height : height_of new.shelves entry.number ≡ tall
   pub rests : map (spelled_shelf (with_lists atlas new)) added ≡ pieces
   pub flags : AllByRecursion (HasFlag (with_lists atlas new)) added
   pub more : length atlas.records.items ≤ length new.items
-  pub made : 1 ≤ length unused_items → length new.items ≡ length atlas.records.items
+  pub made : 1 ≤ length around.unused_items → length new.items ≡ length atlas.records.items
   pub few : length new.shelves ≤ no_link
 
 -- no shelf is split
-pub split-none : (atlas : AtlasRecords) (new : Records) (before after : List Entry) (entry : Entry) (unused_items unused_shelves loose : List ℕ) → IsUsed atlas new (before ++ entry ∷ after) unused_items unused_shelves loose [] → HasShelfSplit atlas new before [] after entry unused_items unused_shelves loose (height_of atlas.records.shelves entry.number) []
-split-none atlas new before after entry unused_items unused_shelves loose used =
+pub split-none : {atlas : AtlasRecords} (new : Records) (around : Around) (entry : Entry) (loose : List ℕ) → IsUsed atlas new (around.before ++ entry ∷ around.after) around.unused_items around.unused_shelves loose [] → HasShelfSplit atlas new around [] entry loose (height_of atlas.records.shelves entry.number) []
+split-none {atlas} new around entry loose used =
     record {
       spelled = used.spelled;
       items = used.items;
@@ -144,10 +144,10 @@ rest-of records number rest rest_item height frame_width apart within rest_withi
     }
 
 -- a shelf is split
-pub split-shelf : (atlas : AtlasRecords) (used : Records) (before after : List Entry) (entry : Entry) (rest rest_item height : ℕ) (unused_items unused_shelves loose : List ℕ) → height ≤ height_of atlas.records.shelves entry.number → IsUsed atlas used (before ++ entry ∷ after) unused_items unused_shelves (rest_item ∷ loose) (rest ∷ []) → HasShelfSplit atlas (shelf_split entry.number rest rest_item height (rest_shelf (shelf_record used.shelves entry.number) height rest_item) (free_item (shelf_record used.shelves entry.number).x atlas.frame.column_width rest (item_record used.items rest_item).generation) used) before (entry_of rest (rest_item ∷ []) (rest_item ∷ []) ∷ []) after entry unused_items unused_shelves loose height (empty_shelf atlas.frame (along_of atlas.records.shelves entry.number / atlas.frame.column_width) (height_of atlas.records.shelves entry.number - height) ∷ [])
-split-shelf atlas used before after entry rest rest_item height unused_items unused_shelves loose tall is_used =
+pub split-shelf : {atlas : AtlasRecords} (used : Records) (around : Around) (entry : Entry) (rest rest_item height : ℕ) (loose : List ℕ) → height ≤ height_of atlas.records.shelves entry.number → IsUsed atlas used (around.before ++ entry ∷ around.after) around.unused_items around.unused_shelves (rest_item ∷ loose) (rest ∷ []) → HasShelfSplit atlas (shelf_split entry.number rest rest_item height (rest_shelf (shelf_record used.shelves entry.number) height rest_item) (free_item (shelf_record used.shelves entry.number).x atlas.frame.column_width rest (item_record used.items rest_item).generation) used) around (entry_of rest (rest_item ∷ []) (rest_item ∷ []) ∷ []) entry loose height (empty_shelf atlas.frame (along_of atlas.records.shelves entry.number / atlas.frame.column_width) (height_of atlas.records.shelves entry.number - height) ∷ [])
+split-shelf {atlas} used around entry rest rest_item height loose tall is_used =
     let middle : AtlasRecords = with_lists atlas used in
-    let entries : List Entry = before ++ entry ∷ after in
+    let entries : List Entry = around.before ++ entry ∷ around.after in
     let number : ℕ = entry.number in
     let cw : ℕ = atlas.frame.column_width in
     let whole : LinkedShelf = shelf_record used.shelves number in
@@ -155,32 +155,32 @@ split-shelf atlas used before after entry rest rest_item height unused_items unu
     let item : LinkedItem = free_item whole.x cw rest (item_record used.items rest_item).generation in
     let added : Entry = entry_of rest (rest_item ∷ []) (rest_item ∷ []) in
     let new : Records = shelf_split number rest rest_item height rest_record item used in
-    let spelled : IsSpelledBut middle (lists_of entries unused_items unused_shelves) (rest_item ∷ loose) (rest ∷ []) = is_used.spelled in
-    let free_shelf : IsLoose (length used.shelves) (shelf_numbers entries) unused_shelves rest = loose-of (length used.shelves) (shelf_numbers entries) unused_shelves [] rest spelled.linked.shelves_once in
-    let free : IsLoose (length used.items) (item_numbers entries) unused_items rest_item = loose-of (length used.items) (item_numbers entries) unused_items loose rest_item spelled.linked.items_once in
-    let apart : IsApart used before after unused_items (rest_item ∷ loose) entry = linked-apart used before after entry unused_items unused_shelves (rest_item ∷ loose) (rest ∷ []) spelled.linked in
-    let numbers : shelf_numbers entries ≡ shelf_numbers before ++ number ∷ shelf_numbers after = shelf_numbers-append before (entry ∷ after) in
-    let number_count : (k : ℕ) → times k (shelf_numbers entries) ≡ times k (shelf_numbers before) + times k (number ∷ shelf_numbers after) =
-    λ k. ap (times k) numbers ∙ times-append k (shelf_numbers before) (number ∷ shelf_numbers after) in
-    let own_stands : 1 ≤ times number (shelf_numbers entries) = omega (arith, number_count number, self-stands number (shelf_numbers after)) in
+    let spelled : IsSpelledBut middle (lists_of entries around.unused_items around.unused_shelves) (rest_item ∷ loose) (rest ∷ []) = is_used.spelled in
+    let free_shelf : IsLoose (length used.shelves) (shelf_numbers entries) around.unused_shelves rest = loose-of (length used.shelves) (shelf_numbers entries) around.unused_shelves [] rest spelled.linked.shelves_once in
+    let free : IsLoose (length used.items) (item_numbers entries) around.unused_items rest_item = loose-of (length used.items) (item_numbers entries) around.unused_items loose rest_item spelled.linked.items_once in
+    let apart = linked-apart around entry spelled.linked in
+    let numbers : shelf_numbers entries ≡ shelf_numbers around.before ++ number ∷ shelf_numbers around.after = shelf_numbers-append around.before (entry ∷ around.after) in
+    let number_count : (k : ℕ) → times k (shelf_numbers entries) ≡ times k (shelf_numbers around.before) + times k (number ∷ shelf_numbers around.after) =
+    λ k. ap (times k) numbers ∙ times-append k (shelf_numbers around.before) (number ∷ shelf_numbers around.after) in
+    let own_stands : 1 ≤ times number (shelf_numbers entries) = omega (arith, number_count number, self-stands number (shelf_numbers around.after)) in
     let rest_other : (k : ℕ) → 1 ≤ times k (shelf_numbers entries) → rest ≢ k = λ k stands. stranger rest k (shelf_numbers entries) free_shelf.no_used stands in
-    let number_other : (k : ℕ) → 1 ≤ times k (shelf_numbers before ++ shelf_numbers after) → number ≢ k = λ k stands e. apart.numbers k stands (ap (λ n. Some n) e) in
+    let number_other : (k : ℕ) → 1 ≤ times k (shelf_numbers around.before ++ shelf_numbers around.after) → number ≢ k = λ k stands e. apart.numbers k (omega (arith, stands, times-append k (shelf_numbers around.before) (shelf_numbers around.after))) (ap (λ n. Some n) e) in
     let is : IsRestOf cw new.items new.shelves used.shelves number rest rest_item height =
     rest-of used number rest rest_item height cw (λ e. rest_other number own_stands (sym e)) apart.number free_shelf.within free.within (rw (is_used.shelves number).height tall) in
     let item_same : (k : ℕ) → rest_item ≢ k → slice_get new.items k ≡ slice_get used.items k = λ k other.
     get-changed_by-other (λ _. item) used.items (Some rest_item) k (λ e. let same : rest_item ≡ k = cc in other same) in
     let kept : (k : ℕ) → 1 ≤ times k (item_numbers entries) → slice_get new.items k ≡ slice_get used.items k = λ k stands.
     item_same k (stranger rest_item k (item_numbers entries) free.no_used stands) in
-    let among : (k : ℕ) → times k (shelf_numbers before ++ shelf_numbers after) ≡ times k (shelf_numbers before) + times k (shelf_numbers after) =
-    λ k. times-append k (shelf_numbers before) (shelf_numbers after) in
-    let others : (k : ℕ) → 1 ≤ times k (shelf_numbers before ++ shelf_numbers after) → SameShelf used.shelves new.shelves k = λ k stands.
+    let among : (k : ℕ) → times k (shelf_numbers around.before ++ shelf_numbers around.after) ≡ times k (shelf_numbers around.before) + times k (shelf_numbers around.after) =
+    λ k. times-append k (shelf_numbers around.before) (shelf_numbers around.after) in
+    let others : (k : ℕ) → 1 ≤ times k (shelf_numbers around.before ++ shelf_numbers around.after) → SameShelf used.shelves new.shelves k = λ k stands.
     is.others k (number_other k stands) (rest_other k (omega (arith, among k, number_count k, stands))) in
     let along : (k : ℕ) → 1 ≤ times k (shelf_numbers entries) → along_of new.shelves k ≡ along_of used.shelves k = λ k stands.
     (field_at-kept (λ (x : LinkedShelf). x.x) 0 (λ (x : LinkedShelf). record x { height = height }) (linked_between shelf_chain (Some number) (link_at shelf_chain.next (changed_by (Some rest) (λ _. rest_record) used.shelves) number) rest (changed_by (Some rest) (λ _. rest_record) used.shelves)) number k (λ x. refl))
     ∙ (shelves-same (changed_by (Some rest) (λ _. rest_record) used.shelves) (linked_between shelf_chain (Some number) (link_at shelf_chain.next (changed_by (Some rest) (λ _. rest_record) used.shelves) number) rest (changed_by (Some rest) (λ _. rest_record) used.shelves)) k (map-linked_between shelf_chain shelf_values shelves-keep_values (changed_by (Some rest) (λ _. rest_record) used.shelves) (Some number) (link_at shelf_chain.next (changed_by (Some rest) (λ _. rest_record) used.shelves) number) rest)).along
     ∙ (shelf-other used.shelves used.shelves (λ _. rest_record) rest k (λ e. let same : rest ≡ k = cc in rest_other k stands same) (same-shelf used.shelves k)).along in
     let all : AllByRecursion (IsPlaced (with_lists atlas new)) entries = placed-entries middle new entries along (λ k stands. item-same used.items new.items k (kept k stands)) spelled.placed in
-    let own_column : along_of used.shelves number % cw ≡ 0 = (Each-middle (IsPlaced middle) before entry after spelled.placed).along in
+    let own_column : along_of used.shelves number % cw ≡ 0 = (Each-middle (IsPlaced middle) around.before entry around.after spelled.placed).along in
     let rest_along : along_of new.shelves rest ≡ along_of used.shelves number = is.splits.rest_along in
     let added_placed : IsPlaced (with_lists atlas new) added =
     record {
@@ -199,20 +199,20 @@ split-shelf atlas used before after entry rest rest_item height unused_items unu
     shelf-parts (along_of new.shelves rest / cw) (along_of atlas.records.shelves number / cw) (height_of new.shelves rest) (height_of atlas.records.shelves number - height)
     (item_at new.items rest_item ∷ []) (record { width = cw; id = None } ∷ []) (item_place_of new.items rest_item ∷ []) (along_of atlas.records.shelves number / cw * cw ∷ [])
     column rest_height (ap (λ (i : Item). i ∷ []) is.item) (ap (λ p. p ∷ []) place) in
-    let tail = Each-back (IsPlaced (with_lists atlas new)) before (entry ∷ after) all in
-    let more_numbers : shelf_numbers (before ++ entry ∷ added ∷ after) ≡ shelf_numbers before ++ number ∷ rest ∷ shelf_numbers after = shelf_numbers-append before (entry ∷ added ∷ after) in
+    let tail = Each-back (IsPlaced (with_lists atlas new)) around.before (entry ∷ around.after) all in
+    let more_numbers : shelf_numbers (around.before ++ entry ∷ added ∷ around.after) ≡ shelf_numbers around.before ++ number ∷ rest ∷ shelf_numbers around.after = shelf_numbers-append around.before (entry ∷ added ∷ around.after) in
     record {
       spelled =
           record {
-            linked = shelf_split-linked used before after entry rest rest_item height rest_record item unused_items unused_shelves loose []
+            linked = shelf_split-linked around entry rest rest_item height rest_record item
                 (record { next = refl; prev = refl; next_unallocated = refl; prev_unallocated = refl; first_item = refl; first_unallocated = refl }) spelled.linked;
-            placed = Each-append (IsPlaced (with_lists atlas new)) before (entry ∷ added ∷ after) (Each-front (IsPlaced (with_lists atlas new)) before (entry ∷ after) all) (tail.0, (added_placed, tail.1));
+            placed = Each-append (IsPlaced (with_lists atlas new)) around.before (entry ∷ added ∷ around.after) (Each-front (IsPlaced (with_lists atlas new)) around.before (entry ∷ around.after) all) (tail.0, (added_placed, tail.1));
             stacked = rw more_numbers
-                (stacked-split used.shelves new.shelves cw [] [] (shelf_numbers before) (shelf_numbers after) number rest is.splits (λ c. refl)
+                (stacked-split used.shelves new.shelves cw [] [] (shelf_numbers around.before) (shelf_numbers around.after) number rest is.splits (λ c. refl)
                 (λ k stands. others k (omega (arith, among k, stands))) (λ k stands. others k (omega (arith, among k, stands)))
                 (rw (← numbers) spelled.stacked));
-            unused = unmarked-same used.items new.items unused_items
-                (λ k stands. item-same used.items new.items k (item_same k (stranger rest_item k unused_items free.no_unused stands))) spelled.unused;
+            unused = unmarked-same used.items new.items around.unused_items
+                (λ k stands. item-same used.items new.items k (item_same k (stranger rest_item k around.unused_items free.no_unused stands))) spelled.unused;
           };
       items = λ k stands. kept k stands ∙ is_used.items k stands;
       others = λ k stands. SameShelf-then atlas.records.shelves used.shelves new.shelves k (is_used.shelves k) (others k stands);
@@ -232,34 +232,34 @@ split-shelf atlas used before after entry rest rest_item height unused_items unu
     multiple a width e = omega (arith, e, div-add-mod' a width)
 
 -- the record of the rest of an item, which stands in no list, is written
-pub split-written : (atlas : AtlasRecords) (new : Records) (before added after : List Entry) (entry : Entry) (unused_items unused_shelves loose : List ℕ) (tall : ℕ) (pieces : List Shelf) (rest : ℕ) (item : LinkedItem) → HasShelfSplit atlas new before added after entry unused_items unused_shelves (rest ∷ loose) tall pieces → HasShelfSplit atlas (item_changed rest (λ _. item) new) before added after entry unused_items unused_shelves (rest ∷ loose) tall pieces
-split-written atlas new before added after entry unused_items unused_shelves loose tall pieces rest item is_split =
+pub split-written : {atlas : AtlasRecords} (new : Records) (around : Around) (added : List Entry) (entry : Entry) (loose : List ℕ) (tall : ℕ) (pieces : List Shelf) (rest : ℕ) (item : LinkedItem) → HasShelfSplit atlas new around added entry (rest ∷ loose) tall pieces → HasShelfSplit atlas (item_changed rest (λ _. item) new) around added entry (rest ∷ loose) tall pieces
+split-written {atlas} new around added entry loose tall pieces rest item is_split =
     let middle : AtlasRecords = with_lists atlas new in
     let last : Records = item_changed rest (λ _. item) new in
-    let entries : List Entry = before ++ entry ∷ (added ++ after) in
-    let spelled : IsSpelledBut middle (lists_of entries unused_items unused_shelves) (rest ∷ loose) [] = is_split.spelled in
-    let free : IsLoose (length new.items) (item_numbers entries) unused_items rest = loose-of (length new.items) (item_numbers entries) unused_items loose rest spelled.linked.items_once in
+    let entries : List Entry = around.before ++ entry ∷ (added ++ around.after) in
+    let spelled : IsSpelledBut middle (lists_of entries around.unused_items around.unused_shelves) (rest ∷ loose) [] = is_split.spelled in
+    let free : IsLoose (length new.items) (item_numbers entries) around.unused_items rest = loose-of (length new.items) (item_numbers entries) around.unused_items loose rest spelled.linked.items_once in
     let item_same : (k : ℕ) → rest ≢ k → slice_get last.items k ≡ slice_get new.items k = λ k other.
     get-changed_by-other (λ _. item) new.items (Some rest) k (λ e. let same : rest ≡ k = cc in other same) in
     let kept : (k : ℕ) → 1 ≤ times k (item_numbers entries) → slice_get last.items k ≡ slice_get new.items k = λ k stands.
     item_same k (stranger rest k (item_numbers entries) free.no_used stands) in
-    let count : (k : ℕ) → times k (item_numbers entries) ≡ times k (item_numbers before) + (times k entry.items + (times k (item_numbers added) + times k (item_numbers after))) =
-    λ k. omega (arith, item_numbers-append before (entry ∷ (added ++ after)) k, times-append k entry.items (item_numbers (added ++ after)), item_numbers-append added after k) in
-    let fewer : (k : ℕ) → times k (item_numbers (before ++ entry ∷ after)) ≡ times k (item_numbers before) + (times k entry.items + times k (item_numbers after)) =
-    λ k. omega (arith, item_numbers-append before (entry ∷ after) k, times-append k entry.items (item_numbers after)) in
+    let count : (k : ℕ) → times k (item_numbers entries) ≡ times k (item_numbers around.before) + (times k entry.items + (times k (item_numbers added) + times k (item_numbers around.after))) =
+    λ k. omega (arith, item_numbers-append around.before (entry ∷ (added ++ around.after)) k, times-append k entry.items (item_numbers (added ++ around.after)), item_numbers-append added around.after k) in
+    let fewer : (k : ℕ) → times k (item_numbers (around.before ++ entry ∷ around.after)) ≡ times k (item_numbers around.before) + (times k entry.items + times k (item_numbers around.after)) =
+    λ k. omega (arith, item_numbers-append around.before (entry ∷ around.after) k, times-append k entry.items (item_numbers around.after)) in
     let same : SameEntries middle last entries =
     same-entries middle last entries (λ k stands. same-shelf new.shelves k) (λ k stands. item-same new.items last.items k (kept k stands)) spelled.linked.entries in
     let same_added : SameEntries middle last added =
     same-entries middle last added (λ k stands. same-shelf new.shelves k) (λ k stands. item-same new.items last.items k (kept k (omega (arith, stands, count k))))
-    (Each-front (IsEntry new) added after (Each-back (IsEntry new) before (entry ∷ (added ++ after)) spelled.linked.entries).1) in
+    (Each-front (IsEntry new) added around.after (Each-back (IsEntry new) around.before (entry ∷ (added ++ around.after)) spelled.linked.entries).1) in
     record {
       spelled =
           record {
-            linked = item_written-linked new rest (λ _. item) entries unused_items unused_shelves loose [] spelled.linked;
+            linked = item_written-linked rest (λ _. item) spelled.linked;
             placed = same.placed spelled.placed;
             stacked = spelled.stacked;
-            unused = unmarked-same new.items last.items unused_items
-                (λ k stands. item-same new.items last.items k (item_same k (stranger rest k unused_items free.no_unused stands))) spelled.unused;
+            unused = unmarked-same new.items last.items around.unused_items
+                (λ k stands. item-same new.items last.items k (item_same k (stranger rest k around.unused_items free.no_unused stands))) spelled.unused;
           };
       items = λ k stands. kept k (omega (arith, stands, count k, fewer k)) ∙ is_split.items k stands;
       others = is_split.others;

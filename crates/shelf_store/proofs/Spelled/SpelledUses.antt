@@ -102,7 +102,7 @@ pub used-item : (atlas : AtlasRecords) (new : Records) (entries : List Entry) (u
 used-item atlas new entries unused_items unused_shelves loose loose_shelves used =
     let middle : AtlasRecords = with_lists atlas new in
     let last : Records = item_used true new in
-    let uses : UsesItem new entries unused_items unused_shelves loose loose_shelves = uses-item new entries unused_items unused_shelves loose loose_shelves used.spelled.linked in
+    let uses = uses-item used.spelled.linked in
     let free : IsLoose (length last.items) (item_numbers entries) (but_first unused_items) uses.number =
     loose-of (length last.items) (item_numbers entries) (but_first unused_items) loose uses.number uses.linked.items_once in
     let all : List ℕ = item_numbers entries ++ unused_items ++ loose in
@@ -155,7 +155,7 @@ pub used-shelf : (atlas : AtlasRecords) (new : Records) (entries : List Entry) (
 used-shelf atlas new entries unused_items unused_shelves loose loose_shelves room used =
     let middle : AtlasRecords = with_lists atlas new in
     let last : Records = shelf_used true new in
-    let uses : UsesShelf new entries unused_items unused_shelves loose loose_shelves = uses-shelf new entries unused_items unused_shelves loose loose_shelves used.spelled.linked in
+    let uses = uses-shelf used.spelled.linked in
     let same_shelf : (k : ℕ) → SameShelf new.shelves last.shelves k = shelves-used new.unused_shelves new.shelves in
     let same : SameEntries middle last entries =
     same-entries middle last entries (λ k stands. same_shelf k) (λ k stands. item-same new.items new.items k refl) used.spelled.linked.entries in

@@ -1,4 +1,5 @@
 -- Kept records are kept again after a placement was taken, and spell the state of the model.
+use Rattle.shelf_links.proofs.AllLists.LinkedEdits.{around_of}
 use Rattle.std.proofs.Common.{◌≡◌, ℕ, zero, suc, ◌+◌, ◌<◌, ◌≤◌, pos, Some, List, [], ◌∷◌, ◌++◌, length, map, refl, ap, arith, ◌∙◌, sym, subst}
 use Rattle.std.proofs.lemmas.List.{length-append, map-append}
 use Rattle.std.specs.Prelude.{max}
@@ -7,10 +8,10 @@ use Rattle.std.specs.List.{AllByRecursion}
 use Rattle.etagere_base.specs.Lists.{replaced_at, times}
 use Rattle.etagere_base.specs.declared.frames.Frame.{Frame}
 use Rattle.etagere_base.specs.declared.geometry.Size.{Size}
+use Rattle.shelf_links.proofs.AllLists.LinkedItems.{entry_of}
 use Rattle.shelf_links.specs.RecordLists.{Records, Entry, Lists, item_numbers, shelf_numbers, walked_lists}
 use Rattle.shelf_links.specs.RecordUses.{number_used}
 use Rattle.shelf_links.proofs.AllLists.LinkedFrames.{shelf_numbers-append}
-use Rattle.shelf_links.proofs.AllLists.LinkedMerges.{entry_of}
 use Rattle.shelf_links.proofs.AllLists.LinkedWalks.{linked-lists, linked-walks}
 use Rattle.shelf_records.specs.AtlasRecords.{AtlasRecords, spelled_shelf}
 use Rattle.shelf_model.specs.Choice.{Placement, placement_of}
@@ -99,7 +100,7 @@ placement-kept frame records size placement found kept h locates =
     subst (AllByRecursion (HasFlag atlas)) is.entries (Each-weaken (HasFlag (atlas_of frame records)) (HasFlag atlas) lists.entries (λ entry flag. flag) kept.flags) in
     let within : number < length records.items = is_ready.within in
     let takes : IsTakenBy atlas new is.before is.after shelf (spelled_shelf atlas entry) placement id =
-    taken-spelled atlas is.before is.after shelf number is.front is.back is.free_front is.free_back lists.unused_items lists.unused_shelves placement within is.item
+    taken-spelled (around_of is.before is.after lists.unused_items lists.unused_shelves) shelf number is.front is.back is.free_front is.free_back placement within is.item
     (λ split. omega (arith, is.takes.shorter split)) is.takes.full kept.counts.shelves.1 is_ready.room
     (taken_shelf-not_empty frame placement id placement.height (spelled_shelf atlas entry) is.takes)
     (Each-front (HasFlag atlas) is.before (entry ∷ is.after) flags) (Each-back (HasFlag atlas) is.before (entry ∷ is.after) flags).1 (is_ready.spelled atlas.allocated_space) in

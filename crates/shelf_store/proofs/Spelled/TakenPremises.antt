@@ -7,14 +7,14 @@ use Rattle.etagere_base.proofs.TimesLemmas.{times-append}
 use Rattle.etagere_base.specs.Lists.{times}
 use Rattle.etagere_base.specs.declared.frames.Frame.{Frame}
 use Rattle.etagere_base.specs.declared.geometry.Size.{Size}
+use Rattle.shelf_links.proofs.AllLists.LinkedItems.{entry_of}
+use Rattle.shelf_links.proofs.AllLists.LinkedEdits.{IsApart, linked-apart, around_of}
 use Rattle.shelf_links.specs.declared.records.LinkedItem.{LinkedItem}
 use Rattle.shelf_links.specs.declared.records.LinkedShelf.{LinkedShelf}
 use Rattle.etagere_links.specs.Links.{no_link}
 use Rattle.shelf_links.specs.RecordLists.{Records, Entry, Lists, item_numbers, shelf_walk, walked_entry, walked_lists}
 use Rattle.shelf_links.specs.RecordUses.{number_used, rests_used}
 use Rattle.shelf_links.proofs.AllLists.LinkedFrames.{item_numbers-append}
-use Rattle.shelf_links.proofs.AllLists.LinkedItems.{IsApart, linked-apart}
-use Rattle.shelf_links.proofs.AllLists.LinkedMerges.{entry_of}
 use Rattle.etagere_links.proofs.ListEnds.{times-here}
 use Rattle.etagere_links.proofs.RecordChanges.{length-changed_by}
 use Rattle.shelf_records.specs.AtlasRecords.{AtlasRecords, across_of, along_of, height_of, item_at, spelled_shelf}
@@ -107,22 +107,20 @@ can-take frame records size placement found kept h locates =
     let rests : AreRests of_shelf of_item atlas entries =
     are-rests of_shelf of_item atlas entries lists.unused_items lists.unused_shelves kept.counts.shelves.1 is_ready.room (is_ready.spelled atlas.allocated_space) in
     let loose : List ℕ = list_where of_shelf rests.shelf_item ++ list_where of_item rests.item in
-    let apart : IsApart used is.before is.after rests.unused_items loose entry =
-    linked-apart used is.before is.after entry rests.unused_items rests.unused_shelves loose (list_where of_shelf rests.shelf) rests.used.spelled.linked in
+    let apart = linked-apart (around_of is.before is.after rests.unused_items rests.unused_shelves) entry rests.used.spelled.linked in
     let height : placement.height ≤ height_of records.shelves shelf = fits placement.height (height_of records.shelves shelf) of_shelf is.takes.shorter is.takes.full in
     let rest : List Shelf = if of_shelf then empty_shelf frame (along_of records.shelves shelf / frame.column_width) (height_of records.shelves shelf - placement.height) ∷ [] else [] in
     let Split : Option ℕ → Option ℕ → Type 0 = λ a b.
-    HasShelfSplit atlas (with_shelf_rest frame.column_width place a b used) is.before (added_where of_shelf rests.shelf rests.shelf_item) is.after entry rests.unused_items rests.unused_shelves (list_where of_item rests.item) placement.height rest in
+    HasShelfSplit atlas (with_shelf_rest frame.column_width place a b used) (around_of is.before is.after rests.unused_items rests.unused_shelves) (added_where of_shelf rests.shelf rests.shelf_item) entry (list_where of_item rests.item) placement.height rest in
     let one : Split (link_where of_shelf rests.shelf) (link_where of_shelf rests.shelf_item) =
-    split-where of_shelf atlas used is.before is.after entry placement number rests.shelf rests.shelf_item rests.unused_items rests.unused_shelves (list_where of_item rests.item) (λ e. height) is.takes.full rests.used in
+    split-where of_shelf atlas used (around_of is.before is.after rests.unused_items rests.unused_shelves) entry placement number rests.shelf rests.shelf_item (list_where of_item rests.item) (λ e. height) is.takes.full rests.used in
     let two : Split (number_used of_shelf records.unused_shelves records.shelves) (link_where of_shelf rests.shelf_item) =
     subst (λ (o : Option ℕ). Split o (link_where of_shelf rests.shelf_item)) (sym rests.shelf_is) one in
     let is_split : Split (number_used of_shelf records.unused_shelves records.shelves) (number_used of_shelf records.unused_items records.items) =
     subst (λ (o : Option ℕ). Split (number_used of_shelf records.unused_shelves records.shelves) o) (sym rests.shelf_item_is) two in
     let split_records : Records = with_shelf_rest frame.column_width place (number_used of_shelf records.unused_shelves records.shelves) (number_used of_shelf records.unused_items records.items) used in
     let added : List Entry = added_where of_shelf rests.shelf rests.shelf_item in
-    let apart_split : IsApart split_records is.before (added ++ is.after) rests.unused_items (list_where of_item rests.item) entry =
-    linked-apart split_records is.before (added ++ is.after) entry rests.unused_items rests.unused_shelves (list_where of_item rests.item) [] is_split.spelled.linked in
+    let apart_split = linked-apart (around_of is.before (added ++ is.after) rests.unused_items rests.unused_shelves) entry is_split.spelled.linked in
     let stands : 1 ≤ times number numbers = omega (arith, times-append number is.front (number ∷ is.back), times-here number is.back) in
     let among : 1 ≤ times number (item_numbers entries) = omega (arith, item_numbers-append is.before (entry ∷ is.after) number, times-append number numbers (item_numbers is.after), stands) in
     let same : SameItem records.items split_records.items number = item-same records.items split_records.items number (is_split.items number among) in

@@ -10,10 +10,10 @@ use Rattle.etagere_base.specs.Lists.{times}
 use Rattle.etagere_base.specs.declared.frames.Frame.{Frame}
 use Rattle.etagere_base.specs.declared.geometry.Size.{Size}
 use Rattle.etagere_links.specs.Links.{no_link}
+use Rattle.shelf_links.proofs.AllLists.LinkedItems.{entry_of}
+use Rattle.shelf_links.proofs.AllLists.LinkedEdits.{IsApart, linked-apart, around_of}
 use Rattle.shelf_links.specs.RecordLists.{Records, Entry, Lists, IsLinkedExcept, shelf_numbers, walked_lists}
 use Rattle.etagere_links.specs.Lists.{HasEachOnce}
-use Rattle.shelf_links.proofs.AllLists.LinkedItems.{IsApart, linked-apart}
-use Rattle.shelf_links.proofs.AllLists.LinkedMerges.{entry_of}
 use Rattle.shelf_links.proofs.AllLists.LinkedUnused.{lists_of}
 use Rattle.etagere_links.proofs.WalkedLists.{once-part}
 use Rattle.etagere_links.proofs.ListEnds.{times-here}
@@ -84,7 +84,7 @@ ready frame records size placement found kept h locates =
     let entry : Entry = entry_of shelf (is.front ++ number ∷ is.back) (is.free_front ++ number ∷ is.free_back) in
     let linked : IsLinkedExcept records (lists_of (is.before ++ entry ∷ is.after) lists.unused_items lists.unused_shelves) [] [] =
     subst (λ (es : List Entry). IsLinkedExcept records (lists_of es lists.unused_items lists.unused_shelves) [] []) is.entries kept.linked in
-    let apart : IsApart records is.before is.after lists.unused_items [] entry = linked-apart records is.before is.after entry lists.unused_items lists.unused_shelves [] [] linked in
+    let apart = linked-apart (around_of is.before is.after lists.unused_items lists.unused_shelves) entry linked in
     let shelves : length (shelf_numbers lists.entries) + length lists.unused_shelves ≡ length records.shelves =
     omega (
       arith,

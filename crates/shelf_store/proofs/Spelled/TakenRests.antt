@@ -1,10 +1,11 @@
 -- Records that spell lists, after those for the rests of a placement were put to use and its shelf was split.
+use Rattle.shelf_links.proofs.AllLists.LinkedEdits.{Around}
 use Rattle.std.proofs.Common.{◌≡◌, ℕ, ◌+◌, ◌-◌, ◌≤◌, Bool, true, false, Option, None, Some, List, [], ◌∷◌, ◌++◌, length, refl, arith, subst, sym}
 use Rattle.std.specs.Prelude.{◌/◌, if◌then◌else◌}
 use Rattle.etagere_links.specs.Links.{no_link}
+use Rattle.shelf_links.proofs.AllLists.LinkedItems.{entry_of}
 use Rattle.shelf_links.specs.RecordLists.{Records, Entry, item_numbers}
 use Rattle.shelf_links.specs.RecordUses.{number_used, item_used, shelf_used, rests_used}
-use Rattle.shelf_links.proofs.AllLists.LinkedMerges.{entry_of}
 use Rattle.shelf_links.proofs.AllLists.LinkedUnused.{lists_of, three-count}
 use Rattle.shelf_links.proofs.AllLists.LinkedUses.{but_first}
 use Rattle.shelf_records.specs.AtlasRecords.{AtlasRecords, along_of, height_of}
@@ -144,9 +145,9 @@ added_where false shelf item = []
 added_where true shelf item = entry_of shelf (item ∷ []) (item ∷ []) ∷ []
 
 -- the shelf of a placement was split where that is due
-pub split-where : (of_shelf : Bool) (atlas : AtlasRecords) (used : Records) (before after : List Entry) (entry : Entry) (placement : Placement) (item rest rest_item : ℕ) (unused_items unused_shelves loose : List ℕ) → (of_shelf ≡ true → placement.height ≤ height_of atlas.records.shelves entry.number) → (of_shelf ≡ false → placement.height ≡ height_of atlas.records.shelves entry.number) → IsUsed atlas used (before ++ entry ∷ after) unused_items unused_shelves (list_where of_shelf rest_item ++ loose) (list_where of_shelf rest) → HasShelfSplit atlas (with_shelf_rest atlas.frame.column_width (record placement { shelf = entry.number; item = item }) (link_where of_shelf rest) (link_where of_shelf rest_item) used) before (added_where of_shelf rest rest_item) after entry unused_items unused_shelves loose placement.height (if of_shelf then empty_shelf atlas.frame (along_of atlas.records.shelves entry.number / atlas.frame.column_width) (height_of atlas.records.shelves entry.number - placement.height) ∷ [] else [])
-split-where false atlas used before after entry placement item rest rest_item unused_items unused_shelves loose tall full is_used =
-    subst (λ (tall : ℕ). HasShelfSplit atlas used before [] after entry unused_items unused_shelves loose tall []) (sym (full refl))
-    (split-none atlas used before after entry unused_items unused_shelves loose is_used)
-split-where true atlas used before after entry placement item rest rest_item unused_items unused_shelves loose tall full is_used =
-    split-shelf atlas used before after entry rest rest_item placement.height unused_items unused_shelves loose (tall refl) is_used
+pub split-where : (of_shelf : Bool) (atlas : AtlasRecords) (used : Records) (around : Around) (entry : Entry) (placement : Placement) (item rest rest_item : ℕ) (loose : List ℕ) → (of_shelf ≡ true → placement.height ≤ height_of atlas.records.shelves entry.number) → (of_shelf ≡ false → placement.height ≡ height_of atlas.records.shelves entry.number) → IsUsed atlas used (around.before ++ entry ∷ around.after) around.unused_items around.unused_shelves (list_where of_shelf rest_item ++ loose) (list_where of_shelf rest) → HasShelfSplit atlas (with_shelf_rest atlas.frame.column_width (record placement { shelf = entry.number; item = item }) (link_where of_shelf rest) (link_where of_shelf rest_item) used) around (added_where of_shelf rest rest_item) entry loose placement.height (if of_shelf then empty_shelf atlas.frame (along_of atlas.records.shelves entry.number / atlas.frame.column_width) (height_of atlas.records.shelves entry.number - placement.height) ∷ [] else [])
+split-where false atlas used around entry placement item rest rest_item loose tall full is_used =
+    subst (λ (tall : ℕ). HasShelfSplit atlas used around [] entry loose tall []) (sym (full refl))
+    (split-none used around entry loose is_used)
+split-where true atlas used around entry placement item rest rest_item loose tall full is_used =
+    split-shelf used around entry rest rest_item placement.height loose (tall refl) is_used

@@ -1,15 +1,16 @@
 -- Records that spell lists, after a placement was taken: they spell the shelves of the model.
+use Rattle.shelf_links.proofs.AllLists.LinkedEdits.{Around, around_of, with_entry}
 use Rattle.std.proofs.Common.{◌≡◌, ℕ, ◌+◌, ◌-◌, ◌<◌, ◌≤◌, Bool, true, false, Option, Some, List, [], ◌∷◌, ◌++◌, length, map, refl, ap, arith, ◌∙◌, sym, subst}
 use Rattle.std.specs.Prelude.{if◌then◌else◌}
 use Rattle.etagere_base.proofs.EachLemmas.{Each-middle}
 use Rattle.std.specs.List.{AllByRecursion}
+use Rattle.shelf_links.proofs.AllLists.LinkedItems.{entry_of}
 use Rattle.shelf_links.specs.declared.records.LinkedShelf.{LinkedShelf}
 use Rattle.etagere_links.specs.Links.{no_link}
 use Rattle.shelf_links.specs.RecordEdits.{shelf_changed}
 use Rattle.shelf_links.specs.RecordLists.{Records, Entry, Lists, first_item_of, shelf_numbers, IsEntry}
 use Rattle.shelf_links.specs.RecordUses.{number_used, item_used, rests_used}
 use Rattle.shelf_links.proofs.AllLists.LinkedFrames.{shelf_numbers-append}
-use Rattle.shelf_links.proofs.AllLists.LinkedMerges.{entry_of}
 use Rattle.shelf_links.proofs.AllLists.LinkedUnused.{lists_of}
 use Rattle.etagere_links.proofs.RecordChanges.{length-changed_by}
 use Rattle.shelf_records.specs.AtlasRecords.{AtlasRecords, height_of, spelled_shelf}
@@ -27,27 +28,27 @@ use Rattle.shelf_store.proofs.Spelled.TakenItemSpelled.{IsPlacedAt, taken_from}
 use Rattle.shelf_store.proofs.Spelled.TakenRests.{AreRests, added_where, are-rests, split-where, link_where, list_where}
 
 -- the item of a placement was given: its front or all of it
-given-where : (of_item : Bool) (atlas : AtlasRecords) (split_records : Records) (before added after : List Entry) (shelf number rest : ℕ) (front back free_front free_back unused_items unused_shelves : List ℕ) (placement : Placement) (rests : List Shelf) → placement.splits_item ≡ of_item → number < length atlas.records.items → IsPlacedAt atlas.records.items placement front back free_front free_back number → AllByRecursion (IsEntry atlas.records) (before ++ entry_of shelf (front ++ number ∷ back) (free_front ++ number ∷ free_back) ∷ after) → HasShelfSplit atlas split_records before added after (entry_of shelf (front ++ number ∷ back) (free_front ++ number ∷ free_back)) unused_items unused_shelves (list_where of_item rest) placement.height rests → IsItemGiven atlas (with_item_given (record placement { shelf = shelf; item = number }) (link_where of_item rest) split_records) before added after (entry_of shelf (front ++ number ∷ back) (free_front ++ number ∷ free_back)) unused_items unused_shelves (taken_from of_item placement (id_of atlas.records.items number) (spelled_shelf atlas (entry_of shelf (front ++ number ∷ back) (free_front ++ number ∷ free_back)))) rests
-given-where false atlas split_records before added after shelf number rest front back free_front free_back unused_items unused_shelves placement rests whole within is are split_is =
-    item-whole atlas split_records before added after shelf number front back free_front free_back unused_items unused_shelves placement rests within is whole are split_is
-given-where true atlas split_records before added after shelf number rest front back free_front free_back unused_items unused_shelves placement rests split within is are split_is =
-    item-front atlas split_records before added after shelf number rest (item_record split_records.items rest).generation front back free_front free_back unused_items unused_shelves placement rests within is split are split_is
+given-where : (of_item : Bool) (atlas : AtlasRecords) (split_records : Records) (around : Around) (added : List Entry) (shelf number rest : ℕ) (front back free_front free_back : List ℕ) (placement : Placement) (rests : List Shelf) → placement.splits_item ≡ of_item → number < length atlas.records.items → IsPlacedAt atlas.records.items placement front back free_front free_back number → AllByRecursion (IsEntry atlas.records) (around.before ++ entry_of shelf (front ++ number ∷ back) (free_front ++ number ∷ free_back) ∷ around.after) → HasShelfSplit atlas split_records around added (entry_of shelf (front ++ number ∷ back) (free_front ++ number ∷ free_back)) (list_where of_item rest) placement.height rests → IsItemGiven atlas (with_item_given (record placement { shelf = shelf; item = number }) (link_where of_item rest) split_records) around added (entry_of shelf (front ++ number ∷ back) (free_front ++ number ∷ free_back)) (taken_from of_item placement (id_of atlas.records.items number) (spelled_shelf atlas (entry_of shelf (front ++ number ∷ back) (free_front ++ number ∷ free_back)))) rests
+given-where false atlas split_records around added shelf number rest front back free_front free_back placement rests whole within is are split_is =
+    item-whole split_records around added shelf number front back free_front free_back placement rests within is whole are split_is
+given-where true atlas split_records around added shelf number rest front back free_front free_back placement rests split within is are split_is =
+    item-front split_records around added shelf number rest (item_record split_records.items rest).generation front back free_front free_back placement rests within is split are split_is
 
 -- a shelf is marked as one that is not empty
 abbrev cleared : ℕ → Bool → Records → Records
 cleared shelf value records = shelf_changed shelf (λ (here : LinkedShelf). record here { is_empty = value }) records
 
 -- a shelf that is not empty was marked so
-flag-cleared : (atlas : AtlasRecords) (given : Records) (before after : List Entry) (edited : Entry) (shelf : ℕ) (unused_items unused_shelves : List ℕ) → edited.number ≡ shelf → AllByRecursion (HasFlag (with_lists atlas given)) before → AllByRecursion (HasFlag (with_lists atlas given)) after → IsSpelled (with_lists atlas given) (lists_of (before ++ edited ∷ after) unused_items unused_shelves) → is_empty (spelled_shelf (with_lists atlas given) edited) ≡ false → IsFlagged (with_lists atlas (cleared shelf false given)) (lists_of (before ++ edited ∷ after) unused_items unused_shelves) × (map (spelled_shelf (with_lists atlas (cleared shelf false given))) (before ++ edited ∷ after) ≡ map (spelled_shelf (with_lists atlas given)) (before ++ edited ∷ after))
-flag-cleared atlas given before after edited shelf unused_items unused_shelves number flags_before flags_after spelled full =
-    let is : IsEntry given edited = Each-middle (IsEntry given) before edited after spelled.linked.entries in
+flag-cleared : (atlas : AtlasRecords) (given : Records) (around : Around) (edited : Entry) (shelf : ℕ) → edited.number ≡ shelf → AllByRecursion (HasFlag (with_lists atlas given)) around.before → AllByRecursion (HasFlag (with_lists atlas given)) around.after → IsSpelled (with_lists atlas given) (with_entry around edited) → is_empty (spelled_shelf (with_lists atlas given) edited) ≡ false → IsFlagged (with_lists atlas (cleared shelf false given)) (with_entry around edited) × (map (spelled_shelf (with_lists atlas (cleared shelf false given))) (around.before ++ edited ∷ around.after) ≡ map (spelled_shelf (with_lists atlas given)) (around.before ++ edited ∷ around.after))
+flag-cleared atlas given around edited shelf number flags_before flags_after spelled full =
+    let is : IsEntry given edited = Each-middle (IsEntry given) around.before edited around.after spelled.linked.entries in
     let value : names_one_free given.items (first_item_of given.shelves edited.number) ≡ false =
     one-free given.items (first_item_of given.shelves edited.number) edited.items is.items ∙ full in
     let P : ℕ → Bool → Type 0 = λ n v.
-    IsFlagged (with_lists atlas (cleared n v given)) (lists_of (before ++ edited ∷ after) unused_items unused_shelves)
-    × (map (spelled_shelf (with_lists atlas (cleared n v given))) (before ++ edited ∷ after) ≡ map (spelled_shelf (with_lists atlas given)) (before ++ edited ∷ after)) in
+    IsFlagged (with_lists atlas (cleared n v given)) (with_entry around edited)
+    × (map (spelled_shelf (with_lists atlas (cleared n v given))) (around.before ++ edited ∷ around.after) ≡ map (spelled_shelf (with_lists atlas given)) (around.before ++ edited ∷ around.after)) in
     subst (λ (n : ℕ). P n false) number
-    (subst (P edited.number) value (emptiness_said-flagged (with_lists atlas given) before after edited unused_items unused_shelves flags_before flags_after spelled))
+    (subst (P edited.number) value (emptiness_said-flagged around edited flags_before flags_after spelled))
 
 -- the numbers of the shelf that stands after one that is split, and of those after it
 added-numbers : (of_shelf : Bool) (rest item : ℕ) (after : List Entry) → shelf_numbers (added_where of_shelf rest item ++ after) ≡ list_where of_shelf rest ++ shelf_numbers after
@@ -69,8 +70,8 @@ pub record IsTakenBy (atlas : AtlasRecords) (new : Records) (before after : List
   pub few : length new.shelves ≤ no_link
 
 -- a placement was taken in records that spell lists, of which one names its shelf, and that its item
-pub taken-spelled : (atlas : AtlasRecords) (before after : List Entry) (shelf number : ℕ) (front back free_front free_back unused_items unused_shelves : List ℕ) (placement : Placement) → number < length atlas.records.items → IsPlacedAt atlas.records.items placement front back free_front free_back number → (placement.splits_shelf ≡ true → placement.height ≤ height_of atlas.records.shelves shelf) → (placement.splits_shelf ≡ false → placement.height ≡ height_of atlas.records.shelves shelf) → length atlas.records.shelves ≤ no_link → (placement.splits_shelf ≡ true → unused_shelves ≡ [] → length atlas.records.shelves + 1 ≤ no_link) → is_empty (taken_from placement.splits_item placement (id_of atlas.records.items number) (spelled_shelf atlas (entry_of shelf (front ++ number ∷ back) (free_front ++ number ∷ free_back)))) ≡ false → AllByRecursion (HasFlag atlas) before → AllByRecursion (HasFlag atlas) after → IsSpelled atlas (lists_of (before ++ entry_of shelf (front ++ number ∷ back) (free_front ++ number ∷ free_back) ∷ after) unused_items unused_shelves) → IsTakenBy atlas (placement_taken atlas.frame.column_width (record placement { shelf = shelf; item = number }) atlas.records) before after shelf (spelled_shelf atlas (entry_of shelf (front ++ number ∷ back) (free_front ++ number ∷ free_back))) placement (id_of atlas.records.items number)
-taken-spelled atlas before after shelf number front back free_front free_back unused_items unused_shelves placement within is tall full few room not_empty flags_before flags_after spelled =
+pub taken-spelled : {atlas : AtlasRecords} (around : Around) (shelf number : ℕ) (front back free_front free_back : List ℕ) (placement : Placement) → number < length atlas.records.items → IsPlacedAt atlas.records.items placement front back free_front free_back number → (placement.splits_shelf ≡ true → placement.height ≤ height_of atlas.records.shelves shelf) → (placement.splits_shelf ≡ false → placement.height ≡ height_of atlas.records.shelves shelf) → length atlas.records.shelves ≤ no_link → (placement.splits_shelf ≡ true → around.unused_shelves ≡ [] → length atlas.records.shelves + 1 ≤ no_link) → is_empty (taken_from placement.splits_item placement (id_of atlas.records.items number) (spelled_shelf atlas (entry_of shelf (front ++ number ∷ back) (free_front ++ number ∷ free_back)))) ≡ false → AllByRecursion (HasFlag atlas) around.before → AllByRecursion (HasFlag atlas) around.after → IsSpelled atlas (with_entry around (entry_of shelf (front ++ number ∷ back) (free_front ++ number ∷ free_back))) → IsTakenBy atlas (placement_taken atlas.frame.column_width (record placement { shelf = shelf; item = number }) atlas.records) around.before around.after shelf (spelled_shelf atlas (entry_of shelf (front ++ number ∷ back) (free_front ++ number ∷ free_back))) placement (id_of atlas.records.items number)
+taken-spelled {atlas} around shelf number front back free_front free_back placement within is tall full few room not_empty flags_before flags_after spelled =
     let of_shelf : Bool = placement.splits_shelf in
     let of_item : Bool = placement.splits_item in
     let records : Records = atlas.records in
@@ -79,16 +80,16 @@ taken-spelled atlas before after shelf number front back free_front free_back un
     let cw : ℕ = atlas.frame.column_width in
     let id : ℕ = id_of records.items number in
     let used : Records = rests_used of_shelf of_item records in
-    let rests : AreRests of_shelf of_item atlas (before ++ entry ∷ after) = are-rests of_shelf of_item atlas (before ++ entry ∷ after) unused_items unused_shelves few room spelled in
+    let rests : AreRests of_shelf of_item atlas (around.before ++ entry ∷ around.after) = are-rests of_shelf of_item atlas (around.before ++ entry ∷ around.after) around.unused_items around.unused_shelves few room spelled in
     let added : List Entry = added_where of_shelf rests.shelf rests.shelf_item in
     let pieces : List Shelf = rests_pieces of_shelf (spelled_shelf atlas entry) in
     let taken : Shelf = taken_from of_item placement id (spelled_shelf atlas entry) in
-    let is_split : HasShelfSplit atlas (with_shelf_rest cw found (link_where of_shelf rests.shelf) (link_where of_shelf rests.shelf_item) used) before added after entry rests.unused_items rests.unused_shelves (list_where of_item rests.item) placement.height pieces =
-    split-where of_shelf atlas used before after entry placement number rests.shelf rests.shelf_item rests.unused_items rests.unused_shelves (list_where of_item rests.item) tall full rests.used in
+    let is_split : HasShelfSplit atlas (with_shelf_rest cw found (link_where of_shelf rests.shelf) (link_where of_shelf rests.shelf_item) used) (around_of around.before around.after rests.unused_items rests.unused_shelves) added entry (list_where of_item rests.item) placement.height pieces =
+    split-where of_shelf atlas used (around_of around.before around.after rests.unused_items rests.unused_shelves) entry placement number rests.shelf rests.shelf_item (list_where of_item rests.item) tall full rests.used in
     let Given : Option ℕ → Option ℕ → Option ℕ → Type 0 = λ a b c.
-    IsItemGiven atlas (with_item_given found c (with_shelf_rest cw found a b used)) before added after entry rests.unused_items rests.unused_shelves taken pieces in
+    IsItemGiven atlas (with_item_given found c (with_shelf_rest cw found a b used)) (around_of around.before around.after rests.unused_items rests.unused_shelves) added entry taken pieces in
     let one : Given (link_where of_shelf rests.shelf) (link_where of_shelf rests.shelf_item) (link_where of_item rests.item) =
-    given-where of_item atlas (with_shelf_rest cw found (link_where of_shelf rests.shelf) (link_where of_shelf rests.shelf_item) used) before added after shelf number rests.item front back free_front free_back rests.unused_items rests.unused_shelves placement pieces refl within is spelled.linked.entries is_split in
+    given-where of_item atlas (with_shelf_rest cw found (link_where of_shelf rests.shelf) (link_where of_shelf rests.shelf_item) used) (around_of around.before around.after rests.unused_items rests.unused_shelves) added shelf number rests.item front back free_front free_back placement pieces refl within is spelled.linked.entries is_split in
     let two : Given (number_used of_shelf records.unused_shelves records.shelves) (link_where of_shelf rests.shelf_item) (link_where of_item rests.item) =
     subst (λ (o : Option ℕ). Given o (link_where of_shelf rests.shelf_item) (link_where of_item rests.item)) (sym rests.shelf_is) one in
     let three : Given (number_used of_shelf records.unused_shelves records.shelves) (number_used of_shelf records.unused_items records.items) (link_where of_item rests.item) =
@@ -96,16 +97,16 @@ taken-spelled atlas before after shelf number front back free_front free_back un
     let given : Given (number_used of_shelf records.unused_shelves records.shelves) (number_used of_shelf records.unused_items records.items) (number_used of_item (item_used of_shelf records).unused_items (item_used of_shelf records).items) =
     subst (λ (o : Option ℕ). Given (number_used of_shelf records.unused_shelves records.shelves) (number_used of_shelf records.unused_items records.items) o) (sym rests.item_is) three in
     let last : Records = with_item_given found (number_used of_item (item_used of_shelf records).unused_items (item_used of_shelf records).items) (with_shelf_rest cw found (number_used of_shelf records.unused_shelves records.shelves) (number_used of_shelf records.unused_items records.items) used) in
-    let done = flag-cleared atlas last before (added ++ after) given.edited shelf rests.unused_items rests.unused_shelves given.number (given.flags_before flags_before) (given.flags_after flags_after) given.spelled (ap is_empty given.own ∙ not_empty) in
+    let done = flag-cleared atlas last (around_of around.before (added ++ around.after) rests.unused_items rests.unused_shelves) given.edited shelf given.number (given.flags_before flags_before) (given.flags_after flags_after) given.spelled (ap is_empty given.own ∙ not_empty) in
     record {
-      lists = lists_of (before ++ given.edited ∷ (added ++ after)) rests.unused_items rests.unused_shelves;
+      lists = lists_of (around.before ++ given.edited ∷ (added ++ around.after)) rests.unused_items rests.unused_shelves;
       rest = rests.shelf;
       item = rests.shelf_item;
       rest_is = rests.shelf_is;
       item_is = rests.shelf_item_is;
-      numbers = shelf_numbers-append before (given.edited ∷ (added ++ after))
-          ∙ ap (λ (n : ℕ). shelf_numbers before ++ n ∷ shelf_numbers (added ++ after)) given.number
-          ∙ ap (λ (ns : List ℕ). shelf_numbers before ++ shelf ∷ ns) (added-numbers of_shelf rests.shelf rests.shelf_item after);
+      numbers = shelf_numbers-append around.before (given.edited ∷ (added ++ around.after))
+          ∙ ap (λ (n : ℕ). shelf_numbers around.before ++ n ∷ shelf_numbers (added ++ around.after)) given.number
+          ∙ ap (λ (ns : List ℕ). shelf_numbers around.before ++ shelf ∷ ns) (added-numbers of_shelf rests.shelf rests.shelf_item around.after);
       flagged = done.0;
       shelves = done.1 ∙ given.shelves;
       more = given.more;
