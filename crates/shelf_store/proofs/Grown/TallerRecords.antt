@@ -6,8 +6,7 @@ use Rattle.etagere_base.specs.declared.frames.Frame.{Frame}
 use Rattle.std.specs.List.{AllByRecursion}
 use Rattle.etagere_base.specs.Lists.{times}
 use Rattle.etagere_base.proofs.EachLemmas.{Each-append, Each-back, Each-front}
-use Rattle.etagere_base.proofs.TimesLemmas.{times-append}
-use Rattle.shelf_links.proofs.AllLists.LinkedEdits.{IsApart, linked-apart, around_of}
+use Rattle.shelf_links.proofs.AllLists.LinkedEdits.{linked-apart, around_of}
 use Rattle.shelf_links.specs.declared.records.LinkedShelf.{LinkedShelf}
 use Rattle.shelf_links.specs.RecordEdits.{shelf_changed}
 use Rattle.shelf_links.specs.RecordLists.{Entry, IsEntry, Records, shelf_numbers}
@@ -163,12 +162,10 @@ end-taller frame old growing before after entry unused_items unused_shelves item
     let entries : List Entry = before ++ entry ∷ after in
     let apart = linked-apart (around_of before after unused_items unused_shelves) entry is.spelled.linked in
     let taller : IsTaller records new entry.number tall = tall-values records entry.number tall apart.number in
-    let among : (k : ℕ) → times k (shelf_numbers before ++ shelf_numbers after) ≡ times k (shelf_numbers before) + times k (shelf_numbers after) =
-    λ k. times-append k (shelf_numbers before) (shelf_numbers after) in
     let same_before : (k : ℕ) → 1 ≤ times k (shelf_numbers before) → SameShelf records.shelves new.shelves k =
-    λ k stands. taller.others k (apart.numbers k (omega (arith, among k, stands))) in
+    λ k stands. taller.others k (apart.numbers k (omega (arith, stands))) in
     let same_after : (k : ℕ) → 1 ≤ times k (shelf_numbers after) → SameShelf records.shelves new.shelves k =
-    λ k stands. taller.others k (apart.numbers k (omega (arith, among k, stands))) in
+    λ k stands. taller.others k (apart.numbers k (omega (arith, stands))) in
     let front : SameEntries atlas new before =
     same-entries atlas new before same_before (λ k stands. taller.items k) (Each-front (IsEntry records) before (entry ∷ after) is.spelled.linked.entries) in
     let back : SameEntries atlas new after =

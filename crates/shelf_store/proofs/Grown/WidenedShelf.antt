@@ -7,7 +7,7 @@ use Rattle.etagere_base.proofs.AlignedPlaces.{multiple}
 use Rattle.etagere_base.proofs.EachLemmas.{Each-middle}
 use Rattle.etagere_links.specs.Links.{no_link}
 use Rattle.shelf_links.proofs.AllLists.LinkedItems.{entry_of}
-use Rattle.shelf_links.proofs.AllLists.LinkedEdits.{IsApart, linked-apart, around_of}
+use Rattle.shelf_links.proofs.AllLists.LinkedEdits.{linked-apart, around_of}
 use Rattle.shelf_links.specs.Records.{item_chain}
 use Rattle.shelf_links.specs.RecordLists.{Entry, IsEntry, Records, first_item_of}
 use Rattle.shelf_links.proofs.AllLists.LinkedUses.{but_first}

@@ -2,17 +2,15 @@
 use Rattle.std.proofs.Common.{◌≡◌, ◌≢◌, ℕ, ◌+◌, ◌≤◌, Bool, true, false, ◌&&◌, ◌==◌, Option, Some, List, [], ◌∷◌, ◌++◌, map, refl, ap, arith, sym, ◌∙◌}
 use Rattle.std.specs.Prelude.{◌/◌, not, is_none, if◌then◌else◌}
 use Rattle.etagere_base.proofs.EachLemmas.{Each-append, Each-middle}
-use Rattle.etagere_base.proofs.TimesLemmas.{times-append}
 use Rattle.std.specs.List.{AllByRecursion}
 use Rattle.etagere_base.specs.Lists.{times}
-use Rattle.shelf_links.proofs.AllLists.LinkedEdits.{IsApart, linked-apart, around_of, Around, with_entry}
+use Rattle.shelf_links.proofs.AllLists.LinkedEdits.{linked-apart, Around, with_entry}
 use Rattle.shelf_links.specs.declared.records.LinkedItem.{LinkedItem}
 use Rattle.shelf_links.specs.declared.records.LinkedShelf.{LinkedShelf}
 use Rattle.etagere_links.specs.Chains.{IsChainIn}
 use Rattle.shelf_links.specs.RecordLists.{Records, Entry, Lists, IsEntry, first_item_of, shelf_numbers}
 use Rattle.shelf_links.specs.Records.{item_chain}
 use Rattle.shelf_links.proofs.AllLists.LinkedFields.{KeepsShelfLinks, shelf_changed-linked}
-use Rattle.shelf_links.proofs.AllLists.LinkedUnused.{lists_of}
 use Rattle.etagere_links.proofs.FieldChanges.{field_at-changed, field_at-kept, field_at-other}
 use Rattle.etagere_links.proofs.ListEnds.{times-here}
 use Rattle.shelf_records.specs.AtlasRecords.{AtlasRecords, along_of, across_of, height_of, is_empty_at, is_allocated_at, item_at, item_place_of, spelled_shelf}
@@ -102,7 +100,6 @@ emptiness_said-flagged {atlas} around entry flags_before flags_after spelled =
     let same : (k : ℕ) → SameItem items lists.items k = λ k. items-same items lists.items k refl in
     let each : (es : List Entry) → map (spelled_shelf new) es ≡ map (spelled_shelf atlas) es = λ es. shelves-stay atlas lists along height same es in
     let is : IsEntry atlas.records entry = Each-middle (IsEntry atlas.records) around.before entry around.after spelled.linked.entries in
-    let among : (k : ℕ) → times k (shelf_numbers around.before ++ shelf_numbers around.after) ≡ times k (shelf_numbers around.before) + times k (shelf_numbers around.after) = λ k. times-append k (shelf_numbers around.before) (shelf_numbers around.after) in
     let other : (k : ℕ) → Some entry.number ≢ Some k → is_empty_at lists.shelves k ≡ is_empty_at old k = λ k stranger. field_at-other (λ (x : LinkedShelf). x.is_empty) false change old (Some entry.number) k stranger in
     let own : is_empty_at lists.shelves entry.number ≡ value = field_at-changed (λ (x : LinkedShelf). x.is_empty) false change old entry.number value apart.number (λ x. refl) in (
       record {
@@ -114,9 +111,9 @@ emptiness_said-flagged {atlas} around entry flags_before flags_after spelled =
               unused = spelled.unused;
             };
         flags = Each-append (HasFlag new) around.before (entry ∷ around.after)
-            (flags-same atlas new around.before (λ k stands. other k (apart.numbers k (omega (arith, among k, stands)))) (each around.before) flags_before) (
+            (flags-same atlas new around.before (λ k stands. other k (apart.numbers k (omega (arith, stands)))) (each around.before) flags_before) (
               own ∙ one-free items (first_item_of old entry.number) entry.items is.items,
-              flags-same atlas new around.after (λ k stands. other k (apart.numbers k (omega (arith, among k, stands)))) (each around.after) flags_after,
+              flags-same atlas new around.after (λ k stands. other k (apart.numbers k (omega (arith, stands)))) (each around.after) flags_after,
             );
       },
       each entries,

@@ -1,5 +1,5 @@
 -- What a return adds up of the widths of items fits 16 bits, and all that it reads of them is there.
-use Rattle.shelf_links.proofs.AllLists.LinkedEdits.{Around, around_of, with_entry}
+use Rattle.shelf_links.proofs.AllLists.LinkedEdits.{Around, with_entry}
 use Rattle.std.proofs.Common.{◌≡◌, ◌≢◌, ℕ, ◌+◌, ◌≤◌, Bool, true, false, ◌==◌, None, Some, List, [], ◌∷◌, ◌++◌, refl, ap, subst, arith, sym, ◌∙◌}
 use Rattle.etagere_base.proofs.TimesLemmas.{times-other}
 use Rattle.etagere_base.specs.Frames.{IsFrame}
@@ -13,7 +13,6 @@ use Rattle.etagere_links.specs.Lists.{first_or, last_or}
 use Rattle.shelf_links.specs.RecordLists.{Entry, IsEntry, first_item_of}
 use Rattle.shelf_links.specs.Records.{item_chain}
 use Rattle.etagere_links.proofs.Chains.{next-is, previous-is}
-use Rattle.shelf_links.proofs.AllLists.LinkedUnused.{lists_of}
 use Rattle.etagere_links.proofs.ListEnds.{first-stands, last-stands-in}
 use Rattle.shelf_records.specs.AtlasRecords.{AtlasRecords, is_allocated_at, spelled_shelf, width_of}
 use Rattle.shelf_store.specs.Private.ItemReturned.{CanMergeItem, Step, free_next, next_absorbed}

@@ -11,7 +11,7 @@ use Rattle.etagere_base.specs.Lists.{times}
 use Rattle.etagere_base.specs.declared.frames.Frame.{Frame}
 use Rattle.etagere_base.specs.declared.geometry.Size.{Size}
 use Rattle.shelf_links.proofs.AllLists.LinkedItems.{entry_of}
-use Rattle.shelf_links.proofs.AllLists.LinkedEdits.{IsApart, linked-apart, around_of}
+use Rattle.shelf_links.proofs.AllLists.LinkedEdits.{linked-apart, around_of}
 use Rattle.shelf_links.specs.declared.records.LinkedItem.{LinkedItem}
 use Rattle.shelf_links.specs.RecordLists.{Records, Entry, Lists, IsEntry, IsLinkedExcept, walked_lists}
 use Rattle.shelf_links.proofs.AllLists.LinkedUnused.{lists_of}
@@ -26,7 +26,7 @@ use Rattle.shelf_model.specs.Valid.{IsItem}
 use Rattle.shelf_model.proofs.Chosen.Placed.{IsPlaced as IsChosenFor, placement_of-placed}
 use Rattle.shelf_store.proofs.Spelled.EntryValues.{widths, LieFrom-back, free_count, free_count-append, free_count-free}
 use Rattle.shelf_store.proofs.Spelled.ItemsAround.{IsMember, member-of, each-member, free-item, widths-total, place-apart}
-use Rattle.shelf_store.proofs.Spelled.TakenItemSpelled.{IsPlacedAt}
+use Rattle.shelf_store.proofs.Spelled.TakenItemSpelled.{IsPlacedAt, free_spot}
 use Rattle.shelf_model.proofs.Taken.TakenShelves.{IsTaking, taking}
 
 -- the shelf and the item of a placement in records
@@ -39,7 +39,7 @@ pub record IsLocated (frame : Frame) (records : Records) (placement : Placement)
   pub free_back : List ℕ
   pub entries : (walked_lists records).entries ≡ before ++ entry_of shelf (front ++ number ∷ back) (free_front ++ number ∷ free_back) ∷ after
   pub at : length before ≡ placement.shelf
-  pub item : IsPlacedAt records.items placement front back free_front free_back number
+  pub item : IsPlacedAt records.items placement (free_spot shelf number front back free_front free_back)
   pub takes : IsTaking frame placement (spelled_shelf (atlas_of frame records) (entry_of shelf (front ++ number ∷ back) (free_front ++ number ∷ free_back)))
 
 -- the first so many

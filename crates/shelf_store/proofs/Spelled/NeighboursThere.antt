@@ -4,7 +4,7 @@ use Rattle.etagere_base.proofs.EachLemmas.{Each-middle}
 use Rattle.etagere_base.proofs.TimesLemmas.{times-append}
 use Rattle.etagere_base.specs.Lists.{times}
 use Rattle.shelf_links.proofs.AllLists.LinkedItems.{entry_of}
-use Rattle.shelf_links.proofs.AllLists.LinkedEdits.{IsApart, linked-apart, around_of, Around, with_entry}
+use Rattle.shelf_links.proofs.AllLists.LinkedEdits.{IsApart, linked-apart, Around, with_entry}
 use Rattle.shelf_links.specs.declared.records.LinkedItem.{LinkedItem}
 use Rattle.etagere_links.specs.Chains.{IsChainIn}
 use Rattle.etagere_links.specs.Edits.{link_at}
@@ -14,7 +14,6 @@ use Rattle.etagere_links.specs.Neighbours.{HasNeighbours}
 use Rattle.shelf_links.specs.RecordLists.{Records, Entry, IsEntry, IsLinked, first_free_of, first_item_of}
 use Rattle.shelf_links.specs.Records.{free_list, item_chain}
 use Rattle.etagere_links.proofs.Chains.{Leads-start, next-is, previous-is}
-use Rattle.shelf_links.proofs.AllLists.LinkedUnused.{lists_of}
 use Rattle.etagere_links.proofs.ListEnds.{first-stands, last-stands-in, times-here}
 use Rattle.shelf_records.specs.AtlasRecords.{AtlasRecords, is_allocated_at}
 use Rattle.shelf_store.specs.Private.ItemReturned.{FreeNextIsThere, AreThere, free_named, free_next}

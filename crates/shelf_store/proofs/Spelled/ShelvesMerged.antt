@@ -5,11 +5,10 @@ use Rattle.std.proofs.lemmas.List.{map-append}
 use Rattle.std.specs.Prelude.{◌/◌, ◌%◌, not}
 use Rattle.etagere_base.proofs.AlignedPlaces.{multiple}
 use Rattle.etagere_base.proofs.EachLemmas.{Each-append, Each-front, Each-back}
-use Rattle.etagere_base.proofs.TimesLemmas.{times-append}
 use Rattle.etagere_base.specs.Lists.{times}
 use Rattle.etagere_base.specs.MergingAt.{merged_at}
 use Rattle.shelf_links.proofs.AllLists.LinkedItems.{entry_of}
-use Rattle.shelf_links.proofs.AllLists.LinkedEdits.{IsApart, linked-apart, around_of, Around, with_entry}
+use Rattle.shelf_links.proofs.AllLists.LinkedEdits.{linked-apart, around_of, Around, with_entry}
 use Rattle.shelf_links.specs.declared.records.LinkedItem.{LinkedItem}
 use Rattle.shelf_links.specs.declared.records.LinkedShelf.{LinkedShelf}
 use Rattle.etagere_links.specs.Edits.{link_at}
@@ -119,12 +118,10 @@ shelf-taken {atlas} around entry next item free touch column is_free flagged =
     let new : AtlasRecords = with_lists atlas lists in
     let apart = linked-apart (record around { after = gone ∷ around.after }) entry spelled.linked in
     let taller : IsTaller atlas.records lists entry.number height = shelf_absorbed-values atlas.records entry.number next item height apart.number in
-    let among : (k : ℕ) → times k (shelf_numbers around.before ++ shelf_numbers (gone ∷ around.after)) ≡ times k (shelf_numbers around.before) + times k (shelf_numbers (gone ∷ around.after)) =
-    λ k. times-append k (shelf_numbers around.before) (shelf_numbers (gone ∷ around.after)) in
     let before_same : map (spelled_shelf new) around.before ≡ map (spelled_shelf atlas) around.before =
-    others-spelled atlas lists around.before taller.along (λ k stands. (taller.others k (apart.numbers k (omega (arith, among k, stands)))).height) taller.items in
+    others-spelled atlas lists around.before taller.along (λ k stands. (taller.others k (apart.numbers k (omega (arith, stands)))).height) taller.items in
     let after_same : map (spelled_shelf new) around.after ≡ map (spelled_shelf atlas) around.after =
-    others-spelled atlas lists around.after taller.along (λ k stands. (taller.others k (apart.numbers k (omega (arith, among k, stands)))).height) taller.items in
+    others-spelled atlas lists around.after taller.along (λ k stands. (taller.others k (apart.numbers k (omega (arith, stands)))).height) taller.items in
     let own : spelled_shelf new entry ≡ combined_shelves (spelled_shelf atlas entry) (spelled_shelf atlas gone) = shelf-is atlas lists entry height (taller.along entry.number) taller.own taller.items in
     let tail = Each-back (HasFlag atlas) around.before (entry ∷ gone ∷ around.after) flagged.flags in
     record {

@@ -8,8 +8,7 @@ use Rattle.std.specs.List.{AllByRecursion}
 use Rattle.etagere_base.specs.Lists.{times}
 use Rattle.shelf_links.specs.declared.records.LinkedShelf.{LinkedShelf}
 use Rattle.shelf_links.specs.RecordLists.{Records, Entry, Lists, shelf_numbers, item_numbers, IsEntry, IsLinkedExcept}
-use Rattle.shelf_links.proofs.AllLists.LinkedEdits.{same-numbers, IsApart, linked-apart, around_of, Around, with_entry}
-use Rattle.shelf_links.proofs.AllLists.LinkedUnused.{lists_of}
+use Rattle.shelf_links.proofs.AllLists.LinkedEdits.{same-numbers, linked-apart, Around, with_entry}
 use Rattle.shelf_records.specs.AtlasRecords.{AtlasRecords, is_allocated_at, item_place_of, along_of, height_of, item_at, spelled_shelf}
 use Rattle.shelf_records.specs.StandsFor.{AreStacked, height_before}
 use Rattle.shelf_model.specs.State.{Shelf}
@@ -94,14 +93,12 @@ pub items-edited-but : {atlas : AtlasRecords} (lists : Records) (around : Around
 items-edited-but {atlas} lists around unused' loose entry edited spelled edits =
     let new : AtlasRecords = with_lists atlas lists in
     let apart = linked-apart around entry spelled.linked in
-    let count : (k : ℕ) → times k (item_numbers around.before ++ item_numbers around.after ++ around.unused_items) ≡ times k (item_numbers around.before) + times k (item_numbers around.after) + times k around.unused_items =
-    λ k. omega (arith, times-append k (item_numbers around.before ++ item_numbers around.after) around.unused_items, times-append k (item_numbers around.before) (item_numbers around.after)) in
     let front = untouched atlas lists around.before edits.shelf
-    (λ k stands. edits.items k (omega (arith, apart.others k (omega (arith, count k, stands)))))
+    (λ k stands. edits.items k (omega (arith, apart.others k (omega (arith, stands)))))
     (Each-front (IsEntry atlas.records) around.before (entry ∷ around.after) spelled.linked.entries)
     (Each-front (IsPlaced atlas) around.before (entry ∷ around.after) spelled.placed) in
     let back = untouched atlas lists around.after edits.shelf
-    (λ k stands. edits.items k (omega (arith, apart.others k (omega (arith, count k, stands)))))
+    (λ k stands. edits.items k (omega (arith, apart.others k (omega (arith, stands)))))
     (Each-back (IsEntry atlas.records) around.before (entry ∷ around.after) spelled.linked.entries).1
     (Each-back (IsPlaced atlas) around.before (entry ∷ around.after) spelled.placed).1 in
     let numbers : shelf_numbers (around.before ++ edited ∷ around.after) ≡ shelf_numbers (around.before ++ entry ∷ around.after) = same-numbers around.before around.after entry edited edits.number in (

@@ -1,11 +1,9 @@
 -- Records that spell lists, after an empty shelf took the place of the empty one after it.
 use Rattle.std.proofs.Common.{◌≡◌, ◌≢◌, ℕ, ◌+◌, ◌<◌, false, Some, List, [], ◌∷◌, ◌++◌, length, map, refl, arith, ◌∙◌}
 use Rattle.etagere_base.proofs.EachLemmas.{Each-append, Each-front, Each-back}
-use Rattle.etagere_base.proofs.TimesLemmas.{times-append}
 use Rattle.std.specs.List.{AllByRecursion}
-use Rattle.etagere_base.specs.Lists.{times}
 use Rattle.shelf_links.proofs.AllLists.LinkedItems.{entry_of}
-use Rattle.shelf_links.proofs.AllLists.LinkedEdits.{IsApart, linked-apart, around_of, Around}
+use Rattle.shelf_links.proofs.AllLists.LinkedEdits.{linked-apart, Around}
 use Rattle.shelf_links.specs.declared.records.LinkedItem.{LinkedItem}
 use Rattle.shelf_links.specs.declared.records.LinkedShelf.{LinkedShelf}
 use Rattle.etagere_links.specs.Edits.{unlinked, made_unused}
@@ -81,8 +79,6 @@ shelf_absorbed-spelled {atlas} around entry next item free column is_free spelle
     record { along = taller.along entry.number; across = taller.across entry.number; height = taller.own; column = column } in
     let numbers : shelf_numbers (around.before ++ entry ∷ gone ∷ around.after) ≡ shelf_numbers around.before ++ entry.number ∷ next ∷ shelf_numbers around.after = shelf_numbers-append around.before (entry ∷ gone ∷ around.after) in
     let fewer : shelf_numbers (around.before ++ entry ∷ around.after) ≡ shelf_numbers around.before ++ entry.number ∷ shelf_numbers around.after = shelf_numbers-append around.before (entry ∷ around.after) in
-    let among : (k : ℕ) → times k (shelf_numbers around.before ++ shelf_numbers (gone ∷ around.after)) ≡ times k (shelf_numbers around.before) + times k (shelf_numbers (gone ∷ around.after)) =
-    λ k. times-append k (shelf_numbers around.before) (shelf_numbers (gone ∷ around.after)) in
     let tail = Each-back (IsPlaced atlas) around.before (entry ∷ gone ∷ around.after) spelled.placed in
     record {
       linked = shelf_absorbed-linked around entry next item height free spelled.linked;
@@ -90,8 +86,8 @@ shelf_absorbed-spelled {atlas} around entry next item free column is_free spelle
           (still-placed atlas lists around.before taller.along taller.items (Each-front (IsPlaced atlas) around.before (entry ∷ gone ∷ around.after) spelled.placed))
           (still-placed atlas lists (entry ∷ around.after) taller.along taller.items (tail.0, tail.1.1));
       stacked = rw fewer (stacked-absorbed old lists.shelves atlas.frame.column_width [] [] (shelf_numbers around.before) (shelf_numbers around.after) entry.number next absorbs (λ c. refl)
-          (λ k stands. taller.others k (apart.numbers k (omega (arith, among k, stands))))
-          (λ k stands. taller.others k (apart.numbers k (omega (arith, among k, stands))))
+          (λ k stands. taller.others k (apart.numbers k (omega (arith, stands))))
+          (λ k stands. taller.others k (apart.numbers k (omega (arith, stands))))
           (rw (← numbers) spelled.stacked));
       unused = ((taller.items item).allocated ∙ is_free, unmarked-same items lists.items around.unused_items (λ k stands. taller.items k) spelled.unused);
     }

@@ -7,7 +7,7 @@ use Rattle.etagere_base.proofs.TimesLemmas.{times-append}
 use Rattle.std.specs.List.{AllByRecursion}
 use Rattle.etagere_base.specs.Lists.{times}
 use Rattle.shelf_links.proofs.AllLists.LinkedItems.{entry_of}
-use Rattle.shelf_links.proofs.AllLists.LinkedEdits.{IsApart, linked-apart, around_of, Around}
+use Rattle.shelf_links.proofs.AllLists.LinkedEdits.{linked-apart, Around}
 use Rattle.shelf_links.specs.declared.records.LinkedItem.{LinkedItem}
 use Rattle.shelf_links.specs.declared.records.LinkedShelf.{LinkedShelf}
 use Rattle.etagere_links.specs.Edits.{changed_by, link_at, linked_between, field_at}
@@ -61,7 +61,7 @@ shelf-parts column column' height height' items items' free free' a b c d = rw (
 pub record HasShelfSplit (atlas : AtlasRecords) (new : Records) (around : Around) (added : List Entry) (entry : Entry) (loose : List ℕ) (tall : ℕ) (pieces : List Shelf) : Type 0 where
   pub spelled : IsSpelledBut (with_lists atlas new) (lists_of (around.before ++ entry ∷ (added ++ around.after)) around.unused_items around.unused_shelves) loose []
   pub items : (k : ℕ) → 1 ≤ times k (item_numbers (around.before ++ entry ∷ around.after)) → slice_get new.items k ≡ slice_get atlas.records.items k
-  pub others : (k : ℕ) → 1 ≤ times k (shelf_numbers around.before ++ shelf_numbers around.after) → SameShelf atlas.records.shelves new.shelves k
+  pub others : (k : ℕ) → 1 ≤ times k (shelf_numbers around.before) + times k (shelf_numbers around.after) → SameShelf atlas.records.shelves new.shelves k
   pub along : along_of new.shelves entry.number ≡ along_of atlas.records.shelves entry.number
   pub height : height_of new.shelves entry.number ≡ tall
   pub rests : map (spelled_shelf (with_lists atlas new)) added ≡ pieces
@@ -164,17 +164,15 @@ split-shelf {atlas} used around entry rest rest_item height loose tall is_used =
     λ k. ap (times k) numbers ∙ times-append k (shelf_numbers around.before) (number ∷ shelf_numbers around.after) in
     let own_stands : 1 ≤ times number (shelf_numbers entries) = omega (arith, number_count number, self-stands number (shelf_numbers around.after)) in
     let rest_other : (k : ℕ) → 1 ≤ times k (shelf_numbers entries) → rest ≢ k = λ k stands. stranger rest k (shelf_numbers entries) free_shelf.no_used stands in
-    let number_other : (k : ℕ) → 1 ≤ times k (shelf_numbers around.before ++ shelf_numbers around.after) → number ≢ k = λ k stands e. apart.numbers k (omega (arith, stands, times-append k (shelf_numbers around.before) (shelf_numbers around.after))) (ap (λ n. Some n) e) in
+    let number_other : (k : ℕ) → 1 ≤ times k (shelf_numbers around.before) + times k (shelf_numbers around.after) → number ≢ k = λ k stands e. apart.numbers k stands (ap (λ n. Some n) e) in
     let is : IsRestOf cw new.items new.shelves used.shelves number rest rest_item height =
     rest-of used number rest rest_item height cw (λ e. rest_other number own_stands (sym e)) apart.number free_shelf.within free.within (rw (is_used.shelves number).height tall) in
     let item_same : (k : ℕ) → rest_item ≢ k → slice_get new.items k ≡ slice_get used.items k = λ k other.
     get-changed_by-other (λ _. item) used.items (Some rest_item) k (λ e. let same : rest_item ≡ k = cc in other same) in
     let kept : (k : ℕ) → 1 ≤ times k (item_numbers entries) → slice_get new.items k ≡ slice_get used.items k = λ k stands.
     item_same k (stranger rest_item k (item_numbers entries) free.no_used stands) in
-    let among : (k : ℕ) → times k (shelf_numbers around.before ++ shelf_numbers around.after) ≡ times k (shelf_numbers around.before) + times k (shelf_numbers around.after) =
-    λ k. times-append k (shelf_numbers around.before) (shelf_numbers around.after) in
-    let others : (k : ℕ) → 1 ≤ times k (shelf_numbers around.before ++ shelf_numbers around.after) → SameShelf used.shelves new.shelves k = λ k stands.
-    is.others k (number_other k stands) (rest_other k (omega (arith, among k, number_count k, stands))) in
+    let others : (k : ℕ) → 1 ≤ times k (shelf_numbers around.before) + times k (shelf_numbers around.after) → SameShelf used.shelves new.shelves k = λ k stands.
+    is.others k (number_other k stands) (rest_other k (omega (arith, number_count k, stands))) in
     let along : (k : ℕ) → 1 ≤ times k (shelf_numbers entries) → along_of new.shelves k ≡ along_of used.shelves k = λ k stands.
     (field_at-kept (λ (x : LinkedShelf). x.x) 0 (λ (x : LinkedShelf). record x { height = height }) (linked_between shelf_chain (Some number) (link_at shelf_chain.next (changed_by (Some rest) (λ _. rest_record) used.shelves) number) rest (changed_by (Some rest) (λ _. rest_record) used.shelves)) number k (λ x. refl))
     ∙ (shelves-same (changed_by (Some rest) (λ _. rest_record) used.shelves) (linked_between shelf_chain (Some number) (link_at shelf_chain.next (changed_by (Some rest) (λ _. rest_record) used.shelves) number) rest (changed_by (Some rest) (λ _. rest_record) used.shelves)) k (map-linked_between shelf_chain shelf_values shelves-keep_values (changed_by (Some rest) (λ _. rest_record) used.shelves) (Some number) (link_at shelf_chain.next (changed_by (Some rest) (λ _. rest_record) used.shelves) number) rest)).along
@@ -209,7 +207,7 @@ split-shelf {atlas} used around entry rest rest_item height loose tall is_used =
             placed = Each-append (IsPlaced (with_lists atlas new)) around.before (entry ∷ added ∷ around.after) (Each-front (IsPlaced (with_lists atlas new)) around.before (entry ∷ around.after) all) (tail.0, (added_placed, tail.1));
             stacked = rw more_numbers
                 (stacked-split used.shelves new.shelves cw [] [] (shelf_numbers around.before) (shelf_numbers around.after) number rest is.splits (λ c. refl)
-                (λ k stands. others k (omega (arith, among k, stands))) (λ k stands. others k (omega (arith, among k, stands)))
+                (λ k stands. others k (omega (arith, stands))) (λ k stands. others k (omega (arith, stands)))
                 (rw (← numbers) spelled.stacked));
             unused = unmarked-same used.items new.items around.unused_items
                 (λ k stands. item-same used.items new.items k (item_same k (stranger rest_item k around.unused_items free.no_unused stands))) spelled.unused;

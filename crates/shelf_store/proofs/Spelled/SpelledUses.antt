@@ -10,7 +10,7 @@ use Rattle.shelf_links.specs.RecordLists.{Records, Entry, shelf_numbers, item_nu
 use Rattle.etagere_links.specs.Edits.{field_at}
 use Rattle.shelf_links.specs.RecordUses.{number_used, new_shelf, shelves_used, item_used, shelf_used}
 use Rattle.shelf_links.proofs.AllLists.LinkedUnused.{lists_of, three-count, IsLoose, loose-of}
-use Rattle.shelf_links.proofs.AllLists.LinkedUses.{but_first, UsesItem, UsesShelf, uses-item, uses-shelf}
+use Rattle.shelf_links.proofs.AllLists.LinkedUses.{but_first, uses-item, uses-shelf}
 use Rattle.etagere_links.proofs.WalkedLists.{once-part}
 use Rattle.shelf_records.specs.AtlasRecords.{AtlasRecords, is_allocated_at, spelled_shelf}
 use Rattle.shelf_records.specs.Private.Kept.{HasFlag, IsPlaced}

@@ -17,6 +17,7 @@ use Rattle.shelf_records.specs.AtlasRecords.{AtlasRecords, spelled_shelf}
 use Rattle.shelf_model.specs.Choice.{Placement, placement_of}
 use Rattle.shelf_model.specs.Places.{allocated_numbers, record_number}
 use Rattle.shelf_records.specs.Private.Kept.{AreKept, HasFlag, Locates, Witnessed, atlas_of, bare, state_of}
+use Rattle.shelf_store.proofs.Spelled.TakenItemSpelled.{free_spot}
 use Rattle.shelf_store.specs.Private.PlacementTaken.{id_of, item_record, placement_taken}
 use Rattle.shelf_model.specs.Space.{space_in}
 use Rattle.shelf_model.specs.State.{Shelf, AtlasState, items_in_use}
@@ -100,7 +101,7 @@ placement-kept frame records size placement found kept h locates =
     subst (AllByRecursion (HasFlag atlas)) is.entries (Each-weaken (HasFlag (atlas_of frame records)) (HasFlag atlas) lists.entries (λ entry flag. flag) kept.flags) in
     let within : number < length records.items = is_ready.within in
     let takes : IsTakenBy atlas new is.before is.after shelf (spelled_shelf atlas entry) placement id =
-    taken-spelled (around_of is.before is.after lists.unused_items lists.unused_shelves) shelf number is.front is.back is.free_front is.free_back placement within is.item
+    taken-spelled (around_of is.before is.after lists.unused_items lists.unused_shelves) (free_spot shelf number is.front is.back is.free_front is.free_back) placement within is.item
     (λ split. omega (arith, is.takes.shorter split)) is.takes.full kept.counts.shelves.1 is_ready.room
     (taken_shelf-not_empty frame placement id placement.height (spelled_shelf atlas entry) is.takes)
     (Each-front (HasFlag atlas) is.before (entry ∷ is.after) flags) (Each-back (HasFlag atlas) is.before (entry ∷ is.after) flags).1 (is_ready.spelled atlas.allocated_space) in

@@ -11,7 +11,7 @@ use Rattle.etagere_base.specs.declared.frames.Frame.{Frame}
 use Rattle.etagere_base.specs.declared.geometry.Size.{Size}
 use Rattle.etagere_links.specs.Links.{no_link}
 use Rattle.shelf_links.proofs.AllLists.LinkedItems.{entry_of}
-use Rattle.shelf_links.proofs.AllLists.LinkedEdits.{IsApart, linked-apart, around_of}
+use Rattle.shelf_links.proofs.AllLists.LinkedEdits.{linked-apart, around_of}
 use Rattle.shelf_links.specs.RecordLists.{Records, Entry, Lists, IsLinkedExcept, shelf_numbers, walked_lists}
 use Rattle.etagere_links.specs.Lists.{HasEachOnce}
 use Rattle.shelf_links.proofs.AllLists.LinkedUnused.{lists_of}

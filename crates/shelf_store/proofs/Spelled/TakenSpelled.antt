@@ -4,7 +4,6 @@ use Rattle.std.proofs.Common.{◌≡◌, ℕ, ◌+◌, ◌-◌, ◌<◌, ◌≤�
 use Rattle.std.specs.Prelude.{if◌then◌else◌}
 use Rattle.etagere_base.proofs.EachLemmas.{Each-middle}
 use Rattle.std.specs.List.{AllByRecursion}
-use Rattle.shelf_links.proofs.AllLists.LinkedItems.{entry_of}
 use Rattle.shelf_links.specs.declared.records.LinkedShelf.{LinkedShelf}
 use Rattle.etagere_links.specs.Links.{no_link}
 use Rattle.shelf_links.specs.RecordEdits.{shelf_changed}
@@ -24,15 +23,15 @@ use Rattle.shelf_store.proofs.Spelled.EmptinessSaid.{IsFlagged, emptiness_said-f
 use Rattle.shelf_store.proofs.Spelled.GivenItems.{IsItemGiven, item-whole, item-front}
 use Rattle.shelf_store.proofs.Spelled.SpelledLists.{with_lists, IsSpelled}
 use Rattle.shelf_store.proofs.Spelled.SpelledSplits.{HasShelfSplit}
-use Rattle.shelf_store.proofs.Spelled.TakenItemSpelled.{IsPlacedAt, taken_from}
+use Rattle.shelf_store.proofs.Spelled.TakenItemSpelled.{IsPlacedAt, taken_from, FreeSpot, spot_entry}
 use Rattle.shelf_store.proofs.Spelled.TakenRests.{AreRests, added_where, are-rests, split-where, link_where, list_where}
 
 -- the item of a placement was given: its front or all of it
-given-where : (of_item : Bool) (atlas : AtlasRecords) (split_records : Records) (around : Around) (added : List Entry) (shelf number rest : ℕ) (front back free_front free_back : List ℕ) (placement : Placement) (rests : List Shelf) → placement.splits_item ≡ of_item → number < length atlas.records.items → IsPlacedAt atlas.records.items placement front back free_front free_back number → AllByRecursion (IsEntry atlas.records) (around.before ++ entry_of shelf (front ++ number ∷ back) (free_front ++ number ∷ free_back) ∷ around.after) → HasShelfSplit atlas split_records around added (entry_of shelf (front ++ number ∷ back) (free_front ++ number ∷ free_back)) (list_where of_item rest) placement.height rests → IsItemGiven atlas (with_item_given (record placement { shelf = shelf; item = number }) (link_where of_item rest) split_records) around added (entry_of shelf (front ++ number ∷ back) (free_front ++ number ∷ free_back)) (taken_from of_item placement (id_of atlas.records.items number) (spelled_shelf atlas (entry_of shelf (front ++ number ∷ back) (free_front ++ number ∷ free_back)))) rests
-given-where false atlas split_records around added shelf number rest front back free_front free_back placement rests whole within is are split_is =
-    item-whole split_records around added shelf number front back free_front free_back placement rests within is whole are split_is
-given-where true atlas split_records around added shelf number rest front back free_front free_back placement rests split within is are split_is =
-    item-front split_records around added shelf number rest (item_record split_records.items rest).generation front back free_front free_back placement rests within is split are split_is
+given-where : (of_item : Bool) (atlas : AtlasRecords) (split_records : Records) (around : Around) (added : List Entry) (spot : FreeSpot) (rest : ℕ) (placement : Placement) (rests : List Shelf) → placement.splits_item ≡ of_item → spot.number < length atlas.records.items → IsPlacedAt atlas.records.items placement spot → AllByRecursion (IsEntry atlas.records) (around.before ++ spot_entry spot ∷ around.after) → HasShelfSplit atlas split_records around added (spot_entry spot) (list_where of_item rest) placement.height rests → IsItemGiven atlas (with_item_given (record placement { shelf = spot.shelf; item = spot.number }) (link_where of_item rest) split_records) around added (spot_entry spot) (taken_from of_item placement (id_of atlas.records.items spot.number) (spelled_shelf atlas (spot_entry spot))) rests
+given-where false atlas split_records around added spot rest placement rests whole within is are split_is =
+    item-whole split_records around added spot placement rests within is whole are split_is
+given-where true atlas split_records around added spot rest placement rests split within is are split_is =
+    item-front split_records around added spot rest (item_record split_records.items rest).generation placement rests within is split are split_is
 
 -- a shelf is marked as one that is not empty
 abbrev cleared : ℕ → Bool → Records → Records
@@ -70,26 +69,26 @@ pub record IsTakenBy (atlas : AtlasRecords) (new : Records) (before after : List
   pub few : length new.shelves ≤ no_link
 
 -- a placement was taken in records that spell lists, of which one names its shelf, and that its item
-pub taken-spelled : {atlas : AtlasRecords} (around : Around) (shelf number : ℕ) (front back free_front free_back : List ℕ) (placement : Placement) → number < length atlas.records.items → IsPlacedAt atlas.records.items placement front back free_front free_back number → (placement.splits_shelf ≡ true → placement.height ≤ height_of atlas.records.shelves shelf) → (placement.splits_shelf ≡ false → placement.height ≡ height_of atlas.records.shelves shelf) → length atlas.records.shelves ≤ no_link → (placement.splits_shelf ≡ true → around.unused_shelves ≡ [] → length atlas.records.shelves + 1 ≤ no_link) → is_empty (taken_from placement.splits_item placement (id_of atlas.records.items number) (spelled_shelf atlas (entry_of shelf (front ++ number ∷ back) (free_front ++ number ∷ free_back)))) ≡ false → AllByRecursion (HasFlag atlas) around.before → AllByRecursion (HasFlag atlas) around.after → IsSpelled atlas (with_entry around (entry_of shelf (front ++ number ∷ back) (free_front ++ number ∷ free_back))) → IsTakenBy atlas (placement_taken atlas.frame.column_width (record placement { shelf = shelf; item = number }) atlas.records) around.before around.after shelf (spelled_shelf atlas (entry_of shelf (front ++ number ∷ back) (free_front ++ number ∷ free_back))) placement (id_of atlas.records.items number)
-taken-spelled {atlas} around shelf number front back free_front free_back placement within is tall full few room not_empty flags_before flags_after spelled =
+pub taken-spelled : {atlas : AtlasRecords} (around : Around) (spot : FreeSpot) (placement : Placement) → spot.number < length atlas.records.items → IsPlacedAt atlas.records.items placement spot → (placement.splits_shelf ≡ true → placement.height ≤ height_of atlas.records.shelves spot.shelf) → (placement.splits_shelf ≡ false → placement.height ≡ height_of atlas.records.shelves spot.shelf) → length atlas.records.shelves ≤ no_link → (placement.splits_shelf ≡ true → around.unused_shelves ≡ [] → length atlas.records.shelves + 1 ≤ no_link) → is_empty (taken_from placement.splits_item placement (id_of atlas.records.items spot.number) (spelled_shelf atlas (spot_entry spot))) ≡ false → AllByRecursion (HasFlag atlas) around.before → AllByRecursion (HasFlag atlas) around.after → IsSpelled atlas (with_entry around (spot_entry spot)) → IsTakenBy atlas (placement_taken atlas.frame.column_width (record placement { shelf = spot.shelf; item = spot.number }) atlas.records) around.before around.after spot.shelf (spelled_shelf atlas (spot_entry spot)) placement (id_of atlas.records.items spot.number)
+taken-spelled {atlas} around spot placement within is tall full few room not_empty flags_before flags_after spelled =
     let of_shelf : Bool = placement.splits_shelf in
     let of_item : Bool = placement.splits_item in
     let records : Records = atlas.records in
-    let found : Placement = record placement { shelf = shelf; item = number } in
-    let entry : Entry = entry_of shelf (front ++ number ∷ back) (free_front ++ number ∷ free_back) in
+    let found : Placement = record placement { shelf = spot.shelf; item = spot.number } in
+    let entry : Entry = spot_entry spot in
     let cw : ℕ = atlas.frame.column_width in
-    let id : ℕ = id_of records.items number in
+    let id : ℕ = id_of records.items spot.number in
     let used : Records = rests_used of_shelf of_item records in
     let rests : AreRests of_shelf of_item atlas (around.before ++ entry ∷ around.after) = are-rests of_shelf of_item atlas (around.before ++ entry ∷ around.after) around.unused_items around.unused_shelves few room spelled in
     let added : List Entry = added_where of_shelf rests.shelf rests.shelf_item in
     let pieces : List Shelf = rests_pieces of_shelf (spelled_shelf atlas entry) in
     let taken : Shelf = taken_from of_item placement id (spelled_shelf atlas entry) in
     let is_split : HasShelfSplit atlas (with_shelf_rest cw found (link_where of_shelf rests.shelf) (link_where of_shelf rests.shelf_item) used) (around_of around.before around.after rests.unused_items rests.unused_shelves) added entry (list_where of_item rests.item) placement.height pieces =
-    split-where of_shelf atlas used (around_of around.before around.after rests.unused_items rests.unused_shelves) entry placement number rests.shelf rests.shelf_item (list_where of_item rests.item) tall full rests.used in
+    split-where of_shelf atlas used (around_of around.before around.after rests.unused_items rests.unused_shelves) entry placement spot.number rests.shelf rests.shelf_item (list_where of_item rests.item) tall full rests.used in
     let Given : Option ℕ → Option ℕ → Option ℕ → Type 0 = λ a b c.
     IsItemGiven atlas (with_item_given found c (with_shelf_rest cw found a b used)) (around_of around.before around.after rests.unused_items rests.unused_shelves) added entry taken pieces in
     let one : Given (link_where of_shelf rests.shelf) (link_where of_shelf rests.shelf_item) (link_where of_item rests.item) =
-    given-where of_item atlas (with_shelf_rest cw found (link_where of_shelf rests.shelf) (link_where of_shelf rests.shelf_item) used) (around_of around.before around.after rests.unused_items rests.unused_shelves) added shelf number rests.item front back free_front free_back placement pieces refl within is spelled.linked.entries is_split in
+    given-where of_item atlas (with_shelf_rest cw found (link_where of_shelf rests.shelf) (link_where of_shelf rests.shelf_item) used) (around_of around.before around.after rests.unused_items rests.unused_shelves) added spot rests.item placement pieces refl within is spelled.linked.entries is_split in
     let two : Given (number_used of_shelf records.unused_shelves records.shelves) (link_where of_shelf rests.shelf_item) (link_where of_item rests.item) =
     subst (λ (o : Option ℕ). Given o (link_where of_shelf rests.shelf_item) (link_where of_item rests.item)) (sym rests.shelf_is) one in
     let three : Given (number_used of_shelf records.unused_shelves records.shelves) (number_used of_shelf records.unused_items records.items) (link_where of_item rests.item) =
@@ -97,7 +96,7 @@ taken-spelled {atlas} around shelf number front back free_front free_back placem
     let given : Given (number_used of_shelf records.unused_shelves records.shelves) (number_used of_shelf records.unused_items records.items) (number_used of_item (item_used of_shelf records).unused_items (item_used of_shelf records).items) =
     subst (λ (o : Option ℕ). Given (number_used of_shelf records.unused_shelves records.shelves) (number_used of_shelf records.unused_items records.items) o) (sym rests.item_is) three in
     let last : Records = with_item_given found (number_used of_item (item_used of_shelf records).unused_items (item_used of_shelf records).items) (with_shelf_rest cw found (number_used of_shelf records.unused_shelves records.shelves) (number_used of_shelf records.unused_items records.items) used) in
-    let done = flag-cleared atlas last (around_of around.before (added ++ around.after) rests.unused_items rests.unused_shelves) given.edited shelf given.number (given.flags_before flags_before) (given.flags_after flags_after) given.spelled (ap is_empty given.own ∙ not_empty) in
+    let done = flag-cleared atlas last (around_of around.before (added ++ around.after) rests.unused_items rests.unused_shelves) given.edited spot.shelf given.number (given.flags_before flags_before) (given.flags_after flags_after) given.spelled (ap is_empty given.own ∙ not_empty) in
     record {
       lists = lists_of (around.before ++ given.edited ∷ (added ++ around.after)) rests.unused_items rests.unused_shelves;
       rest = rests.shelf;
@@ -106,12 +105,12 @@ taken-spelled {atlas} around shelf number front back free_front free_back placem
       item_is = rests.shelf_item_is;
       numbers = shelf_numbers-append around.before (given.edited ∷ (added ++ around.after))
           ∙ ap (λ (n : ℕ). shelf_numbers around.before ++ n ∷ shelf_numbers (added ++ around.after)) given.number
-          ∙ ap (λ (ns : List ℕ). shelf_numbers around.before ++ shelf ∷ ns) (added-numbers of_shelf rests.shelf rests.shelf_item around.after);
+          ∙ ap (λ (ns : List ℕ). shelf_numbers around.before ++ spot.shelf ∷ ns) (added-numbers of_shelf rests.shelf rests.shelf_item around.after);
       flagged = done.0;
       shelves = done.1 ∙ given.shelves;
       more = given.more;
       made = given.made;
-      few = omega (arith, given.few, length-changed_by (λ (here : LinkedShelf). record here { is_empty = false }) last.shelves (Some shelf));
+      few = omega (arith, given.few, length-changed_by (λ (here : LinkedShelf). record here { is_empty = false }) last.shelves (Some spot.shelf));
     }
   where
     rests_pieces : Bool → Shelf → List Shelf
