@@ -14,7 +14,7 @@ use Rattle.shelf_links.specs.RecordEdits.{free_unlinked, with_first_item, with_f
 use Rattle.shelf_links.specs.RecordLists.{IsLinkedExcept, Records, Entry, first_item_of, first_free_of}
 use Rattle.shelf_links.specs.RecordMerges.{free_absorbed, allocated_absorbed, item_freed, item_given}
 use Rattle.shelf_links.specs.Records.{item_chain, free_list}
-use Rattle.shelf_links.proofs.AllLists.LinkedMerges.{free_absorbed-linked, allocated_absorbed-linked, item_freed-linked, item_given-linked}
+use Rattle.shelf_links.proofs.AllLists.LinkedMerges.{unused_too, free_absorbed-linked, allocated_absorbed-linked, item_freed-linked, item_given-linked}
 use Rattle.etagere_links.proofs.ListEnds.{times-here}
 use Rattle.etagere_links.proofs.RecordChanges.{map-changed_by}
 use Rattle.etagere_links.proofs.RecordFrames.{length-unlinked, map-linked_between, map-unlinked}
@@ -40,16 +40,6 @@ unmarked-same items new [] same each = tt
 unmarked-same items new (x ∷ xs) same each =
     ((same x (omega (arith, times-here x xs))).allocated ∙ each.0, unmarked-same items new xs (λ k stands. same k (omega (arith, stands))) each.1)
 
--- a shelf after one of its items absorbed the next is placed
-absorbed-placed : (atlas : AtlasRecords) (lists : Records) (shelf number next : ℕ) (front back free free' : List ℕ) → IsRest front back number next → Absorbs atlas.records.items lists.items number next → ((k : ℕ) → SameShelf atlas.records.shelves lists.shelves k) → ((k : ℕ) → times k free' + free_count atlas.records.items k (next ∷ []) ≡ times k free) → IsPlaced atlas (entry_of shelf (front ++ number ∷ next ∷ back) free) → IsPlaced (with_lists atlas lists) (entry_of shelf (front ++ number ∷ back) free')
-absorbed-placed atlas lists shelf number next front back free free' rest absorbs same listed placed =
-    record {
-      owners = absorbed-owners atlas.records.items lists.items shelf front back number next rest absorbs placed.owners;
-      along = ap (λ a. a % atlas.frame.column_width) (same shelf).along ∙ placed.along;
-      places = rw (same shelf).along (absorbed-places atlas.records.items lists.items (along_of atlas.records.shelves shelf) front back number next rest absorbs placed.places);
-      free_list = λ k. omega (arith, placed.free_list k, listed k, absorbed-free atlas.records.items lists.items k front back number next rest absorbs);
-    }
-
 -- a number that does not stand in the items of a shelf is neither of two of them
 neither : (front back : List ℕ) (number next k : ℕ) → times k (front ++ number ∷ next ∷ back) ≡ 0 → (number ≢ k) × (next ≢ k)
 neither front back number next k absent =
@@ -58,41 +48,65 @@ neither front back number next k absent =
       λ e. let here : times k (next ∷ back) ≡ 1 + times k back = rw e (times-here k back) in omega (arith, absent, count, here),
     )
 
+-- an item and the next are two, and both are there
+record ArePair (items : List LinkedItem) (number next : ℕ) : Type 0 where
+  apart : number ≢ next
+  within : number < length items
+  next_within : next < length items
+
+are-pair : {atlas : AtlasRecords} (around : Around) (shelf number next : ℕ) (front back free : List ℕ) → IsSpelled atlas (with_entry around (entry_of shelf (front ++ number ∷ next ∷ back) free)) → ArePair atlas.records.items number next
+are-pair around shelf number next front back free spelled =
+    let here = linked-apart around (entry_of shelf (front ++ number ∷ next ∷ back) free) spelled.linked in
+    let count : (k : ℕ) → times k (front ++ number ∷ next ∷ back) ≡ times k front + times k (number ∷ next ∷ back) = λ k. times-append k front (number ∷ next ∷ back) in
+    record {
+      apart = λ e.
+          let again : times next (number ∷ next ∷ back) ≡ 1 + times next (next ∷ back) = rw e (times-here next (next ∷ back)) in
+          omega (arith, here.once next, count next, again, times-here next back);
+      within = here.within number (omega (arith, count number, times-here number (next ∷ back)));
+      next_within = here.within next (omega (arith, count next, times-here next back));
+    }
+
+-- an item took the place of the next one, which became unused
+absorbed-spelled : {atlas : AtlasRecords} (around : Around) (shelf number next : ℕ) (front back free free' : List ℕ) (lists : Records) → IsSpelled atlas (with_entry around (entry_of shelf (front ++ number ∷ next ∷ back) free)) → Absorbs atlas.records.items lists.items number next → is_allocated_at lists.items next ≡ false → ((k : ℕ) → SameShelf atlas.records.shelves lists.shelves k) → IsLinkedExcept lists (with_entry (unused_too next around) (entry_of shelf (front ++ number ∷ back) free')) [] [] → ((k : ℕ) → times k free' + free_count atlas.records.items k (next ∷ []) ≡ times k free) → EditsItems atlas lists around (next ∷ around.unused_items) (entry_of shelf (front ++ number ∷ next ∷ back) free) (entry_of shelf (front ++ number ∷ back) free')
+absorbed-spelled {atlas} around shelf number next front back free free' lists spelled absorbs unmarked same linked listed =
+    let items : List LinkedItem = atlas.records.items in
+    let entry : Entry = entry_of shelf (front ++ number ∷ next ∷ back) free in
+    let apart = linked-apart around entry spelled.linked in
+    let placed : IsPlaced atlas entry = Each-middle (IsPlaced atlas) around.before entry around.after spelled.placed in
+    let rest : IsRest front back number next = rest-of front back number next apart.once in
+    let others : (k : ℕ) → times k entry.items ≡ 0 → SameItem items lists.items k = λ k absent.
+    absorbs.others k (neither front back number next k absent).0 (neither front back number next k absent).1 in
+    record {
+      number = refl;
+      linked = linked;
+      placed = record {
+        owners = absorbed-owners items lists.items shelf front back number next rest absorbs placed.owners;
+        along = ap (λ a. a % atlas.frame.column_width) (same shelf).along ∙ placed.along;
+        places = rw (same shelf).along (absorbed-places items lists.items (along_of atlas.records.shelves shelf) front back number next rest absorbs placed.places);
+        free_list = λ k. omega (arith, placed.free_list k, listed k, absorbed-free items lists.items k front back number next rest absorbs);
+      };
+      items = others;
+      shelf = same;
+      left_unused = (unmarked, unmarked-same items lists.items around.unused_items (λ k stands. others k (omega (arith, apart.others k (omega (arith, stands))))) spelled.unused);
+    }
+
 -- the records after an item took the place of the free one after it
 pub free_absorbed-spelled : {atlas : AtlasRecords} (around : Around) (shelf number next : ℕ) (front back free_front free_back : List ℕ) → is_allocated_at atlas.records.items next ≡ false → IsSpelled atlas (with_entry around (entry_of shelf (front ++ number ∷ next ∷ back) (free_front ++ next ∷ free_back))) → EditsItems atlas (free_absorbed shelf number next ((item_at atlas.records.items number).width + (item_at atlas.records.items next).width) atlas.records) around (next ∷ around.unused_items) (entry_of shelf (front ++ number ∷ next ∷ back) (free_front ++ next ∷ free_back)) (entry_of shelf (front ++ number ∷ back) (free_front ++ free_back))
 free_absorbed-spelled {atlas} around shelf number next front back free_front free_back is_free spelled =
     let items : List LinkedItem = atlas.records.items in
     let width : ℕ = (item_at items number).width + (item_at items next).width in
     let lists : Records = free_absorbed shelf number next width atlas.records in
-    let numbers : List ℕ = front ++ number ∷ next ∷ back in
-    let entry : Entry = entry_of shelf numbers (free_front ++ next ∷ free_back) in
-    let apart = linked-apart around entry spelled.linked in
-    let placed : IsPlaced atlas entry = Each-middle (IsPlaced atlas) around.before entry around.after spelled.placed in
-    let count : (k : ℕ) → times k numbers ≡ times k front + times k (number ∷ next ∷ back) = λ k. times-append k front (number ∷ next ∷ back) in
-    let rest : IsRest front back number next = rest-of front back number next apart.once in
-    let wide : IsWidened items lists.items number width = free-widens atlas.records shelf number next (apart.within number (omega (arith, count number, times-here number (next ∷ back)))) in
-    let absorbs : Absorbs items lists.items number next = widened-absorbs items lists.items number next wide in
-    let differ : number ≢ next = λ e.
-    let here : times next (number ∷ next ∷ back) ≡ 1 + times next (next ∷ back) = rw e (times-here next (next ∷ back)) in
-    omega (arith, apart.once next, count next, here, times-here next back) in
+    let free : List ℕ = free_front ++ next ∷ free_back in
+    let pair : ArePair items number next = are-pair around shelf number next front back free spelled in
+    let wide : IsWidened items lists.items number width = free-widens atlas.records shelf number next pair.within in
     let one : Records = free_unlinked shelf next atlas.records in
-    let same : (k : ℕ) → SameShelf atlas.records.shelves lists.shelves k = λ k.
-    shelves-same atlas.records.shelves lists.shelves k
+    absorbed-spelled around shelf number next front back free (free_front ++ free_back) lists spelled (widened-absorbs items lists.items number next wide)
+    ((wide.others next pair.apart).allocated ∙ is_free)
+    (λ k. shelves-same atlas.records.shelves lists.shelves k
     (item-first shelf (first_without (link_at item_chain.previous one.items next) (link_at item_chain.next one.items next) (first_item_of one.shelves shelf)) one.shelves
-    ∙ free-first shelf (first_without (link_at free_list.previous items next) (link_at free_list.next items next) (first_free_of atlas.records.shelves shelf)) atlas.records.shelves) in
-    record {
-      number = refl;
-      linked = free_absorbed-linked around shelf number next width front back free_front free_back spelled.linked;
-      placed = absorbed-placed atlas lists shelf number next front back (free_front ++ next ∷ free_back) (free_front ++ free_back) rest absorbs same
-          (λ k. omega (arith, times-append k free_front (next ∷ free_back), times-append k free_front free_back, free_count-free items k next [] is_free)) placed;
-      items = λ k absent. absorbs.others k (neither front back number next k absent).0 (neither front back number next k absent).1;
-      shelf = same;
-      left_unused = (
-        (wide.others next differ).allocated ∙ is_free,
-        unmarked-same items lists.items around.unused_items
-            (λ k stands. wide.others k (neither front back number next k (omega (arith, apart.others k (omega (arith, stands))))).0) spelled.unused,
-      );
-    }
+    ∙ free-first shelf (first_without (link_at free_list.previous items next) (link_at free_list.next items next) (first_free_of atlas.records.shelves shelf)) atlas.records.shelves))
+    (free_absorbed-linked around shelf number next width front back free_front free_back spelled.linked)
+    (λ k. omega (arith, times-append k free_front (next ∷ free_back), times-append k free_front free_back, free_count-free items k next [] is_free))
 
 -- the records after a free item took the place of the allocated one after it
 pub allocated_absorbed-spelled : {atlas : AtlasRecords} (around : Around) (shelf number next : ℕ) (front back free : List ℕ) → is_allocated_at atlas.records.items next ≡ true → IsSpelled atlas (with_entry around (entry_of shelf (front ++ number ∷ next ∷ back) free)) → EditsItems atlas (allocated_absorbed shelf number next ((item_at atlas.records.items number).width + (item_at atlas.records.items next).width) atlas.records) around (next ∷ around.unused_items) (entry_of shelf (front ++ number ∷ next ∷ back) free) (entry_of shelf (front ++ number ∷ back) free)
@@ -101,36 +115,14 @@ allocated_absorbed-spelled {atlas} around shelf number next front back free is_a
     let width : ℕ = (item_at items number).width + (item_at items next).width in
     let lists : Records = allocated_absorbed shelf number next width atlas.records in
     let numbers : List ℕ = front ++ number ∷ next ∷ back in
-    let entry : Entry = entry_of shelf numbers free in
-    let apart = linked-apart around entry spelled.linked in
-    let placed : IsPlaced atlas entry = Each-middle (IsPlaced atlas) around.before entry around.after spelled.placed in
-    let count : (k : ℕ) → times k numbers ≡ times k front + times k (number ∷ next ∷ back) = λ k. times-append k front (number ∷ next ∷ back) in
-    let rest : IsRest front back number next = rest-of front back number next apart.once in
-    let differ : number ≢ next = λ e.
-    let here : times next (number ∷ next ∷ back) ≡ 1 + times next (next ∷ back) = rw e (times-here next (next ∷ back)) in
-    omega (arith, apart.once next, count next, here, times-here next back) in
-    let absorbs : Absorbs items lists.items number next =
-    allocated-absorbs atlas.records shelf number next differ (apart.within number (omega (arith, count number, times-here number (next ∷ back)))) in
-    let next_within : next < length items = apart.within next (omega (arith, count next, times-here next back)) in
-    let absent : times next free ≡ 0 = placed.free_list next ∙ free_count-none items next numbers is_allocated in
-    let same : (k : ℕ) → SameShelf atlas.records.shelves lists.shelves k = λ k.
-    shelves-same atlas.records.shelves lists.shelves k
-    (item-first shelf (first_without (link_at item_chain.previous items next) (link_at item_chain.next items next) (first_item_of atlas.records.shelves shelf)) atlas.records.shelves) in
-    record {
-      number = refl;
-      linked = allocated_absorbed-linked around shelf number next width front back free absent spelled.linked;
-      placed = absorbed-placed atlas lists shelf number next front back free free rest absorbs same
-          (λ k. omega (arith, free_count-allocated items k next [] is_allocated)) placed;
-      items = λ k absent_. absorbs.others k (neither front back number next k absent_).0 (neither front back number next k absent_).1;
-      shelf = same;
-      left_unused = (
-        allocated-unmarked atlas.records shelf number next width differ next_within,
-        unmarked-same items lists.items around.unused_items
-            (λ k stands.
-            let gone = neither front back number next k (omega (arith, apart.others k (omega (arith, stands)))) in
-            absorbs.others k gone.0 gone.1) spelled.unused,
-      );
-    }
+    let placed : IsPlaced atlas (entry_of shelf numbers free) = Each-middle (IsPlaced atlas) around.before (entry_of shelf numbers free) around.after spelled.placed in
+    let pair : ArePair items number next = are-pair around shelf number next front back free spelled in
+    absorbed-spelled around shelf number next front back free free lists spelled (allocated-absorbs atlas.records shelf number next pair.apart pair.within)
+    (allocated-unmarked atlas.records shelf number next width pair.apart pair.next_within)
+    (λ k. shelves-same atlas.records.shelves lists.shelves k
+    (item-first shelf (first_without (link_at item_chain.previous items next) (link_at item_chain.next items next) (first_item_of atlas.records.shelves shelf)) atlas.records.shelves))
+    (allocated_absorbed-linked around shelf number next width front back free (placed.free_list next ∙ free_count-none items next numbers is_allocated) spelled.linked)
+    (λ k. omega (arith, free_count-allocated items k next [] is_allocated))
 
 -- what an item says after it became free
 pub freed-values : (records : Records) (shelf number : ℕ) → number < length records.items → IsFreed records.items (item_freed shelf number records).items number
