@@ -35,7 +35,7 @@ pub record KeepsOther (family other : Family LinkedItem) : Type 0 where
   pub next : IsUnchanged family other.next
   pub previous : IsUnchanged family other.previous
 
-items-keep : KeepsOther item_chain free_list
+pub items-keep : KeepsOther item_chain free_list
 items-keep =
     record { laws = item_chain-laws; next = record { next = λ link x. refl; previous = λ link x. refl }; previous = record { next = λ link x. refl; previous = λ link x. refl } }
 
