@@ -3,11 +3,11 @@ use Rattle.std.proofs.Common.{◌≡◌, ℕ, zero, suc, List, [], ◌∷◌, �
 use Rattle.etagere_base.specs.Lists.{times}
 use Rattle.etagere_base.proofs.TimesLemmas.{times-append}
 use Rattle.shelf_links.specs.RecordEdits.{item_made, shelf_made}
-use Rattle.shelf_links.specs.RecordLists.{Entry, IsLinkedExcept, Records, item_numbers, shelf_numbers}
+use Rattle.shelf_links.specs.RecordLists.{IsLinkedExcept, Lists, Records, item_numbers, shelf_numbers}
 use Rattle.shelf_links.specs.RecordMaking.{records_made, with_new_items, with_new_shelves}
 use Rattle.shelf_links.specs.RecordUses.{new_item, new_shelf}
 use Rattle.shelf_links.proofs.AllLists.LinkedFields.{item_made-linked, shelf_made-linked}
-use Rattle.shelf_links.proofs.AllLists.LinkedUnused.{lists_of, three-count}
+use Rattle.shelf_links.proofs.AllLists.LinkedUnused.{three-count}
 use Rattle.shelf_store.specs.Private.FreshRecords.{numbered}
 
 -- so many numbers from this one on
@@ -15,11 +15,9 @@ abbrev pub numbers_from : ℕ → ℕ → List ℕ
 numbers_from from count = numbered (λ number. number) from count
 
 -- the order of records in no list doesn't matter
-loose-counted : (records : Records) (entries : List Entry) (unused_items unused_shelves loose other loose_shelves other_shelves : List ℕ)
-    → ((k : ℕ) → times k other ≡ times k loose) → ((k : ℕ) → times k other_shelves ≡ times k loose_shelves)
-    → IsLinkedExcept records (lists_of entries unused_items unused_shelves) loose loose_shelves
-    → IsLinkedExcept records (lists_of entries unused_items unused_shelves) other other_shelves
-loose-counted records entries unused_items unused_shelves loose other loose_shelves other_shelves same same_shelves linked =
+loose-counted : {records : Records} {lists : Lists} {loose other loose_shelves other_shelves : List ℕ} → IsLinkedExcept records lists loose loose_shelves
+    → ((k : ℕ) → times k other ≡ times k loose) → ((k : ℕ) → times k other_shelves ≡ times k loose_shelves) → IsLinkedExcept records lists other other_shelves
+loose-counted {records} {lists} {loose} {other} {loose_shelves} {other_shelves} linked same same_shelves =
     record {
       shelves = linked.shelves;
       entries = linked.entries;
@@ -29,15 +27,15 @@ loose-counted records entries unused_items unused_shelves loose other loose_shel
         arith,
         linked.shelves_once k,
         same_shelves k,
-        three-count (shelf_numbers entries) unused_shelves loose_shelves k,
-        three-count (shelf_numbers entries) unused_shelves other_shelves k,
+        three-count (shelf_numbers lists.entries) lists.unused_shelves loose_shelves k,
+        three-count (shelf_numbers lists.entries) lists.unused_shelves other_shelves k,
       );
       items_once = λ k. omega (
         arith,
         linked.items_once k,
         same k,
-        three-count (item_numbers entries) unused_items loose k,
-        three-count (item_numbers entries) unused_items other k,
+        three-count (item_numbers lists.entries) lists.unused_items loose k,
+        three-count (item_numbers lists.entries) lists.unused_items other k,
       );
     }
 
@@ -48,39 +46,24 @@ moved from last count loose k is =
     rw is (omega (arith, times-append k (numbers_from (suc from) count) loose, times-append k (numbers_from (suc from) count) (from ∷ loose)))
 
 -- item records were made
-pub items-made : (count : ℕ) (records : Records) (entries : List Entry) (unused_items unused_shelves loose loose_shelves : List ℕ)
-    → IsLinkedExcept records (lists_of entries unused_items unused_shelves) loose loose_shelves
-    → IsLinkedExcept (record records { items = with_new_items count records.items }) (lists_of entries unused_items unused_shelves)
-    (numbers_from (length records.items) count ++ loose) loose_shelves
-items-made zero records entries unused_items unused_shelves loose loose_shelves linked = linked
-items-made (suc count) records entries unused_items unused_shelves loose loose_shelves linked =
+items-made : (count : ℕ) {records : Records} {lists : Lists} {loose loose_shelves : List ℕ} → IsLinkedExcept records lists loose loose_shelves
+    → IsLinkedExcept (record records { items = with_new_items count records.items }) lists (numbers_from (length records.items) count ++ loose) loose_shelves
+items-made zero linked = linked
+items-made (suc count) {records} {lists} {loose} linked =
     let last : length (records.items ++ new_item ∷ []) ≡ suc (length records.items) = omega (arith, length-append records.items (new_item ∷ [])) in
-    loose-counted _ entries unused_items unused_shelves (numbers_from (length (records.items ++ new_item ∷ [])) count ++ length records.items ∷ loose)
-    (numbers_from (length records.items) (suc count) ++ loose) loose_shelves loose_shelves
+    loose-counted (items-made count (item_made-linked new_item linked))
     (λ k. moved (length records.items) (length (records.items ++ new_item ∷ [])) count loose k last) (λ k. refl)
-    (items-made count (item_made new_item records) entries unused_items unused_shelves (length records.items ∷ loose) loose_shelves
-    (item_made-linked new_item linked))
 
 -- shelf records were made
-pub shelves-made : (count : ℕ) (records : Records) (entries : List Entry) (unused_items unused_shelves loose loose_shelves : List ℕ)
-    → IsLinkedExcept records (lists_of entries unused_items unused_shelves) loose loose_shelves
-    → IsLinkedExcept (record records { shelves = with_new_shelves count records.shelves }) (lists_of entries unused_items unused_shelves) loose
-    (numbers_from (length records.shelves) count ++ loose_shelves)
-shelves-made zero records entries unused_items unused_shelves loose loose_shelves linked = linked
-shelves-made (suc count) records entries unused_items unused_shelves loose loose_shelves linked =
+shelves-made : (count : ℕ) {records : Records} {lists : Lists} {loose loose_shelves : List ℕ} → IsLinkedExcept records lists loose loose_shelves
+    → IsLinkedExcept (record records { shelves = with_new_shelves count records.shelves }) lists loose (numbers_from (length records.shelves) count ++ loose_shelves)
+shelves-made zero linked = linked
+shelves-made (suc count) {records} {lists} {loose} {loose_shelves} linked =
     let last : length (records.shelves ++ new_shelf ∷ []) ≡ suc (length records.shelves) = omega (arith, length-append records.shelves (new_shelf ∷ [])) in
-    loose-counted _ entries unused_items unused_shelves loose loose (numbers_from (length (records.shelves ++ new_shelf ∷ [])) count ++ length records.shelves ∷ loose_shelves)
-    (numbers_from (length records.shelves) (suc count) ++ loose_shelves) (λ k. refl)
+    loose-counted (shelves-made count (shelf_made-linked new_shelf linked)) (λ k. refl)
     (λ k. moved (length records.shelves) (length (records.shelves ++ new_shelf ∷ [])) count loose_shelves k last)
-    (shelves-made count (shelf_made new_shelf records) entries unused_items unused_shelves loose (length records.shelves ∷ loose_shelves)
-    (shelf_made-linked new_shelf linked))
 
 -- records of both kinds were made
-pub records-made : (items shelves : ℕ) (records : Records) (entries : List Entry) (unused_items unused_shelves : List ℕ)
-    → IsLinkedExcept records (lists_of entries unused_items unused_shelves) [] []
-    → IsLinkedExcept (records_made items shelves records) (lists_of entries unused_items unused_shelves)
-    (numbers_from (length records.items) items ++ []) (numbers_from (length records.shelves) shelves ++ [])
-records-made items shelves records entries unused_items unused_shelves linked =
-    shelves-made shelves (record records { items = with_new_items items records.items }) entries unused_items unused_shelves
-    (numbers_from (length records.items) items ++ []) []
-    (items-made items records entries unused_items unused_shelves [] [] linked)
+pub records-made : (items shelves : ℕ) {records : Records} {lists : Lists} → IsLinkedExcept records lists [] []
+    → IsLinkedExcept (records_made items shelves records) lists (numbers_from (length records.items) items ++ []) (numbers_from (length records.shelves) shelves ++ [])
+records-made items shelves linked = shelves-made shelves (items-made items linked)

@@ -228,8 +228,7 @@ module _ (frame : Frame) (size : Size) (records : Records) (kept : AreKept frame
       (numbers_from (length records.shelves) (missing shelf_chain needed.shelves records.unused_shelves records.shelves) ++ [])
   spelled-made =
       record {
-        linked = records-made (missing item_chain needed.items records.unused_items records.items) (missing shelf_chain needed.shelves records.unused_shelves records.shelves)
-            records entries unused_items unused_shelves kept.linked;
+        linked = records-made (missing item_chain needed.items records.unused_items records.items) (missing shelf_chain needed.shelves records.unused_shelves records.shelves) kept.linked;
         placed = same.placed (placed-alike frame grown records entries alike kept.placed);
         stacked = stacked-same records.shelves new.shelves grown.column_width same_shelf [] (shelf_numbers entries)
             (stacked-alike frame grown records [] (shelf_numbers entries) tt alike kept.stacked);
