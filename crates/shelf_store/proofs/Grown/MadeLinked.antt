@@ -2,7 +2,6 @@
 use Rattle.std.proofs.Common.{◌≡◌, ℕ, zero, suc, List, [], ◌∷◌, ◌++◌, length, length-append, refl, arith}
 use Rattle.etagere_base.specs.Lists.{times}
 use Rattle.etagere_base.proofs.TimesLemmas.{times-append}
-use Rattle.shelf_links.specs.RecordEdits.{item_made, shelf_made}
 use Rattle.shelf_links.specs.RecordLists.{IsLinkedExcept, Lists, Records, item_numbers, shelf_numbers}
 use Rattle.shelf_links.specs.RecordMaking.{records_made, with_new_items, with_new_shelves}
 use Rattle.shelf_links.specs.RecordUses.{new_item, new_shelf}
@@ -15,7 +14,7 @@ abbrev pub numbers_from : ℕ → ℕ → List ℕ
 numbers_from from count = numbered (λ number. number) from count
 
 -- the order of records in no list doesn't matter
-loose-counted : {records : Records} {lists : Lists} {loose other loose_shelves other_shelves : List ℕ} → IsLinkedExcept records lists loose loose_shelves
+pub loose-counted : {records : Records} {lists : Lists} {loose other loose_shelves other_shelves : List ℕ} → IsLinkedExcept records lists loose loose_shelves
     → ((k : ℕ) → times k other ≡ times k loose) → ((k : ℕ) → times k other_shelves ≡ times k loose_shelves) → IsLinkedExcept records lists other other_shelves
 loose-counted {records} {lists} {loose} {other} {loose_shelves} {other_shelves} linked same same_shelves =
     record {

@@ -7,7 +7,7 @@ use Rattle.etagere_base.proofs.TimesLemmas.{times-append}
 use Rattle.std.specs.List.{AllByRecursion}
 use Rattle.etagere_base.specs.Lists.{times}
 use Rattle.shelf_links.proofs.AllLists.LinkedItems.{entry_of}
-use Rattle.shelf_links.proofs.AllLists.LinkedEdits.{linked-apart, Around}
+use Rattle.shelf_links.proofs.AllLists.LinkedEdits.{linked-apart, Around, with_entry}
 use Rattle.shelf_links.specs.declared.records.LinkedItem.{LinkedItem}
 use Rattle.shelf_links.specs.declared.records.LinkedShelf.{LinkedShelf}
 use Rattle.etagere_links.specs.Edits.{changed_by, link_at, linked_between, field_at}
@@ -71,7 +71,7 @@ pub record HasShelfSplit (atlas : AtlasRecords) (new : Records) (around : Around
   pub few : length new.shelves ≤ no_link
 
 -- no shelf is split
-pub split-none : {atlas : AtlasRecords} (new : Records) (around : Around) (entry : Entry) (loose : List ℕ) → IsUsed atlas new (around.before ++ entry ∷ around.after) around.unused_items around.unused_shelves loose [] → HasShelfSplit atlas new around [] entry loose (height_of atlas.records.shelves entry.number) []
+pub split-none : {atlas : AtlasRecords} (new : Records) (around : Around) (entry : Entry) (loose : List ℕ) → IsUsed atlas new (with_entry around entry) loose [] → HasShelfSplit atlas new around [] entry loose (height_of atlas.records.shelves entry.number) []
 split-none {atlas} new around entry loose used =
     record {
       spelled = used.spelled;
@@ -144,7 +144,7 @@ rest-of records number rest rest_item height frame_width apart within rest_withi
     }
 
 -- a shelf is split
-pub split-shelf : {atlas : AtlasRecords} (used : Records) (around : Around) (entry : Entry) (rest rest_item height : ℕ) (loose : List ℕ) → height ≤ height_of atlas.records.shelves entry.number → IsUsed atlas used (around.before ++ entry ∷ around.after) around.unused_items around.unused_shelves (rest_item ∷ loose) (rest ∷ []) → HasShelfSplit atlas (shelf_split entry.number rest rest_item height (rest_shelf (shelf_record used.shelves entry.number) height rest_item) (free_item (shelf_record used.shelves entry.number).x atlas.frame.column_width rest (item_record used.items rest_item).generation) used) around (entry_of rest (rest_item ∷ []) (rest_item ∷ []) ∷ []) entry loose height (empty_shelf atlas.frame (along_of atlas.records.shelves entry.number / atlas.frame.column_width) (height_of atlas.records.shelves entry.number - height) ∷ [])
+pub split-shelf : {atlas : AtlasRecords} (used : Records) (around : Around) (entry : Entry) (rest rest_item height : ℕ) (loose : List ℕ) → height ≤ height_of atlas.records.shelves entry.number → IsUsed atlas used (with_entry around entry) (rest_item ∷ loose) (rest ∷ []) → HasShelfSplit atlas (shelf_split entry.number rest rest_item height (rest_shelf (shelf_record used.shelves entry.number) height rest_item) (free_item (shelf_record used.shelves entry.number).x atlas.frame.column_width rest (item_record used.items rest_item).generation) used) around (entry_of rest (rest_item ∷ []) (rest_item ∷ []) ∷ []) entry loose height (empty_shelf atlas.frame (along_of atlas.records.shelves entry.number / atlas.frame.column_width) (height_of atlas.records.shelves entry.number - height) ∷ [])
 split-shelf {atlas} used around entry rest rest_item height loose tall is_used =
     let middle : AtlasRecords = with_lists atlas used in
     let entries : List Entry = around.before ++ entry ∷ around.after in

@@ -6,10 +6,10 @@ use Rattle.std.specs.List.{AllByRecursion}
 use Rattle.etagere_base.specs.Lists.{times}
 use Rattle.shelf_links.specs.declared.records.LinkedShelf.{LinkedShelf}
 use Rattle.etagere_links.specs.Links.{no_link}
-use Rattle.shelf_links.specs.RecordLists.{Records, Entry, shelf_numbers, item_numbers, IsEntry}
+use Rattle.shelf_links.specs.RecordLists.{Records, Entry, Lists, shelf_numbers, item_numbers, IsEntry}
 use Rattle.etagere_links.specs.Edits.{field_at}
 use Rattle.shelf_links.specs.RecordUses.{number_used, new_shelf, shelves_used, item_used, shelf_used}
-use Rattle.shelf_links.proofs.AllLists.LinkedUnused.{lists_of, three-count, IsLoose, loose-of}
+use Rattle.shelf_links.proofs.AllLists.LinkedUnused.{three-count, IsLoose, loose-of}
 use Rattle.shelf_links.proofs.AllLists.LinkedUses.{but_first, uses-item, uses-shelf}
 use Rattle.etagere_links.proofs.WalkedLists.{once-part}
 use Rattle.shelf_records.specs.AtlasRecords.{AtlasRecords, is_allocated_at, spelled_shelf}
@@ -84,37 +84,37 @@ stranger n k xs absent stands e = let again : 1 ≤ times n xs = rw e stands in 
 
 -- records of which some were put to use: the shelves and their items say the same; there are no fewer items, and as
 -- many where some are still unused
-pub record IsUsed (atlas : AtlasRecords) (new : Records) (entries : List Entry) (unused_items unused_shelves loose_items loose_shelves : List ℕ) : Type 0 where
-  pub spelled : IsSpelledBut (with_lists atlas new) (lists_of entries unused_items unused_shelves) loose_items loose_shelves
-  pub items : (k : ℕ) → 1 ≤ times k (item_numbers entries) → slice_get new.items k ≡ slice_get atlas.records.items k
+pub record IsUsed (atlas : AtlasRecords) (new : Records) (lists : Lists) (loose_items loose_shelves : List ℕ) : Type 0 where
+  pub spelled : IsSpelledBut (with_lists atlas new) lists loose_items loose_shelves
+  pub items : (k : ℕ) → 1 ≤ times k (item_numbers lists.entries) → slice_get new.items k ≡ slice_get atlas.records.items k
   pub shelves : (k : ℕ) → SameShelf atlas.records.shelves new.shelves k
   pub more : length atlas.records.items ≤ length new.items
-  pub made : 1 ≤ length unused_items → length new.items ≡ length atlas.records.items
+  pub made : 1 ≤ length lists.unused_items → length new.items ≡ length atlas.records.items
   pub few : length new.shelves ≤ no_link
 
 -- one more item record was put to use
-pub record IsItemUsed (atlas : AtlasRecords) (new : Records) (entries : List Entry) (unused_items unused_shelves loose_items loose_shelves : List ℕ) : Type 0 where
+pub record IsItemUsed (atlas : AtlasRecords) (new : Records) (lists : Lists) (loose_items loose_shelves : List ℕ) : Type 0 where
   pub number : ℕ
   pub is : number_used true new.unused_items new.items ≡ Some number
-  pub used : IsUsed atlas (item_used true new) entries (but_first unused_items) unused_shelves (number ∷ loose_items) loose_shelves
+  pub used : IsUsed atlas (item_used true new) (record lists { unused_items = but_first lists.unused_items }) (number ∷ loose_items) loose_shelves
 
-pub used-item : (atlas : AtlasRecords) (new : Records) (entries : List Entry) (unused_items unused_shelves loose loose_shelves : List ℕ) → IsUsed atlas new entries unused_items unused_shelves loose loose_shelves → IsItemUsed atlas new entries unused_items unused_shelves loose loose_shelves
-used-item atlas new entries unused_items unused_shelves loose loose_shelves used =
+pub used-item : {atlas : AtlasRecords} {new : Records} {lists : Lists} {loose loose_shelves : List ℕ} → IsUsed atlas new lists loose loose_shelves → IsItemUsed atlas new lists loose loose_shelves
+used-item {atlas} {new} {lists} {loose} {loose_shelves} used =
     let middle : AtlasRecords = with_lists atlas new in
     let last : Records = item_used true new in
     let uses = uses-item used.spelled.linked in
-    let free : IsLoose (length last.items) (item_numbers entries) (but_first unused_items) uses.number =
-    loose-of (length last.items) (item_numbers entries) (but_first unused_items) loose uses.number uses.linked.items_once in
-    let all : List ℕ = item_numbers entries ++ unused_items ++ loose in
+    let free : IsLoose (length last.items) (item_numbers lists.entries) (but_first lists.unused_items) uses.number =
+    loose-of (length last.items) (item_numbers lists.entries) (but_first lists.unused_items) loose uses.number uses.linked.items_once in
+    let all : List ℕ = item_numbers lists.entries ++ lists.unused_items ++ loose in
     let within : (k part : ℕ) → part ≤ times k all → 1 ≤ part → k < length new.items =
     λ k part less. (once-part (length new.items) all k part used.spelled.linked.items_once less).1 in
-    let count : (k : ℕ) → times k all ≡ times k (item_numbers entries) + times k unused_items + times k loose = three-count (item_numbers entries) unused_items loose in
-    let kept : (k : ℕ) → 1 ≤ times k (item_numbers entries) → slice_get last.items k ≡ slice_get new.items k =
-    λ k stands. uses.others k (within k (times k (item_numbers entries)) (omega (arith, count k)) stands) (stranger uses.number k (item_numbers entries) free.no_used stands) in
-    let kept_unused : (k : ℕ) → 1 ≤ times k (but_first unused_items) → slice_get last.items k ≡ slice_get new.items k =
-    λ k stands. uses.others k (within k (times k unused_items) (omega (arith, count k)) (omega (arith, stands, times-but_first k unused_items))) (stranger uses.number k (but_first unused_items) free.no_unused stands) in
-    let same : SameEntries middle last entries =
-    same-entries middle last entries (λ k stands. same-shelf new.shelves k) (λ k stands. item-same new.items last.items k (kept k stands)) used.spelled.linked.entries in
+    let count : (k : ℕ) → times k all ≡ times k (item_numbers lists.entries) + times k lists.unused_items + times k loose = three-count (item_numbers lists.entries) lists.unused_items loose in
+    let kept : (k : ℕ) → 1 ≤ times k (item_numbers lists.entries) → slice_get last.items k ≡ slice_get new.items k =
+    λ k stands. uses.others k (within k (times k (item_numbers lists.entries)) (omega (arith, count k)) stands) (stranger uses.number k (item_numbers lists.entries) free.no_used stands) in
+    let kept_unused : (k : ℕ) → 1 ≤ times k (but_first lists.unused_items) → slice_get last.items k ≡ slice_get new.items k =
+    λ k stands. uses.others k (within k (times k lists.unused_items) (omega (arith, count k)) (omega (arith, stands, times-but_first k lists.unused_items))) (stranger uses.number k (but_first lists.unused_items) free.no_unused stands) in
+    let same : SameEntries middle last lists.entries =
+    same-entries middle last lists.entries (λ k stands. same-shelf new.shelves k) (λ k stands. item-same new.items last.items k (kept k stands)) used.spelled.linked.entries in
     record {
       number = uses.number;
       is = uses.is;
@@ -125,13 +125,13 @@ used-item atlas new entries unused_items unused_shelves loose loose_shelves used
                   linked = uses.linked;
                   placed = same.placed used.spelled.placed;
                   stacked = used.spelled.stacked;
-                  unused = unmarked-same new.items last.items (but_first unused_items) (λ k stands. item-same new.items last.items k (kept_unused k stands))
-                      (Each-but_first (λ item. is_allocated_at new.items item ≡ false) unused_items used.spelled.unused);
+                  unused = unmarked-same new.items last.items (but_first lists.unused_items) (λ k stands. item-same new.items last.items k (kept_unused k stands))
+                      (Each-but_first (λ item. is_allocated_at new.items item ≡ false) lists.unused_items used.spelled.unused);
                 };
             items = λ k stands. kept k stands ∙ used.items k stands;
             shelves = used.shelves;
-            more = by_count unused_items uses.count;
-            made = by_made unused_items uses.count used.made;
+            more = by_count lists.unused_items uses.count;
+            made = by_made lists.unused_items uses.count used.made;
             few = used.few;
           };
     }
@@ -145,20 +145,20 @@ used-item atlas new entries unused_items unused_shelves loose loose_shelves used
     by_made (x ∷ xs) count made some = omega (arith, count, made (omega arith))
 
 -- one more shelf record was put to use
-pub record IsShelfUsed (atlas : AtlasRecords) (new : Records) (entries : List Entry) (unused_items unused_shelves loose_items loose_shelves : List ℕ) : Type 0 where
+pub record IsShelfUsed (atlas : AtlasRecords) (new : Records) (lists : Lists) (loose_items loose_shelves : List ℕ) : Type 0 where
   pub number : ℕ
   pub is : number_used true new.unused_shelves new.shelves ≡ Some number
-  pub used : IsUsed atlas (shelf_used true new) entries unused_items (but_first unused_shelves) loose_items (number ∷ loose_shelves)
+  pub used : IsUsed atlas (shelf_used true new) (record lists { unused_shelves = but_first lists.unused_shelves }) loose_items (number ∷ loose_shelves)
 
 -- the record is new only where none was unused
-pub used-shelf : (atlas : AtlasRecords) (new : Records) (entries : List Entry) (unused_items unused_shelves loose loose_shelves : List ℕ) → (unused_shelves ≡ [] → length new.shelves + 1 ≤ no_link) → IsUsed atlas new entries unused_items unused_shelves loose loose_shelves → IsShelfUsed atlas new entries unused_items unused_shelves loose loose_shelves
-used-shelf atlas new entries unused_items unused_shelves loose loose_shelves room used =
+pub used-shelf : {atlas : AtlasRecords} {new : Records} {lists : Lists} {loose loose_shelves : List ℕ} → IsUsed atlas new lists loose loose_shelves → (lists.unused_shelves ≡ [] → length new.shelves + 1 ≤ no_link) → IsShelfUsed atlas new lists loose loose_shelves
+used-shelf {atlas} {new} {lists} used room =
     let middle : AtlasRecords = with_lists atlas new in
     let last : Records = shelf_used true new in
     let uses = uses-shelf used.spelled.linked in
     let same_shelf : (k : ℕ) → SameShelf new.shelves last.shelves k = shelves-used new.unused_shelves new.shelves in
-    let same : SameEntries middle last entries =
-    same-entries middle last entries (λ k stands. same_shelf k) (λ k stands. item-same new.items new.items k refl) used.spelled.linked.entries in
+    let same : SameEntries middle last lists.entries =
+    same-entries middle last lists.entries (λ k stands. same_shelf k) (λ k stands. item-same new.items new.items k refl) used.spelled.linked.entries in
     record {
       number = uses.number;
       is = uses.is;
@@ -168,14 +168,14 @@ used-shelf atlas new entries unused_items unused_shelves loose loose_shelves roo
                 record {
                   linked = uses.linked;
                   placed = same.placed used.spelled.placed;
-                  stacked = stacked-same new.shelves last.shelves atlas.frame.column_width same_shelf [] (shelf_numbers entries) used.spelled.stacked;
+                  stacked = stacked-same new.shelves last.shelves atlas.frame.column_width same_shelf [] (shelf_numbers lists.entries) used.spelled.stacked;
                   unused = used.spelled.unused;
                 };
             items = used.items;
             shelves = λ k. SameShelf-then atlas.records.shelves new.shelves last.shelves k (used.shelves k) (same_shelf k);
             more = used.more;
             made = used.made;
-            few = by_count unused_shelves uses.count room;
+            few = by_count lists.unused_shelves uses.count room;
           };
     }
   where

@@ -9,6 +9,7 @@ use Rattle.etagere_base.specs.declared.frames.Frame.{Frame}
 use Rattle.etagere_base.specs.declared.geometry.Size.{Size}
 use Rattle.shelf_links.proofs.AllLists.LinkedItems.{entry_of}
 use Rattle.shelf_links.proofs.AllLists.LinkedEdits.{linked-apart, around_of}
+use Rattle.shelf_links.proofs.AllLists.LinkedUnused.{lists_of}
 use Rattle.shelf_links.specs.declared.records.LinkedItem.{LinkedItem}
 use Rattle.shelf_links.specs.declared.records.LinkedShelf.{LinkedShelf}
 use Rattle.etagere_links.specs.Links.{no_link}
@@ -105,7 +106,7 @@ can-take frame records size placement found kept h locates =
     let place : Placement = record placement { shelf = shelf; item = number } in
     let used : Records = rests_used of_shelf of_item records in
     let rests : AreRests of_shelf of_item atlas entries =
-    are-rests of_shelf of_item atlas entries lists.unused_items lists.unused_shelves kept.counts.shelves.1 is_ready.room (is_ready.spelled atlas.allocated_space) in
+    are-rests of_shelf of_item atlas (lists_of entries lists.unused_items lists.unused_shelves) kept.counts.shelves.1 is_ready.room (is_ready.spelled atlas.allocated_space) in
     let loose : List ℕ = list_where of_shelf rests.shelf_item ++ list_where of_item rests.item in
     let apart = linked-apart (around_of is.before is.after rests.unused_items rests.unused_shelves) entry rests.used.spelled.linked in
     let height : placement.height ≤ height_of records.shelves shelf = fits placement.height (height_of records.shelves shelf) of_shelf is.takes.shorter is.takes.full in

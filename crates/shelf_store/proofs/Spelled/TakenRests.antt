@@ -1,20 +1,21 @@
 -- Records that spell lists, after those for the rests of a placement were put to use and its shelf was split.
-use Rattle.shelf_links.proofs.AllLists.LinkedEdits.{Around}
+use Rattle.shelf_links.proofs.AllLists.LinkedEdits.{Around, with_entry}
 use Rattle.std.proofs.Common.{◌≡◌, ℕ, ◌+◌, ◌-◌, ◌≤◌, Bool, true, false, Option, None, Some, List, [], ◌∷◌, ◌++◌, length, refl, arith, subst, sym}
 use Rattle.std.specs.Prelude.{◌/◌, if◌then◌else◌}
 use Rattle.etagere_links.specs.Links.{no_link}
 use Rattle.shelf_links.proofs.AllLists.LinkedItems.{entry_of}
-use Rattle.shelf_links.specs.RecordLists.{Records, Entry, item_numbers}
-use Rattle.shelf_links.specs.RecordUses.{number_used, item_used, shelf_used, rests_used}
-use Rattle.shelf_links.proofs.AllLists.LinkedUnused.{lists_of, three-count}
+use Rattle.shelf_links.specs.RecordLists.{Records, Entry, Lists}
+use Rattle.shelf_links.specs.RecordUses.{number_used, item_used, rests_used}
+use Rattle.shelf_links.proofs.AllLists.LinkedUnused.{lists_of}
 use Rattle.shelf_links.proofs.AllLists.LinkedUses.{but_first}
 use Rattle.shelf_records.specs.AtlasRecords.{AtlasRecords, along_of, height_of}
 use Rattle.shelf_model.specs.Choice.{Placement}
 use Rattle.shelf_store.specs.Private.PlacementTaken.{with_shelf_rest}
 use Rattle.shelf_model.specs.State.{empty_shelf}
+use Rattle.shelf_store.proofs.Grown.MadeLinked.{loose-counted}
 use Rattle.shelf_store.proofs.Spelled.SpelledLists.{IsSpelled}
 use Rattle.shelf_store.proofs.Spelled.SpelledSplits.{HasShelfSplit, split-none, split-shelf}
-use Rattle.shelf_store.proofs.Spelled.SpelledUses.{IsUsed, IsItemUsed, IsShelfUsed, used-item, used-shelf, same-shelf}
+use Rattle.shelf_store.proofs.Spelled.SpelledUses.{IsUsed, used-item, used-shelf, same-shelf}
 
 -- a number where it is wanted, as a link
 abbrev pub link_where : Bool → ℕ → Option ℕ
@@ -27,8 +28,8 @@ list_where false number = []
 list_where true number = number ∷ []
 
 -- records of which none was put to use
-used-none : (atlas : AtlasRecords) (entries : List Entry) (unused_items unused_shelves : List ℕ) → length atlas.records.shelves ≤ no_link → IsSpelled atlas (lists_of entries unused_items unused_shelves) → IsUsed atlas atlas.records entries unused_items unused_shelves [] []
-used-none atlas entries unused_items unused_shelves few spelled =
+used-none : {atlas : AtlasRecords} {lists : Lists} → IsSpelled atlas lists → length atlas.records.shelves ≤ no_link → IsUsed atlas atlas.records lists [] []
+used-none {atlas} spelled few =
     record {
       spelled = spelled;
       items = λ k stands. refl;
@@ -39,24 +40,15 @@ used-none atlas entries unused_items unused_shelves few spelled =
     }
 
 -- the order of two records in no list doesn't matter
-loose-swapped : (atlas : AtlasRecords) (new : Records) (entries : List Entry) (unused_items unused_shelves loose_shelves : List ℕ) (one two : ℕ) → IsUsed atlas new entries unused_items unused_shelves (one ∷ two ∷ []) loose_shelves → IsUsed atlas new entries unused_items unused_shelves (two ∷ one ∷ []) loose_shelves
-loose-swapped atlas new entries unused_items unused_shelves loose_shelves one two used =
+loose-swapped : {atlas : AtlasRecords} {new : Records} {lists : Lists} {one two : ℕ} {loose_shelves : List ℕ} → IsUsed atlas new lists (one ∷ two ∷ []) loose_shelves → IsUsed atlas new lists (two ∷ one ∷ []) loose_shelves
+loose-swapped {atlas} {new} {lists} {one} {two} used =
     record {
-      spelled =
-          record {
-            linked =
-                record {
-                  shelves = used.spelled.linked.shelves;
-                  entries = used.spelled.linked.entries;
-                  unused_items = used.spelled.linked.unused_items;
-                  unused_shelves = used.spelled.linked.unused_shelves;
-                  shelves_once = used.spelled.linked.shelves_once;
-                  items_once = λ k. omega (arith, used.spelled.linked.items_once k, three-count (item_numbers entries) unused_items (one ∷ two ∷ []) k, three-count (item_numbers entries) unused_items (two ∷ one ∷ []) k);
-                };
-            placed = used.spelled.placed;
-            stacked = used.spelled.stacked;
-            unused = used.spelled.unused;
-          };
+      spelled = record {
+        linked = loose-counted used.spelled.linked (λ k. omega arith) (λ k. refl);
+        placed = used.spelled.placed;
+        stacked = used.spelled.stacked;
+        unused = used.spelled.unused;
+      };
       items = used.items;
       shelves = used.shelves;
       more = used.more;
@@ -74,69 +66,63 @@ pub record AreRests (of_shelf of_item : Bool) (atlas : AtlasRecords) (entries : 
   pub shelf_is : number_used of_shelf atlas.records.unused_shelves atlas.records.shelves ≡ link_where of_shelf shelf
   pub shelf_item_is : number_used of_shelf atlas.records.unused_items atlas.records.items ≡ link_where of_shelf shelf_item
   pub item_is : number_used of_item (item_used of_shelf atlas.records).unused_items (item_used of_shelf atlas.records).items ≡ link_where of_item item
-  pub used : IsUsed atlas (rests_used of_shelf of_item atlas.records) entries unused_items unused_shelves (list_where of_shelf shelf_item ++ list_where of_item item) (list_where of_shelf shelf)
+  pub used : IsUsed atlas (rests_used of_shelf of_item atlas.records) (lists_of entries unused_items unused_shelves) (list_where of_shelf shelf_item ++ list_where of_item item) (list_where of_shelf shelf)
 
 -- those that a placement needs are there
-pub are-rests : (of_shelf of_item : Bool) (atlas : AtlasRecords) (entries : List Entry) (unused_items unused_shelves : List ℕ) → length atlas.records.shelves ≤ no_link → (of_shelf ≡ true → unused_shelves ≡ [] → length atlas.records.shelves + 1 ≤ no_link) → IsSpelled atlas (lists_of entries unused_items unused_shelves) → AreRests of_shelf of_item atlas entries
-are-rests false false atlas entries unused_items unused_shelves few room spelled =
+pub are-rests : (of_shelf of_item : Bool) (atlas : AtlasRecords) (lists : Lists) → length atlas.records.shelves ≤ no_link → (of_shelf ≡ true → lists.unused_shelves ≡ [] → length atlas.records.shelves + 1 ≤ no_link) → IsSpelled atlas lists → AreRests of_shelf of_item atlas lists.entries
+are-rests false false atlas lists few room spelled =
     record {
       shelf = 0;
       shelf_item = 0;
       item = 0;
-      unused_items = unused_items;
-      unused_shelves = unused_shelves;
+      unused_items = lists.unused_items;
+      unused_shelves = lists.unused_shelves;
       shelf_is = refl;
       shelf_item_is = refl;
       item_is = refl;
-      used = used-none atlas entries unused_items unused_shelves few spelled;
+      used = used-none spelled few;
     }
-are-rests false true atlas entries unused_items unused_shelves few room spelled =
-    let one : IsItemUsed atlas atlas.records entries unused_items unused_shelves [] [] =
-    used-item atlas atlas.records entries unused_items unused_shelves [] [] (used-none atlas entries unused_items unused_shelves few spelled) in
+are-rests false true atlas lists few room spelled =
+    let one = used-item (used-none spelled few) in
     record {
       shelf = 0;
       shelf_item = 0;
       item = one.number;
-      unused_items = but_first unused_items;
-      unused_shelves = unused_shelves;
+      unused_items = but_first lists.unused_items;
+      unused_shelves = lists.unused_shelves;
       shelf_is = refl;
       shelf_item_is = refl;
       item_is = one.is;
       used = one.used;
     }
-are-rests true false atlas entries unused_items unused_shelves few room spelled =
-    let one : IsItemUsed atlas atlas.records entries unused_items unused_shelves [] [] =
-    used-item atlas atlas.records entries unused_items unused_shelves [] [] (used-none atlas entries unused_items unused_shelves few spelled) in
-    let two : IsShelfUsed atlas (item_used true atlas.records) entries (but_first unused_items) unused_shelves (one.number ∷ []) [] =
-    used-shelf atlas (item_used true atlas.records) entries (but_first unused_items) unused_shelves (one.number ∷ []) [] (room refl) one.used in
+are-rests true false atlas lists few room spelled =
+    let one = used-item (used-none spelled few) in
+    let two = used-shelf one.used (room refl) in
     record {
       shelf = two.number;
       shelf_item = one.number;
       item = 0;
-      unused_items = but_first unused_items;
-      unused_shelves = but_first unused_shelves;
+      unused_items = but_first lists.unused_items;
+      unused_shelves = but_first lists.unused_shelves;
       shelf_is = two.is;
       shelf_item_is = one.is;
       item_is = refl;
       used = two.used;
     }
-are-rests true true atlas entries unused_items unused_shelves few room spelled =
-    let one : IsItemUsed atlas atlas.records entries unused_items unused_shelves [] [] =
-    used-item atlas atlas.records entries unused_items unused_shelves [] [] (used-none atlas entries unused_items unused_shelves few spelled) in
-    let two : IsShelfUsed atlas (item_used true atlas.records) entries (but_first unused_items) unused_shelves (one.number ∷ []) [] =
-    used-shelf atlas (item_used true atlas.records) entries (but_first unused_items) unused_shelves (one.number ∷ []) [] (room refl) one.used in
-    let three : IsItemUsed atlas (shelf_used true (item_used true atlas.records)) entries (but_first unused_items) (but_first unused_shelves) (one.number ∷ []) (two.number ∷ []) =
-    used-item atlas (shelf_used true (item_used true atlas.records)) entries (but_first unused_items) (but_first unused_shelves) (one.number ∷ []) (two.number ∷ []) two.used in
+are-rests true true atlas lists few room spelled =
+    let one = used-item (used-none spelled few) in
+    let two = used-shelf one.used (room refl) in
+    let three = used-item two.used in
     record {
       shelf = two.number;
       shelf_item = one.number;
       item = three.number;
-      unused_items = but_first (but_first unused_items);
-      unused_shelves = but_first unused_shelves;
+      unused_items = but_first (but_first lists.unused_items);
+      unused_shelves = but_first lists.unused_shelves;
       shelf_is = two.is;
       shelf_item_is = one.is;
       item_is = three.is;
-      used = loose-swapped atlas (rests_used true true atlas.records) entries (but_first (but_first unused_items)) (but_first unused_shelves) (two.number ∷ []) three.number one.number three.used;
+      used = loose-swapped three.used;
     }
 
 -- the shelf that stands after one that is split
@@ -145,7 +131,7 @@ added_where false shelf item = []
 added_where true shelf item = entry_of shelf (item ∷ []) (item ∷ []) ∷ []
 
 -- the shelf of a placement was split where that is due
-pub split-where : (of_shelf : Bool) (atlas : AtlasRecords) (used : Records) (around : Around) (entry : Entry) (placement : Placement) (item rest rest_item : ℕ) (loose : List ℕ) → (of_shelf ≡ true → placement.height ≤ height_of atlas.records.shelves entry.number) → (of_shelf ≡ false → placement.height ≡ height_of atlas.records.shelves entry.number) → IsUsed atlas used (around.before ++ entry ∷ around.after) around.unused_items around.unused_shelves (list_where of_shelf rest_item ++ loose) (list_where of_shelf rest) → HasShelfSplit atlas (with_shelf_rest atlas.frame.column_width (record placement { shelf = entry.number; item = item }) (link_where of_shelf rest) (link_where of_shelf rest_item) used) around (added_where of_shelf rest rest_item) entry loose placement.height (if of_shelf then empty_shelf atlas.frame (along_of atlas.records.shelves entry.number / atlas.frame.column_width) (height_of atlas.records.shelves entry.number - placement.height) ∷ [] else [])
+pub split-where : (of_shelf : Bool) (atlas : AtlasRecords) (used : Records) (around : Around) (entry : Entry) (placement : Placement) (item rest rest_item : ℕ) (loose : List ℕ) → (of_shelf ≡ true → placement.height ≤ height_of atlas.records.shelves entry.number) → (of_shelf ≡ false → placement.height ≡ height_of atlas.records.shelves entry.number) → IsUsed atlas used (with_entry around entry) (list_where of_shelf rest_item ++ loose) (list_where of_shelf rest) → HasShelfSplit atlas (with_shelf_rest atlas.frame.column_width (record placement { shelf = entry.number; item = item }) (link_where of_shelf rest) (link_where of_shelf rest_item) used) around (added_where of_shelf rest rest_item) entry loose placement.height (if of_shelf then empty_shelf atlas.frame (along_of atlas.records.shelves entry.number / atlas.frame.column_width) (height_of atlas.records.shelves entry.number - placement.height) ∷ [] else [])
 split-where false atlas used around entry placement item rest rest_item loose tall full is_used =
     subst (λ (tall : ℕ). HasShelfSplit atlas used around [] entry loose tall []) (sym (full refl))
     (split-none used around entry loose is_used)

@@ -79,7 +79,7 @@ taken-spelled {atlas} around spot placement within is tall full few room not_emp
     let cw : ℕ = atlas.frame.column_width in
     let id : ℕ = id_of records.items spot.number in
     let used : Records = rests_used of_shelf of_item records in
-    let rests : AreRests of_shelf of_item atlas (around.before ++ entry ∷ around.after) = are-rests of_shelf of_item atlas (around.before ++ entry ∷ around.after) around.unused_items around.unused_shelves few room spelled in
+    let rests : AreRests of_shelf of_item atlas (around.before ++ entry ∷ around.after) = are-rests of_shelf of_item atlas (with_entry around entry) few room spelled in
     let added : List Entry = added_where of_shelf rests.shelf rests.shelf_item in
     let pieces : List Shelf = rests_pieces of_shelf (spelled_shelf atlas entry) in
     let taken : Shelf = taken_from of_item placement id (spelled_shelf atlas entry) in
