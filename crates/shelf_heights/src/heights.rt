@@ -73,11 +73,7 @@ fn comes_before(shelves: &[LinkedShelf], shelf: usize, height: u32, place: u32) 
     let record = &shelves[shelf];
     let own = u32::from(record.height);
     let (along, across) = (record.x, record.y);
-    if own == height {
-        chain_order(along, across) < place
-    } else {
-        own < height
-    }
+    own < height || (own == height && chain_order(along, across) < place)
 }
 
 /// Where a shelf stands in the order; 0 where there is no such shelf.
