@@ -165,6 +165,29 @@ pub fn insert_after<List, T: Linked<List>>(records: &mut [T], previous: usize, n
     link_between::<List, T>(records, Link::to(previous), next, number);
 }
 
+/// Puts a record after another one as `insert_after` does, where both are there, and what comes behind them.
+pub fn insert_after_present<List, T: Linked<List>>(
+    records: &mut [T],
+    previous: usize,
+    number: usize,
+)
+    requires here { number < length records.old }
+    requires small { (previous < no_link) × (number < no_link) }
+    requires previous { previous < length records.old }
+    requires next { NamesOneOf records.old (spec.link_at T.family.next records.old previous) }
+    ensures { records.new
+        ≡ spec.linked_between T.family (Some previous)
+        (spec.link_at T.family.next records.old previous)
+        number records.old }
+{
+    let next = records[previous].next();
+    let link = Link::to(number);
+    set_next_present::<List, T>(records, link, next);
+    set_previous_present::<List, T>(records, link, Link::to(previous));
+    set_next_present::<List, T>(records, Link::to(previous), link);
+    set_previous_present::<List, T>(records, next, link);
+}
+
 /// Puts the record of this number, which stands in no list, in front of the list whose first record
 /// `first` names.
 pub fn insert_front<List, T: Linked<List>>(records: &mut [T], first: &mut Link, number: usize)

@@ -38,3 +38,9 @@ firsts-written shelves shelf to to_free here d within is =
 -- a write of the first of the free list
 pub first_free-written : (shelves : List LinkedShelf) (shelf : ℕ) (link : Option ℕ) (here d : LinkedShelf) → shelf < length shelves → here ≡ get_or shelves shelf d → set shelves shelf (to_first_free link here) ≡ with_first_free shelf link shelves
 first_free-written shelves shelf link here d within is = rw is (set-changed (to_first_free link) shelves shelf d within)
+
+-- a write of the first of the free list that is made of what it was
+pub first_free-freed : (shelves : List LinkedShelf) (shelf : ℕ) (to : Option ℕ → Option ℕ) (here d : LinkedShelf) → shelf < length shelves → here ≡ get_or shelves shelf d → set shelves shelf (to_first_free (to here.first_unallocated) here) ≡ with_first_free shelf (to (first_free_of shelves shelf)) shelves
+first_free-freed shelves shelf to here d within is =
+    rw (is, first_free-within shelves shelf d within)
+    (set-changed (to_first_free (to (get_or shelves shelf d).first_unallocated)) shelves shelf d within)

@@ -3,7 +3,7 @@ pub mod Families
 pub mod FirstLinks
 mod FirstWrites
 pub mod MadeRecords
-mod NeighbourFrames
+pub mod NeighbourFrames
 pub mod MissingRecords
 pub mod UsedRecords
 mod RecordRows

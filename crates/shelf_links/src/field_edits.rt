@@ -66,16 +66,6 @@ pub fn set_width(items: &mut [LinkedItem], number: usize, width: u16)
     }
 }
 
-/// Says whether an item is allocated.
-pub fn set_allocated(items: &mut [LinkedItem], number: usize, allocated: bool)
-    ensures { items.new ≡ edits.with_allocated number allocated items.old }
-{
-    if number < items.len() {
-        let here = &mut items[number];
-        here.allocated = allocated;
-    }
-}
-
 /// Changes the width of an item that is there.
 pub fn set_width_present(items: &mut [LinkedItem], number: usize, width: u16)
     requires { number < length items.old }
@@ -120,17 +110,25 @@ pub fn free_in_front_present(items: &mut [LinkedItem], first: &mut Link, number:
     lists::set_previous_present::<FreeList, LinkedItem>(items, second, link);
 }
 
-/// Changes the width of an item, and says that it is allocated.
-pub fn set_given(items: &mut [LinkedItem], number: usize, width: u16)
+/// Says that an item is allocated that is there.
+pub fn set_allocated_present(items: &mut [LinkedItem], number: usize)
+    requires { number < length items.old }
+    ensures { items.new ≡ edits.with_allocated number true items.old }
+{
+    let here = &mut items[number];
+    here.allocated = true;
+}
+
+/// Changes the width of an item that is there, and says that it is allocated.
+pub fn set_given_present(items: &mut [LinkedItem], number: usize, width: u16)
+    requires { number < length items.old }
     ensures { items.new
         ≡ changed_by (Some number)
         (λ here. record here { width = width; allocated = true }) items.old }
 {
-    if number < items.len() {
-        let here = &mut items[number];
-        here.width = width;
-        here.allocated = true;
-    }
+    let here = &mut items[number];
+    here.width = width;
+    here.allocated = true;
 }
 
 /// The record of an item that begins anew, as that of a free one in no list. Its generation stays.

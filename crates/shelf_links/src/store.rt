@@ -218,15 +218,6 @@ impl Records {
         lists::insert_after::<Chain, LinkedItem>(&mut self.item_records, previous, number);
     }
 
-    /// Takes an item out of the free list of its shelf. Its own links stay.
-    pub fn unlink_free(&mut self, shelf: usize, number: usize)
-        ensures { self.new ≡ edits.free_unlinked shelf number self.old }
-    {
-        let mut first = field_edits::first_free(&self.shelf_records, shelf);
-        lists::unlink::<FreeList, LinkedItem>(&mut self.item_records, &mut first, number);
-        field_edits::set_first_free(&mut self.shelf_records, shelf, first);
-    }
-
     /// Puts an item in front of the free list of its shelf.
     pub fn insert_free_front(&mut self, shelf: usize, number: usize)
         requires { number < no_link }
@@ -235,15 +226,6 @@ impl Records {
         let mut first = field_edits::first_free(&self.shelf_records, shelf);
         lists::insert_front::<FreeList, LinkedItem>(&mut self.item_records, &mut first, number);
         field_edits::set_first_free(&mut self.shelf_records, shelf, first);
-    }
-
-    /// Puts an item after another one in the free list of its shelf.
-    pub fn insert_free_after(&mut self, previous: usize, number: usize)
-        requires previous { previous < no_link }
-        requires number { number < no_link }
-        ensures { self.new ≡ edits.free_inserted_after previous number self.old }
-    {
-        lists::insert_after::<FreeList, LinkedItem>(&mut self.item_records, previous, number);
     }
 
     /// Makes the record of an item unused that stands in no list.
@@ -292,23 +274,6 @@ impl Records {
             ≡ edits.item_changed number (λ here. record here { width = width }) self.old }
     {
         field_edits::set_width(&mut self.item_records, number, width);
-    }
-
-    /// Says whether an item is allocated.
-    pub fn set_allocated(&mut self, number: usize, allocated: bool)
-        ensures { self.new
-            ≡ edits.item_changed number (λ here. record here { allocated = allocated }) self.old }
-    {
-        field_edits::set_allocated(&mut self.item_records, number, allocated);
-    }
-
-    /// Changes the width of an item, and says that it is allocated.
-    fn set_given(&mut self, number: usize, width: u16)
-        ensures { self.new
-            ≡ edits.item_changed number
-            (λ here. record here { width = width; allocated = true }) self.old }
-    {
-        field_edits::set_given(&mut self.item_records, number, width);
     }
 
     /// Begins the record of an item anew, as that of a free one in no list. Its generation stays.
@@ -400,25 +365,36 @@ impl Records {
         );
     }
 
-    /// Gives the whole of a free item of a shelf.
+    /// Gives the whole of a free item of a shelf. The shelf and the item are there, and what its links in the free list
+    /// name: no range is tested.
     pub fn give_item(&mut self, shelf: usize, number: usize)
+        requires shelf { shelf < length self.old.shelves }
+        requires free { HasNeighbours free_list self.old.items number }
         ensures { self.new ≡ merges.item_given shelf number self.old }
     {
-        self.unlink_free(shelf, number);
-        self.set_allocated(number, true);
+        let here = &mut self.shelf_records[shelf];
+        let items: &mut [LinkedItem] = &mut self.item_records;
+        lists::unlink_present::<FreeList, LinkedItem>(items, &mut here.first_unallocated, number);
+        field_edits::set_allocated_present(items, number);
     }
 
     /// Gives the front of a free item of a shelf, of this width. The rest, an item that stands in no list,
-    /// comes after it and takes its place in the free list.
+    /// comes after it and takes its place in the free list. The shelf and both items are there, and what the links
+    /// of the item name: no range is tested.
     pub fn give_front(&mut self, shelf: usize, number: usize, rest: usize, width: u16)
-        requires number { number < no_link }
-        requires rest { rest < no_link }
+        requires shelf { shelf < length self.old.shelves }
+        requires small { (number < no_link) × (rest < no_link) }
+        requires rest { rest < length self.old.items }
+        requires next { HasNeighbours item_chain self.old.items number }
+        requires free { HasNeighbours free_list self.old.items number }
         ensures { self.new ≡ merges.front_given shelf number rest width self.old }
     {
-        self.insert_item_after(number, rest);
-        self.insert_free_after(number, rest);
-        self.unlink_free(shelf, number);
-        self.set_given(number, width);
+        let here = &mut self.shelf_records[shelf];
+        let items: &mut [LinkedItem] = &mut self.item_records;
+        lists::insert_after_present::<Chain, LinkedItem>(items, number, rest);
+        lists::insert_after_present::<FreeList, LinkedItem>(items, number, rest);
+        lists::unlink_present::<FreeList, LinkedItem>(items, &mut here.first_unallocated, number);
+        field_edits::set_given_present(items, number, width);
     }
 
     /// Keeps the lower part of a shelf, of this height. The rest, a shelf and an item that stand in no list,

@@ -474,6 +474,9 @@ fn fit_at(
 {
     let mut one = by_height.get(index);
     let found = fit(records, &mut one, width, height);
+    if found.is_some() {
+        return found;
+    }
     by_height.set(index, one);
     found
 }

@@ -9,7 +9,7 @@ ghost use Rattle.etagere_links.specs.Links.{no_link};
 ghost use Rattle.shelf_links.specs.RecordUses.{rests_missing};
 ghost use Rattle.shelf_model.specs.Choice.{splits};
 ghost use Rattle.shelf_store.specs.Private.PlacementTaken as spec;
-ghost use Rattle.shelf_store.specs.Private.PlacementTaken.{CanTakeByHeight, CanTakeFrom, HasSpare, IsItemSplittable, CanPutRestIn, CanPutShelfIn, IsShelfSplittable, placement_taken, taken_by_height};
+ghost use Rattle.shelf_store.specs.Private.PlacementTaken.{CanTakeByHeight, CanTakeFrom, HasSpare, IsItemSplittable, IsItemThere, CanPutRestIn, CanPutShelfIn, IsShelfSplittable, placement_taken, taken_by_height};
 
 use etagere_base::{AllocId, INDEX_MODULUS};
 use etagere_links::Link;
@@ -131,6 +131,7 @@ fn split_shelf(
 fn give_item(records: &mut Records, found: &Placement, rest: Option<usize>)
     requires shelf { found.now.shelf < no_link }
     requires splittable { IsItemSplittable found.now records.old }
+    requires there { IsItemThere found.now rest records.old }
     requires rest { IfSome rest (λ number. number < no_link) }
     ensures { records.new ≡ spec.with_item_given found.now rest records.old }
 {

@@ -35,7 +35,7 @@ named-is items (Some m) n e = by_mark (is_allocated_at items m) refl
         (sym some ∙ e, rw (← same) t)
 
 -- a member of a list that links spell has neighbours, where all members are there
-member-neighbours : {T : Type 0} (family : Family T) (records : List T) (first : Option ℕ) (xs : List ℕ) (number : ℕ) → ((k : ℕ) → 1 ≤ times k xs → k < length records) → IsChainIn family records first xs → 1 ≤ times number xs → HasNeighbours family records number
+pub member-neighbours : {T : Type 0} (family : Family T) (records : List T) (first : Option ℕ) (xs : List ℕ) (number : ℕ) → ((k : ℕ) → 1 ≤ times k xs → k < length records) → IsChainIn family records first xs → 1 ≤ times number xs → HasNeighbours family records number
 member-neighbours family records first xs number within chain stands =
     let member : IsMember number xs = member-of number xs stands in
     let split : IsChainIn family records first (member.front ++ number ∷ member.back) = subst (λ (ns : List ℕ). IsChainIn family records first ns) member.whole chain in

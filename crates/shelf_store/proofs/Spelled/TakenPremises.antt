@@ -2,7 +2,8 @@
 use Rattle.std.proofs.Common.{◌≡◌, ℕ, zero, suc, ◌+◌, ◌-◌, ◌<◌, ◌≤◌, Bool, true, false, Option, None, Some, List, [], ◌∷◌, ◌++◌, length, take, refl, ap, arith, ◌∙◌, sym, subst}
 use Rattle.std.proofs.lemmas.List.{length-append}
 use Rattle.std.proofs.lemmas.Option.{slice_get-map}
-use Rattle.std.specs.Prelude.{◌/◌, if◌then◌else◌, option_map, slice_get}
+use Rattle.std.specs.Prelude.{◌/◌, IfSome, if◌then◌else◌, option_map, slice_get}
+use Rattle.etagere_base.proofs.EachLemmas.{Each-middle}
 use Rattle.etagere_base.proofs.TimesLemmas.{times-append}
 use Rattle.etagere_base.specs.Lists.{times}
 use Rattle.etagere_base.specs.declared.frames.Frame.{Frame}
@@ -13,7 +14,8 @@ use Rattle.shelf_links.proofs.AllLists.LinkedUnused.{lists_of}
 use Rattle.shelf_links.specs.declared.records.LinkedItem.{LinkedItem}
 use Rattle.shelf_links.specs.declared.records.LinkedShelf.{LinkedShelf}
 use Rattle.etagere_links.specs.Links.{no_link}
-use Rattle.shelf_links.specs.RecordLists.{Records, Entry, Lists, item_numbers, shelf_walk, walked_entry, walked_lists}
+use Rattle.shelf_links.specs.Records.{free_list, item_chain}
+use Rattle.shelf_links.specs.RecordLists.{Records, Entry, IsEntry, Lists, first_free_of, first_item_of, item_numbers, shelf_walk, walked_entry, walked_lists}
 use Rattle.shelf_links.specs.RecordUses.{number_used, rests_used}
 use Rattle.shelf_links.proofs.AllLists.LinkedFrames.{item_numbers-append}
 use Rattle.etagere_links.proofs.ListEnds.{times-here}
@@ -28,6 +30,7 @@ use Rattle.shelf_model.proofs.Chosen.Placed.{IsPlaced, placement_of-placed}
 use Rattle.shelf_store.proofs.Searched.FoundPlacements.{across-at}
 use Rattle.shelf_store.proofs.Spelled.GivenItems.{width-read}
 use Rattle.shelf_store.proofs.Spelled.LocatedPlacements.{IsLocated}
+use Rattle.shelf_store.proofs.Spelled.NeighboursThere.{member-neighbours}
 use Rattle.shelf_records.proofs.Spelled.RecordValues.{SameItem, item-same}
 use Rattle.shelf_store.proofs.Spelled.SpelledSplits.{HasShelfSplit, read-record}
 use Rattle.shelf_records.proofs.Spelled.SpelledNumbers.{items_in_use-spelled}
@@ -88,6 +91,11 @@ fits : (part whole : ℕ) (b : Bool) → (b ≡ true → part < whole) → (b �
 fits part whole true split full = omega (arith, split refl)
 fits part whole false split full = omega (arith, full refl)
 
+-- a record in no list is there, where one is wanted
+wanted-there : (is_wanted : Bool) (number count : ℕ) → ((k : ℕ) → 1 ≤ times k (list_where is_wanted number) → k < count) → IfSome (link_where is_wanted number) (λ k. k < count)
+wanted-there false number count within = tt
+wanted-there true number count within = within number (omega (arith, times-here number []))
+
 -- a placement that was located can be taken
 pub can-take : (frame : Frame) (records : Records) (size : Size) (placement found : Placement) → AreKept frame records → placement_of (state_of frame records) size ≡ Some placement → Locates records found placement → CanTakeFrom frame.column_width found records
 can-take frame records size placement found kept h locates =
@@ -123,6 +131,9 @@ can-take frame records size placement found kept h locates =
     let added : List Entry = added_where of_shelf rests.shelf rests.shelf_item in
     let apart_split = linked-apart (around_of is.before (added ++ is.after) rests.unused_items rests.unused_shelves) entry is_split.spelled.linked in
     let stands : 1 ≤ times number numbers = omega (arith, times-append number is.front (number ∷ is.back), times-here number is.back) in
+    let frees : List ℕ = is.free_front ++ number ∷ is.free_back in
+    let stands_free : 1 ≤ times number frees = omega (arith, times-append number is.free_front (number ∷ is.free_back), times-here number is.free_back) in
+    let is_entry : IsEntry split_records entry = Each-middle (IsEntry split_records) is.before entry (added ++ is.after) is_split.spelled.linked.entries in
     let among : 1 ≤ times number (item_numbers entries) = omega (arith, item_numbers-append is.before (entry ∷ is.after) number, times-append number numbers (item_numbers is.after), stands) in
     let same : SameItem records.items split_records.items number = item-same records.items split_records.items number (is_split.items number among) in
     let in_use : items_in_use state.shelves ≡ length (item_numbers entries) =
@@ -158,6 +169,13 @@ can-take frame records size placement found kept h locates =
             few = omega (arith, split-length frame.column_width place (number_used of_shelf records.unused_shelves records.shelves) (number_used of_shelf records.unused_items records.items) used, few_items);
             right = omega (arith, read-record (λ (x : LinkedItem). x.x) (item_record [] number) split_records.items number, same.place, is.item.along, ends.right);
             narrower = omega (arith, width-read split_records.items number number, ap (λ (i : Item). i.width) same.item, fits placement.width (item_at records.items number).width of_item is.item.split is.item.whole);
+          };
+      there =
+          record {
+            shelf = apart_split.number;
+            in_shelf = member-neighbours item_chain split_records.items (first_item_of split_records.shelves shelf) numbers number apart_split.within is_entry.items stands;
+            in_free_list = member-neighbours free_list split_records.items (first_free_of split_records.shelves shelf) frees number apart_split.free_within is_entry.free_list stands_free;
+            for_rest = subst (λ (o : Option ℕ). IfSome o (λ number. number < length split_records.items)) (sym rests.item_is) (wanted-there of_item rests.item (length split_records.items) apart_split.loose_within);
           };
     } in
     let equal : place ≡ found = ap (λ n. record placement { shelf = n; item = number }) (sym locates.shelf) ∙ sym locates.same in

@@ -9,7 +9,8 @@ use Rattle.etagere_links.specs.Links.{no_link}
 use Rattle.shelf_links.specs.RecordEdits.{item_changed, shelf_changed}
 use Rattle.shelf_links.specs.RecordLists.{Records}
 use Rattle.etagere_links.specs.Edits.{field_at}
-use Rattle.shelf_links.specs.Records.{shelf_chain}
+use Rattle.etagere_links.specs.Neighbours.{HasNeighbours}
+use Rattle.shelf_links.specs.Records.{free_list, item_chain, shelf_chain}
 use Rattle.shelf_links.specs.RecordMerges.{item_given, front_given, shelf_split}
 use Rattle.shelf_links.specs.RecordUses.{missing, new_item, new_shelf, rests_of, rests_used}
 use Rattle.shelf_model.specs.Choice.{Placement}
@@ -143,6 +144,13 @@ pub record IsItemSplittable (found : Placement) (records : Records) : Type 0 whe
   pub right : (item_record records.items found.item).x + found.width ≤ longest_side
   pub narrower : found.width ≤ (item_record records.items found.item).width
 
+-- its shelf and its item are there, what the item's links name, and the record of the rest
+pub record IsItemThere (found : Placement) (rest : Option ℕ) (records : Records) : Type 0 where
+  pub shelf : found.shelf < length records.shelves
+  pub in_shelf : HasNeighbours item_chain records.items found.item
+  pub in_free_list : HasNeighbours free_list records.items found.item
+  pub for_rest : IfSome rest (λ number. number < length records.items)
+
 -- what taking a placement needs of records
 pub record CanTakeFrom (column_width : ℕ) (found : Placement) (records : Records) : Type 0 where
   pub item : found.item < length records.items
@@ -151,6 +159,9 @@ pub record CanTakeFrom (column_width : ℕ) (found : Placement) (records : Recor
   pub shelves : length (rests_used_for found records).shelves ≤ no_link
   pub splits_shelf : IsShelfSplittable found (rests_used_for found records)
   pub splits_item : IsItemSplittable found (shelf_split_for column_width found records)
+  pub there :
+      IsItemThere found (rests_of found.splits_shelf found.splits_item records).item
+      (shelf_split_for column_width found records)
 
 -- what putting in its shelf and the rest of it needs, by the records before the split and after it: the
 -- shelves stand in their order, and so they do with the shelf in its new place
