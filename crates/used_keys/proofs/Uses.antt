@@ -1,14 +1,15 @@
--- A key that is used: what it finds, and that its entry then stands first.
-use Rattle.std.proofs.Common.{◌≡◌, ℕ, Option, Some, None, List, ◌∷◌, refl, ap, sym, ◌∙◌, subst}
-use Rattle.std.specs.Map.{lookup, lookup_entry, remove_entry}
+-- A key that is used: what it finds, and that its entry then stands first, with the stamp of the frame.
+use Rattle.std.proofs.Common.{◌≡◌, ℕ, Option, Some, None, List, ◌∷◌, refl, ap, sym, ◌∙◌}
+use Rattle.std.specs.Map.{lookup, lookup_entry, remove_entry, set_value}
 use Rattle.std.specs.Option.{option_map_or}
 use Rattle.std.specs.Prelude.{nat_eq, option_map}
 use Rattle.lru.specs.LruCache.{promoted}
+use Rattle.lru.proofs.CallerLemmas.{Contains-lookup_entry}
 use Rattle.etagere_base.specs.declared.ids.Allocation.{Allocation}
 use Rattle.used_keys.specs.declared.stamps.Entry.{Entry}
 use Rattle.used_keys.specs.Keys.{rectangle_in}
-use Rattle.used_keys.specs.Private.Stamps.{StandsFirst, restamped, unstamped, used_in, with_stamp}
-use Rattle.used_keys.proofs.BareEntries.{found-key, lookup-bare}
+use Rattle.used_keys.specs.Private.Stamps.{unstamped, used_in, with_stamp}
+use Rattle.used_keys.proofs.BareEntries.{lookup-bare}
 use Rattle.used_keys.proofs.Entries.{entry-none, lookup-entry}
 
 -- the rectangle that a key finds
@@ -25,49 +26,20 @@ rectangle-bare key es =
 
 module _ (frame key : ℕ) (es : List (ℕ × Entry)) where
   -- a key that isn't there moves nothing
-  pub used-unknown : lookup (nat_eq key) es ≡ None → promoted (nat_eq key) es ≡ used_in frame key es
+  pub used-unknown : lookup (nat_eq key) es ≡ None → es ≡ used_in frame key es
   used-unknown unknown = rw (entry-none (nat_eq key) es unknown) refl
 
-  -- one that has the stamp of the frame keeps it
-  pub used-again : (e : Entry) → lookup (nat_eq key) es ≡ Some e → e.frame ≡ frame
-      → promoted (nat_eq key) es ≡ used_in frame key es
-  used-again e found same = by_entry (lookup_entry (nat_eq key) es) (sym (lookup-entry (nat_eq key) es) ∙ found)
-    where
-      stamped : (f : ℕ × Entry) → f.1.frame ≡ frame → f ≡ with_stamp frame f
-      stamped f is = subst (λ (n : ℕ). f ≡ with_stamp n f) is refl
-
-      by_entry : (o : Option (ℕ × Entry)) → option_map (λ (f : ℕ × Entry). f.1) o ≡ Some e
-          → option_map_or (λ f. f ∷ remove_entry (nat_eq key) es) o es
-          ≡ option_map_or (λ f. with_stamp frame f ∷ remove_entry (nat_eq key) es) o es
-      by_entry None h = absurd (cc)
-      by_entry (Some f) h =
-          let own : f.1 ≡ e = cc in
-          ap (λ (x : ℕ × Entry). x ∷ remove_entry (nat_eq key) es) (stamped f (ap (λ (x : Entry). x.frame) own ∙ same))
-
-  -- another gets it
-  pub stands-first : (e : Entry) → lookup (nat_eq key) es ≡ Some e → StandsFirst key (promoted (nat_eq key) es)
-  stands-first e found = by_entry (lookup_entry (nat_eq key) es) refl (sym (lookup-entry (nat_eq key) es) ∙ found)
+  -- one that is there gets the stamp of the frame, in front
+  pub used-known : (e : Entry) → lookup (nat_eq key) es ≡ Some e
+      → set_value (nat_eq key) (promoted (nat_eq key) es) (record { allocation = e.allocation; frame = frame }) ≡ used_in frame key es
+  used-known e found = by_entry (lookup_entry (nat_eq key) es) refl (sym (lookup-entry (nat_eq key) es) ∙ found)
     where
       by_entry : (o : Option (ℕ × Entry)) → lookup_entry (nat_eq key) es ≡ o
           → option_map (λ (f : ℕ × Entry). f.1) o ≡ Some e
-          → StandsFirst key (option_map_or (λ f. f ∷ remove_entry (nat_eq key) es) o es)
-      by_entry None at h = absurd (cc)
-      by_entry (Some f) at h = found-key key es f at
-
-  pub used-restamped : (e : Entry) → lookup (nat_eq key) es ≡ Some e
-      → restamped key (record { allocation = e.allocation; frame = frame }) (promoted (nat_eq key) es) ≡ used_in frame key es
-  used-restamped e found = by_entry (lookup_entry (nat_eq key) es) refl (sym (lookup-entry (nat_eq key) es) ∙ found)
-    where
-      stamp : Entry → Entry
-      stamp x = record { allocation = x.allocation; frame = frame }
-
-      by_entry : (o : Option (ℕ × Entry)) → lookup_entry (nat_eq key) es ≡ o
-          → option_map (λ (f : ℕ × Entry). f.1) o ≡ Some e
-          → restamped key (record { allocation = e.allocation; frame = frame }) (option_map_or (λ f. f ∷ remove_entry (nat_eq key) es) o es)
+          → set_value (nat_eq key) (option_map_or (λ f. f ∷ remove_entry (nat_eq key) es) o es) (record { allocation = e.allocation; frame = frame })
           ≡ option_map_or (λ f. with_stamp frame f ∷ remove_entry (nat_eq key) es) o es
       by_entry None at h = absurd (cc)
       by_entry (Some f) at h =
           let own : e ≡ f.1 = cc in
-          let whose : key ≡ f.0 = sym (found-key key es f at) in
-          ap (λ (x : Entry). (key, record { allocation = x.allocation; frame = frame }) ∷ remove_entry (nat_eq key) es) own
-          ∙ ap (λ (k : ℕ). (k, record { allocation = f.1.allocation; frame = frame }) ∷ remove_entry (nat_eq key) es) whose
+          rw (Contains-lookup_entry (nat_eq key) es f at).1
+          (ap (λ (x : Entry). (f.0, record { allocation = x.allocation; frame = frame }) ∷ remove_entry (nat_eq key) es) own)

@@ -37,15 +37,6 @@ pub(crate) fn put_first(
     Ok(())
 }
 
-/// The entry of a key, which goes to the front; none where it isn't there.
-pub(crate) fn found(entries: &mut LruCache<u64, Entry>, key: u64) -> Option<Entry>
-    ensures value { result ≡ lookup (nat_eq key) entries.old.entries }
-    ensures entries { entries.new ≡ lru.lru_cache (lru.promoted (nat_eq key) entries.old.entries) entries.old.cap }
-{
-    let entry = entries.get(&key)?;
-    Some(*entry)
-}
-
 /// Stamps the first entry, whose key this is.
 pub(crate) fn restamp(entries: &mut LruCache<u64, Entry>, key: u64, entry: Entry)
     requires { StandsFirst key entries.old.entries }
@@ -60,16 +51,11 @@ pub(crate) fn use_in(entries: &mut LruCache<u64, Entry>, key: u64, frame: u64) -
     ensures entries { entries.new
         ≡ lru.lru_cache (spec.used_in frame key entries.old.entries) entries.old.cap }
 {
-    let Some(entry) = found(entries, key) else {
+    let Some(entry) = entries.get_mut(&key) else {
         return None;
     };
-    let rectangle = entry.allocation.rectangle;
-    if entry.frame == frame {
-        return Some(rectangle);
-    }
-    let allocation = entry.allocation;
-    restamp(entries, key, Entry { allocation, frame });
-    Some(rectangle)
+    entry.frame = frame;
+    Some(entry.allocation.rectangle)
 }
 
 /// Takes the stamps off all entries. Goes through them once.

@@ -2,7 +2,7 @@ use Rattle.std.proofs.Common.{List, ℕ, ap, sym, ◌∙◌}
 use Rattle.std.specs.Prelude.{option_map}
 use Rattle.lru.specs.LruCache.{lru_cache}
 use Rattle.used_keys.specs.declared.stamps.Entry.{Entry}
-use Rattle.used_keys.proofs.Uses.{rectangle-bare, stands-first, used-again, used-restamped, used-unknown}
+use Rattle.used_keys.proofs.Uses.{rectangle-bare, used-known, used-unknown}
 use Rattle.used_keys.proofs.stamps.use_in.Goals as goal
 
 pub returns-in_default-clause-value : goal.returns-in_default-clause-value
@@ -12,25 +12,8 @@ returns-in_default-clause-value c =
 
 pub returns-in_default-clause-entries : goal.returns-in_default-clause-entries
 returns-in_default-clause-entries c =
-    c.found.ensures.entries
-    ∙ ap (λ (l : List (ℕ × Entry)). lru_cache l c.args.entries.now.cap)
+    ap (λ (l : List (ℕ × Entry)). lru_cache l c.args.entries.now.cap)
     (used-unknown c.args.frame c.args.key c.args.entries.now.entries (sym c.in_default.ensures.value))
-
-pub returns-then-entry-frame-clause-value : goal.returns-then-entry-frame-clause-value
-returns-then-entry-frame-clause-value c =
-    ap (option_map (λ (e : Entry). e.allocation.rectangle)) c.in-Some.ensures.value
-    ∙ sym (rectangle-bare c.args.key c.args.entries.now.entries)
-
-pub returns-then-entry-frame-clause-entries : goal.returns-then-entry-frame-clause-entries
-returns-then-entry-frame-clause-entries c =
-    c.found.ensures.entries
-    ∙ ap (λ (l : List (ℕ × Entry)). lru_cache l c.args.entries.now.cap)
-    (used-again c.args.frame c.args.key c.args.entries.now.entries c.in-Some.entry (sym c.in-Some.ensures.value) c.if-entry-frame.true)
-
-pub restamp-requires : goal.restamp-requires
-restamp-requires c =
-    rw c.found.ensures.entries
-    (stands-first c.args.frame c.args.key c.args.entries.now.entries c.in-Some.entry (sym c.in-Some.ensures.value))
 
 pub returns-clause-value : goal.returns-clause-value
 returns-clause-value c =
@@ -39,7 +22,5 @@ returns-clause-value c =
 
 pub returns-clause-entries : goal.returns-clause-entries
 returns-clause-entries c =
-    let stamped = rw c.found.ensures.entries at c.restamp.ensures in
-    stamped
-    ∙ ap (λ (l : List (ℕ × Entry)). lru_cache l c.args.entries.now.cap)
-    (used-restamped c.args.frame c.args.key c.args.entries.now.entries c.in-Some.entry (sym c.in-Some.ensures.value))
+    ap (λ (l : List (ℕ × Entry)). lru_cache l c.args.entries.now.cap)
+    (used-known c.args.frame c.args.key c.args.entries.now.entries c.in-Some.entry.now (sym c.in-Some.ensures.value))
