@@ -244,7 +244,7 @@ pub record IsEvicting (old : CacheState) (key : ℕ) (size : Size) (evicted : Li
   pub fits : Fits old.atlas.frame size
 
 -- a key that isn't there isn't there without the last entry
-unknown-without_last : (state : CacheState) (key : ℕ) → lookup (nat_eq key) state.entries ≡ None
+pub unknown-without_last : (state : CacheState) (key : ℕ) → lookup (nat_eq key) state.entries ≡ None
     → lookup (nat_eq key) (without_last state).entries ≡ None
 unknown-without_last state key unknown = by_last (last_entry state.entries)
   where
@@ -260,7 +260,7 @@ entry_of dropped None h = absurd (cc)
 entry_of dropped (Some e) h = (e, refl, cc)
 
 -- where an entry stands last, there is one
-some_last : (es : List (ℕ × Allocation)) (e : ℕ × Allocation) → last_entry es ≡ Some e → 1 ≤ length es
+pub some_last : (es : List (ℕ × Allocation)) (e : ℕ × Allocation) → last_entry es ≡ Some e → 1 ≤ length es
 some_last [] e last = absurd (cc)
 some_last (f ∷ es) e last = omega arith
 

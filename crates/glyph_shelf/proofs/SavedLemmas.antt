@@ -1,22 +1,19 @@
 -- Snapshots that stand for a cache: for one at most, and for none where a rule is broken.
-use Rattle.std.proofs.Common.{Result, Ok, Err, ◌≡◌, ℕ, suc, ◌+◌, ◌<◌, ◌≤◌, ◌==◌, Bool, true, false, cond, Option, Some, None, List, [], ◌∷◌, ◌++◌, length, map, refl, ap, sym, ◌∙◌, subst, arith}
-use Rattle.std.proofs.lemmas.Bool.Decides.{nat_tests}
+use Rattle.std.proofs.Common.{Result, Ok, Err, ◌≡◌, ℕ, ◌+◌, ◌≤◌, ◌==◌, Bool, true, false, cond, Option, Some, List, [], ◌∷◌, length, map, refl, ap, sym, ◌∙◌, subst, arith}
 use Rattle.std.proofs.lemmas.List.{length-map}
 use Rattle.std.specs.List.{AllByRecursion, find}
 use Rattle.std.specs.Map.{keys_of, values_of}
 use Rattle.std.specs.Prelude.{IfErr, IfOk, is_some, option_map}
-use Rattle.etagere_base.specs.declared.faults.RestoreFault.{RestoreFault}
 use Rattle.etagere_base.specs.declared.ids.Allocation.{Allocation}
 use Rattle.etagere_base.specs.Lists.{times}
-use Rattle.shelf_model.specs.Callers.{AreTied, IsFound}
+use Rattle.shelf_model.specs.Callers.{IsFound}
 use Rattle.shelf_model.specs.Places.{allocations, is_allocated}
 use Rattle.shelf_model.specs.State.{AtlasState}
-use Rattle.shelf_records.specs.Snapshots.{IsBroken, snapshot_records}
+use Rattle.shelf_records.specs.Snapshots.{snapshot_records}
 use Rattle.shelf_records.specs.StandsFor.{StandsFor}
 use Rattle.shelf_restoring.proofs.Loaded.WalksRestore.{stands-whole}
 use Rattle.glyph_shelf.specs.Cache.{CacheState, kept_allocations}
-use Rattle.glyph_shelf.specs.Promises.{KeepsCachePromises}
-use Rattle.glyph_shelf.specs.Saved.{BrokenCacheStandsForNone, CacheStandsFor, CacheStandsForOne, IsCacheBroken, ids_saved, keys_saved, saved_key}
+use Rattle.glyph_shelf.specs.Saved.{BrokenCacheStandsForNone, CacheStandsFor, CacheStandsForOne, ids_saved, keys_saved, saved_key}
 use Rattle.glyph_shelf.specs.declared.faults.CacheRestoreFault.TheVariants.{Atlas, Memory, NoCapacity, TooManyKeys, KeyTwice, WrongId, NoKey}
 use Rattle.glyph_shelf.specs.declared.saving.CacheSnapshot.{CacheSnapshot}
 use Rattle.glyph_shelf.specs.declared.saving.SavedKey.{SavedKey}

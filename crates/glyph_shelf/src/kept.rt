@@ -419,14 +419,95 @@ impl Kept {
         ensures promises { KeepsCachePromises self.new }
     {
         evicted.reserve(1)?;
-        while let Some(dropped) = self.drop_last() {
-            evicted.push(dropped).unwrap();
-            if let Some(rectangle) = self.enter(key, size)? {
+        while let Some(last) = self.last_key() {
+            evicted.push(last).unwrap();
+            if let Some(rectangle) = self.enter_for_last(key, size)? {
                 return Ok(rectangle);
             }
             evicted.reserve(1)?;
         }
         unreachable!()
+    }
+
+    /// The least recently used key; none where there is no key.
+    fn last_key(&self) -> Option<u64>
+        ensures key { result ≡ option_map (λ entry. entry.0) (lru.last_entry self.now.entries) }
+    {
+        let (key, _) = self.entries.last()?;
+        Some(key)
+    }
+
+    /// Drops the least recently used entry, and puts a new key in front, if the atlas then has room for the size.
+    ///
+    /// After an `Err` the entries are those without the least recently used one, and the layout of the atlas is.
+    fn enter_for_last(&mut self, key: u64, size: Size) -> Result<Option<Rectangle>, AllocError>
+        requires some { 1 ≤ length self.old.entries }
+        requires new { lookup (nat_eq key) self.old.entries ≡ None }
+        ensures entered { IfOk result
+            (λ answer. IfSome answer
+            (λ rectangle. Enters (without_last self.old) key size rectangle self.new)) }
+        ensures large { IfOk result
+            (λ answer. IfSome answer
+            (λ rectangle. IsLarge self.old.atlas.frame size rectangle)) }
+        ensures room { IfOk result (λ answer. is_some answer ≡ has_room (without_last self.old) size) }
+        ensures none { IfOk result (λ answer. IfNone answer (self.new ≡ without_last self.old)) }
+        ensures err_room { OnErr result (has_room (without_last self.old) size ≡ true) }
+        ensures err { OnErr result (SameLayout (without_last self.old) self.new) }
+        ensures frame { self.new.atlas.frame ≡ self.old.atlas.frame }
+        ensures promises { KeepsCachePromises self.new }
+    {
+        if self.entries.len() == self.entries.cap().get() {
+            return self.replace_last(key, size);
+        }
+        self.drop_last();
+        self.enter(key, size)
+    }
+
+    /// Does the same where there is no room for one entry more: the new one then takes the memory of the dropped one.
+    fn replace_last(&mut self, key: u64, size: Size) -> Result<Option<Rectangle>, AllocError>
+        requires full { length self.old.entries ≡ self.old.capacity }
+        requires new { lookup (nat_eq key) self.old.entries ≡ None }
+        ensures entered { IfOk result
+            (λ answer. IfSome answer
+            (λ rectangle. Enters (without_last self.old) key size rectangle self.new)) }
+        ensures large { IfOk result
+            (λ answer. IfSome answer
+            (λ rectangle. IsLarge self.old.atlas.frame size rectangle)) }
+        ensures room { IfOk result (λ answer. is_some answer ≡ has_room (without_last self.old) size) }
+        ensures none { IfOk result (λ answer. IfNone answer (self.new ≡ without_last self.old)) }
+        ensures err_room { OnErr result (has_room (without_last self.old) size ≡ true) }
+        ensures err { OnErr result (SameLayout (without_last self.old) self.new) }
+        ensures frame { self.new.atlas.frame ≡ self.old.atlas.frame }
+        ensures promises { KeepsCachePromises self.new }
+    {
+        let Some((_, last)) = self.entries.last() else {
+            unreachable!()
+        };
+        give_back(&mut self.atlas, last.id);
+        match self.atlas.allocate(size) {
+            Ok(Some(allocation)) => {
+                let Allocation { id, rectangle } = allocation;
+                match self
+                    .entries
+                    .enter_for_last(key, Allocation { id, rectangle })
+                {
+                    Ok(()) => Ok(Some(rectangle)),
+                    Err(refused) => {
+                        give_back(&mut self.atlas, id);
+                        self.entries.pop_last();
+                        Err(refused)
+                    }
+                }
+            }
+            Ok(None) => {
+                self.entries.pop_last();
+                Ok(None)
+            }
+            Err(refused) => {
+                self.entries.pop_last();
+                Err(refused)
+            }
+        }
     }
 
     /// Whether dropping entries that weren't used in this frame makes room. Where some were used, and some not, this is

@@ -1,10 +1,9 @@
 -- Entries without their stamps: what a key finds in them, and what becomes of them.
-use Rattle.std.proofs.Common.{◌≡◌, ℕ, zero, suc, ◌-◌, Bool, true, false, cond, Option, Some, None, List, [], ◌∷◌, length, take, refl, ap, sym, ◌∙◌, arith}
-use Rattle.std.proofs.lemmas.Bool.Decides.{nat_tests}
+use Rattle.std.proofs.Common.{◌≡◌, ℕ, zero, suc, ◌-◌, Bool, true, false, cond, Option, Some, None, List, [], ◌∷◌, length, take, refl, ap, sym, ◌∙◌}
 use Rattle.std.specs.List.{slice_get}
 use Rattle.std.specs.Map.{lookup, lookup_entry, remove_entry}
 use Rattle.std.specs.Option.{option_map_or}
-use Rattle.std.specs.Prelude.{nat_eq, option_map}
+use Rattle.std.specs.Prelude.{option_map}
 use Rattle.lru.specs.LruCache.{last_entry, promoted}
 use Rattle.etagere_base.specs.declared.ids.Allocation.{Allocation}
 use Rattle.used_keys.specs.declared.stamps.Entry.{Entry}
@@ -13,19 +12,6 @@ use Rattle.used_keys.specs.Private.Stamps.{unstamped}
 -- an entry without its stamp
 abbrev pub bare : ℕ × Entry → ℕ × Allocation
 bare e = (e.0, e.1.allocation)
-
--- an entry that a key finds is of the key
-pub found-key : (key : ℕ) (es : List (ℕ × Entry)) (e : ℕ × Entry) → lookup_entry (nat_eq key) es ≡ Some e → e.0 ≡ key
-found-key key [] e found = absurd (cc)
-found-key key (f ∷ es) e found = here (nat_eq key f.0) refl found (found-key key es e)
-  where
-    here : (b : Bool) → nat_eq key f.0 ≡ b → cond b (Some f) (lookup_entry (nat_eq key) es) ≡ Some e
-        → (lookup_entry (nat_eq key) es ≡ Some e → e.0 ≡ key) → e.0 ≡ key
-    here true is h later =
-        let same : f ≡ e = cc in
-        let own : f.0 ≡ key = grind (arith, nat_tests) in
-        sym (ap (λ (x : ℕ × Entry). x.0) same) ∙ own
-    here false is h later = later h
 
 -- what a key finds without stamps
 pub lookup-bare : (test : ℕ → Bool) (es : List (ℕ × Entry))

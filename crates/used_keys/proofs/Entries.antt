@@ -134,11 +134,16 @@ module _ {K X : Type 0} where
       here true h later = absurd (cc)
       here false h later = ap (λ l. e ∷ l) (later h)
 
-  -- a key that isn't there is put in front of entries that have room
+  -- a key that isn't there is put in front, and the last of as many as there may be goes
+  pub put-new : (eq : K → K → Bool) (cache : LruCache K X) (key : K) (a : X) → lookup (eq key) cache.entries ≡ None
+      → put_entries eq cache key a ≡ (key, a) ∷ take (cache.cap - 1) cache.entries
+  put-new eq cache key a unknown = rw (entry-none (eq key) cache.entries unknown) refl
+
+  -- where there is room for it, nothing goes
   pub put-first : (eq : K → K → Bool) (cache : LruCache K X) (key : K) (a : X) → lookup (eq key) cache.entries ≡ None
       → length cache.entries < cache.cap → put_entries eq cache key a ≡ (key, a) ∷ cache.entries
   put-first eq cache key a unknown room =
-      rw (entry-none (eq key) cache.entries unknown) (ap (λ l. (key, a) ∷ l) (take_all (cache.cap - 1) cache.entries (omega arith)))
+      put-new eq cache key a unknown ∙ ap (λ l. (key, a) ∷ l) (take_all (cache.cap - 1) cache.entries (omega arith))
 
   -- a key that isn't there isn't in what stands first either
   pub unknown-take : (test : K → Bool) (n : ℕ) (es : List (K × X)) → lookup test es ≡ None → lookup test (take n es) ≡ None

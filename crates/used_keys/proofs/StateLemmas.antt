@@ -6,7 +6,7 @@ use Rattle.std.specs.Option.{option_map_or}
 use Rattle.std.specs.Prelude.{is_some, min, nat_eq, option_map}
 use Rattle.etagere_base.specs.declared.ids.Allocation.{Allocation}
 use Rattle.used_keys.specs.declared.stamps.Entry.{Entry}
-use Rattle.used_keys.specs.Keys.{KeysState, framed, looked, stands_among, uses_with, uses_without, without, without_last}
+use Rattle.used_keys.specs.Keys.{KeysState, entered, framed, looked, stands_among, uses_with, uses_without, without, without_last}
 use Rattle.used_keys.specs.Private.Stamps.{AreFalling, stamped_first, unstamped, used_in, with_stamp}
 use Rattle.used_keys.proofs.BareEntries.{length-bare, lookup-bare, promoted-bare, removed-bare, take-bare}
 use Rattle.used_keys.proofs.Entries.{lookup-entry, promoted-unknown, removed-unknown, unknown-take}
@@ -124,6 +124,23 @@ popped-without frame cap es =
     ∙ parts cap (take-bare (length (unstamped es) - 1) es)
     (ap (uses_of frame) (stamped-take frame (length (unstamped es) - 1) es)
     ∙ mapped frame (min (length (unstamped es) - 1)) (stamped_first frame es))
+
+-- a new key is put in front
+put-entered : (frame key cap : ℕ) (a : Allocation) (es : List (ℕ × Entry))
+    → state_of ((key, record { allocation = a; frame = frame }) ∷ es) cap frame ≡ entered (state_of es cap frame) key a
+put-entered frame key cap a es =
+    let own : (frame == frame) ≡ true = grind (arith, nat_tests) in
+    parts cap refl
+    (ap (λ (b : Bool). uses_of frame (cond b (suc (stamped_first frame es)) 0)) own ∙ mapped frame suc (stamped_first frame es))
+
+-- where there is no room for it, the last entry goes
+pub put-for_last : (frame key cap : ℕ) (a : Allocation) (es : List (ℕ × Entry)) → length es ≡ cap
+    → state_of ((key, record { allocation = a; frame = frame }) ∷ take (cap - 1) es) cap frame
+    ≡ entered (without_last (state_of es cap frame)) key a
+put-for_last frame key cap a es full =
+    ap (λ (n : ℕ). state_of ((key, record { allocation = a; frame = frame }) ∷ take (n - 1) es) cap frame) (sym full)
+    ∙ put-entered frame key cap a (take (length es - 1) es)
+    ∙ ap (λ (s : KeysState). entered s key a) (popped-without frame cap es)
 
 -- a frame begins
 pub begun-framed : (frame old cap : ℕ) (es before : List (ℕ × Entry)) → 1 ≤ frame → AreFalling (frame - 1) es

@@ -89,6 +89,21 @@ impl UsedKeys {
         put_first(&mut self.entries, key, Entry { allocation, frame })
     }
 
+    /// Puts a new key, which is used, in front of full keys, of which the least recently used goes. After an `Err`, which
+    /// comes where there was no memory, nothing has changed.
+    pub fn enter_for_last(&mut self, key: u64, allocation: Allocation) -> Result<(), AllocError>
+        requires new { lookup (nat_eq key) self.old.entries ≡ None }
+        requires full { length self.old.entries ≡ self.old.cap }
+        ensures ok { OnOk result (self.new ≡ entered (without_last self.old) key allocation) }
+        ensures err { OnErr result (self.new ≡ self.old) }
+    {
+        let entry = Entry {
+            allocation,
+            frame: self.frame,
+        };
+        put_first(&mut self.entries, key, entry)
+    }
+
     /// Takes a key out, and gives what was allocated for it; none where it isn't there.
     pub fn remove(&mut self, key: u64) -> Option<Allocation>
         ensures value { result ≡ lookup (nat_eq key) self.old.entries }
@@ -109,6 +124,14 @@ impl UsedKeys {
             return None;
         };
         Some((key, entry.allocation))
+    }
+
+    /// The least recently used key with what is allocated for it; none where there is no key. The order stays.
+    pub fn last(&self) -> Option<(u64, Allocation)>
+        ensures { result ≡ lru.last_entry self.now.entries }
+    {
+        let (key, entry) = self.entries.peek_lru()?;
+        Some((*key, entry.allocation))
     }
 
     /// The least recently used key with its rectangle; none where there is no key. The order stays.

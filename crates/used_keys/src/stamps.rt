@@ -3,12 +3,12 @@
 //!
 //! Definition: `Private.Stamps`.
 
-ghost use Rattle.std.specs.Prelude.{◌≡◌, ◌≤◌, ◌-◌, ◌<◌, ◌∷◌, None, nat_eq, length, map, OnOk, OnErr};
+ghost use Rattle.std.specs.Prelude.{◌≡◌, ◌≤◌, ◌-◌, ◌<◌, ◌∷◌, None, nat_eq, length, map, take, OnOk, OnErr};
 ghost use Rattle.std.specs.Map.{lookup};
 ghost use Rattle.lru.specs.LruCache as lru;
 ghost use Rattle.used_keys.specs.Keys.{rectangle_in};
 ghost use Rattle.used_keys.specs.Private.Stamps as spec;
-ghost use Rattle.used_keys.specs.Private.Stamps.{AreFalling, StandsFirst, restamped, turned, unstamped, with_stamp};
+ghost use Rattle.used_keys.specs.Private.Stamps.{AreFalling, turned, unstamped, with_stamp};
 
 use etagere_base::{Allocation, Rectangle};
 use lru::LruCache;
@@ -21,28 +21,19 @@ pub struct Entry {
     pub frame: u64,
 }
 
-/// Puts a new key in front of entries that have room for it.
+/// Puts a new key in front. Where there is no room for it, the last one goes.
 pub(crate) fn put_first(
     entries: &mut LruCache<u64, Entry>,
     key: u64,
     entry: Entry,
 ) -> Result<(), AllocError>
-    requires new { lookup (nat_eq key) entries.old.entries ≡ None }
-    requires room { length entries.old.entries < entries.old.cap }
+    requires { lookup (nat_eq key) entries.old.entries ≡ None }
     ensures ok { OnOk result (entries.new
-        ≡ lru.lru_cache ((key, entry) ∷ entries.old.entries) entries.old.cap) }
+        ≡ lru.lru_cache ((key, entry) ∷ take (entries.old.cap - 1) entries.old.entries) entries.old.cap) }
     ensures err { OnErr result (entries.new ≡ entries.old) }
 {
     entries.put(key, entry)?;
     Ok(())
-}
-
-/// Stamps the first entry, whose key this is.
-pub(crate) fn restamp(entries: &mut LruCache<u64, Entry>, key: u64, entry: Entry)
-    requires { StandsFirst key entries.old.entries }
-    ensures { entries.new ≡ lru.lru_cache (restamped key entry entries.old.entries) entries.old.cap }
-{
-    entries.put(key, entry).unwrap();
 }
 
 /// The rectangle of a key, which goes to the front and gets the stamp of a frame; none where it isn't there.
@@ -72,19 +63,11 @@ fn turn_one(entries: &mut LruCache<u64, Entry>)
     requires { 1 ≤ length entries.old.entries }
     ensures { entries.new ≡ lru.lru_cache (turned entries.old.entries) entries.old.cap }
 {
-    let Some((key, entry)) = entries.peek_mru() else {
+    let Some((key, _)) = entries.peek_mru() else {
         unreachable!()
     };
     let key = *key;
-    let allocation = entry.allocation;
-    restamp(
-        entries,
-        key,
-        Entry {
-            allocation,
-            frame: 0,
-        },
-    );
+    use_in(entries, key, 0);
     entries.demote(&key);
 }
 

@@ -1,5 +1,5 @@
 -- Stamped entries: what they are without their stamps, and that stamps fall along the order of use.
-use Rattle.std.specs.Prelude.{◌≡◌, ℕ, suc, ◌≤◌, ◌==◌, cond, nat_eq, List, [], ◌∷◌, ◌++◌, map}
+use Rattle.std.specs.Prelude.{ℕ, suc, ◌≤◌, ◌==◌, cond, nat_eq, List, [], ◌∷◌, ◌++◌, map}
 use Rattle.std.specs.Map.{lookup_entry, remove_entry}
 use Rattle.std.specs.Option.{option_map_or}
 use Rattle.etagere_base.specs.declared.ids.Allocation.{Allocation}
@@ -23,16 +23,6 @@ stamped_first frame (entry ∷ entries) =
 abbrev pub AreFalling : ℕ → List (ℕ × Entry) → Type 0
 AreFalling most [] = Unit {0}
 AreFalling most (entry ∷ entries) = (entry.1.frame ≤ most) × AreFalling entry.1.frame entries
-
--- the key of the first entry
-abbrev pub StandsFirst : ℕ → List (ℕ × Entry) → Type 0
-StandsFirst key [] = ⊥
-StandsFirst key (entry ∷ entries) = entry.0 ≡ key
-
--- the first entry is another, of this key
-abbrev pub restamped : ℕ → Entry → List (ℕ × Entry) → List (ℕ × Entry)
-restamped key new [] = []
-restamped key new (entry ∷ entries) = (key, new) ∷ entries
 
 -- the first entry stands last, without its stamp
 abbrev pub turned : List (ℕ × Entry) → List (ℕ × Entry)

@@ -1,8 +1,8 @@
-use Rattle.std.proofs.Common.{◌≡◌, ℕ, ◌++◌, [], ◌∷◌, false, true, Result, Ok, Err, OnErr, List, is_some, length, ap, sym, ◌∙◌, subst, arith}
+use Rattle.std.proofs.Common.{◌≡◌, ℕ, ◌++◌, [], ◌∷◌, false, true, Result, Ok, Err, OnErr, List, is_some, length, refl, ap, sym, ◌∙◌, subst, arith}
 use Rattle.std.proofs.lemmas.List.{length-append}
 use Rattle.etagere_base.specs.declared.frames.Frame.{Frame}
 use Rattle.etagere_base.specs.Rectangles.{IsLarge}
-use Rattle.glyph_shelf.specs.Cache.{CacheState, evictable}
+use Rattle.glyph_shelf.specs.Cache.{CacheState, evictable, without_last}
 use Rattle.glyph_shelf.specs.Placing.{RanOut, has_room}
 use Rattle.glyph_shelf.proofs.Evicting.{IsEvicting, evicted-places, evicted-ran_out, evicting-shorter, evicting-some, evicting-step, evicting-stopped, ran_out-first}
 use Rattle.glyph_shelf.proofs.FullFrames.{evicted-fewer}
@@ -20,94 +20,82 @@ returns-in_err-reserve-clause-err c =
     (subst left (sym (c.reserve.ensures.items ∙ c.requires.none))
     (ran_out-first now c.args.size c.requires.promises c.requires.fits))
 
-pub enter-requires : goal.enter-requires
-enter-requires c =
-    let longer : c.push.new.self.items ≡ c.loop-dropped.evicted.items ++ c.in-Some.dropped ∷ [] = rw c.unwrap.ensures at c.push.ensures.items in
-    let stepped : IsEvicting c.args.self.now c.args.key c.args.size c.push.new.self.items c.drop_last.new.self =
-    evicting-step c.args.self.now c.args.key c.args.size c.loop-dropped.invariant.0 c.loop-dropped.invariant.1
-    c.in-Some.ensures.key longer c.drop_last.ensures.dropped in
-    stepped.new
-
 pub returns-in_err-rectangle-clause-err : goal.returns-in_err-rectangle-clause-err
 returns-in_err-rectangle-clause-err c =
-    let longer : c.push.new.self.items ≡ c.loop-dropped.evicted.items ++ c.in-Some.dropped ∷ [] = rw c.unwrap.ensures at c.push.ensures.items in
-    let stepped : IsEvicting c.args.self.now c.args.key c.args.size c.push.new.self.items c.drop_last.new.self =
-    evicting-step c.args.self.now c.args.key c.args.size c.loop-dropped.invariant.0 c.loop-dropped.invariant.1
-    c.in-Some.ensures.key longer c.drop_last.ensures.dropped in
-    on_err (RanOut c.args.self.now c.args.size c.push.new.self.items c.enter.new.self) _
-    (evicted-ran_out c.args.self.now c.args.size c.push.new.self.items c.drop_last.new.self c.enter.new.self c.requires.room
+    let longer : c.push.new.self.items ≡ c.loop-last.evicted.items ++ c.in-Some.last ∷ [] = rw c.unwrap.ensures at c.push.ensures.items in
+    let stepped : IsEvicting c.args.self.now c.args.key c.args.size c.push.new.self.items (without_last c.loop-last.self) =
+    evicting-step c.args.self.now c.args.key c.args.size c.loop-last.invariant.0 c.loop-last.invariant.1
+    c.in-Some.ensures.key longer refl in
+    on_err (RanOut c.args.self.now c.args.size c.push.new.self.items c.enter_for_last.new.self) _
+    (evicted-ran_out c.args.self.now c.args.size c.push.new.self.items (without_last c.loop-last.self) c.enter_for_last.new.self c.requires.room
     stepped.has c.in_err-rectangle.ensures.err_room c.in_err-rectangle.ensures.err)
 
 pub returns-in-Some-2-clause-ok : goal.returns-in-Some-2-clause-ok
 returns-in-Some-2-clause-ok c =
-    let longer : c.push.new.self.items ≡ c.loop-dropped.evicted.items ++ c.in-Some.dropped ∷ [] = rw c.unwrap.ensures at c.push.ensures.items in
-    let stepped : IsEvicting c.args.self.now c.args.key c.args.size c.push.new.self.items c.drop_last.new.self =
-    evicting-step c.args.self.now c.args.key c.args.size c.loop-dropped.invariant.0 c.loop-dropped.invariant.1
-    c.in-Some.ensures.key longer c.drop_last.ensures.dropped in
-    let room : has_room c.drop_last.new.self c.args.size ≡ true = sym c.in_ok-rectangle.ensures.room ∙ ap is_some c.in-Some-2.is in
-    evicted-places c.args.self.now c.args.key c.args.size c.push.new.self.items c.drop_last.new.self c.in-Some-2.rectangle
-    c.enter.new.self stepped.has room (rw c.in-Some-2.is at c.in_ok-rectangle.ensures.entered)
+    let longer : c.push.new.self.items ≡ c.loop-last.evicted.items ++ c.in-Some.last ∷ [] = rw c.unwrap.ensures at c.push.ensures.items in
+    let stepped : IsEvicting c.args.self.now c.args.key c.args.size c.push.new.self.items (without_last c.loop-last.self) =
+    evicting-step c.args.self.now c.args.key c.args.size c.loop-last.invariant.0 c.loop-last.invariant.1
+    c.in-Some.ensures.key longer refl in
+    let room : has_room (without_last c.loop-last.self) c.args.size ≡ true = sym c.in_ok-rectangle.ensures.room ∙ ap is_some c.in-Some-2.is in
+    evicted-places c.args.self.now c.args.key c.args.size c.push.new.self.items (without_last c.loop-last.self) c.in-Some-2.rectangle
+    c.enter_for_last.new.self stepped.has room (rw c.in-Some-2.is at c.in_ok-rectangle.ensures.entered)
 
 pub returns-in-Some-2-clause-large : goal.returns-in-Some-2-clause-large
 returns-in-Some-2-clause-large c =
-    let longer : c.push.new.self.items ≡ c.loop-dropped.evicted.items ++ c.in-Some.dropped ∷ [] = rw c.unwrap.ensures at c.push.ensures.items in
-    let stepped : IsEvicting c.args.self.now c.args.key c.args.size c.push.new.self.items c.drop_last.new.self =
-    evicting-step c.args.self.now c.args.key c.args.size c.loop-dropped.invariant.0 c.loop-dropped.invariant.1
-    c.in-Some.ensures.key longer c.drop_last.ensures.dropped in
-    subst (λ (frame : Frame). IsLarge frame c.args.size c.in-Some-2.rectangle) stepped.frame
+    subst (λ (frame : Frame). IsLarge frame c.args.size c.in-Some-2.rectangle) c.loop-last.invariant.0.frame
     (rw c.in-Some-2.is at c.in_ok-rectangle.ensures.large)
 
-pub loop-dropped-smaller : goal.loop-dropped-smaller
-loop-dropped-smaller c =
-    let same : c.enter.new.self ≡ c.drop_last.new.self = rw c.in_default-2.is at c.in_ok-rectangle.ensures.none in
-    evicting-shorter c.loop-dropped.self c.enter.new.self c.in-Some.dropped
-    c.in-Some.ensures.key (same ∙ c.drop_last.ensures.dropped)
+pub loop-last-smaller : goal.loop-last-smaller
+loop-last-smaller c =
+    let same : c.enter_for_last.new.self ≡ (without_last c.loop-last.self) = rw c.in_default-2.is at c.in_ok-rectangle.ensures.none in
+    evicting-shorter c.loop-last.self c.enter_for_last.new.self c.in-Some.last
+    c.in-Some.ensures.key (same ∙ refl)
 
-pub loop-dropped-preserved : goal.loop-dropped-preserved
-loop-dropped-preserved c =
-    let longer : c.push.new.self.items ≡ c.loop-dropped.evicted.items ++ c.in-Some.dropped ∷ [] = rw c.unwrap.ensures at c.push.ensures.items in
-    let same : c.enter.new.self ≡ c.drop_last.new.self = rw c.in_default-2.is at c.in_ok-rectangle.ensures.none in
-    let full : has_room c.drop_last.new.self c.args.size ≡ false = sym c.in_ok-rectangle.ensures.room ∙ ap is_some c.in_default-2.is in (
-      evicting-step c.args.self.now c.args.key c.args.size c.loop-dropped.invariant.0 c.loop-dropped.invariant.1
-          c.in-Some.ensures.key (c.reserve-in-Some.ensures.items ∙ longer) (same ∙ c.drop_last.ensures.dropped),
+pub loop-last-preserved : goal.loop-last-preserved
+loop-last-preserved c =
+    let longer : c.push.new.self.items ≡ c.loop-last.evicted.items ++ c.in-Some.last ∷ [] = rw c.unwrap.ensures at c.push.ensures.items in
+    let same : c.enter_for_last.new.self ≡ (without_last c.loop-last.self) = rw c.in_default-2.is at c.in_ok-rectangle.ensures.none in
+    let full : has_room (without_last c.loop-last.self) c.args.size ≡ false = sym c.in_ok-rectangle.ensures.room ∙ ap is_some c.in_default-2.is in (
+      evicting-step c.args.self.now c.args.key c.args.size c.loop-last.invariant.0 c.loop-last.invariant.1
+          c.in-Some.ensures.key (c.reserve-in-Some.ensures.items ∙ longer) (same ∙ refl),
       ap (λ (s : CacheState). has_room s c.args.size) same ∙ full,
       omega (arith, c.in_ok-reserve-2.ensures.ok),
     )
 
 pub returns-in_err-reserve-2-clause-err : goal.returns-in_err-reserve-2-clause-err
 returns-in_err-reserve-2-clause-err c =
-    let longer : c.push.new.self.items ≡ c.loop-dropped.evicted.items ++ c.in-Some.dropped ∷ [] = rw c.unwrap.ensures at c.push.ensures.items in
-    let same : c.enter.new.self ≡ c.drop_last.new.self = rw c.in_default-2.is at c.in_ok-rectangle.ensures.none in
-    on_err (RanOut c.args.self.now c.args.size c.reserve-in-Some.new.self.items c.enter.new.self) _
-    (evicting-stopped c.args.self.now c.args.key c.args.size c.reserve-in-Some.new.self.items c.enter.new.self c.requires.room
-    (evicting-step c.args.self.now c.args.key c.args.size c.loop-dropped.invariant.0 c.loop-dropped.invariant.1
-    c.in-Some.ensures.key (c.reserve-in-Some.ensures.items ∙ longer) (same ∙ c.drop_last.ensures.dropped)))
+    let longer : c.push.new.self.items ≡ c.loop-last.evicted.items ++ c.in-Some.last ∷ [] = rw c.unwrap.ensures at c.push.ensures.items in
+    let same : c.enter_for_last.new.self ≡ (without_last c.loop-last.self) = rw c.in_default-2.is at c.in_ok-rectangle.ensures.none in
+    on_err (RanOut c.args.self.now c.args.size c.reserve-in-Some.new.self.items c.enter_for_last.new.self) _
+    (evicting-stopped c.args.self.now c.args.key c.args.size c.reserve-in-Some.new.self.items c.enter_for_last.new.self c.requires.room
+    (evicting-step c.args.self.now c.args.key c.args.size c.loop-last.invariant.0 c.loop-last.invariant.1
+    c.in-Some.ensures.key (c.reserve-in-Some.ensures.items ∙ longer) (same ∙ refl)))
 
 pub unreachable-requires : goal.unreachable-requires
 unreachable-requires c =
-    evicting-some c.args.self.now c.args.key c.args.size c.loop-dropped.evicted.items c.loop-dropped.self
-    c.loop-dropped.invariant.0 c.loop-dropped.invariant.1 c.in_default.ensures.key
+    evicting-some c.args.self.now c.args.key c.args.size c.loop-last.evicted.items c.loop-last.self
+    c.loop-last.invariant.0 c.loop-last.invariant.1 c.in_default.ensures.key
 
 pub returns-in_err-rectangle-clause-spared : goal.returns-in_err-rectangle-clause-spared
 returns-in_err-rectangle-clause-spared c =
-    let longer : c.push.new.self.items ≡ c.loop-dropped.evicted.items ++ c.in-Some.dropped ∷ [] = rw c.unwrap.ensures at c.push.ensures.items in
+    let longer : c.push.new.self.items ≡ c.loop-last.evicted.items ++ c.in-Some.last ∷ [] = rw c.unwrap.ensures at c.push.ensures.items in
     let now = c.args.self.now in
-    let more = evicted-fewer now c.args.size c.loop-dropped.evicted.items c.loop-dropped.self (evictable now) c.loop-dropped.invariant.0.has
-    c.loop-dropped.invariant.1 c.requires.room in
-    omega (arith, ap length longer, length-append c.loop-dropped.evicted.items (c.in-Some.dropped ∷ []))
+    let more = evicted-fewer now c.args.size c.loop-last.evicted.items c.loop-last.self (evictable now) c.loop-last.invariant.0.has
+    c.loop-last.invariant.1 c.requires.room in
+    omega (arith, ap length longer, length-append c.loop-last.evicted.items (c.in-Some.last ∷ []))
 
 pub returns-in-Some-2-clause-spared : goal.returns-in-Some-2-clause-spared
 returns-in-Some-2-clause-spared c =
-    let longer : c.push.new.self.items ≡ c.loop-dropped.evicted.items ++ c.in-Some.dropped ∷ [] = rw c.unwrap.ensures at c.push.ensures.items in
+    let longer : c.push.new.self.items ≡ c.loop-last.evicted.items ++ c.in-Some.last ∷ [] = rw c.unwrap.ensures at c.push.ensures.items in
     let now = c.args.self.now in
-    let more = evicted-fewer now c.args.size c.loop-dropped.evicted.items c.loop-dropped.self (evictable now) c.loop-dropped.invariant.0.has
-    c.loop-dropped.invariant.1 c.requires.room in
-    omega (arith, ap length longer, length-append c.loop-dropped.evicted.items (c.in-Some.dropped ∷ []))
+    let more = evicted-fewer now c.args.size c.loop-last.evicted.items c.loop-last.self (evictable now) c.loop-last.invariant.0.has
+    c.loop-last.invariant.1 c.requires.room in
+    omega (arith, ap length longer, length-append c.loop-last.evicted.items (c.in-Some.last ∷ []))
 
 pub returns-in_err-reserve-2-clause-spared : goal.returns-in_err-reserve-2-clause-spared
 returns-in_err-reserve-2-clause-spared c =
-    let longer : c.push.new.self.items ≡ c.loop-dropped.evicted.items ++ c.in-Some.dropped ∷ [] = rw c.unwrap.ensures at c.push.ensures.items in
+    let longer : c.push.new.self.items ≡ c.loop-last.evicted.items ++ c.in-Some.last ∷ [] = rw c.unwrap.ensures at c.push.ensures.items in
     let now = c.args.self.now in
-    let more = evicted-fewer now c.args.size c.loop-dropped.evicted.items c.loop-dropped.self (evictable now) c.loop-dropped.invariant.0.has
-    c.loop-dropped.invariant.1 c.requires.room in
-    omega (arith, ap length (c.reserve-in-Some.ensures.items ∙ longer), length-append c.loop-dropped.evicted.items (c.in-Some.dropped ∷ []))
+    let more = evicted-fewer now c.args.size c.loop-last.evicted.items c.loop-last.self (evictable now) c.loop-last.invariant.0.has
+    c.loop-last.invariant.1 c.requires.room in
+    omega (arith, ap length (c.reserve-in-Some.ensures.items ∙ longer), length-append c.loop-last.evicted.items (c.in-Some.last ∷ []))

@@ -1,4 +1,4 @@
-use Rattle.std.proofs.Common.{◌≡◌, ℕ, ◌≤◌, List, length, ap, sym, ◌∙◌, subst, rules, arith}
+use Rattle.std.proofs.Common.{◌≡◌, ◌≤◌, List, length, subst, rules, arith}
 use Rattle.std.specs.NonZero.{non_zero_usize_get}
 use Rattle.glyph_shelf.specs.Private.Restoring.{AreRestored}
 use Rattle.glyph_shelf.specs.declared.saving.SavedKey.{SavedKey}
