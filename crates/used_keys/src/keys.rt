@@ -89,8 +89,8 @@ impl UsedKeys {
         put_first(&mut self.entries, key, Entry { allocation, frame })
     }
 
-    /// Puts a new key, which is used, in front of full keys, of which the least recently used goes. After an `Err`, which
-    /// comes where there was no memory, nothing has changed.
+    /// Puts a new key, which is used, in front of full keys, of which the least recently used goes. After an `Err`,
+    /// which comes where there was no memory, nothing has changed.
     pub fn enter_for_last(&mut self, key: u64, allocation: Allocation) -> Result<(), AllocError>
         requires new { lookup (nat_eq key) self.old.entries ≡ None }
         requires full { length self.old.entries ≡ self.old.cap }
