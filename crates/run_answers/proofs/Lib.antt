@@ -11,4 +11,5 @@ pub mod Renamed
 pub mod Renumbered
 pub mod RunsOn
 pub mod TableEntries
+pub mod TableWalks
 pub mod TwoRuns

@@ -1,13 +1,14 @@
 -- The table of a ledger and its entries: a place has the entry of its position, and takes it out alone.
 use Rattle.std.proofs.Common.{◌≡◌, ℕ, zero, suc, ◌+◌, ◌-◌, ◌<◌, ◌≤◌, true, false, ◌==◌, Option, None, Some, List, [], ◌∷◌, ◌++◌, drop, length, get_or, refl, ap, sym, ◌∙◌, ⊎_elim, arith}
-use Rattle.std.specs.Prelude.{IfSome, slice_get, slice_set}
+use Rattle.std.specs.Prelude.{IfNone, IfSome, slice_get, slice_set}
 use Rattle.std.proofs.lemmas.Bool.Decides.{nat_tests}
 use Rattle.std.proofs.lemmas.Bool.{cases_lt}
-use Rattle.std.proofs.lemmas.List.{drop-append-le, drop-set-add, length-drop}
+use Rattle.std.proofs.lemmas.List.{drop-append-le, drop-set-add, get_or-map, get_or_default, length-drop, length-map, map-append, map-set, set-get_or}
 use Rattle.std.proofs.lemmas.Option.{slice_get_past, slice_get_read}
 use Rattle.etagere_base.specs.declared.ids.Allocation.{Allocation}
 use Rattle.run_answers.specs.Live.{Entry, allocation_at, without}
 use Rattle.run_answers.specs.Private.Given.{with_entry}
+use Rattle.run_answers.specs.Private.Ids.{id_in, ids_in}
 use Rattle.run_answers.specs.Private.Tables.{entries_above, entries_from}
 
 -- what a place has that may be there
@@ -156,7 +157,62 @@ more-slots floor slots given within =
     ∙ more-from floor (drop floor slots) given
     ∙ ap (λ (n : ℕ). with_entry n given (entries_above floor slots)) (omega (arith, length-drop floor slots, within))
 
--- what holds holds where something was taken
+-- there are as many ids as places
+pub as-many : (ids : List (Option ℕ)) (slots : List (Option Allocation)) → ids ≡ ids_in slots → length slots ≡ length ids
+as-many ids slots is = rw is (sym (length-map slots id_in))
+
+-- the id that a place above the floor has
+pub id_at-slot : (floor position : ℕ) (slots : List (Option Allocation)) (id : Option ℕ)
+    → floor ≤ position → position < length slots → id ≡ get_or (ids_in slots) position id
+    → id ≡ id_in (allocation_at position (entries_above floor slots))
+id_at-slot floor position slots id above within is =
+    let given : Option Allocation = get_or slots position None in
+    let read : given ≡ get_or slots position given = get_or_default slots position None given within in
+    is ∙ get_or-map id_in slots position None id within
+    ∙ ap id_in (allocation_at-slot floor position slots given above within read)
+
+-- no id is at a position below the floor, or past the places
+pub id_at-none : (floor position : ℕ) (slots : List (Option Allocation))
+    → ¬ ((floor ≤ position) × (position < length slots))
+    → None ≡ id_in (allocation_at position (entries_above floor slots))
+id_at-none floor position slots none = ap id_in (allocation_at-none floor position slots none)
+
+-- what has an id is something that was given
+pub given-of : (id : ℕ) (given : Option Allocation) → Some id ≡ id_in given
+    → (allocation : Allocation) × (given ≡ Some allocation) × (allocation.id ≡ id)
+given-of id None is = absurd (cc)
+given-of id (Some allocation) is = (allocation, refl, cc)
+
+-- what has no id was not given
+pub none-of : (given : Option Allocation) → None ≡ id_in given → given ≡ None
+none-of None is = refl
+none-of (Some allocation) is = absurd (cc)
+
+-- an empty place stays as it is when it is emptied
+pub emptied-none : (slots : List (Option Allocation)) (position : ℕ) (id : Option ℕ) → position < length slots
+    → id ≡ get_or (ids_in slots) position id → id ≡ None → slice_set slots position None ≡ slots
+emptied-none slots position id within read none =
+    let given : Option Allocation = get_or slots position None in
+    let same : id ≡ id_in given = read ∙ get_or-map id_in slots position None id within in
+    let gone : given ≡ None = none-of given (sym none ∙ same) in
+    ap (slice_set slots position) (sym gone) ∙ set-get_or slots position None
+
+-- the ids of the places when one is emptied, and when there is one more
+pub ids-emptied : (ids after : List (Option ℕ)) (slots : List (Option Allocation)) (slot : ℕ) (id : Option ℕ) → ids ≡ ids_in slots
+    → after ≡ slice_set ids slot id → id ≡ None → after ≡ ids_in (slice_set slots slot None)
+ids-emptied ids after slots slot id before is none =
+    is ∙ ap (λ n. slice_set ids slot n) none ∙ ap (λ l. slice_set l slot None) before ∙ sym (map-set id_in slots slot None)
+
+pub ids-more : (ids after : List (Option ℕ)) (slots : List (Option Allocation)) (given : Option Allocation) → ids ≡ ids_in slots
+    → after ≡ ids ++ id_in given ∷ [] → after ≡ ids_in (slots ++ given ∷ [])
+ids-more ids after slots given before is =
+    is ∙ ap (λ l. l ++ id_in given ∷ []) before ∙ sym (map-append id_in slots (given ∷ []))
+
+-- what holds holds where nothing was taken, and where something was taken
+pub none-taken : {T P : Type 0} (taken : Option T) → (taken ≡ None → P) → IfNone taken P
+none-taken None p = p refl
+none-taken (Some given) p = tt
+
 pub some-taken : {T P : Type 0} (taken : Option T) → P → IfSome taken (λ _. P)
 some-taken None p = tt
 some-taken (Some given) p = p

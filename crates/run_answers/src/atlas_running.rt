@@ -96,10 +96,10 @@ fn give_back(atlas: &mut AtlasAllocator, ledger: &mut Ledger, other: usize) -> R
         atlas.old atlas.new }
     ensures slots { HasSlotsOf ledger.old ledger.new }
 {
-    let Some(allocation) = ledger.take(other) else {
+    let Some(id) = ledger.take(other) else {
         return Reply::NotLive;
     };
-    match atlas.deallocate(allocation.id) {
+    match atlas.deallocate(id) {
         Ok(()) => Reply::Returned,
         Err(_) => unreachable!(),
     }
@@ -111,11 +111,11 @@ fn look(atlas: &AtlasAllocator, ledger: &Ledger, other: usize) -> Reply
         (entries_of ledger.now) (with_given position result (entries_of ledger.now))
         atlas.now atlas.now }
 {
-    let Some(allocation) = ledger.allocation_at(other) else {
+    let Some(id) = ledger.id_at(other) else {
         return Reply::NotLive;
     };
-    match atlas.get(allocation.id) {
-        Some(rectangle) => Reply::At(rectangle, allocation.id.serialize() % INDEX_MODULUS),
+    match atlas.get(id) {
+        Some(rectangle) => Reply::At(rectangle, id.serialize() % INDEX_MODULUS),
         None => unreachable!(),
     }
 }

@@ -97,10 +97,10 @@ fn give_back(atlas: &mut BucketedAtlasAllocator, ledger: &mut Ledger, other: usi
         atlas.old atlas.new }
     ensures slots { HasSlotsOf ledger.old ledger.new }
 {
-    let Some(allocation) = ledger.take(other) else {
+    let Some(id) = ledger.take(other) else {
         return Reply::NotLive;
     };
-    match atlas.deallocate(allocation.id) {
+    match atlas.deallocate(id) {
         Ok(()) => Reply::Returned,
         Err(_) => unreachable!(),
     }

@@ -1,24 +1,30 @@
-//! The ledger of a run: what each command was given that is live. A table with a slot for each command, for which
-//! room is taken before the first one, so that nothing here takes memory later and a position is found in one step.
+//! The ledger of a run: what each command was given that is live, of which the ids are kept. It has a slot for each
+//! command, for which room is taken before the first one, so that nothing here takes memory later and a position is
+//! found in one step.
 //!
-//! Definition: `Tables`, which reads the table as the entries of `Live`. Another representation keeps the clauses
+//! Definition: `Tables`, which reads the slots as the entries of `Live`. Another representation keeps the clauses
 //! with its own reading; callers know nothing else of it.
 
 ghost use Rattle.std.specs.Prelude.{◌≡◌, ◌<◌, ◌≤◌, ◌+◌, [], vec_capacity, vec_len, IfOk, IfSome, IfNone, SomeIff};
+ghost use Rattle.run_answers.specs.Private.Ids.{id_in, ids_in};
 ghost use Rattle.run_answers.specs.Live.{allocation_at, without};
 ghost use Rattle.run_answers.specs.Private.Given.{with_entry};
 
-use etagere::Allocation;
+use crate::table::{Change, Table};
+use etagere::{AllocId, Allocation};
 use std::alloc::{AllocError, Global};
 
 /// What the commands were given that were answered so far.
 #[derive(Drop)]
 pub struct Ledger {
-    /// A slot for each command, by its position.
-    slots: Vec<Option<Allocation>>,
+    /// A slot for each command, by its position, with the id of what it was given.
+    slots: Vec<Option<AllocId>>,
     /// The first position that may be live: the slots before it don't count.
     floor: usize,
+    /// The slots with the rectangles too.
+    table: Table,
     ghost within: { floor ≤ vec_len slots },
+    ghost ids: { slots.items ≡ ids_in table.slots },
 }
 
 impl Ledger {
@@ -31,7 +37,11 @@ impl Ledger {
         ensures room { IfOk result (λ ledger. count ≤ vec_capacity ledger.slots) }
     {
         let slots = Vec::with_capacity(alloc, count)?;
-        Ok(Ledger { slots, floor: 0 })
+        Ok(Ledger {
+            slots,
+            floor: 0,
+            table: Table::new(),
+        })
     }
 
     /// Adds the slot of the next command, with what it was given.
@@ -42,26 +52,28 @@ impl Ledger {
         ensures length { vec_len self.new.slots ≡ vec_len self.old.slots + 1 }
         ensures room { vec_capacity self.old.slots ≤ vec_capacity self.new.slots }
     {
-        self.slots.push(given).unwrap();
+        self.slots.push(id_of(&given)).unwrap();
+        self.table = self.table.after(&Change::Adds(given));
     }
 
-    /// What the command at a position was given, if it is allocated.
-    pub fn allocation_at(&self, position: usize) -> Option<Allocation>
-        ensures { result ≡ allocation_at position (entries_of self.now) }
+    /// The id of what the command at a position was given, if it is allocated.
+    pub fn id_at(&self, position: usize) -> Option<AllocId>
+        ensures { result ≡ id_in (allocation_at position (entries_of self.now)) }
     {
         let slot = self.slot_of(position)?;
         self.slots[slot]
     }
 
-    /// Takes out what the command at a position was given, if it is allocated.
-    pub fn take(&mut self, position: usize) -> Option<Allocation>
-        ensures found { result ≡ allocation_at position (entries_of self.old) }
+    /// Takes out what the command at a position was given, if it is allocated, and gives its id.
+    pub fn take(&mut self, position: usize) -> Option<AllocId>
+        ensures found { result ≡ id_in (allocation_at position (entries_of self.old)) }
         ensures taken { IfSome result
             (λ _. entries_of self.new ≡ without position (entries_of self.old)) }
         ensures none { IfNone result (entries_of self.new ≡ entries_of self.old) }
         ensures slots { HasSlotsOf self.old self.new }
     {
         let slot = self.slot_of(position)?;
+        self.table = self.table.after(&Change::Empties(slot));
         self.slots[slot].take()
     }
 
@@ -83,5 +95,15 @@ impl Ledger {
         } else {
             None
         }
+    }
+}
+
+/// The id of what was given.
+fn id_of(given: &Option<Allocation>) -> Option<AllocId>
+    ensures { result ≡ id_in given.now }
+{
+    match given {
+        Some(allocation) => Some(allocation.id),
+        None => None,
     }
 }

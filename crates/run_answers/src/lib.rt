@@ -10,3 +10,4 @@ pub mod bucketed_running;
 pub mod laws;
 pub mod ledger;
 pub mod running;
+pub mod table;

@@ -171,7 +171,7 @@ fn live_area<C: Sorted>(ledger: &Ledger, position: usize, command: C) -> u64
     ensures area { result ≡ spec.live_area C.asked (entries_of ledger.now) position command }
     ensures bounded { result < 2 ^ 62 }
 {
-    if ledger.allocation_at(position).is_some() {
+    if ledger.id_at(position).is_some() {
         command.asked_area()
     } else {
         0

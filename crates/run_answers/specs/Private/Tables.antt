@@ -18,7 +18,7 @@ entries_above floor slots = entries_from floor (drop floor slots)
 
 -- what a ledger says is live
 abbrev pub entries_of : Ledger → List Entry
-entries_of ledger = entries_above ledger.floor ledger.slots.items
+entries_of ledger = entries_above ledger.floor ledger.table.slots
 
 -- a ledger has as many places as another, and as much room for them
 pub record HasSlotsOf (old new : Ledger) : Type 0 where
