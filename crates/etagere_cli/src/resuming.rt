@@ -21,8 +21,8 @@ pub fn resume(
 ) -> Result<Answer, Failure> {
     let commands = commands_in(alloc, input)?;
     let resumed = resume_atlas(alloc, snapshot, commands.as_slice())?;
-    let text = resumed_text(alloc, &resumed, lists_live)?;
-    Ok(Answer::done(text))
+    let bytes = resumed_bytes(alloc, &resumed, lists_live)?;
+    Ok(Answer::made(bytes))
 }
 
 /// The snapshot of a shelf atlas that an input is.
@@ -36,13 +36,18 @@ pub fn snapshot_of(alloc: Global, input: &[u8]) -> Result<AtlasSnapshot, Failure
     }
 }
 
-fn resumed_text(alloc: Global, resumed: &Resumed, lists_live: bool) -> Result<String, AllocError> {
+fn resumed_bytes(
+    alloc: Global,
+    resumed: &Resumed,
+    lists_live: bool,
+) -> Result<Vec<u8>, AllocError> {
     let mut text = String::new(alloc);
     if lists_live {
         push_live(&mut text, resumed.live.as_slice())?;
     }
-    push_replies(&mut text, resumed.replies.as_slice())?;
-    Ok(text)
+    let mut bytes = text.into_bytes();
+    push_replies(&mut bytes, resumed.replies.as_slice())?;
+    Ok(bytes)
 }
 
 fn push_live(text: &mut String, live: &[Allocation]) -> Result<(), AllocError> {
@@ -70,10 +75,10 @@ fn push_live(text: &mut String, live: &[Allocation]) -> Result<(), AllocError> {
     Ok(())
 }
 
-fn push_replies(text: &mut String, replies: &[Reply]) -> Result<(), AllocError> {
+fn push_replies(bytes: &mut Vec<u8>, replies: &[Reply]) -> Result<(), AllocError> {
     let mut line = Line::new();
     for reply in replies {
-        text.push_str(line_of(reply, &mut line))?;
+        bytes.extend_from_slice(line_of(reply, &mut line))?;
     }
     Ok(())
 }

@@ -25,7 +25,7 @@ use run_commands::faults::StreamFault;
 use run_scripts::reply_text::{Line, line_of};
 use run_scripts::sending::send_line;
 use std::alloc::Global;
-use std::io::{self, Write};
+use std::io::{ErrorKind, Write};
 
 /// Runs the commands in order on a new atlas of this size in pixels, and writes a line for each reply.
 ///
@@ -101,7 +101,7 @@ pub fn stream_all<A: Answering, W: Write>(
     ledger: Ledger,
     commands: &[A::Command],
     writer: &mut W,
-) -> io::Result<()>
+) -> Result<(), ErrorKind>
     requires suits { SuitsRuns A.kind A.Tied }
     requires new { IsNew A.kind A.Tied atlas.old }
     requires room { IsEmptyLedger (length commands.now) ledger }
@@ -117,7 +117,7 @@ pub fn stream_all<A: Answering, W: Write>(
     let mut line = Line::new();
     for position in 0..commands.len() {
         let reply = answer_next(atlas, &mut ledger, commands[position]);
-        send_line(line_of(&reply, &mut line).as_bytes(), writer)?;
+        send_line(line_of(&reply, &mut line), writer)?;
     }
     Ok(())
 }

@@ -23,35 +23,35 @@ pub fn send_line<W: Write>(reply: &GlyphReply, line: &mut Line, writer: &mut W) 
     ensures part { OnErr result
         (AppendsPart (W.contents writer.old) (W.contents writer.new) (spec.line_of reply.now)) }
 {
-    send(words_of(reply, line).as_bytes(), writer)?;
+    send(words_of(reply, line), writer)?;
     send_end(evicted_by(reply), writer)
 }
 
 /// What a reply says, before the keys that were evicted. It is made in `line`, where it isn't always the same.
-fn words_of<'a>(reply: &GlyphReply, line: &'a mut Line) -> &'a str
+fn words_of<'a>(reply: &GlyphReply, line: &'a mut Line) -> &'a [u8]
     ensures { result.now ≡ spec.words_of reply.now }
 {
     match reply {
         GlyphReply::Placed(placed) => with_corners("placed ", &placed.rectangle, line),
-        GlyphReply::TooLarge => "too large",
-        GlyphReply::NoMemory(_) => "no memory",
+        GlyphReply::TooLarge => b"too large",
+        GlyphReply::NoMemory(_) => b"no memory",
         GlyphReply::At(rectangle) => with_corners("at ", rectangle, line),
         GlyphReply::Removed(rectangle) => with_corners("removed ", rectangle, line),
-        GlyphReply::NotThere => "none",
-        GlyphReply::Cleared => "cleared",
-        GlyphReply::Begun => "begun",
-        GlyphReply::FrameFull => "frame full",
+        GlyphReply::NotThere => b"none",
+        GlyphReply::Cleared => b"cleared",
+        GlyphReply::Begun => b"begun",
+        GlyphReply::FrameFull => b"frame full",
     }
 }
 
 /// A word and the corners of a rectangle, made in `line`.
-fn with_corners<'a>(word: &str, rectangle: &Rectangle, line: &'a mut Line) -> &'a str
+fn with_corners<'a>(word: &str, rectangle: &Rectangle, line: &'a mut Line) -> &'a [u8]
     requires { length word.now ≤ 8 }
     ensures { result.now ≡ word.now ++ corners_text rectangle.now }
 {
     line.begin(word);
     line.push_corners(rectangle);
-    line.as_str()
+    line.as_bytes()
 }
 
 /// The keys that a reply names as evicted.
@@ -110,5 +110,5 @@ fn send_key<W: Write>(key: u64, writer: &mut W) -> io::Result<()>
     let mut line = Line::new();
     line.begin(" ");
     line.push(digits.format(key));
-    send(line.as_str().as_bytes(), writer)
+    send(line.as_bytes(), writer)
 }

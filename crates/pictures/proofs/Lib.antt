@@ -1,3 +1,2 @@
 mod Beginnings
-pub mod DecimalPairs
 pub mod GatheringLemmas

@@ -1,15 +1,13 @@
 //! Pictures as SVG text, and text that goes out to a writer.
 //!
 //! `drawing` has the text of a picture, which `gathering` gathers in a buffer of fixed size and `sending` sends.
-//! `short_text` makes the text of a reply. No memory is taken.
+//! No memory is taken.
 #![tactic(auto)]
 
 mod drawing;
 mod gathering;
 mod sending;
-mod short_text;
 
 pub use drawing::{Pictured, drawn_at, push_drawn, send_document, send_into};
 pub use gathering::GatheredText;
 pub use sending::send;
-pub use short_text::ShortText;

@@ -1,4 +1,5 @@
 pub mod CommandLines
+pub mod DecimalPairs
 pub mod Digits
 pub mod DigitsLack
 pub mod HeaderLine

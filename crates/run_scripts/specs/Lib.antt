@@ -1,3 +1,4 @@
+pub mod DigitPairs
 pub mod Lines
 pub mod Numbers
 pub mod Private

@@ -8,8 +8,8 @@ ghost use Rattle.run_scripts.specs.Lines.{space};
 ghost use Rattle.run_scripts.specs.ReplyText as spec;
 ghost use Rattle.run_scripts.specs.ReplyText.{HasPlaces, IsPlace, TellsPlaces, corners_text, longest_line};
 
+use crate::short_text::ShortText;
 use etagere::{Allocation, Rectangle};
-use pictures::ShortText;
 use run_commands::commands::Reply;
 use std::marker::Model;
 
@@ -36,15 +36,15 @@ impl Line {
         ensures { result ≡ [] }
     {
         Line {
-            text: ShortText::new(""),
+            text: ShortText::new(),
         }
     }
 
-    /// The line as text.
-    pub fn as_str(&self) -> &str
+    /// The bytes of the line.
+    pub fn as_bytes(&self) -> &[u8]
         ensures { result.now ≡ self.now }
     {
-        self.text.as_str()
+        self.text.as_bytes()
     }
 
     /// Begins anew with a word.
@@ -61,6 +61,14 @@ impl Line {
         ensures { self.new ≡ self.old ++ word.now }
     {
         self.text.push(word);
+    }
+
+    /// Adds a byte.
+    fn push_byte(&mut self, byte: u8)
+        requires { length self.old + 1 ≤ LINE_CAPACITY }
+        ensures { self.new ≡ self.old ++ byte ∷ [] }
+    {
+        self.text.push_byte(byte);
     }
 
     /// Adds the decimal digits of a number. Always inlined, as `push_place` is.
@@ -97,7 +105,7 @@ impl Line {
         ensures length { length self.new ≤ length self.old + 12 }
         ensures short { IsPlace place → length self.new ≤ length self.old + 6 }
     {
-        self.push(" ");
+        self.push_byte(b' ');
         self.push_place(place);
     }
 
@@ -119,29 +127,29 @@ impl Line {
 /// The line of a reply. It is made in `line`, where it isn't always the same. Always inlined, so that a reply is read
 /// where it was made.
 #[inline(always)]
-pub fn line_of<'a>(reply: &Reply, line: &'a mut Line) -> &'a str
+pub fn line_of<'a>(reply: &Reply, line: &'a mut Line) -> &'a [u8]
     ensures text { result.now ≡ spec.line_of reply.now }
     ensures short { TellsPlaces reply.now → length result.now ≤ longest_line }
 {
     match reply {
         Reply::Placed(allocation) => {
             write_placed(line, allocation);
-            line.as_str()
+            line.as_bytes()
         }
-        Reply::Refused => "refused\n",
-        Reply::Returned => "returned\n",
+        Reply::Refused => b"refused\n",
+        Reply::Returned => b"returned\n",
         Reply::At(rectangle, index) => {
             write_at(line, rectangle, *index);
-            line.as_str()
+            line.as_bytes()
         }
-        Reply::NotLive => "not live\n",
-        Reply::Cleared => "cleared\n",
-        Reply::Grown => "grown\n",
+        Reply::NotLive => b"not live\n",
+        Reply::Cleared => b"cleared\n",
+        Reply::Grown => b"grown\n",
         Reply::GrowRefused(number) => {
             write_grow_refused(line, *number);
-            line.as_str()
+            line.as_bytes()
         }
-        Reply::NoMemory => "no memory\n",
+        Reply::NoMemory => b"no memory\n",
     }
 }
 
@@ -153,9 +161,9 @@ fn write_placed(line: &mut Line, allocation: &Allocation)
 {
     line.begin("placed ");
     line.push_number(allocation.id.serialize());
-    line.push(" ");
+    line.push_byte(b' ');
     line.push_corners(&allocation.rectangle);
-    line.push("\n");
+    line.push_byte(b'\n');
 }
 
 fn write_at(line: &mut Line, rectangle: &Rectangle, index: u32)
@@ -164,9 +172,9 @@ fn write_at(line: &mut Line, rectangle: &Rectangle, index: u32)
 {
     line.begin("at ");
     line.push_corners(rectangle);
-    line.push(" ");
+    line.push_byte(b' ');
     line.push_number(index);
-    line.push("\n");
+    line.push_byte(b'\n');
 }
 
 fn write_grow_refused(line: &mut Line, number: u32)
@@ -175,5 +183,5 @@ fn write_grow_refused(line: &mut Line, number: u32)
 {
     line.begin("grow refused ");
     line.push_number(number);
-    line.push("\n");
+    line.push_byte(b'\n');
 }

@@ -30,7 +30,7 @@ loop-position-preserved g c =
     let answer = subst (λ (n : ℕ). IsAnswerOf kind g.A.Answering.Tied n c.index-commands-position.result c.answer_next-reply.result entries later c.loop-position.atlas c.answer_next-reply.new.atlas)
     c.loop-position.invariant.slots c.answer_next-reply.ensures.answer in
     let out : Appends (contents c.loop-position.writer) (contents c.send_line.new.writer) (line_of c.answer_next-reply.result) =
-    rw (← c.line_of.ensures.text, ← c.as_bytes.ensures.value) c.in_ok-send_line.ensures.whole in
+    rw (← c.line_of.ensures.text) c.in_ok-send_line.ensures.whole in
     record {
       so_far = stream-goes_on kind g.A.Answering.Tied c.requires.suits (kind.frame c.args.atlas.now) c.args.commands.now
           c.loop-position.position c.index-commands-position.result c.answer_next-reply.result entries later
@@ -50,7 +50,7 @@ returns-in_err-send_line-clause-beginning g c =
     let answer = subst (λ (n : ℕ). IsAnswerOf kind g.A.Answering.Tied n c.index-commands-position.result c.answer_next-reply.result entries later c.loop-position.atlas c.answer_next-reply.new.atlas)
     c.loop-position.invariant.slots c.answer_next-reply.ensures.answer in
     let out : AppendsBeginning (contents c.loop-position.writer) (contents c.send_line.new.writer) (line_of c.answer_next-reply.result) =
-    rw (← c.line_of.ensures.text, ← c.as_bytes.ensures.value) c.in_err-send_line.ensures.beginning in
+    rw (← c.line_of.ensures.text) c.in_err-send_line.ensures.beginning in
     on-err c.from_residual.result
     (stream-stops kind g.A.Answering.Tied c.requires.suits (kind.frame c.args.atlas.now) c.args.commands.now
     c.loop-position.position c.index-commands-position.result c.answer_next-reply.result entries later
@@ -67,7 +67,7 @@ returns-in_err-send_line-clause-stopped g c =
     let answer = subst (λ (n : ℕ). IsAnswerOf kind g.A.Answering.Tied n c.index-commands-position.result c.answer_next-reply.result entries later c.loop-position.atlas c.answer_next-reply.new.atlas)
     c.loop-position.invariant.slots c.answer_next-reply.ensures.answer in
     let out : AppendsPart (contents c.loop-position.writer) (contents c.send_line.new.writer) (line_of c.answer_next-reply.result) =
-    rw (← c.line_of.ensures.text, ← c.as_bytes.ensures.value) c.in_err-send_line.ensures.part in
+    rw (← c.line_of.ensures.text) c.in_err-send_line.ensures.part in
     on-err c.from_residual.result
     (stream-stops_at kind g.A.Answering.Tied c.requires.suits (kind.frame c.args.atlas.now) c.args.commands.now
     c.loop-position.position c.index-commands-position.result c.answer_next-reply.result entries later
@@ -85,4 +85,4 @@ returns-clause-whole g c =
 
 pub send_line-requires : goal.send_line-requires
 send_line-requires g c =
-    rw (c.as_bytes.ensures.value, c.line_of.ensures.text) (line-some c.answer_next-reply.result)
+    rw c.line_of.ensures.text (line-some c.answer_next-reply.result)

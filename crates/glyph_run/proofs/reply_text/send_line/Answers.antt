@@ -13,7 +13,7 @@ returns-clause-part g c =
     let middle = g.W.Write.contents c.send.new.writer in
     let new = g.W.Write.contents c.send_end.new.writer in
     let reply = c.args.reply.now in
-    let first : Appends old middle (spec.words_of reply) = rw (← c.words_of.ensures, ← c.as_bytes.ensures.value) c.in_ok-send.ensures.whole in
+    let first : Appends old middle (spec.words_of reply) = rw (← c.words_of.ensures) c.in_ok-send.ensures.whole in
     let end : List ℕ → List ℕ = λ keys. evicted_text keys ++ line_feed ∷ [] in
     on-err-then c.send_end.result
     (λ (part : AppendsPart middle new (end c.evicted_by.result.now)). part-behind old middle new (spec.words_of reply) (end (spec.evicted_by reply)) first

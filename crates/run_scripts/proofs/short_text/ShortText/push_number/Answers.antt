@@ -1,7 +1,7 @@
 use Rattle.std.proofs.Common.{◌/◌, arith, append_assoc, refl}
 use Rattle.std.proofs.lemmas.Fmt.{length-decimal-le}
-use Rattle.pictures.proofs.DecimalPairs.{grown, last-four}
-use Rattle.pictures.proofs.short_text.ShortText.push_number.Goals as goal
+use Rattle.run_scripts.proofs.DecimalPairs.{grown, last-four}
+use Rattle.run_scripts.proofs.short_text.ShortText.push_number.Goals as goal
 
 pub push_four-requires : goal.push_four-requires
 push_four-requires c =

@@ -1,12 +1,9 @@
 -- Decimal digits, two at a time, and the table that has them.
-use Rattle.std.proofs.Common.{◌≡◌, ℕ, zero, suc, ◌+◌, ◌-◌, ◌*◌, ◌/◌, ◌%◌, ◌^◌, ◌<◌, ◌≤◌, Bool, true, ◌&&◌, T, eqb, List, [], ◌∷◌, ◌++◌, length, take, drop, get_or, refl, inl, inr, arith, eq-zero-or-pos, eqb→eq, append_assoc, length-append}
+use Rattle.std.proofs.Common.{◌≡◌, ℕ, zero, suc, ◌+◌, ◌-◌, ◌*◌, ◌/◌, ◌%◌, ◌^◌, ◌<◌, ◌≤◌, Bool, true, ◌&&◌, T, eqb, List, [], ◌∷◌, ◌++◌, length, get_or, refl, inl, inr, arith, eq-zero-or-pos, eqb→eq, append_assoc, length-append}
 use Rattle.std.specs.Prelude.{codes}
 use Rattle.std.proofs.lemmas.Fmt.{decimal_digit, decimal_step}
-use Rattle.std.proofs.lemmas.List.{drop_more, get_or_past}
-use Rattle.std.proofs.lemmas.Str.{IsCharBoundary-from_ascii}
 use Rattle.std.specs.Fmt.{decimal}
-use Rattle.std.specs.Str.{IsAscii, IsCharBoundary}
-use Rattle.pictures.specs.Digits.{pair_text}
+use Rattle.run_scripts.specs.DigitPairs.{pair_text}
 use lib.Ieee.Fits.{and_l, and_r}
 
 -- the digits of each number below 100, one number after another
@@ -32,43 +29,6 @@ below (suc n) p has less =
 -- the table has the two digits of each number
 pub pairs-at : (p : ℕ) → p < 100 → (get_or pairs (p * 2) 0 ≡ 48 + p / 10) × (get_or pairs (p * 2 + 1) 0 ≡ 48 + p % 10)
 pairs-at p less = below 100 p tt less
-
-two-at : (xs : List ℕ) (i : ℕ) → i + 1 < length xs → take 2 (drop i xs) ≡ get_or xs i 0 ∷ get_or xs (i + 1) 0 ∷ []
-two-at xs i less = rw (drop_more xs i 0 (omega arith), drop_more xs (i + 1) 0 less) refl
-
--- the digits of a number, cut out of the table
-pub pair-cut : (p : ℕ) → p < 100 → take 2 (drop (p * 2) pairs) ≡ pair_text p
-pair-cut p less =
-    let long : length pairs ≡ 200 = refl in
-    let at = pairs-at p less in
-    rw (two-at pairs (p * 2) (omega (arith, long)), at.0, at.1) refl
-
--- the last digit of a number below 10, cut out of the table
-pub digit-cut : (d : ℕ) → d < 10 → take 1 (drop (d * 2 + 1) pairs) ≡ (48 + d) ∷ []
-digit-cut d less =
-    let long : length pairs ≡ 200 = refl in
-    let same : d % 10 ≡ d = omega arith in
-    rw (drop_more pairs (d * 2 + 1) 0 (omega (arith, long)), (pairs-at d (omega arith)).1, same) refl
-
-even-low : (i p : ℕ) → i ≡ p * 2 → p < 100 → get_or pairs i 0 < 128
-even-low i p even less = rw (even, (pairs-at p less).0) (omega arith)
-
-odd-low : (i p : ℕ) → i ≡ p * 2 + 1 → p < 100 → get_or pairs i 0 < 128
-odd-low i p odd less = rw (odd, (pairs-at p less).1) (omega arith)
-
-pairs-ascii : IsAscii pairs
-pairs-ascii i =
-    elim (eq-zero-or-pos (200 - i)) [
-      | inl past ↦ rw (get_or_past pairs i 0 (omega arith)) (omega arith)
-      | inr within ↦ elim (eq-zero-or-pos (i % 2)) [
-        | inl even ↦ even-low i (i / 2) (omega arith) (omega arith)
-        | inr odd ↦ odd-low i (i / 2) (omega arith) (omega arith)
-      ]
-    ]
-
--- the table can be cut anywhere
-pub pairs-boundary : (i : ℕ) → i ≤ 200 → IsCharBoundary pairs i
-pairs-boundary i within = IsCharBoundary-from_ascii pairs i pairs-ascii within
 
 pub two-digits : (n : ℕ) → 10 ≤ n → n < 100 → decimal n ≡ pair_text n
 two-digits n least less = rw (decimal_step n least (omega arith), decimal_digit (n / 10) (omega arith)) refl

@@ -3,9 +3,8 @@
 //! Definition: `Digits`, for two digits that are written together. Nothing here takes memory.
 
 ghost use Rattle.std.specs.Prelude.{◌≡◌, ◌≤◌, ◌<◌, ◌+◌, ◌++◌, ◌/◌, ◌%◌, ◌∷◌, [], decimal, length};
-ghost use Rattle.pictures.specs.Digits.{pair_text};
+ghost use Rattle.run_scripts.specs.DigitPairs.{pair_text};
 
-use arrayvec::ArrayString;
 use std::marker::Model;
 
 /// How many bytes a short text has at most.
@@ -19,26 +18,36 @@ const PAIRS: &str =
 /// Text of at most 66 bytes.
 #[derive(Drop)]
 pub struct ShortText {
-    buffer: ArrayString<CAPACITY>,
+    bytes: [u8; CAPACITY],
+    length: usize,
 }
 
 impl Model for ShortText {
-    ghost use Rattle.std.specs.Prelude.{ℕ, List};
+    ghost use Rattle.std.specs.Prelude.{ℕ, ◌≤◌, List, take};
 
     ghost Value = { List ℕ };
 
-    ghost view = { λ text. text.buffer.bytes };
+    ghost invariant = { λ text. text.length ≤ 66 };
+
+    ghost view = { λ text. take text.length text.bytes };
 }
 
 impl ShortText {
-    /// The text of a word of at most 66 bytes.
-    pub fn new(word: &str) -> ShortText
-        requires { length word.now ≤ 66 }
-        ensures { result ≡ word.now }
+    /// No text.
+    pub fn new() -> ShortText
+        ensures { result ≡ [] }
     {
-        let mut buffer = ArrayString::new();
-        buffer.push_str(word);
-        ShortText { buffer }
+        ShortText {
+            bytes: [0; CAPACITY],
+            length: 0,
+        }
+    }
+
+    /// The text so far.
+    pub fn as_bytes(&self) -> &[u8]
+        ensures { result.now ≡ self.now }
+    {
+        &self.bytes[..self.length]
     }
 
     /// Begins anew with a word of at most 66 bytes.
@@ -46,15 +55,8 @@ impl ShortText {
         requires { length word.now ≤ 66 }
         ensures { self.new ≡ word.now }
     {
-        self.buffer.clear();
-        self.buffer.push_str(word);
-    }
-
-    /// The text so far.
-    pub fn as_str(&self) -> &str
-        ensures { result.now ≡ self.now }
-    {
-        self.buffer.as_str()
+        self.length = 0;
+        self.push(word);
     }
 
     /// Adds a word, with which the text has at most 66 bytes.
@@ -62,7 +64,20 @@ impl ShortText {
         requires { length self.old + length word.now ≤ 66 }
         ensures { self.new ≡ self.old ++ word.now }
     {
-        self.buffer.push_str(word);
+        let at = self.length;
+        let end = at + word.len();
+        self.bytes[at..end].copy_from_slice(word.as_bytes());
+        self.length = end;
+    }
+
+    /// Adds a byte, where one more fits into the 66.
+    pub fn push_byte(&mut self, byte: u8)
+        requires { length self.old + 1 ≤ 66 }
+        ensures { self.new ≡ self.old ++ byte ∷ [] }
+    {
+        let at = self.length;
+        self.bytes[at] = byte;
+        self.length = at + 1;
     }
 
     /// Adds the decimal digits of a number, where ten more bytes fit into the 66. Always inlined: the line of a
@@ -125,7 +140,7 @@ impl ShortText {
         if number >= 10 {
             self.push_pair(number);
         } else {
-            self.push_digit(number);
+            self.push_byte(b'0' + number as u8);
         }
     }
 
@@ -134,30 +149,18 @@ impl ShortText {
         requires { (pair < 100) × (length self.old + 2 ≤ 66) }
         ensures { self.new ≡ self.old ++ pair_text pair }
     {
-        self.push(pair_of(pair));
-    }
-
-    /// Adds one digit.
-    fn push_digit(&mut self, digit: u32)
-        requires { (digit < 10) × (length self.old + 1 ≤ 66) }
-        ensures { self.new ≡ self.old ++ (48 + digit) ∷ [] }
-    {
-        self.push(digit_of(digit));
+        let (tens, ones) = digits_of(pair);
+        self.push_byte(tens);
+        self.push_byte(ones);
     }
 }
 
-fn pair_of(pair: u32) -> &'static str
+/// The digits of a number below 100, of which the first may be zero.
+fn digits_of(pair: u32) -> (u8, u8)
     requires { pair < 100 }
-    ensures { result.now ≡ pair_text pair }
+    ensures { result.0 ∷ result.1 ∷ [] ≡ pair_text pair }
 {
     let from = pair as usize * 2;
-    &PAIRS[from..from + 2]
-}
-
-fn digit_of(digit: u32) -> &'static str
-    requires { digit < 10 }
-    ensures { result.now ≡ (48 + digit) ∷ [] }
-{
-    let from = digit as usize * 2 + 1;
-    &PAIRS[from..from + 1]
+    let digits = PAIRS.as_bytes();
+    (digits[from], digits[from + 1])
 }

@@ -1,7 +1,7 @@
 use Rattle.std.proofs.Common.{◌/◌, arith, append_assoc, refl}
 use Rattle.std.proofs.lemmas.Fmt.{length-decimal-le}
-use Rattle.pictures.proofs.DecimalPairs.{grown, last-pair}
-use Rattle.pictures.proofs.short_text.ShortText.push_below_10000.Goals as goal
+use Rattle.run_scripts.proofs.DecimalPairs.{grown, last-pair}
+use Rattle.run_scripts.proofs.short_text.ShortText.push_below_10000.Goals as goal
 
 pub push_pair-requires : goal.push_pair-requires
 push_pair-requires c =
