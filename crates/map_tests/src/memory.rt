@@ -56,17 +56,26 @@ fn a_refused_retain_changes_nothing(rt: HostRuntime) -> Result<(), Fail> {
     let Ok(mut map) = pictures(alloc, 20) else {
         return Ok(());
     };
-    for number in 0..20 {
-        place_one(&mut map, alloc, number);
-    }
-    let (len, _, _) = counts(&map);
-    let mut even = 0usize;
-    for (_, _, kept) in &map {
-        even = even.saturating_add(usize::from(kept.advance % 2 == 0));
-    }
+    place_twenty(&mut map, alloc);
+    let (len, even) = (counts(&map).0, even_in(&map));
     let left = if keep_even(&mut map) { even } else { len };
     equal(&rt, &counts(&map).0, &left);
     Ok(())
+}
+
+fn place_twenty(map: &mut Pictures, alloc: Global) {
+    for number in 0..20 {
+        place_one(map, alloc, number);
+    }
+}
+
+/// Of how many names the advance is even.
+fn even_in(map: &Pictures) -> usize {
+    let mut even = 0_usize;
+    for (_, _, kept) in map {
+        even = even.saturating_add(usize::from(kept.advance % 2 == 0));
+    }
+    even
 }
 
 /// So many names.
