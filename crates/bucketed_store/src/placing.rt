@@ -44,7 +44,12 @@ impl Placement {
 }
 
 /// The place for these sides: the bucket that is picked, else a shelf to be added, else shelves to be merged.
-pub fn placement_of(frame: &Frame, left: &Remaining, sides: &Sides, store: &Store) -> Option<Placement>
+pub fn placement_of(
+    frame: &Frame,
+    left: &Remaining,
+    sides: &Sides,
+    store: &Store,
+) -> Option<Placement>
     requires frame { IsBucketedFrame frame.now }
     requires across { (0 < sides.now.across) × (sides.now.across < 2 ^ 31) }
     requires column { left.now.column < 2 ^ 31 }

@@ -1,6 +1,8 @@
 //! Calls of several pages with a padding.
 
-use crate::pages::{copy_of, options_of, page_and_id_of, say_answer, say_place, say_spaces, spaces};
+use crate::pages::{
+    copy_of, options_of, page_and_id_of, say_answer, say_place, say_spaces, spaces,
+};
 use atlas_pages::{AtlasPages, PaddedPages, PageOptions, PagePlace, PagesFault};
 use etagere::{AllocId, Rectangle, Size, UnknownId};
 use padding::Padding;
