@@ -7,6 +7,7 @@ use crate::support::{
 use etagere::Rectangle;
 use glyph_shelf::CacheSnapshot;
 use std::alloc::{AllocError, Global};
+use std::process::Abort;
 use std::test::Fail;
 
 /// A map of three names, of which the first was used last.
@@ -55,36 +56,46 @@ fn numbers(snapshot: &CacheSnapshot, alloc: Global) -> Result<Vec<u64>, AllocErr
     Ok(found)
 }
 
+/// The numbers by which a map saves its keys.
+fn saved_numbers(map: &Pictures, alloc: Global) -> Result<Vec<u64>, AllocError> {
+    numbers(&save(map)?, alloc)
+}
+
+/// The map under the names x, y and z; none where it isn't restored.
+fn renamed(map: &Pictures, alloc: Global) -> Result<Option<Pictures>, AllocError> {
+    let names = named(alloc, &["x", "y", "z"])?;
+    Ok(restore(alloc, save(map)?, names).ok())
+}
+
 #[test]
 fn what_is_restored_is_what_was_saved(rt: HostRuntime) -> Result<(), Fail> {
     let alloc = rt.alloc();
     let map = three_names(alloc)?;
     equal(&rt, &order(&map, alloc)?.as_slice(), &[1, 3, 2].as_slice());
-    let snapshot = save(&map)?;
-    equal(
-        &rt,
-        &numbers(&snapshot, alloc)?.as_slice(),
-        &[0, 1, 2].as_slice(),
-    );
-    let again = restore(alloc, snapshot, named(alloc, &["x", "y", "z"])?);
-    equal(&rt, &again.is_ok(), &true);
-    let Ok(mut again) = again else {
-        return Ok(());
-    };
-    equal(
-        &rt,
-        &order(&again, alloc)?.as_slice(),
-        &[1, 2, 3].as_slice(),
-    );
-    equal(&rt, &counts(&again), &(3, 9, 0));
-    equal(&rt, &rectangles(&again, alloc)?, &rectangles(&map, alloc)?);
-    equal(&rt, &peek(&again, &name_of(alloc, "y")?), &2);
-    equal(&rt, &place(&mut again, alloc, "a", 4, 10)?, &(-1, -1, 0));
-    equal(
-        &rt,
-        &order(&again, alloc)?.as_slice(),
-        &[4, 1, 2, 3].as_slice(),
-    );
+    let saved = saved_numbers(&map, alloc)?;
+    equal(&rt, &saved.as_slice(), &[0, 1, 2].as_slice());
+    let again = renamed(&map, alloc)?;
+    equal(&rt, &again.is_some(), &true);
+    match again {
+        Some(mut again) => is_the_same(&rt, alloc, &map, &mut again),
+        None => Ok(()),
+    }
+}
+
+/// The restored map has the rectangles and the order of use of the map that was saved, and takes another name.
+fn is_the_same(
+    rt: &impl Abort,
+    alloc: Global,
+    map: &Pictures,
+    again: &mut Pictures,
+) -> Result<(), Fail> {
+    equal(rt, &order(again, alloc)?.as_slice(), &[1, 2, 3].as_slice());
+    equal(rt, &counts(again), &(3, 9, 0));
+    equal(rt, &rectangles(again, alloc)?, &rectangles(map, alloc)?);
+    equal(rt, &peek(again, &name_of(alloc, "y")?), &2);
+    equal(rt, &place(again, alloc, "a", 4, 10)?, &(-1, -1, 0));
+    let found = order(again, alloc)?;
+    equal(rt, &found.as_slice(), &[4, 1, 2, 3].as_slice());
     Ok(())
 }
 
