@@ -288,8 +288,9 @@ EtagereStatus etagere_atlas_delete(EtagereAtlas *atlas);
 
 /* Gives a rectangle that is at least as large as the size, with the id under which it is allocated.
  * Answers ETAGERE_OK; ETAGERE_NULL_HANDLE; ETAGERE_NO_ROOM where there is no place; ETAGERE_MEMORY, only where the
- * place is to be split and there was no memory. Finds by binary search where the shelves begin that are tall enough,
- * and goes through them by height, in each that may have an item wide enough through its free list. */
+ * place is to be split and there was no memory. Finds where the shelves begin that are tall enough, where they did last
+ * time or by binary search, and goes through them by height, in each that may have an item wide enough through its
+ * free list. */
 EtagereStatus etagere_atlas_allocate(EtagereAtlas *atlas, EtagereSize size, EtagereAllocation *allocation);
 
 /* Takes back the rectangle that is allocated under an id, and merges what is free with its neighbours.

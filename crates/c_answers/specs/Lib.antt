@@ -3,6 +3,8 @@ pub mod Calls
 pub mod Crossing
 pub mod Evicted
 pub mod Fullness
+pub mod Held
+pub mod Lent
 pub mod Listed
 pub mod Saving
 pub mod Statuses

@@ -21,12 +21,12 @@ ghost use Rattle.etagere.specs.Plain.{allocation_in, rectangle_in};
 ghost use Rattle.c_answers.specs.Crossing.{options_in, size_in};
 ghost use Rattle.c_answers.specs.Statuses as statuses;
 
+use c_answers::EtagereAtlas;
 use c_answers::atlas::{allocate, copied, made};
 use c_answers::geometry::{EtagereAllocation, EtagereOptions, EtagereRectangle, EtagereSize};
 use c_answers::statuses::{
     HANDLE_IN_USE, MEMORY, NULL_HANDLE, OK, UNKNOWN_ID, grow_refused, options_refused,
 };
-use c_handles::EtagereAtlas;
 use etagere::AllocId;
 use std::alloc::Global;
 
@@ -79,8 +79,9 @@ pub extern "C" fn etagere_atlas_delete(alloc: Global, atlas: &mut EtagereAtlas) 
 /// Gives a rectangle that is at least as large as the size, with the id under which it is allocated.
 ///
 /// Answers ETAGERE_OK; ETAGERE_NULL_HANDLE; ETAGERE_NO_ROOM where there is no place; ETAGERE_MEMORY, only where the
-/// place is to be split and there was no memory. Finds by binary search where the shelves begin that are tall enough,
-/// and goes through them by height, in each that may have an item wide enough through its free list.
+/// place is to be split and there was no memory. Finds where the shelves begin that are tall enough, where they did last
+/// time or by binary search, and goes through them by height, in each that may have an item wide enough through its
+/// free list.
 #[unsafe(no_mangle)]
 pub extern "C" fn etagere_atlas_allocate(
     atlas: &mut EtagereAtlas,

@@ -21,7 +21,7 @@ use c_answers::batches::{
 };
 use c_answers::geometry::{EtagereAllocation, EtagereSize};
 use c_answers::statuses::{LENGTH, NULL_HANDLE};
-use c_handles::{EtagereAtlas, EtagereBucketed};
+use c_answers::{EtagereAtlas, EtagereBucketed};
 
 /// Allocates many sizes, one after the other, as etagere_atlas_allocate does, up to the first that isn't given a place.
 /// Writes how many were to *count, and their allocations to the front of the buffer; what is behind stays. What was

@@ -20,12 +20,12 @@ ghost use Rattle.etagere.specs.Plain.{allocation_in};
 ghost use Rattle.c_answers.specs.Crossing.{options_in, size_in};
 ghost use Rattle.c_answers.specs.Statuses as statuses;
 
+use c_answers::EtagereBucketed;
 use c_answers::bucketed::{allocate, copied, made};
 use c_answers::geometry::{EtagereAllocation, EtagereOptions, EtagereSize};
 use c_answers::statuses::{
     HANDLE_IN_USE, MEMORY, NULL_HANDLE, OK, UNKNOWN_ID, bucketed_grow_refused, options_refused,
 };
-use c_handles::EtagereBucketed;
 use etagere::AllocId;
 use std::alloc::Global;
 

@@ -15,10 +15,10 @@ ghost use Rattle.etagere.specs.Plain.{rectangle_in};
 ghost use Rattle.c_answers.specs.Crossing.{options_in, size_in};
 ghost use Rattle.c_answers.specs.Statuses as statuses;
 
+use c_answers::EtagereCache;
 use c_answers::cache::{made, write_placed};
 use c_answers::geometry::{EtagereOptions, EtagereRectangle, EtagereSize};
 use c_answers::statuses::{HANDLE_IN_USE, LENGTH, NULL_HANDLE, OK, UNKNOWN_KEY, options_refused};
-use c_handles::EtagereCache;
 use std::alloc::Global;
 use std::num::NonZeroUsize;
 

@@ -10,10 +10,10 @@ ghost use Rattle.c_answers.specs.Crossing.{entry_in};
 ghost use Rattle.c_answers.specs.Listed.{AreWritten};
 ghost use Rattle.c_answers.specs.Statuses as statuses;
 
+use c_answers::EtagereCache;
 use c_answers::cache_keys::write_all_entries;
 use c_answers::geometry::{EtagereEntry, EtagereRectangle};
 use c_answers::statuses::{NULL_HANDLE, OK, UNKNOWN_KEY};
-use c_handles::EtagereCache;
 
 /// Gives the rectangle of a key, without using it. The cache stays, with the order of use.
 ///

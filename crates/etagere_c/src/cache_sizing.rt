@@ -11,10 +11,10 @@ ghost use Rattle.c_answers.specs.Calls.{IsAmong, IsWritten, Leads};
 ghost use Rattle.c_answers.specs.Crossing.{size_in};
 ghost use Rattle.c_answers.specs.Statuses as statuses;
 
+use c_answers::EtagereCache;
 use c_answers::buffers::write_keys;
 use c_answers::geometry::EtagereSize;
 use c_answers::statuses::{LENGTH, MEMORY, NULL_HANDLE, OK, grow_refused};
-use c_handles::EtagereCache;
 use std::num::NonZeroUsize;
 
 /// Makes the atlas larger. Each key keeps its place, and the order of use stays.

@@ -8,10 +8,10 @@ ghost use Rattle.c_answers.specs.Calls.{IsAmong};
 ghost use Rattle.c_answers.specs.Saving.{BreaksCache, IsCacheRestoreStatus, IsSavedBeyond, IsSavedIn, SavesCache, SavesUnframed};
 ghost use Rattle.c_answers.specs.Statuses as statuses;
 
+use c_answers::EtagereCache;
 use c_answers::buffers::hand_out;
 use c_answers::cache_snapshots::{cache_made_of, cache_text_of};
 use c_answers::statuses::{HANDLE_IN_USE, MEMORY, NULL_HANDLE, OK};
-use c_handles::EtagereCache;
 use std::alloc::Global;
 
 /// Writes what the cache is saved as to the front of the buffer, and its length to *text_length: the JSON text of an

@@ -11,7 +11,7 @@ ghost use Rattle.c_answers.specs.Statuses as statuses;
 use c_answers::buffers::write_text;
 use c_answers::drawings::{bucketed_picture_of, picture_of};
 use c_answers::statuses::{MEMORY, NULL_HANDLE, OK};
-use c_handles::{EtagereAtlas, EtagereBucketed, EtagereCache};
+use c_answers::{EtagereAtlas, EtagereBucketed, EtagereCache};
 use std::alloc::Global;
 
 /// Gives the length in bytes of the picture of etagere_atlas_picture. The atlas stays.

@@ -18,7 +18,7 @@ use c_answers::fullness::{
 };
 use c_answers::geometry::EtagereSize;
 use c_answers::statuses::{NULL_HANDLE, OK};
-use c_handles::{EtagereAtlas, EtagereBucketed};
+use c_answers::{EtagereAtlas, EtagereBucketed};
 
 /// Tells why the size has no place: refusal->reason is ETAGERE_REFUSAL_.., the first that holds, or 0 exactly where
 /// etagere_atlas_allocate has a place for it, memory aside. The atlas stays.

@@ -1,7 +1,7 @@
 //! The library that is called from C: the calls of both atlases and of the cache, over handles of one pointer.
 //!
-//! The header `include/etagere.h` has the same calls, with what a caller in C owes. `c_handles` has what a handle owns,
-//! and `c_answers` what crosses by value, the numbers that calls answer, and what they do to an atlas or a cache.
+//! The header `include/etagere.h` has the same calls, with what a caller in C owes. `c_answers` has what a handle owns,
+//! what crosses by value, the numbers that calls answer, and what they do to an atlas or a cache.
 #![tactic(auto)]
 
 mod atlas;

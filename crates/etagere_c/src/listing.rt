@@ -9,10 +9,10 @@ ghost use Rattle.c_answers.specs.Calls.{IsAmong};
 ghost use Rattle.c_answers.specs.Listed.{AreWritten};
 ghost use Rattle.c_answers.specs.Statuses as statuses;
 
+use c_answers::EtagereAtlas;
 use c_answers::geometry::EtagereAllocation;
 use c_answers::listing::write_all;
 use c_answers::statuses::NULL_HANDLE;
-use c_handles::EtagereAtlas;
 
 /// Gives all that is allocated, by rising index: writes it to the front of the buffer, and how many there are to
 /// *count. What is behind stays, and the atlas does.

@@ -13,7 +13,7 @@ use c_answers::buffers::hand_out;
 use c_answers::geometry::EtagereRectangle;
 use c_answers::picture_parts::{bucketed_lines_of, lines_of};
 use c_answers::statuses::{MEMORY, NULL_HANDLE};
-use c_handles::{EtagereAtlas, EtagereBucketed, EtagereCache};
+use c_answers::{EtagereAtlas, EtagereBucketed, EtagereCache};
 use std::alloc::Global;
 
 /// Writes the rectangles of etagere_atlas_picture to the front of the buffer, as lines for another SVG document that show the atlas

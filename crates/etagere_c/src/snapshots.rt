@@ -12,7 +12,7 @@ ghost use Rattle.c_answers.specs.Statuses as statuses;
 use c_answers::buffers::hand_out;
 use c_answers::snapshots::{boxed, bucketed_made_of, bucketed_text_of, made_of, text_of};
 use c_answers::statuses::{HANDLE_IN_USE, MEMORY, NULL_HANDLE, OK};
-use c_handles::{EtagereAtlas, EtagereBucketed};
+use c_answers::{EtagereAtlas, EtagereBucketed};
 use std::alloc::Global;
 
 /// Writes what the atlas is saved as to the front of the buffer, and its length to *text_length: the JSON text of an

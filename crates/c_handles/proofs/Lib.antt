@@ -1,5 +1,0 @@
-mod AtlasBox
-mod BucketedBox
-mod CacheBox
-mod HandleSteps
-mod Sending

@@ -1,2 +1,0 @@
-pub mod Held
-pub mod Lent

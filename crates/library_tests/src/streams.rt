@@ -1,0 +1,10 @@
+//! Streams: readers and writers that fail, at each byte or by accepting none, through replays, streams, checks, drawings
+//! and pictures; and the texts of pictures.
+
+mod assertions;
+mod checks;
+mod drawings;
+mod dumps;
+mod fake_streams;
+mod replays;
+mod streaming;
