@@ -3,7 +3,7 @@
 //! Definitions: `ByHeight`. Each shelf has beside it a width that none of its free items passes, so a search
 //! passes over a shelf by one comparison.
 
-ghost use Rattle.std.specs.Prelude.{◌≡◌, ◌+◌, ◌*◌, ◌<◌, ◌≤◌, ◌^◌, OnErr, OnOk, drop, length, nat_lt, remove, take};
+ghost use Rattle.std.specs.Prelude.{◌≡◌, ◌+◌, ◌*◌, ◌<◌, ◌≤◌, ◌^◌, OnErr, OnOk, drop, length, nat_lt, remove, take, true};
 ghost use Rattle.std.specs.List.{AllByRecursion};
 ghost use Rattle.etagere_base.specs.Lists.{times};
 ghost use Rattle.etagere_links.specs.Links.{no_link};
@@ -115,6 +115,83 @@ pub fn first_from(
         }
     }
     start
+}
+
+/// Where the shelves begin that are at least this tall: where they did last time if they still do, else by binary search.
+pub fn first_as_tall(shelves: &[LinkedShelf], by_height: &mut ShelvesByHeight, height: u32) -> usize
+    requires { AreInOrder shelves.now by_height.old.items }
+    ensures within { result ≤ length by_height.old.items }
+    ensures before { AllByRecursion (λ one. spec.order_of shelves.now one.shelf < spec.order_at height 0)
+        (take result by_height.old.items) }
+    ensures after { AllByRecursion (λ one. spec.order_at height 0 ≤ spec.order_of shelves.now one.shelf)
+        (drop result by_height.old.items) }
+    ensures few { length by_height.old.items < 2 ^ 64 }
+    ensures same { by_height.new ≡ by_height.old }
+{
+    let kept = by_height.kept_start(height);
+    if begin_at(shelves, by_height, height, kept) {
+        return kept;
+    }
+    let index = first_from(shelves, by_height, height, 0).index;
+    by_height.keep_start(height, index);
+    index
+}
+
+/// Whether the shelves that are at least this tall begin at a position.
+fn begin_at(shelves: &[LinkedShelf], by_height: &ShelvesByHeight, height: u32, index: usize) -> bool
+    requires { AreInOrder shelves.now by_height.now.items }
+    ensures within { result ≡ true → index ≤ length by_height.now.items }
+    ensures before { result ≡ true
+        → AllByRecursion (λ one. spec.order_of shelves.now one.shelf < spec.order_at height 0)
+        (take index by_height.now.items) }
+    ensures after { result ≡ true
+        → AllByRecursion (λ one. spec.order_at height 0 ≤ spec.order_of shelves.now one.shelf)
+        (drop index by_height.now.items) }
+    ensures few { length by_height.now.items < 2 ^ 64 }
+{
+    if index > by_height.len() {
+        return false;
+    }
+    are_lower_before(shelves, by_height, height, index)
+        && are_as_tall_from(shelves, by_height, height, index)
+}
+
+/// Whether the shelves before a position are lower than this. The last of them tells.
+fn are_lower_before(
+    shelves: &[LinkedShelf],
+    by_height: &ShelvesByHeight,
+    height: u32,
+    index: usize,
+) -> bool
+    requires order { AreInOrder shelves.now by_height.now.items }
+    requires within { index ≤ length by_height.now.items }
+    ensures { result ≡ true
+        → AllByRecursion (λ one. spec.order_of shelves.now one.shelf < spec.order_at height 0)
+        (take index by_height.now.items) }
+{
+    if index == 0 {
+        return true;
+    }
+    comes_before(shelves, by_height.shelf(index - 1), height, 0)
+}
+
+/// Whether the shelves from a position on are at least this tall. The first of them tells.
+fn are_as_tall_from(
+    shelves: &[LinkedShelf],
+    by_height: &ShelvesByHeight,
+    height: u32,
+    index: usize,
+) -> bool
+    requires order { AreInOrder shelves.now by_height.now.items }
+    requires within { index ≤ length by_height.now.items }
+    ensures { result ≡ true
+        → AllByRecursion (λ one. spec.order_at height 0 ≤ spec.order_of shelves.now one.shelf)
+        (drop index by_height.now.items) }
+{
+    if index == by_height.len() {
+        return true;
+    }
+    !comes_before(shelves, by_height.shelf(index), height, 0)
 }
 
 /// Where the shelves begin that don't come before this one.
@@ -266,7 +343,7 @@ fn shelf_beside(by_height: &ShelvesByHeight, left_out: usize, index: usize) -> u
     }
 }
 
-/// Where a shelf stands: where it did last time if it still does, else by binary search.
+/// Where a shelf stands: where it did last time if it still does, else beside that or by binary search.
 pub fn position_of(shelves: &[LinkedShelf], by_height: &mut ShelvesByHeight, shelf: usize) -> usize
     requires order { AreInOrder shelves.now by_height.old.items }
     requires stands { 1 ≤ times shelf (spec.numbers_by_height by_height.old.items) }
@@ -277,11 +354,28 @@ pub fn position_of(shelves: &[LinkedShelf], by_height: &mut ShelvesByHeight, she
     if let Some(index) = by_height.kept_position(shelf) {
         return index;
     }
+    position_beside(shelves, by_height, shelf)
+}
+
+/// Where a shelf stands that isn't where it stood last time: beside that, else by binary search. The position is kept.
+/// Never inlined, so that `position_of` is small enough to be.
+#[inline(never)]
+fn position_beside(shelves: &[LinkedShelf], by_height: &mut ShelvesByHeight, shelf: usize) -> usize
+    requires order { AreInOrder shelves.now by_height.old.items }
+    requires stands { 1 ≤ times shelf (spec.numbers_by_height by_height.old.items) }
+    ensures within { result < length by_height.old.items }
+    ensures shelf { (spec.bounded_at by_height.old.items result).shelf ≡ shelf }
+    ensures same { by_height.new ≡ by_height.old }
+{
+    if let Some(index) = by_height.beside_kept(shelf) {
+        by_height.keep_position(shelf, index);
+        return index;
+    }
     position_by_halves(shelves, by_height, shelf)
 }
 
-/// Where a shelf stands, found by binary search; the position is kept. Never inlined, so that `position_of` is small
-/// enough to be.
+/// Where a shelf stands, found by binary search; the position is kept. Never inlined, so that a look beside the kept
+/// position stays short.
 #[inline(never)]
 fn position_by_halves(
     shelves: &[LinkedShelf],

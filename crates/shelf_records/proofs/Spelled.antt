@@ -1,8 +1,8 @@
 -- What linked records spell, and how each edit of them changes it.
+pub mod HeightsBefore
 pub mod RecordValues
 pub mod SpelledNumbers
 pub mod SpelledPlaces
-pub mod StackedMerges
 pub mod StandsKept
 pub mod StandsLinked
 pub mod Witnesses

@@ -29,7 +29,7 @@ pub mod SpelledMerges
 pub mod SpelledShelves
 pub mod SpelledSplits
 pub mod SpelledUses
-pub mod StackedSplits
+pub mod StackedEdits
 pub mod StandsForRows
 pub mod TakenItemSpelled
 pub mod TakenKept

@@ -25,7 +25,7 @@ ghost use Rattle.shelf_model.specs.State as state;
 
 use etagere_base::{Frame, Sides, Size, asked, step};
 use shelf_heights::by_height::{BoundedShelf, ShelvesByHeight};
-use shelf_heights::heights::{chain_order, first_from};
+use shelf_heights::heights::{chain_order, first_as_tall, first_from};
 use shelf_links::{LinkedShelf, Records};
 use shelf_model::placements::Placement;
 
@@ -160,7 +160,7 @@ fn best_candidate(
     ensures by_height { AreSearchable records.now by_height.new.items }
     ensures capacity { by_height.old.capacity ≤ by_height.new.capacity }
 {
-    let start = first_from(records.shelves(), by_height, height, 0).index;
+    let start = first_as_tall(records.shelves(), by_height, height);
     match first_good(records, by_height, start, width, height) {
         FirstGood::Found(candidate) => Some(candidate),
         FirstGood::Rest(rest) => first_of_rest(

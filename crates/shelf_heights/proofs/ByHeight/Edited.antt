@@ -7,7 +7,7 @@ use Rattle.std.specs.List.{AllByRecursion}
 use Rattle.etagere_base.specs.Lists.{remove_place, times}
 use Rattle.etagere_links.proofs.ListEnds.{times-here, times-other}
 use Rattle.shelf_model.specs.Listing.{RiseFrom}
-use Rattle.shelf_records.proofs.Recorded.Members.{Each-member}
+use Rattle.shelf_records.proofs.Recorded.Members.{Each-member, Each-times}
 use Rattle.shelf_records.proofs.Spelled.RecordValues.{map-agrees}
 use Rattle.etagere_base.specs.declared.frames.Frame.{Frame}
 use Rattle.shelf_links.specs.declared.records.LinkedShelf.{LinkedShelf}
@@ -107,11 +107,6 @@ bound_of-each P shelf (one ∷ others) stands each = by_test (one.shelf == shelf
     by_test false e later =
         let other : one.shelf ≢ shelf = grind arith in
         later (omega (arith, stands, times-other shelf one.shelf (numbers_by_height others) other))
-
--- what holds of each number that stands in a list holds of each
-pub Each-times : (P : ℕ → Type 0) (ns : List ℕ) → ((k : ℕ) → 1 ≤ times k ns → P k) → AllByRecursion P ns
-Each-times P [] all = tt
-Each-times P (n ∷ ns) all = (all n (omega (arith, times-here n ns)), Each-times P ns (λ k stands. all k (omega (arith, stands))))
 
 -- numbers that rise from a number on rise from one below it
 pub rise-lower : (low from : ℕ) (numbers : List ℕ) → low ≤ from → RiseFrom from numbers → RiseFrom low numbers

@@ -1,5 +1,5 @@
 -- A list behind some shelves that are left over: what edits of the whole make of it.
-use Rattle.std.proofs.Common.{◌≡◌, ℕ, zero, suc, ◌+◌, ◌-◌, ◌<◌, ◌≤◌, None, Some, List, [], ◌∷◌, ap, arith, drop, insert, length, refl, remove, set, subst, take, ◌∙◌}
+use Rattle.std.proofs.Common.{◌≡◌, ℕ, zero, suc, ◌+◌, ◌-◌, ◌<◌, ◌≤◌, Some, List, [], ◌∷◌, ap, arith, drop, insert, length, refl, remove, set, subst, take, ◌∙◌}
 use Rattle.std.proofs.lemmas.List.{length-drop}
 use Rattle.std.proofs.lemmas.List.Edits.{length-insert, length-remove}
 use Rattle.std.specs.List.{AllByRecursion}
@@ -99,14 +99,6 @@ taken-place start index xs other one some within =
     made-place (start - 1) index xs other one (omega (arith, some, within))
     ∙ ap (λ (n : ℕ). insert (drop n xs) index one) next
 
--- one that is left over is taken out
-pub close-one : (start : ℕ) (xs : List BoundedShelf) → 0 < start → start ≤ length xs → drop (start - 1) (remove xs 0) ≡ drop start xs
-close-one zero xs some within = absurd (omega (arith, some))
-close-one (suc start) [] some within = absurd (omega (arith, within))
-close-one (suc start) (x ∷ xs) some within =
-    let before : suc start - 1 ≡ start = omega arith in
-    ap (λ (n : ℕ). drop n xs) before
-
 -- a list from two positions on
 pub drop-both : (start from : ℕ) (xs : List BoundedShelf) → start ≤ length xs → drop (start + from) xs ≡ drop from (drop start xs)
 drop-both zero from xs within =
@@ -143,8 +135,3 @@ first-drop start from width place xs within first =
       subst (AllByRecursion (λ (one : BoundedShelf). width ≤ one.widest))
           (ap (take 1) (ap (λ (n : ℕ). drop n xs) here ∙ drop-both start (place - start) xs within)) first.3,
     )
-
--- where there is none behind them, there is none
-pub none-drop : (start from width : ℕ) (xs : List BoundedShelf) → start ≤ length xs → IsFirstAsWide (start + from) width xs None
-    → IsFirstAsWide from width (drop start xs) None
-none-drop start from width xs within low = subst (AllByRecursion (λ (one : BoundedShelf). one.widest < width)) (drop-both start from xs within) low

@@ -1,5 +1,5 @@
 -- What is allocated, by the ids of the items.
-use Rattle.std.proofs.Common.{◌≡◌, ℕ, Bool, false, ◌||◌, ◌==◌, Option, None, Some, List, [], ◌∷◌, map, refl, ap, ◌∙◌, sym, true}
+use Rattle.std.proofs.Common.{◌≡◌, ℕ, Bool, false, ◌||◌, ◌==◌, Option, None, Some, List, [], ◌∷◌, map, refl, ap, ◌∙◌, sym}
 use Rattle.etagere_base.proofs.GatheredLemmas.{map-gathered}
 use Rattle.std.proofs.lemmas.List.Folds.{list_any-append}
 use Rattle.std.specs.List.{list_any}
@@ -116,7 +116,3 @@ allocated_found state id = is_some-position (is_allocated_in id) state.shelves �
 -- an id that is found in no shelf holds nothing
 pub not_found-not_allocated : (state : AtlasState) (id : ℕ) → position (is_allocated_in id) state.shelves ≡ None → is_allocated state id ≡ false
 not_found-not_allocated state id h = sym (allocated_found state id) ∙ ap is_some h
-
--- an id that is found in a shelf holds something
-pub found-allocated : (state : AtlasState) (id n : ℕ) → position (is_allocated_in id) state.shelves ≡ Some n → is_allocated state id ≡ true
-found-allocated state id n h = sym (allocated_found state id) ∙ ap is_some h

@@ -105,8 +105,3 @@ pub fits-fresh : (frame : Frame) (size : Size) (sides : Sides) → IsFrame 65535
 fits-fresh frame size sides is_frame asks =
     let is = asked-sides 65535 frame size sides is_frame asks in
     fits-columns frame size sides frame.columns is_frame.columns.0 asks is.narrow is.short
-
--- It has none where nothing is asked of the shelves.
-pub refused-fresh : (frame : Frame) (size : Size) → asked frame size ≡ None
-    → is_some (placement_of (fresh frame) size) ≡ false
-refused-fresh frame size asks = rw asks refl

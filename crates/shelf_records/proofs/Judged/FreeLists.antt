@@ -3,13 +3,14 @@ use Rattle.std.proofs.Common.{◌≡◌, ◌≢◌, ℕ, zero, suc, ◌≤◌, B
 use Rattle.std.specs.Prelude.{◌==◌, if◌then◌else◌}
 use Rattle.std.specs.List.{AllByRecursion}
 use Rattle.etagere_base.specs.Lists.{times}
-use Rattle.etagere_links.proofs.ListEnds.{times-here, times-other}
+use Rattle.etagere_links.proofs.ListEnds.{times-other}
 use Rattle.shelf_links.specs.declared.records.LinkedItem.{LinkedItem}
 use Rattle.shelf_links.specs.RecordLists.{Entry}
 use Rattle.shelf_records.specs.AtlasRecords.{is_allocated_at}
 use Rattle.shelf_records.specs.Private.Judging.{AreOwn, is_own, is_own_free}
 use Rattle.shelf_records.specs.StandsFor.{ListsFree, free_present}
 use Rattle.shelf_records.proofs.Judged.EqualTimes.{length-fewer, times-as_long}
+use Rattle.shelf_records.proofs.Recorded.Members.{Each-times}
 
 -- how often a number that passes the test stands among those that do
 pub times-passed : (p : ℕ → Bool) (k : ℕ) (xs : List ℕ) → p k ≡ true → times k (filter p xs) ≡ times k xs
@@ -44,12 +45,6 @@ each-stands P k (x ∷ xs) stands each = by_test (x == k) refl (each-stands P k 
         let other : x ≢ k = grind arith in
         later (omega (arith, stands, times-other k x xs other)) each.1
 
--- what holds of each member holds of each
-each-from_stands : (P : ℕ → Type 0) (xs : List ℕ) → ((k : ℕ) → 1 ≤ times k xs → P k) → AllByRecursion P xs
-each-from_stands P [] each = tt
-each-from_stands P (x ∷ xs) each =
-    (each x (omega (arith, times-here x xs)), each-from_stands P xs (λ k stands. each k (omega (arith, stands))))
-
 module _ (items : List LinkedItem) (marks : List Bool) (entry : Entry) where
   -- a free item of the shelf stands once among its free ones
   once-free : AreOwn items marks entry → (k : ℕ) → is_own_free items marks entry.number k ≡ true → times k (free_present items entry.items) ≡ 1
@@ -79,7 +74,7 @@ module _ (items : List LinkedItem) (marks : List Bool) (entry : Entry) where
   -- a free list that has just the free items has free items of the shelf
   pub lists-own : AreOwn items marks entry → ListsFree items entry → AllByRecursion (λ member. is_own_free items marks entry.number member ≡ true) entry.free_list
   lists-own own lists =
-      each-from_stands (λ member. is_own_free items marks entry.number member ≡ true) entry.free_list
+      Each-times (λ member. is_own_free items marks entry.number member ≡ true) entry.free_list
       (λ k stands. free-own own k (omega (arith, stands, lists k)))
 
   -- it is as long as there are free items

@@ -4,7 +4,7 @@ use Rattle.std.specs.Prelude.{◌==◌}
 use Rattle.std.specs.List.{AllByRecursion}
 use Rattle.etagere_base.specs.Lists.{times}
 use Rattle.etagere_base.proofs.TimesLemmas.{times-append}
-use Rattle.etagere_links.proofs.ListEnds.{times-other}
+use Rattle.etagere_links.proofs.ListEnds.{times-here, times-other}
 use Rattle.shelf_links.specs.RecordLists.{Entry, item_numbers}
 
 -- a fact of each number is one of a number that stands in the list
@@ -15,6 +15,11 @@ Each-member P (x ∷ xs) k each stands = by_test (x == k) refl (Each-member P xs
     by_test : (b : Bool) → (x == k) ≡ b → (1 ≤ times k xs → P k) → P k
     by_test true e later = let same : x ≡ k = grind arith in subst P same each.0
     by_test false e later = let other : x ≢ k = grind arith in later (omega (arith, stands, times-other k x xs other))
+
+-- and what holds of each number that stands in the list holds of each
+pub Each-times : (P : ℕ → Type 0) (xs : List ℕ) → ((k : ℕ) → 1 ≤ times k xs → P k) → AllByRecursion P xs
+Each-times P [] holds = tt
+Each-times P (x ∷ xs) holds = (holds x (omega (arith, times-here x xs)), Each-times P xs (λ k stands. holds k (omega (arith, stands))))
 
 -- where a number stands in a list
 pub record IsAmong (number : ℕ) (xs : List ℕ) : Type 0 where

@@ -84,10 +84,6 @@ pub record HasShelvesIn (atlas : AtlasRecords) (entries : List Entry) : Type 0 w
       (column : ℕ) → column < atlas.frame.columns
       → column_height column (map (spelled_shelf atlas) entries) ≡ across_side atlas.frame
 
--- a shelf of this number with these items and this free list
-abbrev pub entry_of : ℕ → List ℕ → List ℕ → Entry
-entry_of number items free_list = record { number = number; items = items; free_list = free_list }
-
 -- a record is marked as one in use, and names this shelf
 abbrev pub is_own : List LinkedItem → List Bool → ℕ → ℕ → Bool
 is_own items marks shelf item = slice_index_or marks item false && shelf_of items item == shelf

@@ -2,7 +2,7 @@
 -- that are as wide.
 use Rattle.std.proofs.Common.{◌≡◌, ℕ, zero, suc, ◌+◌, ◌-◌, ◌<◌, ◌≤◌, Bool, true, false, cond, Option, None, Some, option_map, List, [], ◌∷◌, drop, get_or, length, map, set, refl, ap, arith, sym, ◌∙◌, subst}
 use Rattle.std.proofs.lemmas.Bool.Decides.{nat_tests}
-use Rattle.std.proofs.lemmas.List.{length-map}
+use Rattle.std.proofs.lemmas.List.{length-map, get_or-drop, get_or-map, length-drop}
 use Rattle.std.specs.Option.{is_some}
 use Rattle.std.specs.Prelude.{find, nat_le, nat_lt, if◌then◌else◌}
 use Rattle.shelf_links.specs.RecordLists.{Records, free_walk}
@@ -105,24 +105,6 @@ module _ (shelves : List LinkedShelf) (offers : ℕ → Option Candidate) where
           let test : nat_lt (chain_order shelves other.shelf) (chain_order shelves one.shelf) ≡ false = grind (arith, nat_tests) in
           rw (e, test) refl
 
--- the number at a position behind another
-get-drop : (ns : List ℕ) (from k : ℕ) → get_or (drop from ns) k 0 ≡ get_or ns (from + k) 0
-get-drop ns zero k = ap (λ n. get_or ns n 0) (omega arith)
-get-drop [] (suc from) k = refl
-get-drop (n ∷ ns) (suc from) k =
-    let sum : suc (from + k) ≡ suc from + k = omega arith in
-    get-drop ns from k ∙ ap (λ m. get_or (n ∷ ns) m 0) sum
-
-length-drop : (ns : List ℕ) (from : ℕ) → from ≤ length ns → from + length (drop from ns) ≡ length ns
-length-drop ns zero within = omega arith
-length-drop [] (suc from) within = absurd (omega arith)
-length-drop (n ∷ ns) (suc from) within = omega (arith, length-drop ns from (omega arith))
-
-number-at : (by_height : List BoundedShelf) (k : ℕ) → k < length by_height → get_or (numbers_by_height by_height) k 0 ≡ (bounded_at by_height k).shelf
-number-at [] k within = absurd (omega arith)
-number-at (one ∷ others) zero within = refl
-number-at (one ∷ others) (suc k) within = number-at others k (omega arith)
-
 -- what the shelf in the first place offers is chosen of those from a position on
 pub chosen-earliest : (records : Records) (width height start index : ℕ) (by_height : List BoundedShelf) (candidate : Candidate) → AreSearchable records by_height → IsEarliestWide records.shelves by_height start (length by_height) width index
     → offered records width height (bounded_at by_height index).shelf ≡ Some candidate → earliest records.shelves (map (offered records width height) (drop start (numbers_by_height by_height))) ≡ Some candidate
@@ -136,13 +118,13 @@ chosen-earliest records width height start index by_height candidate searchable 
     numbers = numbers_by_height by_height
 
     inside : start + length (drop start numbers) ≡ length by_height
-    inside = length-drop numbers start (omega (arith, is.after, is.within, length-map by_height (λ (x : BoundedShelf). x.shelf))) ∙ length-map by_height (λ (x : BoundedShelf). x.shelf)
+    inside = omega (arith, length-drop start numbers, is.after, is.within, length-map by_height (λ (x : BoundedShelf). x.shelf))
 
     own : chain_order records.shelves candidate.shelf ≡ chain_order_at records.shelves by_height index
     own = ap (chain_order records.shelves) (offered-of records width height (bounded_at by_height index).shelf candidate offers)
 
     number_is : (k place : ℕ) → start + k ≡ place → place < length by_height → offered records width height (get_or (drop start numbers) k 0) ≡ offered records width height (bounded_at by_height place).shelf
-    number_is k place sum within = ap (offered records width height) (get-drop numbers start k ∙ ap (λ n. get_or numbers n 0) sum ∙ number-at by_height place within)
+    number_is k place sum within = ap (offered records width height) (get_or-drop start numbers k 0 ∙ ap (λ n. get_or numbers n 0) sum ∙ get_or-map (λ (x : BoundedShelf). x.shelf) by_height place (record { widest = 0; shelf = 0 }) 0 within)
 
     offer_at : (k : ℕ) → start + k < length by_height → (other : Candidate) → offered records width height (get_or (drop start numbers) k 0) ≡ Some other → offered records width height (bounded_at by_height (start + k)).shelf ≡ Some other
     offer_at k within other offer = sym (number_is k (start + k) refl within) ∙ offer

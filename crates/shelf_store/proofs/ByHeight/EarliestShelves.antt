@@ -1,8 +1,11 @@
 -- The shelf in the first place of those that are wide enough: how it is found height by height, and that what it offers is
 -- what the model chooses.
 use Rattle.std.proofs.Common.{◌≡◌, ℕ, zero, suc, ◌+◌, ◌<◌, ◌≤◌, Bool, true, false, cond, Option, None, Some, List, [], ◌∷◌, drop, length, map, take, refl, arith, sym, subst}
+use Rattle.shelf_records.proofs.Spelled.Witnesses.{Each-unmap}
+use Rattle.std.proofs.lemmas.List.{drop-map}
+use Rattle.std.proofs.Math.Seq.{take-length}
 use Rattle.std.proofs.lemmas.Bool.Decides.{nat_tests}
-use Rattle.std.specs.Prelude.{◌*◌, ◌==◌, IfSome, nat_lt}
+use Rattle.std.specs.Prelude.{◌*◌, ◌==◌, nat_lt}
 use Rattle.std.specs.List.{AllByRecursion}
 use Rattle.shelf_links.specs.declared.records.LinkedShelf.{LinkedShelf}
 use Rattle.shelf_records.specs.AtlasRecords.{height_of}
@@ -17,43 +20,37 @@ use Rattle.shelf_heights.proofs.ByHeight.Positions.{rise-read}
 abbrev nothing : BoundedShelf
 nothing = record { widest = 0; shelf = 0 }
 
--- a fact of each is one of that at a position, between two, from one on, and up to one
-pub each-at : (P : BoundedShelf → Type 0) (ones : List BoundedShelf) (k : ℕ) → k < length ones → AllByRecursion P ones → P (bounded_at ones k)
-each-at P [] k within each = absurd (omega arith)
-each-at P (one ∷ ones) zero within each = each.0
-each-at P (one ∷ ones) (suc k) within each = each-at P ones k (omega arith) each.1
+-- a fact of each between two positions is one of that at a position, and so are those of each up to one, from one on, and
+-- of all
+each-between : (P : BoundedShelf → Type 0) (ones : List BoundedShelf) (from to k : ℕ) → from ≤ k → k < to → k < length ones → AllByRecursion P (drop from (take to ones)) → P (bounded_at ones k)
+each-between P [] from to k after before within each = absurd (omega arith)
+each-between P (one ∷ ones) from zero k after before within each = absurd (omega (arith, before))
+each-between P (one ∷ ones) zero (suc to) zero after before within each = each.0
+each-between P (one ∷ ones) zero (suc to) (suc k) after before within each = each-between P ones zero to k (omega arith) (omega (arith, before)) (omega (arith, within)) each.1
+each-between P (one ∷ ones) (suc from) (suc to) zero after before within each = absurd (omega (arith, after))
+each-between P (one ∷ ones) (suc from) (suc to) (suc k) after before within each = each-between P ones from to k (omega (arith, after)) (omega (arith, before)) (omega (arith, within)) each
+
+each-to : (P : BoundedShelf → Type 0) (ones : List BoundedShelf) (to k : ℕ) → k < to → k < length ones → AllByRecursion P (take to ones) → P (bounded_at ones k)
+each-to P ones to k before within each = each-between P ones 0 to k (omega arith) before within each
 
 each-from : (P : BoundedShelf → Type 0) (ones : List BoundedShelf) (from k : ℕ) → from ≤ k → k < length ones → AllByRecursion P (drop from ones) → P (bounded_at ones k)
-each-from P ones zero k after within each = each-at P ones k within each
-each-from P [] (suc from) k after within each = absurd (omega arith)
-each-from P (one ∷ ones) (suc from) zero after within each = absurd (omega arith)
-each-from P (one ∷ ones) (suc from) (suc k) after within each = each-from P ones from k (omega arith) (omega arith) each
+each-from P ones from k after within each =
+    each-between P ones from (length ones) k after within within (subst (λ (l : List BoundedShelf). AllByRecursion P (drop from l)) (sym (take-length ones)) each)
+
+pub each-at : (P : BoundedShelf → Type 0) (ones : List BoundedShelf) (k : ℕ) → k < length ones → AllByRecursion P ones → P (bounded_at ones k)
+each-at P ones k within each = each-from P ones 0 k (omega arith) within each
 
 pub number-from : (P : ℕ → Type 0) (ones : List BoundedShelf) (from k : ℕ) → from ≤ k → k < length ones → AllByRecursion P (drop from (numbers_by_height ones)) → P (bounded_at ones k).shelf
-number-from P [] from k after within each = absurd (omega arith)
-number-from P (one ∷ ones) zero zero after within each = each.0
-number-from P (one ∷ ones) zero (suc k) after within each = number-from P ones zero k (omega arith) (omega arith) each.1
-number-from P (one ∷ ones) (suc from) zero after within each = absurd (omega arith)
-number-from P (one ∷ ones) (suc from) (suc k) after within each = number-from P ones from k (omega arith) (omega arith) each
+number-from P ones from k after within each =
+    each-from (λ (one : BoundedShelf). P one.shelf) ones from k after within
+    (Each-unmap P (λ (one : BoundedShelf). one.shelf) (drop from ones) (subst (AllByRecursion P) (drop-map (λ (one : BoundedShelf). one.shelf) from ones) each))
 
+-- and what holds at each position from one on holds of each from there
 pub from-each : (P : BoundedShelf → Type 0) (ones : List BoundedShelf) (from : ℕ) → ((k : ℕ) → from ≤ k → k < length ones → P (bounded_at ones k)) → AllByRecursion P (drop from ones)
 from-each P [] zero each = tt
 from-each P [] (suc from) each = tt
 from-each P (one ∷ ones) zero each = (each 0 (omega arith) (omega arith), from-each P ones zero (λ k after within. each (suc k) (omega arith) (omega (arith, within))))
 from-each P (one ∷ ones) (suc from) each = from-each P ones from (λ k after within. each (suc k) (omega (arith, after)) (omega (arith, within)))
-
-each-to : (P : BoundedShelf → Type 0) (ones : List BoundedShelf) (to k : ℕ) → k < to → k < length ones → AllByRecursion P (take to ones) → P (bounded_at ones k)
-each-to P ones zero k before within each = absurd (omega arith)
-each-to P [] (suc to) k before within each = absurd (omega arith)
-each-to P (one ∷ ones) (suc to) zero before within each = each.0
-each-to P (one ∷ ones) (suc to) (suc k) before within each = each-to P ones to k (omega arith) (omega arith) each.1
-
-each-between : (P : BoundedShelf → Type 0) (ones : List BoundedShelf) (from to k : ℕ) → from ≤ k → k < to → k < length ones → AllByRecursion P (drop from (take to ones)) → P (bounded_at ones k)
-each-between P ones zero to k after before within each = each-to P ones to k before within each
-each-between P ones (suc from) zero k after before within each = absurd (omega arith)
-each-between P [] (suc from) (suc to) k after before within each = absurd (omega arith)
-each-between P (one ∷ ones) (suc from) (suc to) zero after before within each = absurd (omega arith)
-each-between P (one ∷ ones) (suc from) (suc to) (suc k) after before within each = each-between P ones from to k (omega arith) (omega arith) (omega arith) each
 
 -- the bound of the shelf that is found is as wide
 pub found-wide : (ones : List BoundedShelf) (index width : ℕ) → index < length ones → AllByRecursion (λ (one : BoundedShelf). width ≤ one.widest) (take 1 (drop index ones)) → width ≤ (bounded_at ones index).widest
@@ -71,10 +68,6 @@ orders-rise shelves from (one ∷ others) zero (suc next) less within rise =
 orders-rise shelves from (one ∷ others) (suc k) (suc next) less within rise = orders-rise shelves (order_of shelves one.shelf + 1) others k next (omega arith) (omega arith) rise.1
 
 module _ (shelves : List LinkedShelf) (by_height : List BoundedShelf) where
-  -- before the first shelf that is as wide none is found
-  pub none-earliest : (start width : ℕ) → IsEarliest shelves by_height start start width None
-  none-earliest start width = λ k after before. absurd (omega (arith, after, before))
-
   -- the next shelf that is as wide is found, unless that before it has the earlier place
   pub next-earliest : (start from index next width : ℕ) (first : Option ℕ) → start ≤ from → IsEarliest shelves by_height start from width first → IsFirstAsWide from width by_height (Some index) → IsBehind shelves by_height index next
       → IsEarliest shelves by_height start next width (Some (earlier_position shelves by_height first index))
@@ -157,15 +150,6 @@ module _ (shelves : List LinkedShelf) (by_height : List BoundedShelf) where
       by_test k beyond before wide false e =
           let here : from ≤ k = grind (arith, nat_tests) in
           absurd (omega (arith, wide, each-from (λ (one : BoundedShelf). one.widest < width) by_height from k here before low))
-
-  -- what was found is a shelf of the list
-  pub first-within : (start from width : ℕ) (first : Option ℕ) → from ≤ length by_height → IsEarliest shelves by_height start from width first → IfSome first (λ index. index < length by_height)
-  first-within start from width None within is = tt
-  first-within start from width (Some one) within is = omega (arith, is.within, within)
-
-  -- the next position is behind; so is that behind all shelves of this height
-  pub next-behind : (index : ℕ) → index < length by_height → IsBehind shelves by_height index (index + 1)
-  next-behind index within = record { after = omega arith; within = omega (arith, within); later = λ k beyond before. absurd (omega (arith, beyond, before)) }
 
   pub height-behind : (index next probes : ℕ) → AreInOrder shelves by_height → ArePlaced shelves by_height → index < length by_height → IsStart shelves by_height (order_at (height_of shelves (bounded_at by_height index).shelf + 1) 0) next probes → IsBehind shelves by_height index next
   height-behind index next probes order placed within start =

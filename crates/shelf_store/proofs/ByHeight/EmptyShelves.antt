@@ -4,24 +4,17 @@ use Rattle.std.proofs.Common.{◌≡◌, ℕ, ◌+◌, ◌-◌, ◌<◌, ◌≤�
 use Rattle.std.proofs.lemmas.Bool.Decides.{nat_tests}
 use Rattle.std.proofs.lemmas.List.{drop-map}
 use Rattle.std.specs.Option.{is_some, option_map_or}
-use Rattle.std.specs.Prelude.{◌/◌, nat_le, nat_lt}
+use Rattle.std.specs.Prelude.{◌/◌, nat_le}
 use Rattle.std.specs.List.{AllByRecursion}
 use Rattle.etagere_base.proofs.EachLemmas.{Each-front, Each-weaken}
 use Rattle.shelf_links.specs.RecordLists.{Records, free_walk}
 use Rattle.shelf_records.specs.AtlasRecords.{height_of, is_empty_at, item_at}
-use Rattle.shelf_model.specs.Choice.{bad_fit_rank}
 use Rattle.shelf_heights.specs.Private.ByHeight.{IsFirstAsWide, bounded_at, numbers_by_height}
 use Rattle.shelf_store.specs.Private.Opening.{AreSearchable, AreWhole, IsSearchable}
-use Rattle.shelf_store.specs.Private.Searching.{AreTooTall, first_offer, good_offer, offered}
+use Rattle.shelf_store.specs.Private.Searching.{AreTooTall, first_offer, good_offer}
 use Rattle.shelf_store.specs.declared.choosing.Candidate.{Candidate}
 use Rattle.shelf_heights.specs.declared.by_height.BoundedShelf.{BoundedShelf}
 use Rattle.shelf_store.proofs.ByHeight.Searches.{Each-drop, Each-take, SearchesFrom, parted, passed-first}
-
--- an empty shelf offers what it has; another that is too tall is no good fit
-pub good-empty : (records : Records) (width height shelf : ℕ) → is_empty_at records.shelves shelf ≡ true → height_of records.shelves shelf < bad_fit_rank → offered records width height shelf ≡ good_offer records width height shelf
-good-empty records width height shelf is low =
-    let below : nat_lt (height_of records.shelves shelf) bad_fit_rank ≡ true = grind (arith, nat_tests) in
-    rw (is, below) refl
 
 pub good-other : (records : Records) (width height shelf : ℕ) → is_empty_at records.shelves shelf ≡ false → height + height / 2 + 1 ≤ height_of records.shelves shelf → good_offer records width height shelf ≡ None
 good-other records width height shelf is tall =

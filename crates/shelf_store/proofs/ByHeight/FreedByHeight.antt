@@ -1,6 +1,6 @@
 -- Shelves by height stay by height where an item became free and was merged with its free neighbours, once the bound of its
 -- shelf was raised to the width of what became free.
-use Rattle.shelf_links.proofs.AllLists.LinkedEdits.{around_of}
+use Rattle.shelf_links.proofs.AllLists.LinkedEdits.{Around, with_entry}
 use Rattle.std.proofs.Common.{◌≡◌, ℕ, Some, List, ◌∷◌, ◌++◌, map, refl, subst, arith, sym, ◌∙◌}
 use Rattle.std.proofs.lemmas.List.{map-append}
 use Rattle.etagere_base.proofs.EachLemmas.{Each-middle}
@@ -8,7 +8,6 @@ use Rattle.std.specs.List.{AllByRecursion}
 use Rattle.shelf_links.proofs.AllLists.LinkedItems.{entry_of}
 use Rattle.shelf_links.specs.declared.records.LinkedShelf.{LinkedShelf}
 use Rattle.shelf_links.specs.RecordLists.{Records, Entry, IsEntry, first_item_of}
-use Rattle.shelf_links.proofs.AllLists.LinkedUnused.{lists_of}
 use Rattle.etagere_links.proofs.FieldChanges.{field_at-kept}
 use Rattle.etagere_links.proofs.RecordChanges.{length-changed_by}
 use Rattle.shelf_records.specs.AtlasRecords.{AtlasRecords, across_of, along_of, height_of, spelled_shelf}
@@ -33,8 +32,8 @@ pub record FreesByHeight (atlas new : AtlasRecords) (merged : List LinkedShelf) 
   pub in_list : (by_height : List BoundedShelf) → HoldsByHeight atlas entries by_height → HoldsByHeight new edited (raised shelf width by_height)
 
 -- an item became free, and its shelf says whether it is empty
-pub frees-by_height : (atlas : AtlasRecords) (before after : List Entry) (shelf number : ℕ) (front back free unused shelves : List ℕ) → IsShelf atlas.frame (spelled_shelf atlas (entry_of shelf (front ++ number ∷ back) free)) → IsSpelled atlas (lists_of (before ++ entry_of shelf (front ++ number ∷ back) free ∷ after) unused shelves) → (merges : MergesItem atlas (item_merged shelf number atlas.records) (around_of before after unused shelves) shelf number front back free) → map (spelled_shelf (with_lists atlas (emptiness_said shelf (item_merged shelf number atlas.records).records))) (before ++ entry_of shelf merges.numbers merges.free_list ∷ after) ≡ map (spelled_shelf (with_lists atlas (item_merged shelf number atlas.records).records)) (before ++ entry_of shelf merges.numbers merges.free_list ∷ after) → FreesByHeight atlas (with_lists atlas (emptiness_said shelf (item_merged shelf number atlas.records).records)) (item_merged shelf number atlas.records).records.shelves (before ++ entry_of shelf (front ++ number ∷ back) free ∷ after) (before ++ entry_of shelf merges.numbers merges.free_list ∷ after) shelf (freed_width atlas.records.items number)
-frees-by_height atlas before after shelf number front back free unused shelves valid spelled merges said =
+pub frees-by_height : (atlas : AtlasRecords) (around : Around) (shelf number : ℕ) (front back free : List ℕ) → IsShelf atlas.frame (spelled_shelf atlas (entry_of shelf (front ++ number ∷ back) free)) → IsSpelled atlas (with_entry around (entry_of shelf (front ++ number ∷ back) free)) → (merges : MergesItem atlas (item_merged shelf number atlas.records) around shelf number front back free) → map (spelled_shelf (with_lists atlas (emptiness_said shelf (item_merged shelf number atlas.records).records))) (around.before ++ entry_of shelf merges.numbers merges.free_list ∷ around.after) ≡ map (spelled_shelf (with_lists atlas (item_merged shelf number atlas.records).records)) (around.before ++ entry_of shelf merges.numbers merges.free_list ∷ around.after) → FreesByHeight atlas (with_lists atlas (emptiness_said shelf (item_merged shelf number atlas.records).records)) (item_merged shelf number atlas.records).records.shelves (around.before ++ entry_of shelf (front ++ number ∷ back) free ∷ around.after) (around.before ++ entry_of shelf merges.numbers merges.free_list ∷ around.after) shelf (freed_width atlas.records.items number)
+frees-by_height atlas around shelf number front back free valid spelled merges said =
     let old : List LinkedShelf = atlas.records.shelves in
     let entry : Entry = entry_of shelf (front ++ number ∷ back) free in
     let edited : Entry = entry_of shelf merges.numbers merges.free_list in
@@ -48,11 +47,11 @@ frees-by_height atlas before after shelf number front back free unused shelves v
     let height : (k : ℕ) → height_of two.shelves k ≡ height_of old k = λ k. field_at-kept (λ (x : LinkedShelf). x.height) 0 change one.shelves shelf k (λ x. refl) ∙ (merges.same k).height in
     let places : (k : ℕ) → chain_order two.shelves k ≡ chain_order old k = λ k. omega (arith, along k, across k) in
     let lengths : SameLengths atlas.records two = emptied-lengths shelf number atlas.records in
-    let is : IsEntry atlas.records entry = Each-middle (IsEntry atlas.records) before entry after spelled.linked.entries in
-    let others = map-parts (spelled_shelf new) (spelled_shelf middle) before edited (spelled_shelf middle edited) after (said ∙ map-append (spelled_shelf middle) before (edited ∷ after)) in
+    let is : IsEntry atlas.records entry = Each-middle (IsEntry atlas.records) around.before entry around.after spelled.linked.entries in
+    let others = map-parts (spelled_shelf new) (spelled_shelf middle) around.before edited (spelled_shelf middle edited) around.after (said ∙ map-append (spelled_shelf middle) around.before (edited ∷ around.after)) in
     record {
       order = λ by_height order. in_order-kept old one.shelves by_height (omega (arith, lengths.shelves, length-changed_by change one.shelves (Some shelf))) (λ k stands. omega (arith, (merges.same k).along, (merges.same k).across, (merges.same k).height)) order;
-      in_list = λ by_height in_list. raised-by_height atlas new before after entry edited (freed_width atlas.records.items number) by_height refl lengths.shelves places height
+      in_list = λ by_height in_list. raised-by_height atlas new around.before around.after entry edited (freed_width atlas.records.items number) by_height refl lengths.shelves places height
           (others.0 ∙ merges.before_same) (others.1 ∙ merges.after_same)
           (λ widest bound wide. subst (λ (s : Shelf). AllByRecursion (IsWithin widest) s.items) (sym merges.returned) (freed-within atlas shelf number front back free widest is valid.apart bound wide))
           in_list;

@@ -10,8 +10,8 @@ use Rattle.shelf_heights.proofs.ByHeight.Edited.{by_height-in_order}
 use Rattle.shelf_store.proofs.ByHeight.MergedByHeight.{HaveOwnPlaces, HoldsByHeight}
 use Rattle.shelf_store.proofs.ByHeight.PlacesRise.{LiesWithin, kept-within, places-rise}
 use Rattle.shelf_store.proofs.ByHeight.RisingNumbers.{rise-same}
-use Rattle.shelf_store.proofs.Spelled.ItemsAround.{each-member}
 use Rattle.shelf_store.proofs.Spelled.SpelledLists.{with_lists}
+use Rattle.shelf_records.proofs.Recorded.Members.{Each-member}
 
 -- the shelves of kept records begin at places of their own
 kept-places : (frame : Frame) (records : Records) → AreKept frame records → HaveOwnPlaces records.shelves (shelf_numbers (walked_lists records).entries)
@@ -21,7 +21,7 @@ kept-places frame records kept =
     (record {
       apart = rise-same (chain_order records.shelves) 0 met (places-rise frame records kept);
       small = λ k stands.
-          let lies : LiesWithin frame records.shelves k = each-member (LiesWithin frame records.shelves) met k (kept-within frame records kept) stands in
+          let lies : LiesWithin frame records.shelves k = Each-member (LiesWithin frame records.shelves) met k (kept-within frame records kept) stands in
           omega (arith, lies.along, lies.across);
     })
 

@@ -18,10 +18,10 @@ use Rattle.shelf_model.specs.State.{Item, Shelf}
 use Rattle.shelf_heights.specs.declared.by_height.BoundedShelf.{BoundedShelf}
 use Rattle.shelf_heights.proofs.ByHeight.Edited.{Each-put_in, Each-raised, Each-taken_out, bound_of-each, in_order-kept, in_order-once, in_order-put_in, in_order-raised, in_order-taken_out, numbers-raised, numbers-taken_out, bounded_as, times-put_in}
 use Rattle.shelf_store.proofs.ByHeight.FreedBounds.{IsWithin, within-more}
-use Rattle.shelf_store.proofs.Spelled.ItemsAround.{each-member}
 use Rattle.shelf_records.proofs.Spelled.RecordValues.{SameShelf, map-agrees}
 use Rattle.shelf_store.proofs.Spelled.SpelledLists.{with_lists}
 use Rattle.shelf_store.proofs.Spelled.SpelledShelves.{IsTaller, shelf_absorbed-values}
+use Rattle.shelf_heights.proofs.ByHeight.Positions.{stands-within}
 
 -- the shelves of these numbers begin each at a place of its own
 pub record HaveOwnPlaces (shelves : List LinkedShelf) (numbers : List ℕ) : Type 0 where
@@ -230,14 +230,10 @@ merging-pair records shelf next by_height can named =
       differ = both.2;
     }
 
--- the number of a shelf by height is one of a record
-pub by_height-within : (shelves : List LinkedShelf) (shelf : ℕ) (by_height : List BoundedShelf) → AreInOrder shelves by_height → 1 ≤ times shelf (numbers_by_height by_height) → shelf < length shelves
-by_height-within shelves shelf by_height order stands = each-member (λ k. k < length shelves) (numbers_by_height by_height) shelf order.within stands
-
 -- the others stand in their order once a shelf took the place of the next one
 pub absorbed-order : (records : Records) (shelf next item height : ℕ) (by_height : List BoundedShelf) → IsPair shelf next by_height → AreInOrder records.shelves by_height → AreInOrder (shelf_absorbed shelf next item height records).shelves (taken_out shelf (taken_out next by_height)) × (shelf < length (shelf_absorbed shelf next item height records).shelves)
 absorbed-order records shelf next item height by_height pair order =
-    let within : shelf < length records.shelves = by_height-within records.shelves shelf by_height order (omega (arith, pair.own)) in
+    let within : shelf < length records.shelves = stands-within records.shelves shelf by_height order (omega (arith, pair.own)) in
     let taller : IsTaller records (shelf_absorbed shelf next item height records) shelf height = shelf_absorbed-values records shelf next item height within in (
       others-in_order shelf next by_height pair records.shelves (shelf_absorbed shelf next item height records).shelves (omega (arith, taller.as_many)) taller.others order,
       omega (arith, within, taller.as_many),

@@ -1,7 +1,7 @@
 -- How far a search for a good fit has passed shelves that offer no place, and from where on each is too tall for one.
 use Rattle.std.proofs.Common.{◌≡◌, ℕ, zero, suc, ◌+◌, ◌<◌, ◌≤◌, Bool, true, false, cond, None, Some, List, [], ◌∷◌, ◌++◌, add-one, drop, get_or, length, map, take, refl, ap, arith, sym, ◌∙◌, subst}
 use Rattle.std.proofs.Math.Seq.{take-length}
-use Rattle.std.proofs.lemmas.List.{drop-map, length-map, take-append-drop, take-map}
+use Rattle.std.proofs.lemmas.List.{drop-map, length-map, take-map, drop_all}
 use Rattle.std.specs.Option.{option_map_or}
 use Rattle.std.proofs.lemmas.Bool.Decides.{nat_tests}
 use Rattle.std.specs.Prelude.{◌/◌, ◌||◌, nat_le, nat_lt}
@@ -15,7 +15,7 @@ use Rattle.shelf_store.specs.Private.Searching.{AreTooTall, IsFirstGood, earlies
 use Rattle.shelf_store.specs.declared.choosing.FirstGood.TheVariants.{Rest}
 use Rattle.shelf_heights.specs.declared.by_height.BoundedShelf.{BoundedShelf}
 use Rattle.shelf_heights.proofs.ByHeight.PassedBounds.{joined}
-use Rattle.shelf_store.proofs.ByHeight.Searches.{Each-drop, Each-take, SearchesFrom, behind, good-reached, good-vain, none_left, offered-vain, passed-earliest, passed-first, reached}
+use Rattle.shelf_store.proofs.ByHeight.Searches.{Each-drop, Each-take, SearchesFrom, drop-between, good-reached, good-vain, none_left, offered-vain, passed-earliest, passed-first, reached}
 use Rattle.shelf_heights.proofs.ByHeight.Positions.{after-probed}
 
 -- a shelf has no place to offer
@@ -43,13 +43,6 @@ drop-taken (x ∷ xs) (suc n) = drop-taken xs n
 pub started : (records : Records) (width height start : ℕ) (numbers : List ℕ) → HasPassed records width height start start numbers
 started records width height start numbers =
     record { after = omega arith; vain = subst (AllByRecursion (OffersNone records width height)) (sym (drop-taken numbers start)) tt }
-
--- from one position on: what stands before another, and what stands from there on
-drop-between : (xs : List ℕ) (from next : ℕ) → from ≤ next → drop from xs ≡ drop from (take next xs) ++ drop next xs
-drop-between xs zero next after = sym (take-append-drop next xs)
-drop-between xs (suc from) zero after = absurd (omega arith)
-drop-between [] (suc from) (suc next) after = refl
-drop-between (x ∷ xs) (suc from) (suc next) after = drop-between xs from next (omega arith)
 
 module _ (records : Records) (width height start from index : ℕ) (numbers : List ℕ) (by_height : List BoundedShelf) (search : SearchesFrom records height from numbers by_height) (first : IsFirstAsWide from width by_height (Some index)) where
   -- the shelves up to the next that is as wide have no place
@@ -83,23 +76,14 @@ passed-ended records width height start from numbers by_height search low passed
       omega (arith, size),
       joined (OffersNone records width height) numbers start from (length by_height) passed.after search.within passed.vain
           (subst (λ (ns : List ℕ). AllByRecursion (OffersNone records width height) (drop from ns)) (sym all) (none_left records width height from numbers by_height search low)),
-      subst (λ n. AreTooTall records.shelves height (drop n numbers)) size (subst (AreTooTall records.shelves height) (sym (drop-all numbers)) tt),
+      subst (AreTooTall records.shelves height) (sym (drop_all (length by_height) numbers (omega (arith, size)))) tt,
     )
-  where
-    drop-all : (ns : List ℕ) → drop (length ns) ns ≡ []
-    drop-all [] = refl
-    drop-all (n ∷ ns) = drop-all ns
 
 -- a shelf offers what it has where it is a good fit
 pub good-where : (records : Records) (width height shelf number : ℕ) (is_good b : Bool) → number ≡ shelf → is_good ≡ nat_lt (rank_of records.shelves height number) bad_fit_rank → is_good ≡ b
     → good_offer records width height shelf ≡ cond b (offered records width height shelf) None
 good-where records width height shelf number is_good b at is chosen =
     ap (λ (c : Bool). cond c (offered records width height shelf) None) (ap (λ n. nat_lt (rank_of records.shelves height n) bad_fit_rank) (sym at) ∙ sym is ∙ chosen)
-
--- behind a shelf that is passed, a search goes on
-pub past : (records : Records) (width height from index : ℕ) (numbers : List ℕ) (by_height : List BoundedShelf) → SearchesFrom records height from numbers by_height → IsFirstAsWide from width by_height (Some index)
-    → SearchesFrom records height (index + 1) numbers by_height
-past records width height from index numbers by_height search first = behind records width height from index numbers by_height by_height search first refl search.searchable
 
 -- and finds the same good fit
 pub good-passed : (records : Records) (width height from index : ℕ) (numbers : List ℕ) (by_height : List BoundedShelf) → SearchesFrom records height from numbers by_height → IsFirstAsWide from width by_height (Some index)

@@ -25,7 +25,7 @@ use Rattle.shelf_model.proofs.Places.Heights.{column_height-upto}
 use Rattle.shelf_records.proofs.Recorded.RecordedAllocations.{spelled-column}
 use Rattle.shelf_store.proofs.Searched.FoundPlacements.{across-at}
 use Rattle.shelf_store.proofs.Searched.SearchedShelves.{IsSearched, kept-searched}
-use Rattle.shelf_records.proofs.Spelled.StackedMerges.{height_before-append}
+use Rattle.shelf_records.proofs.Spelled.HeightsBefore.{height_before-append}
 
 -- a shelf begins where its column does, and lies within sides that are short
 pub record LiesWithin (frame : Frame) (shelves : List LinkedShelf) (number : ℕ) : Type 0 where

@@ -1,11 +1,9 @@
 -- The room that a split has: among the shelves by height for each shelf record, and in the records for what is unused.
 use Rattle.std.proofs.Common.{◌≡◌, ℕ, ◌+◌, ◌<◌, ◌≤◌, Bool, true, false, Option, None, Some, List, [], ◌∷◌, ◌++◌, length, refl, arith, if◌then◌else◌}
-use Rattle.std.specs.Prelude.{IfSome}
 use Rattle.std.proofs.lemmas.List.{length-append, length-map}
 use Rattle.etagere_base.specs.declared.frames.Frame.{Frame}
-use Rattle.shelf_links.specs.declared.records.LinkedShelf.{LinkedShelf}
 use Rattle.shelf_links.specs.RecordLists.{Records, shelf_numbers, walked_lists}
-use Rattle.shelf_links.specs.RecordUses.{missing, new_shelf, number_used, rests_missing, rests_of, rests_used, shelves_used}
+use Rattle.shelf_links.specs.RecordUses.{missing, new_shelf, rests_missing, rests_of, rests_used, shelves_used}
 use Rattle.shelf_links.specs.Records.{item_chain, shelf_chain}
 use Rattle.shelf_heights.specs.declared.by_height.BoundedShelf.{BoundedShelf}
 use Rattle.shelf_model.specs.Choice.{Placement}
@@ -100,10 +98,3 @@ items-short frame records false true kept short none =
       missing-counted item_chain 1 records.unused_items records.items unused kept.linked.unused_items,
       in-use-counted (bare frame records) (walked_lists records) kept.linked,
     )
-
--- where room was made for what is missing, there is room for the rest of a shelf, if that is split
-pub rest-room : (wanted : Bool) (unused : Option ℕ) (shelves : List LinkedShelf) (by_height capacity : ℕ) → by_height < length shelves + missing shelf_chain 1 unused shelves
-    → length shelves + missing shelf_chain (if wanted then 1 else 0) unused shelves ≤ capacity → IfSome (number_used wanted unused shelves) (λ number. by_height < capacity)
-rest-room false unused shelves by_height capacity spare room = tt
-rest-room true None shelves by_height capacity spare room = omega (arith, spare, room)
-rest-room true (Some number) shelves by_height capacity spare room = omega (arith, spare, room)

@@ -20,10 +20,9 @@ use Rattle.shelf_model.specs.Valid.{IsItem, IsShelf}
 use Rattle.shelf_store.specs.declared.choosing.Candidate.{Candidate}
 use Rattle.shelf_heights.specs.declared.by_height.BoundedShelf.{BoundedShelf}
 use Rattle.shelf_store.proofs.ByHeight.BestByHeight.{best-by-height}
-use Rattle.shelf_heights.proofs.ByHeight.Edited.{Each-times}
 use Rattle.shelf_store.proofs.ByHeight.PlacesRise.{LiesWithin, kept-within}
 use Rattle.shelf_records.proofs.Judged.FreeLists.{times-failed, times-passed}
-use Rattle.shelf_records.proofs.Recorded.Members.{Each-member}
+use Rattle.shelf_records.proofs.Recorded.Members.{Each-member, Each-times}
 use Rattle.shelf_store.proofs.Searched.LinkedParts.{shelf-within}
 use Rattle.shelf_store.proofs.Searched.SearchSteps.{best-within}
 use Rattle.shelf_records.proofs.Spelled.SpelledPlaces.{free-spelled}

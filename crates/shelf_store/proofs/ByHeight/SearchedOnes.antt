@@ -1,8 +1,8 @@
 -- One shelf by height that is searched: what it offers, and how its bound falls.
-use Rattle.std.proofs.Common.{◌≡◌, ℕ, ◌<◌, ◌≤◌, Bool, true, false, cond, Option, None, Some, option_map, List, [], ◌∷◌, length, refl, ap, arith, ◌∙◌}
+use Rattle.std.proofs.Common.{◌≡◌, ℕ, ◌<◌, ◌≤◌, Bool, true, false, cond, Option, None, Some, option_map, List, [], ◌∷◌, refl, ap, arith, ◌∙◌}
 use Rattle.std.proofs.lemmas.Bool.Decides.{nat_tests}
 use Rattle.std.specs.Option.{option_map_or}
-use Rattle.std.specs.Prelude.{IfSome, find, nat_le, nat_lt}
+use Rattle.std.specs.Prelude.{find, nat_le, nat_lt}
 use Rattle.std.specs.List.{AllByRecursion}
 use Rattle.shelf_links.specs.declared.records.LinkedItem.{LinkedItem}
 use Rattle.shelf_links.specs.RecordLists.{Records, free_walk}
@@ -45,15 +45,6 @@ offered-short records width height shelf short =
     let fails : nat_le height (height_of records.shelves shelf) ≡ false = grind (arith, nat_tests) in
     ap (λ b. cond b (option_map (candidate_of records height shelf) (first_wide records width shelf)) None) fails
 
--- what is offered is of a record
-pub offered-within : (records : Records) (width height : ℕ) (one : BoundedShelf) → IsSearchable records one → IfSome (offered records width height one.shelf) (λ (candidate : Candidate). candidate.shelf < length records.shelves)
-offered-within records width height one searchable = by_parts (nat_le height (height_of records.shelves one.shelf)) (first_wide records width one.shelf)
-  where
-    by_parts : (b : Bool) (o : Option ℕ) → IfSome (cond b (option_map (candidate_of records height one.shelf) o) None) (λ (candidate : Candidate). candidate.shelf < length records.shelves)
-    by_parts false o = tt
-    by_parts true None = tt
-    by_parts true (Some item) = searchable.within
-
 -- what offers nothing is no good fit
 pub good-none : (records : Records) (width height shelf : ℕ) → offered records width height shelf ≡ None → good_offer records width height shelf ≡ None
 good-none records width height shelf none =
@@ -64,7 +55,7 @@ good-none records width height shelf none =
     by_test false o = refl
 
 -- each of these items is at most as wide as a bound on the widest
-bounds-widest : (items : List LinkedItem) (numbers : List ℕ) (bound : ℕ) → widest_of items numbers ≤ bound → AllByRecursion (λ item. (item_at items item).width ≤ bound) numbers
+pub bounds-widest : (items : List LinkedItem) (numbers : List ℕ) (bound : ℕ) → widest_of items numbers ≤ bound → AllByRecursion (λ item. (item_at items item).width ≤ bound) numbers
 bounds-widest items [] bound low = tt
 bounds-widest items (n ∷ ns) bound low = (omega (arith, low), bounds-widest items ns bound (omega (arith, low)))
 

@@ -1,7 +1,7 @@
 -- Where a search of the shelves by height has come to, from shelf to shelf.
-use Rattle.std.proofs.Common.{◌≡◌, ℕ, zero, suc, ◌+◌, ◌<◌, ◌≤◌, Option, None, Some, List, [], ◌∷◌, ◌++◌, add-one, drop, get_or, length, map, set, take, refl, ap, arith, sym, ◌∙◌, subst}
+use Rattle.std.proofs.Common.{◌≡◌, ℕ, zero, suc, ◌+◌, ◌<◌, ◌≤◌, Option, None, Some, List, [], ◌∷◌, ◌++◌, drop, get_or, length, map, set, take, refl, ap, arith, sym, ◌∙◌, subst}
 use Rattle.std.proofs.Math.Seq.{map-set_same}
-use Rattle.std.proofs.lemmas.List.{drop-map, length-map, map-append, take-append-drop, take-map}
+use Rattle.std.proofs.lemmas.List.{drop-map, length-map, map-append, take-append-drop, take-map, drop_more, get_or_default}
 use Rattle.std.specs.Option.{option_map_or}
 use Rattle.std.specs.List.{AllByRecursion}
 use Rattle.etagere_base.proofs.EachLemmas.{Each-back}
@@ -44,13 +44,12 @@ offered-vain records width height [] searchable low = tt
 offered-vain records width height (one ∷ others) searchable low =
     (offered-low records width height one searchable.0 low.0, offered-vain records width height others searchable.1 low.1)
 
--- from one position on: what stands before another, what stands there, and what stands after it
-between : (by_height : List BoundedShelf) (from index : ℕ) (d : BoundedShelf) → from ≤ index → index < length by_height → drop from by_height ≡ drop from (take index by_height) ++ get_or by_height index d ∷ drop (suc index) by_height
-between [] from index d after within = absurd (omega arith)
-between (x ∷ xs) zero zero d after within = refl
-between (x ∷ xs) zero (suc index) d after within = ap (λ (ys : List BoundedShelf). x ∷ ys) (between xs zero index d (omega arith) (omega arith))
-between (x ∷ xs) (suc from) zero d after within = absurd (omega arith)
-between (x ∷ xs) (suc from) (suc index) d after within = between xs from index d (omega arith) (omega arith)
+-- from one position on: what stands before another, and what stands from there on
+pub drop-between : {X : Type 0} (xs : List X) (from next : ℕ) → from ≤ next → drop from xs ≡ drop from (take next xs) ++ drop next xs
+drop-between xs zero next after = sym (take-append-drop next xs)
+drop-between xs (suc from) zero after = absurd (omega arith)
+drop-between [] (suc from) (suc next) after = refl
+drop-between (x ∷ xs) (suc from) (suc next) after = drop-between xs from next (omega arith)
 
 -- shelves that offer nothing are passed
 pub passed-first : (offers : ℕ → Option Candidate) (shelves others : List ℕ) → AllByRecursion (λ shelf. offers shelf ≡ None) shelves → first_offer offers (shelves ++ others) ≡ first_offer offers others
@@ -76,9 +75,7 @@ pub record SearchesFrom (records : Records) (height from : ℕ) (numbers : List 
 
 -- the shelf at a position is the same by any default
 pub read-at : (by_height : List BoundedShelf) (index : ℕ) (d : BoundedShelf) → index < length by_height → get_or by_height index d ≡ bounded_at by_height index
-read-at [] index d within = absurd (omega arith)
-read-at (x ∷ xs) zero d within = refl
-read-at (x ∷ xs) (suc index) d within = read-at xs index d (omega arith)
+read-at by_height index d within = get_or_default by_height index d (record { widest = 0; shelf = 0 }) within
 
 -- with another bound for one the numbers stay, and each is searchable where that one is
 pub numbers-set : (by_height : List BoundedShelf) (index : ℕ) (one : BoundedShelf) → one.shelf ≡ (bounded_at by_height index).shelf → numbers_by_height (set by_height index one) ≡ numbers_by_height by_height
@@ -110,7 +107,7 @@ parted from index numbers by_height same after within =
     let front : List BoundedShelf = drop from (take index by_height) in
     let one : BoundedShelf = bounded_at by_height index in
     let parts : drop from by_height ≡ front ++ one ∷ drop (index + 1) by_height =
-    between by_height from index (record { widest = 0; shelf = 0 }) after within ∙ ap (λ n. front ++ one ∷ drop n by_height) (sym (add-one index)) in
+    drop-between by_height from index after ∙ ap (λ (l : List BoundedShelf). front ++ l) (drop_more by_height index (record { widest = 0; shelf = 0 }) within) in
     ap (drop from) (sym same)
     ∙ drop-map (λ (x : BoundedShelf). x.shelf) from by_height
     ∙ ap numbers_by_height parts
@@ -169,16 +166,6 @@ pub none_left : (records : Records) (width height from : ℕ) (numbers : List �
 none_left records width height from numbers by_height search low =
     let numbers_is : numbers_by_height (drop from by_height) ≡ drop from numbers = sym (drop-map (λ (x : BoundedShelf). x.shelf) from by_height) ∙ ap (drop from) search.same in
     rw (← numbers_is) (offered-vain records width height (drop from by_height) (Each-drop (IsSearchable records) from by_height search.searchable) low)
-
--- so there is no good fit, and no other
-pub good-ended : (records : Records) (width height from : ℕ) (numbers : List ℕ) (by_height : List BoundedShelf) → SearchesFrom records height from numbers by_height → IsFirstAsWide from width by_height None
-    → first_offer (good_offer records width height) (drop from numbers) ≡ None
-good-ended records width height from numbers by_height search low =
-    none-first (drop from numbers) (good-vain records width height (drop from numbers) (none_left records width height from numbers by_height search low))
-  where
-    none-first : (ns : List ℕ) → AllByRecursion (λ shelf. good_offer records width height shelf ≡ None) ns → first_offer (good_offer records width height) ns ≡ None
-    none-first [] vain = refl
-    none-first (n ∷ ns) vain = ap (λ o. option_map_or Some o (first_offer (good_offer records width height) ns)) vain.0 ∙ none-first ns vain.1
 
 pub placed-ended : (records : Records) (width height from : ℕ) (numbers : List ℕ) (by_height : List BoundedShelf) → SearchesFrom records height from numbers by_height → IsFirstAsWide from width by_height None
     → earliest records.shelves (map (offered records width height) (drop from numbers)) ≡ None

@@ -22,10 +22,10 @@ use Rattle.shelf_store.proofs.ByHeight.PlacesRise.{LiesWithin, kept-within, plac
 use Rattle.shelf_store.proofs.ByHeight.RisingNumbers.{rise-same}
 use Rattle.shelf_records.proofs.Recorded.Members.{Each-member}
 use Rattle.shelf_store.proofs.Spelled.GivenItems.{front-shelves, given-shelves}
-use Rattle.shelf_records.proofs.Spelled.RecordValues.{SameShelf, shelf-other, shelf_values, shelves-same}
+use Rattle.shelf_records.proofs.Spelled.RecordValues.{SameShelf, shelf-other, shelf_values, shelves-same, SameShelf-then}
 use Rattle.shelf_store.proofs.Spelled.SpelledMerges.{free-first}
 use Rattle.shelf_store.proofs.Spelled.SpelledShelves.{shelves-keep_values}
-use Rattle.shelf_store.proofs.Spelled.SpelledUses.{SameShelf-then, same-shelf, shelves-used}
+use Rattle.shelf_store.proofs.Spelled.SpelledUses.{same-shelf, shelves-used}
 
 -- a shelf that says the same stands where it stood
 pub order-same : (shelves new : List LinkedShelf) (k : ℕ) → SameShelf shelves new k → order_of new k ≡ order_of shelves k

@@ -1,5 +1,5 @@
 -- What bounds the free items of a shelf bounds them after one of them was taken.
-use Rattle.std.proofs.Common.{◌≡◌, ℕ, ◌-◌, ◌≤◌, Bool, true, false, None, List, [], ◌∷◌, ◌++◌, ap, arith, ◌∙◌, sym, subst}
+use Rattle.std.proofs.Common.{◌≡◌, ℕ, ◌-◌, Bool, true, false, None, List, [], ◌∷◌, ◌++◌, ap, arith, ◌∙◌, sym, subst}
 use Rattle.std.specs.Prelude.{cond, is_none}
 use Rattle.etagere_base.proofs.EachLemmas.{Each-append, Each-back, Each-front}
 use Rattle.std.specs.List.{AllByRecursion}
@@ -10,16 +10,13 @@ use Rattle.shelf_heights.specs.Private.ByHeight.{IsBound}
 use Rattle.shelf_model.specs.State.{Item, Shelf, empty_shelf, is_free}
 use Rattle.shelf_model.specs.Taking.{item_pieces, taken_shelf}
 use Rattle.shelf_model.proofs.Taken.TakenShelves.{IsTaking}
-
--- an item is no wider where it is free
-abbrev IsLow : ℕ → Item → Type 0
-IsLow widest item = is_free item ≡ true → item.width ≤ widest
+use Rattle.shelf_store.proofs.ByHeight.FreedBounds.{IsWithin}
 
 -- the pieces of an item are no wider
-pieces-low : (widest : ℕ) (placement : Placement) (id : ℕ) (item : Item) → is_free item ≡ true → IsLow widest item → AllByRecursion (IsLow widest) (item_pieces placement id item)
+pieces-low : (widest : ℕ) (placement : Placement) (id : ℕ) (item : Item) → is_free item ≡ true → IsWithin widest item → AllByRecursion (IsWithin widest) (item_pieces placement id item)
 pieces-low widest placement id item free low = (λ given. absurd (cc), by_split placement.splits_item)
   where
-    by_split : (b : Bool) → AllByRecursion (IsLow widest) (cond b (record { width = item.width - placement.width; id = None } ∷ []) [])
+    by_split : (b : Bool) → AllByRecursion (IsWithin widest) (cond b (record { width = item.width - placement.width; id = None } ∷ []) [])
     by_split true = (λ rest. omega (arith, low free), tt)
     by_split false = tt
 
@@ -29,14 +26,14 @@ bound-taken frame widest placement id shelf takes bound =
     let front : List Item = takes.found.at.front in
     let back : List Item = takes.found.at.back in
     let item : Item = takes.found.item in
-    let split : AllByRecursion (IsLow widest) (front ++ item ∷ back) = subst (AllByRecursion (IsLow widest)) takes.found.at.whole bound in
-    let tail : AllByRecursion (IsLow widest) (item ∷ back) = Each-back (IsLow widest) front (item ∷ back) split in
-    let pieces : AllByRecursion (IsLow widest) (item_pieces placement id item) = pieces-low widest placement id item (ap is_none takes.room.free) tail.0 in
+    let split : AllByRecursion (IsWithin widest) (front ++ item ∷ back) = subst (AllByRecursion (IsWithin widest)) takes.found.at.whole bound in
+    let tail : AllByRecursion (IsWithin widest) (item ∷ back) = Each-back (IsWithin widest) front (item ∷ back) split in
+    let pieces : AllByRecursion (IsWithin widest) (item_pieces placement id item) = pieces-low widest placement id item (ap is_none takes.room.free) tail.0 in
     let is : replaced_at placement.item (item_pieces placement id) shelf.items ≡ front ++ (item_pieces placement id item ++ back) =
     ap (λ n. replaced_at n (item_pieces placement id) shelf.items) takes.item ∙ takes.found.at.split (item_pieces placement id) in
-    subst (AllByRecursion (IsLow widest)) (sym is)
-    (Each-append (IsLow widest) front (item_pieces placement id item ++ back) (Each-front (IsLow widest) front (item ∷ back) split)
-    (Each-append (IsLow widest) (item_pieces placement id item) back pieces tail.1))
+    subst (AllByRecursion (IsWithin widest)) (sym is)
+    (Each-append (IsWithin widest) front (item_pieces placement id item ++ back) (Each-front (IsWithin widest) front (item ∷ back) split)
+    (Each-append (IsWithin widest) (item_pieces placement id item) back pieces tail.1))
 
 -- the width of its column bounds an empty shelf
 pub bound-empty : (frame : Frame) (column height : ℕ) → IsBound frame.column_width (empty_shelf frame column height)

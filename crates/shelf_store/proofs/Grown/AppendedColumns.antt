@@ -12,10 +12,8 @@ use Rattle.shelf_links.proofs.AllLists.LinkedItems.{entry_of}
 use Rattle.shelf_links.specs.RecordLists.{Entry, IsLinkedExcept, Records, shelf_numbers}
 use Rattle.shelf_links.specs.Records.{shelf_chain}
 use Rattle.shelf_links.proofs.AllLists.LinkedFrames.{shelf_numbers-append}
-use Rattle.shelf_links.proofs.AllLists.LinkedUnused.{lists_of, three-count}
+use Rattle.shelf_links.proofs.AllLists.LinkedUnused.{lists_of}
 use Rattle.shelf_links.proofs.AllLists.LinkedUses.{but_first}
-use Rattle.etagere_links.proofs.WalkedLists.{IsPart, part-of}
-use Rattle.etagere_links.proofs.Tallies.{length-once}
 use Rattle.shelf_records.specs.AtlasRecords.{along_of, spelled_shelf}
 use Rattle.shelf_model.specs.Fresh.{empty_columns}
 use Rattle.shelf_records.specs.Private.Kept.{bare}
@@ -23,8 +21,9 @@ use Rattle.shelf_store.specs.Private.RecordsGrown.{CanAppend, CanInsert, Growing
 use Rattle.shelf_records.specs.StandsFor.{height_before}
 use Rattle.shelf_model.specs.State.{Shelf, empty_shelf}
 use Rattle.shelf_store.proofs.Grown.CountedRecords.{last-leads, last_of}
-use Rattle.shelf_store.proofs.Grown.HalfGrown.{Appends, HasGrown, HasInserted, IsGrowing, shelves_spelled}
+use Rattle.shelf_store.proofs.Grown.HalfGrown.{Appends, HasGrown, HasInserted, IsGrowing, growing-as, grown-as, shelves_spelled}
 use Rattle.shelf_store.proofs.Grown.InsertedShelves.{inserts}
+use Rattle.shelf_store.proofs.Spelled.KeptCounts.{shelf_numbers-length, shelves-few}
 
 -- a list by its last element
 record HasLast {X : Type 0} (xs : List X) : Type 0 where
@@ -54,24 +53,14 @@ last-spelled records (z ∷ zs) y leads few =
     rw leads.0
     (ap (λ (n : ℕ). Some n) (last-leads shelf_chain.next records.shelves (length records.shelves) z (zs ++ y ∷ []) leads.1 (omega (arith, few)) ∙ last_of-append z zs y))
 
--- no more shelves stand in use than there are records
-shelves-few : (records : Records) (entries : List Entry) (unused_items unused_shelves loose loose_shelves : List ℕ)
-    → IsLinkedExcept records (lists_of entries unused_items unused_shelves) loose loose_shelves → length (shelf_numbers entries) ≤ length records.shelves
-shelves-few records entries unused_items unused_shelves loose loose_shelves linked =
-    let part : IsPart (length records.shelves) (shelf_numbers entries) =
-    part-of (length records.shelves) (shelf_numbers entries ++ unused_shelves ++ loose_shelves) (shelf_numbers entries) linked.shelves_once
-    (λ k. omega (arith, three-count (shelf_numbers entries) unused_shelves loose_shelves k)) in
-    length-once (length records.shelves) (shelf_numbers entries) part.once part.within
-
 -- the last shelf is that of the last entry
-last-entry : (records : Records) (before : List Entry) (entry : Entry) (unused_items unused_shelves loose loose_shelves : List ℕ)
+last-entry : {records : Records} (before : List Entry) (entry : Entry) {unused_items unused_shelves loose loose_shelves : List ℕ}
     → IsLinkedExcept records (lists_of (before ++ entry ∷ []) unused_items unused_shelves) loose loose_shelves → last_shelf records ≡ Some entry.number
-last-entry records before entry unused_items unused_shelves loose loose_shelves linked =
+last-entry {records} before entry linked =
     let numbers : shelf_numbers (before ++ entry ∷ []) ≡ shelf_numbers before ++ entry.number ∷ [] = shelf_numbers-append before (entry ∷ []) in
     last-spelled records (shelf_numbers before) entry.number
     (subst (λ (ns : List ℕ). Leads (link_at shelf_chain.next records.shelves) records.first_shelf ns None) numbers linked.shelves.forward)
-    (subst (λ (ns : List ℕ). length ns ≤ length records.shelves) numbers
-    (shelves-few records (before ++ entry ∷ []) unused_items unused_shelves loose loose_shelves linked))
+    (omega (arith, ap length numbers, shelf_numbers-length (before ++ entry ∷ []), shelves-few linked))
 
 -- shelves that stand in columns before one don't count for it
 height-none : (frame : Frame) (records : Records) (column : ℕ) (entries : List Entry) → AllByRecursion (λ (shelf : Shelf). shelf.column < column) (shelves_spelled frame records entries)
@@ -104,17 +93,6 @@ all-below frame first shelves new is below =
     (Each-weaken (λ (shelf : Shelf). shelf.column < first) (λ (shelf : Shelf). shelf.column < first + 1) shelves (λ shelf less. omega (arith, less)) below)
     (omega arith, tt))
 
--- records half way through a growth, by equal lists and counts
-growing-equal : (frame : Frame) (old : ℕ) (growing : Growing) (entries others : List Entry) (unused_items unused_shelves : List ℕ) (items items' shelves shelves' : ℕ)
-    → entries ≡ others → items ≡ items' → shelves ≡ shelves' → IsGrowing frame old growing entries unused_items unused_shelves items shelves
-    → IsGrowing frame old growing others unused_items unused_shelves items' shelves'
-growing-equal frame old growing entries others unused_items unused_shelves items items' shelves shelves' e f g is = rw (← e, ← f, ← g) is
-
--- and by the shelves that they spell
-grown-equal : (frame : Frame) (old : ℕ) (growing : Growing) (shelves others : List Shelf) (items more : ℕ) → shelves ≡ others
-    → HasGrown frame old growing shelves items more → HasGrown frame old growing others items more
-grown-equal frame old growing shelves others items more e has = rw (← e) has
-
 -- so many columns from one on are appended
 columns-appended : (grown : Frame) (old : ℕ) → 1 ≤ grown.column_width → (count : ℕ) (growing : Growing) (before : List Entry) (entry : Entry) (unused_items unused_shelves : List ℕ) (first items more : ℕ)
     → IsGrowing grown old growing (before ++ entry ∷ []) unused_items unused_shelves (count + items) (count + more)
@@ -129,7 +107,7 @@ columns-appended grown old wide zero growing before entry unused_items unused_sh
         entries = entries;
         unused_items = unused_items;
         unused_shelves = unused_shelves;
-        is = growing-equal grown old growing entries entries unused_items unused_shelves (0 + items) items (0 + more) more refl (omega arith) (omega arith) is;
+        is = growing-as is refl (omega arith) (omega arith);
         spelled = sym (append-nil (shelves_spelled grown growing.records entries));
       },
     )
@@ -141,19 +119,16 @@ columns-appended grown old wide (suc count) growing before entry unused_items un
     let next : Growing = shelf_inserted width entry.number (first * width) 0 tall growing in
     let both : CanInsert entry.number growing × HasInserted grown old growing before [] entry unused_items unused_shelves (count + items) (count + more) first (first * width) 0 tall =
     inserts grown old growing before [] entry unused_items unused_shelves (count + items) (count + more) first (first * width) 0 tall
-    (growing-equal grown old growing entries entries unused_items unused_shelves (suc count + items) (suc (count + items)) (suc count + more) (suc (count + more)) refl (omega arith) (omega arith) is)
+    (growing-as is refl (omega arith) (omega arith))
     wide refl (sym (height-none grown growing.records first entries below)) tt in
     let added : Entry = entry_of (next_shelf (after_item growing)) (both.1.item ∷ []) (both.1.item ∷ []) in
     let longer : before ++ entry ∷ added ∷ [] ≡ entries ++ added ∷ [] = put-last before entry added in
     let spelled : shelves_spelled grown next.records (entries ++ added ∷ []) ≡ old_shelves ++ empty_shelf grown first tall ∷ [] = rw (← longer) both.1.spelled in
     let rest = columns-appended grown old wide count next entries added (but_first unused_items) (but_first unused_shelves) (first + 1) items more
-    (growing-equal grown old next (before ++ entry ∷ added ∷ []) (entries ++ added ∷ []) (but_first unused_items) (but_first unused_shelves) (count + items) (count + items) (count + more) (count + more)
-    longer refl refl both.1.is)
+    (growing-as both.1.is longer refl refl)
     (all-below grown first old_shelves (shelves_spelled grown next.records (entries ++ added ∷ [])) spelled below) in (
       (both.0, rest.0),
-      grown-equal grown old (columns_appended grown count (next_shelf (after_item growing)) (first + 1) next)
-          (shelves_spelled grown next.records (entries ++ added ∷ []) ++ empty_columns grown (first + 1) count) (old_shelves ++ empty_columns grown first (suc count)) items more
-          (one-more grown first count old_shelves (shelves_spelled grown next.records (entries ++ added ∷ [])) spelled) rest.1,
+      grown-as rest.1 (one-more grown first count old_shelves (shelves_spelled grown next.records (entries ++ added ∷ [])) spelled) refl refl,
     )
 
 -- the columns that a frame has more are appended after the last shelf
@@ -170,11 +145,10 @@ appends grown old growing shelves first items more wide fits some below has =
     let spelled : shelves_spelled grown growing.records (before ++ entry ∷ []) ≡ shelves =
     ap (λ (es : List Entry). shelves_spelled grown growing.records es) (sym by_last.is) ∙ same in
     let last : last_shelf growing.records ≡ Some entry.number =
-    last-entry growing.records before entry has.unused_items has.unused_shelves _ _ is.spelled.linked in
+    last-entry before entry is.spelled.linked in
     let both = columns-appended grown old wide count growing before entry has.unused_items has.unused_shelves first items more is
     (subst (λ (ss : List Shelf). AllByRecursion (λ (shelf : Shelf). shelf.column < first) ss) (sym spelled) below) in (
       λ number e. let equal : entry.number ≡ number = cc in subst (λ (n : ℕ). CanAppend grown count n first growing) equal both.0,
       subst (λ (at : Option ℕ). HasGrown grown old (columns_added grown first at growing) (shelves ++ empty_columns grown first count) items more) (sym last)
-          (grown-equal grown old (columns_appended grown count entry.number first growing) (shelves_spelled grown growing.records (before ++ entry ∷ []) ++ empty_columns grown first count)
-          (shelves ++ empty_columns grown first count) items more (ap (λ (ss : List Shelf). ss ++ empty_columns grown first count) spelled) both.1),
+          (grown-as both.1 (ap (λ (ss : List Shelf). ss ++ empty_columns grown first count) spelled) refl refl),
     )

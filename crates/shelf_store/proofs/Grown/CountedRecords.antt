@@ -5,14 +5,13 @@ use Rattle.etagere_base.specs.declared.frames.Frame.{Frame}
 use Rattle.etagere_base.specs.declared.geometry.Size.{Size}
 use Rattle.etagere_base.specs.Frames.{across_side}
 use Rattle.std.specs.List.{AllByRecursion}
-use Rattle.etagere_base.specs.Lists.{times, total}
+use Rattle.etagere_base.specs.Lists.{total}
 use Rattle.etagere_base.proofs.AlignedPlaces.{multiple}
 use Rattle.shelf_links.specs.declared.records.LinkedItem.{LinkedItem}
 use Rattle.etagere_links.specs.Chains.{Leads}
 use Rattle.etagere_links.specs.Edits.{link_at}
 use Rattle.shelf_links.specs.RecordLists.{Records, first_item_of, item_walk, shelf_walk, walked_entry}
 use Rattle.shelf_links.specs.Records.{item_chain, shelf_chain}
-use Rattle.etagere_links.proofs.ListEnds.{times-here}
 use Rattle.shelf_records.specs.AtlasRecords.{along_of, is_allocated_at, is_empty_at, item_at, spelled_shelf}
 use Rattle.shelf_model.specs.Growing.{ends_column, ends_free, filled_ends, grown_frame, records_needed}
 use Rattle.shelf_records.specs.Private.Kept.{AreKept, HasFlag, IsPlaced, atlas_of, bare, state_of}
@@ -22,6 +21,7 @@ use Rattle.shelf_store.proofs.Grown.GrowSteps.{counted-next, counted-none, last-
 use Rattle.shelf_store.proofs.Searched.Following.{IsLeft}
 use Rattle.shelf_store.proofs.Searched.LinkedParts.{items-left, shelves-left}
 use Rattle.shelf_records.proofs.Spelled.SpelledPlaces.{free-spelled}
+use Rattle.shelf_records.proofs.Recorded.Members.{Each-times}
 
 -- the last of these behind one, or that one
 abbrev pub last_of : ℕ → List ℕ → ℕ
@@ -50,11 +50,6 @@ ends-spelled records shelf (x ∷ xs) left =
     let first : first_item_of records.shelves shelf ≡ Some x = left.leads.0 in
     let last = last-leads item_chain.next records.items (length records.items) x xs left.leads.1 (omega (arith, left.enough)) in
     rw (first, last) (sym (ends-last records.items x xs))
-
--- what holds of each number that stands in a list holds of each of it
-each-standing : (P : ℕ → Type 0) (numbers : List ℕ) → ((k : ℕ) → 1 ≤ times k numbers → P k) → AllByRecursion P numbers
-each-standing P [] holds = tt
-each-standing P (x ∷ xs) holds = (holds x (omega (arith, times-here x xs)), each-standing P xs (λ k stands. holds k (omega (arith, stands))))
 
 -- places of columns are the same where the columns are
 pub same-columns : (a b width : ℕ) → a % width ≡ 0 → b % width ≡ 0 → (a == b) ≡ (a / width == b / width)
@@ -147,7 +142,7 @@ ends-counted frame records kept =
     let numbers = (shelf_walk records).met in
     let left = shelves-left records kept.linked in
     let few : length numbers ≤ length records.shelves = omega (arith, left.enough) in
-    let ends = each-standing (λ k. ends_free_at records k ≡ ends_free (shelf_at frame records k).items) numbers
+    let ends = Each-times (λ k. ends_free_at records k ≡ ends_free (shelf_at frame records k).items) numbers
     (λ k stands. ends-spelled records k (item_walk records k).met (items-left records k kept.linked stands)) in
     record {
       ends = counted-ends frame records (length records.shelves) records.first_shelf numbers left.leads few ends;

@@ -14,8 +14,9 @@ use Rattle.shelf_model.specs.State.{Shelf, is_empty}
 use Rattle.shelf_store.proofs.Grown.HalfGrown.{IsGrowing, shelves_spelled}
 use Rattle.shelf_store.proofs.Grown.MadeLinked.{numbers_from}
 use Rattle.shelf_records.proofs.Spelled.RecordValues.{SameItem, SameShelf}
-use Rattle.shelf_store.proofs.Spelled.SpelledLists.{stacked-same}
+use Rattle.shelf_store.proofs.Spelled.StackedEdits.{stacked-same}
 use Rattle.shelf_store.proofs.Spelled.SpelledUses.{SameEntries, same-entries}
+use Rattle.shelf_store.proofs.Spelled.ReturnedLengths.{counts-same}
 
 -- an edit of the items of one shelf, after which it spells this one: what other records say stays, and so many item
 -- records are still to be put to use
@@ -45,11 +46,11 @@ pub record HasEdited (frame : Frame) (old : ℕ) (growing edits : Growing) (befo
   pub back : shelves_spelled frame edits.records after ≡ shelves_spelled frame growing.records after
 
 -- the records after an edit of one shelf's items
-pub shelf-edited : (frame : Frame) (old : ℕ) (growing edits : Growing) (before after : List Entry) (entry edited : Entry) (unused_items now_unused unused_shelves : List ℕ) (items now_items shelves : ℕ) (shelf : Shelf)
+pub shelf-edited : {frame : Frame} {old : ℕ} {growing edits : Growing} {before after : List Entry} {entry edited : Entry} {unused_items now_unused unused_shelves : List ℕ} {items now_items shelves : ℕ} {shelf : Shelf}
     → IsGrowing frame old growing (before ++ entry ∷ after) unused_items unused_shelves items shelves
     → EditsShelf frame old growing edits before after entry edited now_unused unused_shelves now_items shelves shelf
     → HasEdited frame old growing edits before after entry unused_shelves now_items shelves shelf
-shelf-edited frame old growing edits before after entry edited unused_items now_unused unused_shelves items now_items shelves shelf is does =
+shelf-edited {frame} {old} {growing} {edits} {before} {after} {entry} {edited} {unused_items} {now_unused} {unused_shelves} {items} {now_items} {shelves} {shelf} is does =
     let atlas : AtlasRecords = bare frame growing.records in
     let new : AtlasRecords = bare frame edits.records in
     let front : SameEntries atlas edits.records before =
@@ -69,7 +70,7 @@ shelf-edited frame old growing edits before after entry edited unused_items now_
               (front.placed (Each-front (IsPlaced atlas) before (entry ∷ after) is.spelled.placed))
               (does.placed, back.placed (Each-back (IsPlaced atlas) before (entry ∷ after) is.spelled.placed).1);
           stacked = rw numbers
-              (stacked-same growing.records.shelves edits.records.shelves frame.column_width does.same [] (shelf_numbers (before ++ entry ∷ after)) is.spelled.stacked);
+              (stacked-same growing.records.shelves edits.records.shelves frame.column_width does.same (shelf_numbers (before ++ entry ∷ after)) is.spelled.stacked);
           unused = does.unused;
         };
         flags = Each-append (HasFlag new) before (edited ∷ after)
@@ -81,10 +82,7 @@ shelf-edited frame old growing edits before after entry edited unused_items now_
                   ∙ ap is_empty (sym does.own),
               back.flags (Each-back (HasFlag atlas) before (entry ∷ after) is.flags).1,
             );
-        counts = record {
-          shelves = (omega (arith, is.counts.shelves.0, does.as_many_shelves), omega (arith, is.counts.shelves.1, does.as_many_shelves));
-          items = (omega (arith, is.counts.items.0, does.as_many), omega (arith, is.counts.items.1, does.as_many));
-        };
+        counts = counts-same atlas new (record { items = does.as_many; shelves = does.as_many_shelves }) is.counts;
         more = omega (arith, is.more, does.as_many);
         used_up = λ made. does.used_up (omega (arith, made, does.as_many));
       };

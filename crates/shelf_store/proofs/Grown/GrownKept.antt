@@ -26,7 +26,7 @@ use Rattle.shelf_model.proofs.Grown.GrownFrames.{Fits, GrowsFrame, frame-grows, 
 use Rattle.shelf_model.proofs.Grown.GrownShelf.{wider_shelf}
 use Rattle.shelf_model.proofs.Grown.GrownShelves.{end_shelf, taller_end, taller_ends}
 use Rattle.shelf_model.proofs.Grown.GrownValid.{below, grown-shelves, one_column, taller, wide-below, wide-filled, wide-heights, wide-ordered, wider}
-use Rattle.shelf_store.proofs.Grown.HalfGrown.{Appends, GrowsKept, HasGrown, Heightens, Widens}
+use Rattle.shelf_store.proofs.Grown.HalfGrown.{Appends, GrowsKept, HasGrown, Heightens, Widens, grown-as}
 use Rattle.shelf_store.proofs.Grown.StartedGrow.{started}
 use Rattle.shelf_model.proofs.Places.ColumnShelves.{columns-le-shelves}
 use Rattle.shelf_model.proofs.Places.Heights.{column_height-none}
@@ -38,18 +38,6 @@ gains a b h = (grind arith, grind arith)
 -- a length that is no more
 gains-none : (a b : ℕ) → nat_lt a b ≡ false → ((b - a == 0) ≡ true) × (b - a ≡ 0)
 gains-none a b h = (grind arith, grind arith)
-
--- the same numbers wait to be put to use
-waiting : {frame : Frame} {old : ℕ} {growing : Growing} {shelves : List Shelf} {items more left rest : ℕ} → items ≡ left → more ≡ rest
-    → HasGrown frame old growing shelves items more → HasGrown frame old growing shelves left rest
-waiting {frame} {old} {growing} {shelves} {items} {more} {left} {rest} h k has =
-    subst (λ (n : ℕ). HasGrown frame old growing shelves left n) k (subst (λ (n : ℕ). HasGrown frame old growing shelves n more) h has)
-
--- the same shelves are spelled
-spelling : {frame : Frame} {old : ℕ} {growing : Growing} {shelves others : List Shelf} {items more : ℕ} → others ≡ shelves
-    → HasGrown frame old growing shelves items more → HasGrown frame old growing others items more
-spelling {frame} {old} {growing} {shelves} {others} {items} {more} h has =
-    subst (λ (ss : List Shelf). HasGrown frame old growing ss items more) (sym h) has
 
 module _ (frame : Frame) (height : ℕ) where
   -- with heights at the ends of the columns all shelves stand before the column that they stood before
@@ -152,11 +140,11 @@ module _ (frame : Frame) (size : Size) (records : Records) (kept : AreKept frame
           (Each-weaken (IsShelf frame) (λ (s : Shelf). total_width s.items ≡ frame.column_width) state.shelves
           (λ (s : Shelf) (h : IsShelf frame s). h.width) kept.valid.shelves)
           has in
-          (λ _. done.0, spelling (cond-false (width == 0) state.shelves (map (wider_shelf frame width) state.shelves) more.1) done.1)
+          (λ _. done.0, grown-as done.1 (sym (cond-false (width == 0) state.shelves (map (wider_shelf frame width) state.shelves) more.1)) refl refl)
       by_test false e has =
           let none = gains-none frame.column_width grown.column_width e in (
             λ h. absurd (cc),
-            spelling (cond-true (width == 0) state.shelves (map (wider_shelf frame width) state.shelves) none.0) (waiting (omega arith) refl has),
+            grown-as has (sym (cond-true (width == 0) state.shelves (map (wider_shelf frame width) state.shelves) none.0)) (omega arith) refl,
           )
 
   -- no column becomes too tall
@@ -198,10 +186,10 @@ module _ (frame : Frame) (size : Size) (records : Records) (kept : AreKept frame
           let more = gains (across_side frame) (across_side grown) e in
           let done =
           heightens grown old at_width wide height columns columns more.0 grows.is_frame.column_width heights-low (wide-ordered state size kept.valid fits) has in
-          (λ _. done.0, spelling (cond-false (height == 0) wide (taller_ends grown height wide) more.1) done.1)
+          (λ _. done.0, grown-as done.1 (sym (cond-false (height == 0) wide (taller_ends grown height wide) more.1)) refl refl)
       by_test false e has =
           let none = gains-none (across_side frame) (across_side grown) e in
-          (λ h. absurd (cc), spelling (cond-true (height == 0) wide (taller_ends grown height wide) none.0) (waiting (omega arith) (omega arith) has))
+          (λ h. absurd (cc), grown-as has (sym (cond-true (height == 0) wide (taller_ends grown height wide) none.0)) (omega arith) (omega arith))
 
   -- all shelves stand before the new columns
   tall-below : AllByRecursion (λ (s : Shelf). s.column < frame.columns) tall
@@ -230,7 +218,7 @@ module _ (frame : Frame) (size : Size) (records : Records) (kept : AreKept frame
   appended-all appends start =
       let done =
       appends grown old at_height tall frame.columns 0 0 grows.is_frame.column_width (omega (arith, grows.columns)) tall-some tall-below
-      (waiting (omega arith) (omega arith) start) in
+      (grown-as start refl (omega arith) (omega arith)) in
       (done.0, by_test (nat_lt frame.columns grown.columns) refl done.1)
     where
       by_test : (b : Bool) → nat_lt frame.columns grown.columns ≡ b
@@ -239,7 +227,7 @@ module _ (frame : Frame) (size : Size) (records : Records) (kept : AreKept frame
       by_test true e has = has
       by_test false e has =
           let none : columns ≡ 0 = (gains-none frame.columns grown.columns e).1 in
-          spelling (ap (λ (n : ℕ). tall ++ empty_columns grown frame.columns n) none ∙ append-nil tall) (waiting none none start)
+          grown-as start (sym (ap (λ (n : ℕ). tall ++ empty_columns grown frame.columns n) none ∙ append-nil tall)) none none
 
 -- where widening, heightening and appending do what they say, a growth of kept records without a fault keeps them, and
 -- they spell the grown state
@@ -252,5 +240,5 @@ grows-kept widens heightens appends frame size records kept no_fault =
     let all = appended-all frame size records kept fits appends tall.1 in
     let done =
     ended frame size records (records_grown frame (grown_frame frame size) (needed_of frame (grown_frame frame size) records) records) kept fits
-    (spelling (grown-shelves state size kept.valid fits) all.1) in
+    (grown-as all.1 (sym (grown-shelves state size kept.valid fits)) refl refl) in
     record { can = record { width = wide.0; height = tall.0; columns = all.0 }; kept = done.1; state = done.0 }

@@ -4,16 +4,14 @@ use Rattle.std.specs.Prelude.{is_some, nat_lt}
 use Rattle.etagere_base.specs.Frames.{across_side}
 use Rattle.etagere_base.specs.declared.frames.Frame.{Frame}
 use Rattle.shelf_links.specs.declared.records.LinkedShelf.{LinkedShelf}
-use Rattle.etagere_links.specs.Edits.{changed_by, link_at}
+use Rattle.etagere_links.specs.Edits.{link_at}
 use Rattle.shelf_links.specs.RecordLists.{Records}
 use Rattle.shelf_links.specs.RecordUses.{missing, shelves_used}
 use Rattle.shelf_links.specs.Records.{shelf_chain}
-use Rattle.shelf_links.proofs.FirstLinks.{to_first_free}
 use Rattle.etagere_links.proofs.RecordChanges.{length-changed_by}
-use Rattle.etagere_links.proofs.RecordFrames.{length-linked_between}
 use Rattle.shelf_store.specs.declared.growing.Needed.{Needed}
 use Rattle.shelf_records.specs.AtlasRecords.{across_of, along_of, height_of, is_allocated_at, is_empty_at}
-use Rattle.shelf_store.specs.Private.RecordsGrown.{Growing, after_item, after_shelf, columns_added, columns_appended, columns_heightened, empty_shelf_record, end_heightened, ends_column_at, last_item, last_shelf, next_item, next_shelf, records_grown, shelf_heightened, shelf_inserted, shelf_widened, shelves_widened, widened_after, with_height, with_missing, with_width}
+use Rattle.shelf_store.specs.Private.RecordsGrown.{Growing, after_item, columns_added, columns_appended, columns_heightened, end_heightened, ends_column_at, last_item, last_shelf, next_shelf, records_grown, shelf_heightened, shelf_inserted, shelf_widened, shelves_widened, widened_after, with_height, with_missing, with_width}
 use Rattle.shelf_store.proofs.Grown.StartedGrow.{length-shelves}
 
 -- how many shelf records there are
@@ -27,13 +25,7 @@ used-count (Some number) shelves = refl
 
 -- an empty shelf is put after another one
 inserted-count : (width previous along across height : ℕ) (growing : Growing) → count (shelf_inserted width previous along across height growing) ≡ count growing
-inserted-count width previous along across height growing =
-    let used : Growing = after_shelf (after_item growing) in
-    let shelf : ℕ = next_shelf (after_item growing) in
-    let one : List LinkedShelf = changed_by (Some shelf) (λ _. empty_shelf_record along across height (next_item growing)) used.records.shelves in
-    length-linked_between shelf_chain one (Some previous) (link_at shelf_chain.next one previous) shelf
-    ∙ length-changed_by (λ _. empty_shelf_record along across height (next_item growing)) used.records.shelves (Some shelf)
-    ∙ used-count growing.records.unused_shelves growing.records.shelves
+inserted-count width previous along across height growing = simp length-changed_by (used-count growing.records.unused_shelves growing.records.shelves)
 
 -- a width is added at the end of a shelf
 widened-count : (shelf place width : ℕ) (last : Option ℕ) (growing : Growing) → count (widened_after shelf place width last growing) ≡ count growing
@@ -41,7 +33,7 @@ widened-count shelf place width None growing = refl
 widened-count shelf place width (Some last) growing = by_test (is_allocated_at growing.records.items last) refl
   where
     by_test : (b : Bool) → is_allocated_at growing.records.items last ≡ b → count (widened_after shelf place width (Some last) growing) ≡ count growing
-    by_test true e = rw e (length-changed_by (to_first_free (Some (next_item growing))) growing.records.shelves (Some shelf))
+    by_test true e = rw e (simp length-changed_by refl)
     by_test false e = rw e refl
 
 -- and at the ends of so many
@@ -61,7 +53,7 @@ heightened-count width shelf height growing = by_test (is_empty_at shelves shelf
     shelves = growing.records.shelves
 
     by_test : (b : Bool) → is_empty_at shelves shelf ≡ b → count (shelf_heightened width shelf height growing) ≡ count growing
-    by_test true e = rw e (length-changed_by (λ (here : LinkedShelf). record here { height = height_of shelves shelf + height }) shelves (Some shelf))
+    by_test true e = rw e (simp length-changed_by refl)
     by_test false e = rw e (inserted-count width shelf (along_of shelves shelf) (across_of shelves shelf + height_of shelves shelf) height growing)
 
 -- where it is the last of its column

@@ -46,6 +46,17 @@ pub record HasGrown (frame : Frame) (old : ℕ) (growing : Growing) (grown : Lis
   pub is : IsGrowing frame old growing entries unused_items unused_shelves items shelves
   pub spelled : shelves_spelled frame growing.records entries ≡ grown
 
+-- the same entries and numbers, said otherwise
+pub growing-as : {frame : Frame} {old : ℕ} {growing : Growing} {entries same : List Entry} {unused_items unused_shelves : List ℕ} {items items' shelves shelves' : ℕ}
+    → IsGrowing frame old growing entries unused_items unused_shelves items shelves → entries ≡ same → items ≡ items' → shelves ≡ shelves'
+    → IsGrowing frame old growing same unused_items unused_shelves items' shelves'
+growing-as is e f g = rw (← e, ← f, ← g) is
+
+-- and the same shelves
+pub grown-as : {frame : Frame} {old : ℕ} {growing : Growing} {shelves same : List Shelf} {items items' more more' : ℕ}
+    → HasGrown frame old growing shelves items more → shelves ≡ same → items ≡ items' → more ≡ more' → HasGrown frame old growing same items' more'
+grown-as has e f g = rw (← e, ← f, ← g) has
+
 -- an empty shelf of a column that begins there was put after another one
 pub record HasInserted (frame : Frame) (old : ℕ) (growing : Growing) (before after : List Entry) (entry : Entry) (unused_items unused_shelves : List ℕ) (items shelves column along across height : ℕ) : Type 0 where
   pub item : ℕ

@@ -8,17 +8,14 @@ use Rattle.etagere_links.specs.Edits.{link_at}
 use Rattle.shelf_links.specs.RecordLists.{Entry, shelf_numbers}
 use Rattle.shelf_links.specs.Records.{shelf_chain}
 use Rattle.shelf_links.proofs.AllLists.LinkedFrames.{shelf_numbers-append}
-use Rattle.shelf_links.proofs.AllLists.LinkedUnused.{three-count}
-use Rattle.etagere_links.proofs.WalkedLists.{IsPart, part-of}
-use Rattle.etagere_links.proofs.Tallies.{length-once}
 use Rattle.shelf_model.specs.Places.{column_height}
 use Rattle.shelf_store.specs.Private.RecordsGrown.{CanHeighten, CanHeightenAll, Growing, columns_heightened, end_heightened, ends_column_at}
 use Rattle.shelf_model.specs.State.{Shelf}
 use Rattle.shelf_model.proofs.Grown.GrownShelves.{taller_end, taller_ends}
 use Rattle.shelf_store.proofs.Grown.GrowSteps.{heightened-next, heightened-none}
-use Rattle.shelf_store.proofs.Grown.HalfGrown.{HasGrown, Heightens, Inserts, IsGrowing, shelves_spelled}
-use Rattle.shelf_store.proofs.Grown.HeightenedSteps.{HasStep, IsAt, growing-as, here-is, shelf_spelled, step}
-use Rattle.shelf_store.proofs.Grown.MadeLinked.{numbers_from}
+use Rattle.shelf_store.proofs.Grown.HalfGrown.{HasGrown, Heightens, Inserts, growing-as, shelves_spelled}
+use Rattle.shelf_store.proofs.Grown.HeightenedSteps.{HasStep, IsAt, here-is, shelf_spelled, step}
+use Rattle.shelf_store.proofs.Spelled.KeptCounts.{shelves-few}
 
 -- links that lead along two lists lead along the second from where others do
 leads-again : (next other : ℕ → Option ℕ) (first start : Option ℕ) (front back : List ℕ) → Leads next first (front ++ back) None → Leads other start back None
@@ -60,7 +57,7 @@ module _ (inserts : Inserts) (grown : Frame) (old height : ℕ) (wide : 1 ≤ gr
               entries = before;
               unused_items = unused_items;
               unused_shelves = unused_shelves;
-              is = growing-as grown old height growing (before ++ []) before unused_items unused_shelves _ _ _ _ at.is (append-nil before) (omega arith) (omega arith);
+              is = growing-as at.is (append-nil before) (omega arith) (omega arith);
               spelled = at.front_spelled ∙ sym (append-nil front);
             }),
       )
@@ -72,8 +69,7 @@ module _ (inserts : Inserts) (grown : Frame) (old height : ℕ) (wide : 1 ≤ gr
   left-heightened (suc n) next growing before (entry ∷ after) unused_items unused_shelves front (shelf ∷ shelves) items more at leads few =
       let following : Option ℕ = link_at shelf_chain.next growing.records.shelves entry.number in
       let one : HasStep grown old height growing entry after following (front ++ taller_end grown height shelf shelves) shelves items more =
-      step grown old height growing before after entry unused_items unused_shelves front shelf shelves items more following at
-      (here-is grown old height growing before after entry unused_items unused_shelves front shelf shelves items more following at leads.1) inserts wide in
+      step grown old height at (here-is grown old height following at leads.1) inserts wide in
       let numbers : shelf_numbers (one.entries ++ after) ≡ shelf_numbers one.entries ++ shelf_numbers after = shelf_numbers-append one.entries after in
       let leads_on : Leads (link_at shelf_chain.next one.new.records.shelves) following (shelf_numbers after) None =
       leads-again (link_at shelf_chain.next one.new.records.shelves) (link_at shelf_chain.next growing.records.shelves) one.new.records.first_shelf following
@@ -89,19 +85,6 @@ module _ (inserts : Inserts) (grown : Frame) (old height : ℕ) (wide : 1 ≤ gr
             (heightened-next grown.column_width height (suc n) n entry.number next following growing one.new refl leads.0 refl one.made) rest.1),
       )
 
--- the shelves in use are no more than the records
-few-shelves : (frame : Frame) (old : ℕ) (growing : Growing) (entries : List Entry) (unused_items unused_shelves : List ℕ) (items shelves : ℕ)
-    → IsGrowing frame old growing entries unused_items unused_shelves items shelves → length entries ≤ length growing.records.shelves
-few-shelves frame old growing entries unused_items unused_shelves items shelves is =
-    let numbers : List ℕ = shelf_numbers entries in
-    let part : IsPart (length growing.records.shelves) numbers =
-    part-of (length growing.records.shelves) (numbers ++ unused_shelves ++ (numbers_from growing.made.shelf (shelves - length unused_shelves) ++ [])) numbers is.spelled.linked.shelves_once (λ k. omega (arith, three-count numbers unused_shelves (numbers_from growing.made.shelf (shelves - length unused_shelves) ++ []) k)) in
-    omega (arith, as-many entries, length-once (length growing.records.shelves) numbers part.once part.within)
-  where
-    as-many : (entries : List Entry) → length (shelf_numbers entries) ≡ length entries
-    as-many [] = refl
-    as-many (entry ∷ entries) = omega (arith, as-many entries)
-
 -- where no column is higher than this, all can get the height
 low-all : (height : ℕ) (shelves left : List Shelf) → ((column : ℕ) → column_height column shelves + height ≤ 65535)
     → AllByRecursion (λ (shelf : Shelf). column_height shelf.column shelves + height ≤ 65535) left
@@ -114,4 +97,4 @@ heightens inserts grown old growing shelves height items more some wide low orde
     left-heightened inserts grown old height wide (length growing.records.shelves) growing.records.first_shelf growing [] has.entries has.unused_items has.unused_shelves [] shelves items more
     (record { is = has.is; front_spelled = refl; back_spelled = has.spelled; ordered = ordered; low = low-all height shelves shelves low })
     has.is.spelled.linked.shelves.forward
-    (few-shelves grown old growing has.entries has.unused_items has.unused_shelves _ _ has.is)
+    (shelves-few has.is.spelled.linked)

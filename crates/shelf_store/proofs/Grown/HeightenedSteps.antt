@@ -27,11 +27,12 @@ use Rattle.shelf_model.specs.State.{Shelf, empty_shelf, is_empty}
 use Rattle.shelf_model.specs.Valid.{is_out_of_order}
 use Rattle.shelf_store.proofs.Grown.CountedRecords.{same-columns}
 use Rattle.shelf_model.proofs.Grown.GrownShelves.{columns-after, end_shelf, taller_end}
-use Rattle.shelf_store.proofs.Grown.HalfGrown.{HasInserted, Inserts, IsGrowing, shelves_spelled}
+use Rattle.shelf_store.proofs.Grown.HalfGrown.{HasInserted, Inserts, IsGrowing, growing-as, shelves_spelled}
 use Rattle.shelf_model.proofs.Grown.HeightenedShelves.{AreLow, filled-empty, filled-inside, filled-more, low-next, taller-empty, taller-filled, taller-inside}
-use Rattle.shelf_store.proofs.Grown.TallerRecords.{IsTallerEnd, end-taller, stacked-parts, with_tall}
+use Rattle.shelf_store.proofs.Grown.TallerRecords.{IsTallerEnd, end-taller, with_tall}
+use Rattle.shelf_store.proofs.Spelled.StackedEdits.{stacked-parts}
 use Rattle.shelf_model.proofs.Places.Heights.{column_height-append, column_height-own}
-use Rattle.shelf_records.proofs.Spelled.StackedMerges.{height_before-append}
+use Rattle.shelf_records.proofs.Spelled.HeightsBefore.{height_before-append}
 
 -- two lists of the same length end to end
 parts-same : {X : Type 0} (front other back rest : List X) → length front ≡ length other → front ++ back ≡ other ++ rest → (front ≡ other) × (back ≡ rest)
@@ -100,11 +101,11 @@ module _ (grown : Frame) (old height : ℕ) where
     pub room : across_of growing.records.shelves entry.number + height_of growing.records.shelves entry.number + height ≤ 65535
 
   -- of records half way that is so
-  pub here-is : (growing : Growing) (before after : List Entry) (entry : Entry) (unused_items unused_shelves : List ℕ) (front : List Shelf) (shelf : Shelf) (shelves : List Shelf) (items more : ℕ) (next : Option ℕ)
+  pub here-is : {growing : Growing} {before after : List Entry} {entry : Entry} {unused_items unused_shelves : List ℕ} {front : List Shelf} {shelf : Shelf} {shelves : List Shelf} {items more : ℕ} (next : Option ℕ)
       → IsAt growing before (entry ∷ after) unused_items unused_shelves front (shelf ∷ shelves) items more
       → Leads (link_at shelf_chain.next growing.records.shelves) next (shelf_numbers after) None
       → IsHere growing before after entry next shelf shelves
-  here-is growing before after entry unused_items unused_shelves front shelf shelves items more next at leads =
+  here-is {growing} {before} {after} {entry} {unused_items} {unused_shelves} {front} {shelf} {shelves} {items} {more} next at leads =
       let records : Records = growing.records in
       let spelled : shelf_spelled grown growing entry ∷ shelves_spelled grown records after ≡ shelf ∷ shelves = at.back_spelled in
       let own : shelf_spelled grown growing entry ≡ shelf = cc in
@@ -139,12 +140,6 @@ module _ (grown : Frame) (old height : ℕ) where
     pub unused_shelves : List ℕ
     pub at : IsAt new entries after unused_items unused_shelves front back items more
 
-  -- the same lists and numbers, said otherwise
-  pub growing-as : (growing : Growing) (entries same : List Entry) (unused_items unused_shelves : List ℕ) (items items' shelves shelves' : ℕ)
-      → IsGrowing grown old growing entries unused_items unused_shelves items shelves → entries ≡ same → items ≡ items' → shelves ≡ shelves'
-      → IsGrowing grown old growing same unused_items unused_shelves items' shelves'
-  growing-as growing entries same unused_items unused_shelves items items' shelves shelves' is e f g = rw (← e, ← f, ← g) is
-
   -- one more shelf is spelled after others
   spelled-next : (growing : Growing) (before : List Entry) (entry : Entry) (front : List Shelf) (shelf : Shelf) → shelves_spelled grown growing.records before ≡ front
       → shelf_spelled grown growing entry ≡ shelf → shelves_spelled grown growing.records (before ++ entry ∷ []) ≡ front ++ shelf ∷ []
@@ -153,7 +148,7 @@ module _ (grown : Frame) (old height : ℕ) where
       ∙ ap (λ (l : List Shelf). l ++ shelf_spelled grown growing entry ∷ []) spelled
       ∙ ap (λ (s : Shelf). front ++ s ∷ []) is
 
-  module _ (growing : Growing) (before after : List Entry) (entry : Entry) (unused_items unused_shelves : List ℕ) (front : List Shelf) (shelf : Shelf) (shelves : List Shelf) (items more : ℕ) (next : Option ℕ)
+  module _ {growing : Growing} {before after : List Entry} {entry : Entry} {unused_items unused_shelves : List ℕ} {front : List Shelf} {shelf : Shelf} {shelves : List Shelf} {items more : ℕ} {next : Option ℕ}
       (at : IsAt growing before (entry ∷ after) unused_items unused_shelves front (shelf ∷ shelves) items more)
       (here : IsHere growing before after entry next shelf shelves) where
     -- what is left after the shelf at hand
@@ -195,7 +190,7 @@ module _ (grown : Frame) (old height : ℕ) where
           unused_items = unused_items;
           unused_shelves = unused_shelves;
           at = left-is growing (before ++ entry ∷ []) unused_items unused_shelves
-              (growing-as growing (before ++ entry ∷ after) ((before ++ entry ∷ []) ++ after) unused_items unused_shelves _ _ _ _ at.is
+              (growing-as at.is
               (sym (append_assoc before (entry ∷ []) after))
               (ap (λ (n : ℕ). n + items) (filled-inside grown height shelf shelves e)) (ap (λ (n : ℕ). n + more) (filled-inside grown height shelf shelves e)))
               (spelled-next growing before entry front shelf at.front_spelled here.own
@@ -218,7 +213,7 @@ module _ (grown : Frame) (old height : ℕ) where
           unused_items = unused_items;
           unused_shelves = unused_shelves;
           at = left-is new (before ++ entry ∷ []) unused_items unused_shelves
-              (growing-as new (before ++ entry ∷ after) ((before ++ entry ∷ []) ++ after) unused_items unused_shelves _ _ _ _ taller.is
+              (growing-as taller.is
               (sym (append_assoc before (entry ∷ []) after))
               (ap (λ (n : ℕ). n + items) (filled-empty grown height shelf shelves e f)) (ap (λ (n : ℕ). n + more) (filled-empty grown height shelf shelves e f)))
               (spelled-next new before entry front (combined_shelves shelf (end_shelf grown height shelf)) (taller.before_spelled ∙ at.front_spelled)
@@ -277,7 +272,7 @@ module _ (grown : Frame) (old height : ℕ) where
         let across : ℕ = across_of records.shelves entry.number + height_of records.shelves entry.number in
         let flag : is_empty_at records.shelves entry.number ≡ false = here.flag ∙ f in
         let is : IsGrowing grown old growing (before ++ entry ∷ after) unused_items unused_shelves (suc (filled_ends shelves + items)) (suc (filled_ends shelves + more)) =
-        growing-as growing (before ++ entry ∷ after) (before ++ entry ∷ after) unused_items unused_shelves _ _ _ _ at.is refl
+        growing-as at.is refl
         (omega (arith, filled-more grown height shelf shelves e f)) (omega (arith, filled-more grown height shelf shelves e f)) in
         let under : across ≡ height_before records.shelves grown.column_width column (shelf_numbers (before ++ entry ∷ [])) =
         rw (shelf_numbers-append before (entry ∷ []))
@@ -302,8 +297,7 @@ module _ (grown : Frame) (old height : ℕ) where
           unused_items = but_first unused_items;
           unused_shelves = but_first unused_shelves;
           at = left-is new (before ++ entry ∷ added ∷ []) (but_first unused_items) (but_first unused_shelves)
-              (growing-as new (before ++ entry ∷ added ∷ after) ((before ++ entry ∷ added ∷ []) ++ after) (but_first unused_items) (but_first unused_shelves) _ _ _ _ inserted.is
-              (added-before added) refl refl)
+              (growing-as inserted.is (added-before added) refl refl)
               spelled.0 spelled.1;
         }
       where

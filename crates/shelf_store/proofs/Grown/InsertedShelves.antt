@@ -1,9 +1,10 @@
 -- An empty shelf is put after another one, half way through a growth: what the records spell then.
-use Rattle.std.proofs.Common.{◌≡◌, ◌≢◌, ℕ, suc, ◌+◌, ◌-◌, ◌*◌, ◌/◌, ◌<◌, ◌≤◌, true, false, Option, None, Some, List, [], ◌∷◌, ◌++◌, length, map, refl, ap, sym, subst, ◌∙◌, arith}
+use Rattle.std.proofs.Common.{◌≡◌, ◌≢◌, ℕ, suc, ◌+◌, ◌-◌, ◌*◌, ◌/◌, ◌<◌, ◌≤◌, true, false, Option, None, Some, List, [], ◌∷◌, ◌++◌, length, map, refl, ap, sym, subst, ◌∙◌, arith, append_assoc}
 use Rattle.std.proofs.Math.Nat.{mul-div_cancel, mul-mod_left}
-use Rattle.std.specs.Prelude.{◌%◌, ◌==◌, is_some, slice_get}
+use Rattle.std.specs.Prelude.{◌%◌, is_some, slice_get}
 use Rattle.etagere_base.specs.declared.frames.Frame.{Frame}
 use Rattle.std.specs.List.{AllByRecursion}
+use Rattle.etagere_base.proofs.TimesLemmas.{times-append}
 use Rattle.etagere_base.specs.Lists.{times}
 use Rattle.shelf_links.proofs.AllLists.LinkedItems.{entry_of}
 use Rattle.shelf_links.proofs.AllLists.LinkedEdits.{linked-apart, around_of}
@@ -16,14 +17,13 @@ use Rattle.shelf_links.specs.RecordMaking.{started}
 use Rattle.shelf_links.specs.RecordUses.{shelves_used}
 use Rattle.shelf_links.specs.Records.{free_list, item_chain, shelf_chain}
 use Rattle.etagere_links.proofs.FieldChanges.{field_at-changed}
-use Rattle.etagere_links.proofs.ListEnds.{times-here}
 use Rattle.shelf_links.proofs.AllLists.LinkedFields.{item_written-linked, shelf_written-linked}
 use Rattle.shelf_links.proofs.AllLists.LinkedFrames.{shelf_numbers-append}
 use Rattle.shelf_links.proofs.AllLists.LinkedShelves.{shelf_inserted_after-linked}
 use Rattle.shelf_links.proofs.AllLists.LinkedUnused.{IsLoose, lists_of, loose-of}
 use Rattle.shelf_links.proofs.AllLists.LinkedUses.{but_first}
 use Rattle.etagere_links.proofs.RecordChanges.{get-changed_by-other, length-changed_by, link_at-changed}
-use Rattle.etagere_links.proofs.RecordFrames.{length-linked_between, map-linked_between}
+use Rattle.etagere_links.proofs.RecordFrames.{map-linked_between}
 use Rattle.shelf_records.specs.AtlasRecords.{across_of, along_of, height_of, is_allocated_at, is_empty_at, item_at, item_place_of, shelf_of, spelled_item, spelled_shelf}
 use Rattle.shelf_records.specs.Private.Kept.{HasFlag, IsPlaced, bare}
 use Rattle.shelf_store.specs.Private.RecordsGrown.{CanInsert, Growing, after_item, after_shelf, empty_shelf_record, made_after_shelf, next_item, next_shelf}
@@ -41,7 +41,8 @@ use Rattle.shelf_store.proofs.Spelled.SpelledMerges.{unmarked-same}
 use Rattle.shelf_store.proofs.Spelled.SpelledShelves.{shelves-keep_values}
 use Rattle.shelf_store.proofs.Spelled.SpelledSplits.{shelf-parts}
 use Rattle.shelf_store.proofs.Spelled.SpelledUses.{Each-but_first, SameEntries, same-entries, same-shelf, stranger}
-use Rattle.shelf_records.proofs.Spelled.StackedMerges.{height-one, height_before-append}
+use Rattle.shelf_store.proofs.Spelled.StackedEdits.{Each-numbers, height-other, stacked-edited}
+use Rattle.shelf_store.proofs.Spelled.ReturnedLengths.{counts-same}
 
 -- a fact of each element, with one put after another
 Each-inserted : {X : Type 0} (P : X → Type 0) (xs : List X) (y z : X) (ys : List X) → P z → AllByRecursion P (xs ++ y ∷ ys) → AllByRecursion P (xs ++ y ∷ z ∷ ys)
@@ -60,65 +61,16 @@ map-inserted f g (x ∷ xs) y z ys w here same =
     let rest : map f (xs ++ y ∷ ys) ≡ map g (xs ++ y ∷ ys) = cc in
     rw (first, map-inserted f g xs y z ys w here rest) refl
 
--- a fact of the number of each shelf
-Each-numbers : (P : ℕ → Type 0) (entries : List Entry) → AllByRecursion (λ (entry : Entry). P entry.number) entries → AllByRecursion P (shelf_numbers entries)
-Each-numbers P [] each = tt
-Each-numbers P (entry ∷ entries) each = (each.0, Each-numbers P entries each.1)
-
-module _ (shelves new : List LinkedShelf) (column_width column added : ℕ) where
-  -- a shelf doesn't count for other columns
-  other-height : (c : ℕ) → along_of new added / column_width ≡ column → c ≢ column → height_before new column_width c (added ∷ []) ≡ 0
-  other-height c is other =
-      let test : (column == c) ≡ false = grind arith in
-      rw (is, test) refl
-
-  -- shelves of other columns stand where they stood
-  stacked-beyond : (below below' numbers : List ℕ) → ((c : ℕ) → c ≢ column → height_before new column_width c below' ≡ height_before shelves column_width c below)
-      → ((k : ℕ) → 1 ≤ times k numbers → SameShelf shelves new k) → AllByRecursion (λ n. along_of shelves n / column_width ≢ column) numbers
-      → AreStacked shelves column_width below numbers → AreStacked new column_width below' numbers
-  stacked-beyond below below' [] heights same others stacked = tt
-  stacked-beyond below below' (n ∷ ns) heights same others stacked =
-      let own : SameShelf shelves new n = same n (omega (arith, times-here n ns)) in
-      let under : height_before new column_width (along_of shelves n / column_width) below' ≡ height_before shelves column_width (along_of shelves n / column_width) below =
-      heights (along_of shelves n / column_width) others.0 in (
-        own.across ∙ stacked.0 ∙ sym (ap (λ a. height_before new column_width (a / column_width) below') own.along ∙ under),
-        stacked-beyond (below ++ n ∷ []) (below' ++ n ∷ []) ns
-            (λ c other. omega (arith, heights c other, height-one shelves new column_width c n own, height_before-append new column_width c below' (n ∷ []), height_before-append shelves column_width c below (n ∷ [])))
-            (λ k stands. same k (omega (arith, stands))) others.1 stacked.1,
-      )
-
-  -- shelves stand one on the other after one was put after another, where those before it in its column end
-  stacked-inserted : (below below' before after : List ℕ) (number : ℕ) → along_of new added / column_width ≡ column
-      → across_of new added ≡ height_before shelves column_width column below + height_before shelves column_width column (before ++ number ∷ [])
-      → ((c : ℕ) → height_before new column_width c below' ≡ height_before shelves column_width c below)
-      → ((k : ℕ) → 1 ≤ times k (before ++ number ∷ after) → SameShelf shelves new k) → AllByRecursion (λ n. along_of shelves n / column_width ≢ column) after
-      → AreStacked shelves column_width below (before ++ number ∷ after) → AreStacked new column_width below' (before ++ number ∷ added ∷ after)
-  stacked-inserted below below' [] after number is across heights same others stacked =
-      let own : SameShelf shelves new number = same number (omega (arith, times-here number after)) in
-      let under : height_before new column_width (along_of shelves number / column_width) below' ≡ height_before shelves column_width (along_of shelves number / column_width) below =
-      heights (along_of shelves number / column_width) in
-      let both : (c : ℕ) → height_before new column_width c (below' ++ number ∷ []) ≡ height_before shelves column_width c (below ++ number ∷ []) =
-      λ c. omega (arith, heights c, height-one shelves new column_width c number own, height_before-append new column_width c below' (number ∷ []), height_before-append shelves column_width c below (number ∷ [])) in
-      let over : across_of new added ≡ height_before new column_width column (below' ++ number ∷ []) =
-      omega (arith, across, both column, height_before-append shelves column_width column below (number ∷ [])) in (
-        own.across ∙ stacked.0 ∙ sym (ap (λ a. height_before new column_width (a / column_width) below') own.along ∙ under),
-        (
-          over ∙ sym (ap (λ c. height_before new column_width c (below' ++ number ∷ [])) is),
-          stacked-beyond (below ++ number ∷ []) ((below' ++ number ∷ []) ++ added ∷ []) after
-              (λ c other. omega (arith, both c, other-height c is other, height_before-append new column_width c (below' ++ number ∷ []) (added ∷ [])))
-              (λ k stands. same k (omega (arith, stands))) others stacked.1,
-        ),
-      )
-  stacked-inserted below below' (n ∷ before) after number is across heights same others stacked =
-      let own : SameShelf shelves new n = same n (omega (arith, times-here n (before ++ number ∷ after))) in
-      let under : height_before new column_width (along_of shelves n / column_width) below' ≡ height_before shelves column_width (along_of shelves n / column_width) below =
-      heights (along_of shelves n / column_width) in (
-        own.across ∙ stacked.0 ∙ sym (ap (λ a. height_before new column_width (a / column_width) below') own.along ∙ under),
-        stacked-inserted (below ++ n ∷ []) (below' ++ n ∷ []) before after number is
-            (omega (arith, across, height_before-append shelves column_width column below (n ∷ [])))
-            (λ c. omega (arith, heights c, height-one shelves new column_width c n own, height_before-append new column_width c below' (n ∷ []), height_before-append shelves column_width c below (n ∷ [])))
-            (λ k stands. same k (omega (arith, stands))) others stacked.1,
-      )
+-- shelves stand one on the other after one was put behind some, where those in its column end
+stacked-inserted : (shelves new : List LinkedShelf) (column_width : ℕ) (before after : List ℕ) (added column : ℕ) → along_of new added / column_width ≡ column
+    → across_of new added ≡ height_before shelves column_width column before
+    → ((k : ℕ) → 1 ≤ times k before → SameShelf shelves new k) → ((k : ℕ) → 1 ≤ times k after → SameShelf shelves new k)
+    → AllByRecursion (λ n. along_of shelves n / column_width ≢ column) after
+    → AreStacked shelves column_width [] (before ++ after) → AreStacked new column_width [] (before ++ added ∷ after)
+stacked-inserted shelves new column_width before after added column is across same_before same_after =
+    stacked-edited shelves new column_width (λ c. c ≢ column) before [] (added ∷ []) after same_before same_after
+    (λ below _. (across ∙ sym (ap (λ c. height_before new column_width c before) is ∙ below column), tt))
+    (λ c other. height-other new column_width c added (λ e. other (sym e ∙ is)))
 
 -- the records with an empty shelf after the one of this number
 abbrev empty_inserted : ℕ → ℕ → ℕ → ℕ → ℕ → ℕ → ℕ → Records → Records
@@ -165,10 +117,7 @@ module _ (records : Records) (previous shelf item width along across height : �
 
   -- as many shelves as before
   inserted-shelves : length (empty_inserted previous shelf item width along across height records).shelves ≡ length records.shelves
-  inserted-shelves =
-      let one : List LinkedShelf = changed_by (Some shelf) (λ _. empty_shelf_record along across height item) records.shelves in
-      length-linked_between shelf_chain one (Some previous) (link_at shelf_chain.next one previous) shelf
-      ∙ length-changed_by (λ _. empty_shelf_record along across height item) records.shelves (Some shelf)
+  inserted-shelves = simp length-changed_by refl
 
   -- links spell an empty shelf
   empty-entry : shelf < length records.shelves → item < length records.items
@@ -218,9 +167,6 @@ module _ (frame : Frame) (records : Records) (before after : List Entry) (entry 
       → IsLinkedExcept records (lists_of (before ++ entry ∷ after) unused_items unused_shelves) (item ∷ loose) (shelf ∷ loose_shelves)
       → IsLinkedExcept new_records (lists_of (before ++ entry ∷ entry_of shelf (item ∷ []) (item ∷ []) ∷ after) unused_items unused_shelves) loose loose_shelves
   added-linked within item_within linked =
-      let entries : List Entry = before ++ entry ∷ after in
-      let one : Records = item_changed item (started along_column frame.column_width shelf) records in
-      let two : Records = shelf_changed shelf (λ _. empty_shelf_record along_column across height item) one in
       shelf_inserted_after-linked (around_of before after unused_items unused_shelves) entry (entry_of shelf (item ∷ []) (item ∷ []))
       (empty-entry records entry.number shelf item frame.column_width along_column across height within item_within)
       (shelf_written-linked shelf (λ _. empty_shelf_record along_column across height item)
@@ -269,10 +215,13 @@ module _ (frame : Frame) (records : Records) (before after : List Entry) (entry 
       let same_entries : SameEntries (bare frame records) new_records entries =
       same-entries (bare frame records) new_records entries same
       (λ k stands. item-same records.items new_records.items k (is.items k (stranger item k (item_numbers entries) free.no_used stands))) spelled.linked.entries in
-      let numbers : shelf_numbers entries ≡ shelf_numbers before ++ entry.number ∷ shelf_numbers after = shelf_numbers-append before (entry ∷ after) in
-      let more_numbers : shelf_numbers (before ++ entry ∷ added ∷ after) ≡ shelf_numbers before ++ entry.number ∷ shelf ∷ shelf_numbers after =
-      shelf_numbers-append before (entry ∷ added ∷ after) in
-      let under : shelf_numbers (before ++ entry ∷ []) ≡ shelf_numbers before ++ entry.number ∷ [] = shelf_numbers-append before (entry ∷ []) in
+      let under : List Entry = before ++ entry ∷ [] in
+      let numbers : shelf_numbers entries ≡ shelf_numbers under ++ shelf_numbers after =
+      ap shelf_numbers (sym (append_assoc before (entry ∷ []) after)) ∙ shelf_numbers-append under after in
+      let more_numbers : shelf_numbers (before ++ entry ∷ added ∷ after) ≡ shelf_numbers under ++ shelf ∷ shelf_numbers after =
+      ap shelf_numbers (sym (append_assoc before (entry ∷ []) (added ∷ after))) ∙ shelf_numbers-append under (added ∷ after) in
+      let count : (k : ℕ) → times k (shelf_numbers entries) ≡ times k (shelf_numbers under) + times k (shelf_numbers after) =
+      λ k. ap (times k) numbers ∙ times-append k (shelf_numbers under) (shelf_numbers after) in
       let empty : spelled_shelf (bare frame new_records) added ≡ empty_shelf frame column height = added-spelled wide is in
       record {
         spelled =
@@ -280,10 +229,9 @@ module _ (frame : Frame) (records : Records) (before after : List Entry) (entry 
               linked = added-linked free_shelf.within free.within spelled.linked;
               placed = Each-inserted (IsPlaced (bare frame new_records)) before entry added after (added-placed wide is) (same_entries.placed spelled.placed);
               stacked = rw more_numbers
-                  (stacked-inserted records.shelves new_records.shelves frame.column_width column shelf [] [] (shelf_numbers before) (shelf_numbers after) entry.number
-                  (added-column wide is) (omega (arith, is.stands, ends, ap (height_before records.shelves frame.column_width column) under)) (λ c. refl)
-                  (λ k stands. same k (rw numbers stands)) (Each-numbers (λ n. along_of records.shelves n / frame.column_width ≢ column) after others)
-                  (rw (← numbers) spelled.stacked));
+                  (stacked-inserted records.shelves new_records.shelves frame.column_width (shelf_numbers under) (shelf_numbers after) shelf column (added-column wide is) (is.stands ∙ ends)
+                  (λ k stands. same k (omega (arith, stands, count k))) (λ k stands. same k (omega (arith, stands, count k)))
+                  (Each-numbers (λ n. along_of records.shelves n / frame.column_width ≢ column) after others) (rw (← numbers) spelled.stacked));
               unused = unmarked-same records.items new_records.items unused_items
                   (λ k stands. item-same records.items new_records.items k (is.items k (stranger item k unused_items free.no_unused stands))) spelled.unused;
             };
@@ -424,11 +372,7 @@ module _ (frame : Frame) (old : ℕ) (growing : Growing) (before after : List En
             record {
               spelled = is_added.spelled;
               flags = is_added.flags is_ready.flags;
-              counts =
-                  record {
-                    shelves = (omega (arith, shelf_count, is.counts.shelves.0), omega (arith, shelf_count, is.counts.shelves.1));
-                    items = (omega (arith, item_count, is.counts.items.0), omega (arith, item_count, is.counts.items.1));
-                  };
+              counts = counts-same (bare frame growing.records) (bare frame new) (record { items = item_count; shelves = shelf_count }) is.counts;
               more = omega (arith, item_count, is.more);
               used_up = λ made. fewer-left unused_items items (is.used_up (omega (arith, item_count, made)));
             };

@@ -23,27 +23,35 @@ numbers-first from (suc count) some =
     let left : count ≡ suc count - 1 = omega arith in
     ap (λ (n : ℕ). from ∷ numbers_from n count) next ∙ ap (λ (n : ℕ). from ∷ numbers_from (from + 1) n) left
 
--- the numbers in no list once an item that became unused is put to use
-items-used : (unused : Option ℕ) (made : Made) (x number left other : ℕ) (held : List ℕ) → unused ≡ Some x → x ≡ number → left ≡ other
-    → option_map_or (λ n. n) unused made.item ∷ (numbers_from (made_after_item unused made).item left ++ held) ≡ number ∷ (numbers_from made.item other ++ held)
-items-used unused made x number left other held e same count = rw (e, same, count) refl
+-- the number that was made and comes next, once a record was put to use
+abbrev made_next : Option ℕ → ℕ → ℕ
+made_next None made = made + 1
+made_next (Some number) made = made
 
--- the numbers in no list once an item that was made is put to use
-items-made : (unused : Option ℕ) (made : Made) (left : ℕ) (held : List ℕ) → unused ≡ None
-    → option_map_or (λ n. n) unused made.item ∷ (numbers_from (made_after_item unused made).item left ++ held)
-    ≡ made.item ∷ (numbers_from (made.item + 1) left ++ held)
-items-made unused made left held e = rw e refl
+items-left : (unused : Option ℕ) (made : Made) → (made_after_item unused made).item ≡ made_next unused made.item
+items-left None made = refl
+items-left (Some number) made = refl
 
--- the numbers in no list once a shelf that was made is put to use
-shelves-made : (unused : Option ℕ) (made : Made) (left : ℕ) (held : List ℕ) → unused ≡ None
-    → option_map_or (λ n. n) unused made.shelf ∷ (numbers_from (made_after_shelf unused made).shelf left ++ held)
-    ≡ made.shelf ∷ (numbers_from (made.shelf + 1) left ++ held)
-shelves-made unused made left held e = rw e refl
+shelves-left : (unused : Option ℕ) (made : Made) → (made_after_shelf unused made).shelf ≡ made_next unused made.shelf
+shelves-left None made = refl
+shelves-left (Some number) made = refl
 
--- the numbers in no list once a shelf that became unused is put to use
-shelves-used : (unused : Option ℕ) (made : Made) (x number left other : ℕ) (held : List ℕ) → unused ≡ Some x → x ≡ number → left ≡ other
-    → option_map_or (λ n. n) unused made.shelf ∷ (numbers_from (made_after_shelf unused made).shelf left ++ held) ≡ number ∷ (numbers_from made.shelf other ++ held)
-shelves-used unused made x number left other held e same count = rw (e, same, count) refl
+module _ (unused : Option ℕ) (made after needed : ℕ) (held : List ℕ) (is : after ≡ made_next unused made) where
+  -- the numbers in no list once one that was made is put to use
+  next-made : unused ≡ None → 1 ≤ needed
+      → numbers_from made (needed - 0) ++ held ≡ option_map_or (λ n. n) unused made ∷ (numbers_from after (needed - 1 - 0) ++ held)
+  next-made none some =
+      let first : numbers_from made (needed - 0) ++ held ≡ made ∷ (numbers_from (made + 1) (needed - 1 - 0) ++ held) =
+      ap (λ (l : List ℕ). l ++ held) (numbers-first made (needed - 0) (omega (arith, some)))
+      ∙ ap (λ (n : ℕ). made ∷ (numbers_from (made + 1) n ++ held)) (omega arith) in
+      first ∙ rw (is, none) refl
+
+  -- and once one that became unused is
+  next-used : (x number : ℕ) (xs : List ℕ) → unused ≡ Some x → x ≡ number
+      → number ∷ (numbers_from made (needed - length (x ∷ xs)) ++ held) ≡ option_map_or (λ n. n) unused made ∷ (numbers_from after (needed - 1 - length xs) ++ held)
+  next-used x number xs top same =
+      let left : needed - length (x ∷ xs) ≡ needed - 1 - length xs = omega arith in
+      rw (left, is, top, same) refl
 
 -- an item record is put to use, where some are still needed
 pub item-next : (growing : Growing) (entries : List Entry) (unused_items unused_shelves held loose_shelves : List ℕ) (needed : ℕ) → 1 ≤ needed
@@ -51,25 +59,21 @@ pub item-next : (growing : Growing) (entries : List Entry) (unused_items unused_
     → IsLinkedExcept (after_item growing).records (lists_of entries (but_first unused_items) unused_shelves)
     (next_item growing ∷ (numbers_from (after_item growing).made.item (needed - 1 - length (but_first unused_items)) ++ held)) loose_shelves
 item-next growing entries [] unused_shelves held loose_shelves needed some linked =
-    let none : growing.records.unused_items ≡ None = linked.unused_items in
-    let first : numbers_from growing.made.item (needed - 0) ++ held ≡ growing.made.item ∷ (numbers_from (growing.made.item + 1) (needed - 1 - 0) ++ held) =
-    ap (λ (l : List ℕ). l ++ held) (numbers-first growing.made.item (needed - 0) (omega (arith, some)))
-    ∙ ap (λ (n : ℕ). growing.made.item ∷ (numbers_from (growing.made.item + 1) n ++ held)) (omega arith) in
-    let now = subst (λ (l : List ℕ). IsLinkedExcept growing.records (lists_of entries [] unused_shelves) l loose_shelves) first linked in
-    subst (λ (l : List ℕ). IsLinkedExcept (after_item growing).records (lists_of entries [] unused_shelves) l loose_shelves)
-    (sym (items-made growing.records.unused_items growing.made (needed - 1 - 0) held none))
-    (subst (λ (b : Bool). IsLinkedExcept (item_used b growing.records) (lists_of entries [] unused_shelves)
-    (growing.made.item ∷ (numbers_from (growing.made.item + 1) (needed - 1 - 0) ++ held)) loose_shelves)
-    (sym (ap is_some none)) now)
+    let unused : Option ℕ = growing.records.unused_items in
+    let none : unused ≡ None = linked.unused_items in
+    subst (λ (b : Bool). IsLinkedExcept (item_used b growing.records) (lists_of entries [] unused_shelves)
+    (next_item growing ∷ (numbers_from (after_item growing).made.item (needed - 1 - 0) ++ held)) loose_shelves) (sym (ap is_some none))
+    (subst (λ (l : List ℕ). IsLinkedExcept growing.records (lists_of entries [] unused_shelves) l loose_shelves)
+    (next-made unused growing.made.item (after_item growing).made.item needed held (items-left unused growing.made) none some) linked)
 item-next growing entries (x ∷ xs) unused_shelves held loose_shelves needed some linked =
-    let loose : List ℕ = numbers_from growing.made.item (needed - length (x ∷ xs)) ++ held in
-    let top : growing.records.unused_items ≡ Some x = linked.unused_items.0 in
+    let unused : Option ℕ = growing.records.unused_items in
+    let top : unused ≡ Some x = linked.unused_items.0 in
     let uses = uses-item linked in
-    let same : x ≡ uses.number = used-number growing.records.unused_items growing.records.items x uses.number top uses.is in
     subst (λ (l : List ℕ). IsLinkedExcept (after_item growing).records (lists_of entries xs unused_shelves) l loose_shelves)
-    (sym (items-used growing.records.unused_items growing.made x uses.number (needed - 1 - length xs) (needed - length (x ∷ xs)) held top same (omega arith)))
-    (subst (λ (b : Bool). IsLinkedExcept (item_used b growing.records) (lists_of entries xs unused_shelves) (uses.number ∷ loose) loose_shelves)
-    (sym (ap is_some top)) uses.linked)
+    (next-used unused growing.made.item (after_item growing).made.item needed held (items-left unused growing.made) x uses.number xs top
+    (used-number unused growing.records.items x uses.number top uses.is))
+    (subst (λ (b : Bool). IsLinkedExcept (item_used b growing.records) (lists_of entries xs unused_shelves)
+    (uses.number ∷ (numbers_from growing.made.item (needed - length (x ∷ xs)) ++ held)) loose_shelves) (sym (ap is_some top)) uses.linked)
 
 -- a shelf record is put to use, where some are still needed
 pub shelf-next : (growing : Growing) (entries : List Entry) (unused_items unused_shelves loose held : List ℕ) (needed : ℕ) → 1 ≤ needed
@@ -77,22 +81,18 @@ pub shelf-next : (growing : Growing) (entries : List Entry) (unused_items unused
     → IsLinkedExcept (after_shelf growing).records (lists_of entries unused_items (but_first unused_shelves)) loose
     (next_shelf growing ∷ (numbers_from (after_shelf growing).made.shelf (needed - 1 - length (but_first unused_shelves)) ++ held))
 shelf-next growing entries unused_items [] loose held needed some linked =
-    let none : growing.records.unused_shelves ≡ None = linked.unused_shelves in
-    let first : numbers_from growing.made.shelf (needed - 0) ++ held ≡ growing.made.shelf ∷ (numbers_from (growing.made.shelf + 1) (needed - 1 - 0) ++ held) =
-    ap (λ (l : List ℕ). l ++ held) (numbers-first growing.made.shelf (needed - 0) (omega (arith, some)))
-    ∙ ap (λ (n : ℕ). growing.made.shelf ∷ (numbers_from (growing.made.shelf + 1) n ++ held)) (omega arith) in
-    let now = subst (λ (l : List ℕ). IsLinkedExcept growing.records (lists_of entries unused_items []) loose l) first linked in
-    subst (λ (l : List ℕ). IsLinkedExcept (after_shelf growing).records (lists_of entries unused_items []) loose l)
-    (sym (shelves-made growing.records.unused_shelves growing.made (needed - 1 - 0) held none))
-    (subst (λ (b : Bool). IsLinkedExcept (shelf_used b growing.records) (lists_of entries unused_items []) loose
-    (growing.made.shelf ∷ (numbers_from (growing.made.shelf + 1) (needed - 1 - 0) ++ held)))
-    (sym (ap is_some none)) now)
+    let unused : Option ℕ = growing.records.unused_shelves in
+    let none : unused ≡ None = linked.unused_shelves in
+    subst (λ (b : Bool). IsLinkedExcept (shelf_used b growing.records) (lists_of entries unused_items []) loose
+    (next_shelf growing ∷ (numbers_from (after_shelf growing).made.shelf (needed - 1 - 0) ++ held))) (sym (ap is_some none))
+    (subst (λ (l : List ℕ). IsLinkedExcept growing.records (lists_of entries unused_items []) loose l)
+    (next-made unused growing.made.shelf (after_shelf growing).made.shelf needed held (shelves-left unused growing.made) none some) linked)
 shelf-next growing entries unused_items (x ∷ xs) loose held needed some linked =
-    let loose_shelves : List ℕ = numbers_from growing.made.shelf (needed - length (x ∷ xs)) ++ held in
-    let top : growing.records.unused_shelves ≡ Some x = linked.unused_shelves.0 in
+    let unused : Option ℕ = growing.records.unused_shelves in
+    let top : unused ≡ Some x = linked.unused_shelves.0 in
     let uses = uses-shelf linked in
-    let same : x ≡ uses.number = used-number growing.records.unused_shelves growing.records.shelves x uses.number top uses.is in
     subst (λ (l : List ℕ). IsLinkedExcept (after_shelf growing).records (lists_of entries unused_items xs) loose l)
-    (sym (shelves-used growing.records.unused_shelves growing.made x uses.number (needed - 1 - length xs) (needed - length (x ∷ xs)) held top same (omega arith)))
-    (subst (λ (b : Bool). IsLinkedExcept (shelf_used b growing.records) (lists_of entries unused_items xs) loose (uses.number ∷ loose_shelves))
-    (sym (ap is_some top)) uses.linked)
+    (next-used unused growing.made.shelf (after_shelf growing).made.shelf needed held (shelves-left unused growing.made) x uses.number xs top
+    (used-number unused growing.records.shelves x uses.number top uses.is))
+    (subst (λ (b : Bool). IsLinkedExcept (shelf_used b growing.records) (lists_of entries unused_items xs) loose
+    (uses.number ∷ (numbers_from growing.made.shelf (needed - length (x ∷ xs)) ++ held))) (sym (ap is_some top)) uses.linked)

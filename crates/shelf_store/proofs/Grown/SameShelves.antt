@@ -1,6 +1,7 @@
 -- Where a growth puts no shelf record to use, the shelves in use are those that they were: it changes heights and items.
 use Rattle.std.proofs.Common.{◌≡◌, ℕ, zero, suc, ◌+◌, ◌-◌, Bool, true, false, cond, Option, None, Some, List, length, map, refl, ap, arith, subst, sym, ◌∙◌}
 use Rattle.std.proofs.lemmas.List.{length-map}
+use Rattle.std.proofs.lemmas.Simd.{map-map}
 use Rattle.std.specs.Prelude.{nat_lt, not, ◌&&◌, ◌==◌}
 use Rattle.etagere_base.specs.Lists.{times}
 use Rattle.etagere_base.specs.Frames.{across_side}
@@ -8,7 +9,6 @@ use Rattle.etagere_base.specs.declared.frames.Frame.{Frame}
 use Rattle.etagere_links.specs.Edits.{link_at}
 use Rattle.etagere_links.specs.Links.{bits_of}
 use Rattle.etagere_links.specs.Walks.{walk}
-use Rattle.etagere_links.proofs.FieldChanges.{field_at-same}
 use Rattle.etagere_links.proofs.RecordChanges.{link_at-same, map-changed_by}
 use Rattle.shelf_links.specs.declared.records.LinkedShelf.{LinkedShelf}
 use Rattle.shelf_links.specs.RecordLists.{Records, shelf_numbers, shelf_walk, walked_lists}
@@ -20,47 +20,49 @@ use Rattle.shelf_links.proofs.FirstLinks.{to_first_free}
 use Rattle.shelf_heights.specs.Private.ByHeight.{AreByHeight, numbers_by_height}
 use Rattle.shelf_heights.specs.declared.by_height.BoundedShelf.{BoundedShelf}
 use Rattle.shelf_records.specs.AtlasRecords.{along_of, height_of, is_allocated_at, is_empty_at}
+use Rattle.shelf_records.proofs.Spelled.RecordValues.{values-same}
 use Rattle.shelf_store.specs.Private.RecordsGrown.{Growing, columns_heightened, counted_from, end_heightened, ends_column_at, filled_ends_of, is_filled_end, last_item, needed_of, next_item, records_grown, shelf_widened, shelves_widened, widened_after, with_height, with_missing, with_width}
 use Rattle.shelf_store.specs.declared.growing.Needed.{Needed}
 
+-- what a shelf record says of which shelf follows it, of its column, and of whether it is empty
+record Standing : Type 0 where
+  next : Option ℕ
+  along : ℕ
+  is_empty : Bool
+
+abbrev standing : LinkedShelf → Standing
+standing shelf = record { next = shelf_chain.next shelf; along = shelf.x; is_empty = shelf.is_empty }
+
 -- shelves that follow each other in the same columns, and are empty as before
-pub record AreAlike (old new : List LinkedShelf) : Type 0 where
-  pub next : map shelf_chain.next new ≡ map shelf_chain.next old
-  pub bits : map (λ (shelf : LinkedShelf). bits_of (shelf_chain.next shelf)) new ≡ map (λ (shelf : LinkedShelf). bits_of (shelf_chain.next shelf)) old
-  pub along : map (λ (shelf : LinkedShelf). shelf.x) new ≡ map (λ (shelf : LinkedShelf). shelf.x) old
-  pub empty : map (λ (shelf : LinkedShelf). shelf.is_empty) new ≡ map (λ (shelf : LinkedShelf). shelf.is_empty) old
+abbrev AreAlike : List LinkedShelf → List LinkedShelf → Type 0
+AreAlike old new = map standing new ≡ map standing old
+
+-- what is read of that is as before
+read-alike : {X : Type 0} (read : Standing → X) (old new : List LinkedShelf) → AreAlike old new → map (λ shelf. read (standing shelf)) new ≡ map (λ shelf. read (standing shelf)) old
+read-alike read old new alike = sym (map-map read standing new) ∙ ap (map read) alike ∙ map-map read standing old
 
 -- and so are those of records, of which the first is the same
-pub record IsAlike (old new : Records) : Type 0 where
-  pub shelves : AreAlike old.shelves new.shelves
-  pub first : new.first_shelf ≡ old.first_shelf
+record IsAlike (old new : Records) : Type 0 where
+  shelves : AreAlike old.shelves new.shelves
+  first : new.first_shelf ≡ old.first_shelf
 
 -- all stay where nothing changes
 same-alike : (records : Records) → IsAlike records records
-same-alike records = record { shelves = record { next = refl; bits = refl; along = refl; empty = refl }; first = refl }
+same-alike records = record { shelves = refl; first = refl }
 
 -- step after step
 then-alike : (old between new : Records) → IsAlike old between → IsAlike between new → IsAlike old new
-then-alike old between new before after =
-    record {
-      shelves = record {
-        next = after.shelves.next ∙ before.shelves.next;
-        bits = after.shelves.bits ∙ before.shelves.bits;
-        along = after.shelves.along ∙ before.shelves.along;
-        empty = after.shelves.empty ∙ before.shelves.empty;
-      };
-      first = after.first ∙ before.first;
-    }
+then-alike old between new before after = record { shelves = after.shelves ∙ before.shelves; first = after.first ∙ before.first }
 
 -- a shelf ends its column, filled, as before
 filled-alike : (old new : List LinkedShelf) (shelf : ℕ) (next : Option ℕ) → AreAlike old new → is_filled_end new shelf next ≡ is_filled_end old shelf next
 filled-alike old new shelf next alike = by_next next
   where
     along : (k : ℕ) → along_of new k ≡ along_of old k
-    along k = field_at-same (λ (s : LinkedShelf). s.x) 0 old new k alike.along
+    along k = values-same standing (λ (s : Standing). s.along) 0 old new k alike
 
     empty : is_empty_at new shelf ≡ is_empty_at old shelf
-    empty = field_at-same (λ (s : LinkedShelf). s.is_empty) false old new shelf alike.empty
+    empty = values-same standing (λ (s : Standing). s.is_empty) false old new shelf alike
 
     by_next : (next : Option ℕ) → is_filled_end new shelf next ≡ is_filled_end old shelf next
     by_next None = ap (λ (b : Bool). true && not b) empty
@@ -76,7 +78,7 @@ counted-alike old new zero at alike = refl
 counted-alike old new (suc steps) None alike = refl
 counted-alike old new (suc steps) (Some shelf) alike =
     let next : Option ℕ = link_at shelf_chain.next old shelf in
-    ap (λ (n : Option ℕ). cond (is_filled_end new shelf n) 1 0 + counted_from (is_filled_end new) new steps n) (link_at-same shelf_chain.next old new shelf alike.next)
+    ap (λ (n : Option ℕ). cond (is_filled_end new shelf n) 1 0 + counted_from (is_filled_end new) new steps n) (link_at-same shelf_chain.next old new shelf (read-alike (λ s. s.next) old new alike))
     ∙ ap (λ (b : Bool). cond b 1 0 + counted_from (is_filled_end new) new steps next) (filled-alike old new shelf next alike)
     ∙ ap (λ (n : ℕ). cond (is_filled_end old shelf next) 1 0 + n) (counted-alike old new steps next alike)
 
@@ -99,17 +101,7 @@ end-alike width shelf height next growing none = by_test (ends_column_at shelves
     by_test : (b e : Bool) → ends_column_at shelves shelf next ≡ b → is_empty_at shelves shelf ≡ e
         → IsAlike growing.records (end_heightened width shelf height next growing).records
     by_test false e ends empty = rw ends (same-alike growing.records)
-    by_test true true ends empty =
-        rw (ends, empty)
-        (record {
-          shelves = record {
-            next = map-changed_by shelf_chain.next taller shelves (Some shelf) (λ s. refl);
-            bits = map-changed_by (λ (s : LinkedShelf). bits_of (shelf_chain.next s)) taller shelves (Some shelf) (λ s. refl);
-            along = map-changed_by (λ (s : LinkedShelf). s.x) taller shelves (Some shelf) (λ s. refl);
-            empty = map-changed_by (λ (s : LinkedShelf). s.is_empty) taller shelves (Some shelf) (λ s. refl);
-          };
-          first = refl;
-        })
+    by_test true true ends empty = rw (ends, empty) (record { shelves = map-changed_by standing taller shelves (Some shelf) (λ s. refl); first = refl })
     by_test true false ends empty = absurd (filled (ends_column_at shelves shelf next) (is_empty_at shelves shelf) ends empty none)
 
 -- a count of none counts not the first
@@ -136,25 +128,9 @@ widened-alike : (shelf place width : ℕ) (last : Option ℕ) (growing : Growing
 widened-alike shelf place width None growing = same-alike growing.records
 widened-alike shelf place width (Some last) growing = by_test (is_allocated_at growing.records.items last) refl
   where
-    shelves : List LinkedShelf
-    shelves = growing.records.shelves
-
-    freed : LinkedShelf → LinkedShelf
-    freed = to_first_free (Some (next_item growing))
-
     by_test : (b : Bool) → is_allocated_at growing.records.items last ≡ b → IsAlike growing.records (widened_after shelf place width (Some last) growing).records
-    by_test true e =
-        rw e
-        (record {
-          shelves = record {
-            next = map-changed_by shelf_chain.next freed shelves (Some shelf) (λ s. refl);
-            bits = map-changed_by (λ (s : LinkedShelf). bits_of (shelf_chain.next s)) freed shelves (Some shelf) (λ s. refl);
-            along = map-changed_by (λ (s : LinkedShelf). s.x) freed shelves (Some shelf) (λ s. refl);
-            empty = map-changed_by (λ (s : LinkedShelf). s.is_empty) freed shelves (Some shelf) (λ s. refl);
-          };
-          first = refl;
-        })
-    by_test false e = rw e (record { shelves = record { next = refl; bits = refl; along = refl; empty = refl }; first = refl })
+    by_test true e = rw e (record { shelves = map-changed_by standing (to_first_free (Some (next_item growing))) growing.records.shelves (Some shelf) (λ s. refl); first = refl })
+    by_test false e = rw e (record { shelves = refl; first = refl })
 
 -- and at the ends of so many
 widths-alike : (place width steps : ℕ) (at : Option ℕ) (growing : Growing) → IsAlike growing.records (shelves_widened place width steps at growing).records
@@ -168,7 +144,7 @@ widths-alike place width (suc steps) (Some shelf) growing =
     (widths-alike place width steps next widened)
 
 -- a growth that needs no shelf record
-pub grown-alike : (frame grown : Frame) (needed : Needed) (records : Records) → needed ≡ needed_of frame grown records → needed.shelves ≡ 0
+grown-alike : (frame grown : Frame) (needed : Needed) (records : Records) → needed ≡ needed_of frame grown records → needed.shelves ≡ 0
     → IsAlike records (records_grown frame grown needed records).records
 grown-alike frame grown needed records is none =
     then-alike records wide.records (records_grown frame grown needed records).records begun
@@ -190,7 +166,7 @@ grown-alike frame grown needed records is none =
     made-is : IsAlike records made.records
     made-is =
         subst (λ (n : ℕ). IsAlike records (records_made (missing item_chain needed.items records.unused_items records.items) (missing shelf_chain n records.unused_shelves records.shelves) records))
-        (sym none) (record { shelves = record { next = refl; bits = refl; along = refl; empty = refl }; first = refl })
+        (sym none) (record { shelves = refl; first = refl })
 
     by_width : (b : Bool) → nat_lt frame.column_width grown.column_width ≡ b → IsAlike made.records wide.records
     by_width true e = rw e (widths-alike frame.column_width (grown.column_width - frame.column_width) (length made.records.shelves) made.records.first_shelf made)
@@ -202,7 +178,7 @@ grown-alike frame grown needed records is none =
     no-ends : filled_ends_of records ≡ 0 → counted_from (is_filled_end wide.records.shelves) wide.records.shelves (length wide.records.shelves) wide.records.first_shelf ≡ 0
     no-ends unfilled =
         let size : length wide.records.shelves ≡ length records.shelves =
-        omega (arith, length-map records.shelves shelf_chain.next, length-map wide.records.shelves shelf_chain.next, ap (λ (l : List (Option ℕ)). length l) begun.shelves.next) in
+        omega (arith, length-map records.shelves standing, length-map wide.records.shelves standing, ap length begun.shelves) in
         ap (λ (n : ℕ). counted_from (is_filled_end wide.records.shelves) wide.records.shelves n wide.records.first_shelf) size
         ∙ ap (counted_from (is_filled_end wide.records.shelves) wide.records.shelves (length records.shelves)) begun.first
         ∙ counted-alike records.shelves wide.records.shelves (length records.shelves) records.first_shelf begun.shelves
@@ -224,11 +200,11 @@ grown-alike frame grown needed records is none =
 -- walks meet the same shelves
 walk-alike : (old new : Records) → IsAlike old new → (shelf_walk new).met ≡ (shelf_walk old).met
 walk-alike old new alike =
-    ap (λ (links : List ℕ). (walk links (bits_of new.first_shelf)).met) alike.shelves.bits
+    ap (λ (links : List ℕ). (walk links (bits_of new.first_shelf)).met) (read-alike (λ s. bits_of s.next) old.shelves new.shelves alike.shelves)
     ∙ ap (λ (first : Option ℕ). (walk (map (λ (shelf : LinkedShelf). bits_of (shelf_chain.next shelf)) old.shelves) (bits_of first)).met) alike.first
 
 -- so that a list by height has the shelves in use still
-pub same-shelves : (frame : Frame) (old new : Records) (before after : List BoundedShelf) → AreByHeight frame old before → after ≡ before → IsAlike old new
+same-shelves : (frame : Frame) (old new : Records) (before after : List BoundedShelf) → AreByHeight frame old before → after ≡ before → IsAlike old new
     → (shelf : ℕ) → times shelf (numbers_by_height after) ≡ times shelf (shelf_numbers (walked_lists new).entries)
 same-shelves frame old new before after are same alike shelf =
     ap (λ (by_height : List BoundedShelf). times shelf (numbers_by_height by_height)) same

@@ -31,7 +31,8 @@ use Rattle.shelf_store.proofs.Grown.MadeLinked.{numbers_from, records-made}
 use Rattle.shelf_links.proofs.MissingRecords.{missing-counted}
 use Rattle.shelf_store.proofs.Spelled.ItemLocated.{in-use-counted}
 use Rattle.shelf_records.proofs.Spelled.RecordValues.{SameItem, SameItem-then, SameShelf, SameShelf-then, item-same}
-use Rattle.shelf_store.proofs.Spelled.SpelledLists.{IsSpelledBut, stacked-same}
+use Rattle.shelf_store.proofs.Spelled.SpelledLists.{IsSpelledBut}
+use Rattle.shelf_store.proofs.Spelled.StackedEdits.{stacked-same}
 use Rattle.shelf_store.proofs.Spelled.SpelledMerges.{unmarked-same}
 use Rattle.shelf_store.proofs.Spelled.SpelledUses.{SameEntries, field_at-made, same-entries, same-shelf, shelves-used}
 use Rattle.shelf_store.proofs.Spelled.TakenReady.{each-length, shelves-few}
@@ -230,7 +231,7 @@ module _ (frame : Frame) (size : Size) (records : Records) (kept : AreKept frame
       record {
         linked = records-made (missing item_chain needed.items records.unused_items records.items) (missing shelf_chain needed.shelves records.unused_shelves records.shelves) kept.linked;
         placed = same.placed (placed-alike frame grown records entries alike kept.placed);
-        stacked = stacked-same records.shelves new.shelves grown.column_width same_shelf [] (shelf_numbers entries)
+        stacked = stacked-same records.shelves new.shelves grown.column_width same_shelf (shelf_numbers entries)
             (stacked-alike frame grown records [] (shelf_numbers entries) tt alike kept.stacked);
         unused = unmarked-same records.items new.items unused_items (λ k stands. same_item k) kept.unused;
       }

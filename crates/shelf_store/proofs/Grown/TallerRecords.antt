@@ -1,7 +1,5 @@
 -- Records half way through a growth stay what they are when the last shelf of a column becomes taller.
-use Rattle.std.proofs.Common.{◌≡◌, ◌≢◌, ℕ, ◌+◌, ◌<◌, ◌≤◌, ◌/◌, false, ◌==◌, Some, List, [], ◌∷◌, ◌++◌, length, refl, ap, sym, ◌∙◌, arith, append_assoc, subst}
-use Rattle.std.proofs.lemmas.Bool.{cond-false}
-use Rattle.std.proofs.lemmas.List.{append-nil}
+use Rattle.std.proofs.Common.{◌≡◌, ◌≢◌, ℕ, ◌+◌, ◌<◌, ◌≤◌, ◌/◌, false, Some, List, [], ◌∷◌, ◌++◌, length, refl, ap, sym, ◌∙◌, arith, subst}
 use Rattle.etagere_base.specs.declared.frames.Frame.{Frame}
 use Rattle.std.specs.List.{AllByRecursion}
 use Rattle.etagere_base.specs.Lists.{times}
@@ -13,7 +11,6 @@ use Rattle.shelf_links.specs.RecordLists.{Entry, IsEntry, Records, shelf_numbers
 use Rattle.shelf_links.proofs.AllLists.LinkedFields.{shelf_changed-linked}
 use Rattle.shelf_links.proofs.AllLists.LinkedFrames.{shelf_numbers-append}
 use Rattle.etagere_links.proofs.FieldChanges.{field_at-changed, field_at-kept}
-use Rattle.etagere_links.proofs.ListEnds.{times-here}
 use Rattle.etagere_links.proofs.RecordChanges.{length-changed_by}
 use Rattle.shelf_records.specs.AtlasRecords.{AtlasRecords, across_of, along_of, height_of, spelled_shelf}
 use Rattle.shelf_model.specs.Merging.{combined_shelves}
@@ -26,93 +23,20 @@ use Rattle.shelf_store.proofs.Spelled.EmptinessSaid.{shelf-is}
 use Rattle.shelf_records.proofs.Spelled.RecordValues.{SameShelf, item-same, shelf-other}
 use Rattle.shelf_store.proofs.Spelled.SpelledShelves.{IsTaller, still-placed}
 use Rattle.shelf_store.proofs.Spelled.SpelledUses.{SameEntries, same-entries}
-use Rattle.shelf_records.proofs.Spelled.StackedMerges.{height-one, height_before-append, stacked-after}
+use Rattle.shelf_store.proofs.Spelled.StackedEdits.{Each-numbers, height-other, stacked-edited}
+use Rattle.shelf_store.proofs.Spelled.ReturnedLengths.{counts-same}
 
-module _ (shelves : List LinkedShelf) (column_width : ℕ) where
-  -- of shelves that stand one on the other, the first ones do, and the others do after them
-  pub stacked-parts : (below front back : List ℕ) → AreStacked shelves column_width below (front ++ back)
-      → AreStacked shelves column_width below front × AreStacked shelves column_width (below ++ front) back
-  stacked-parts below [] back stacked = (tt, subst (λ (l : List ℕ). AreStacked shelves column_width l back) (sym (append-nil below)) stacked)
-  stacked-parts below (n ∷ ns) back stacked =
-      let parts = stacked-parts (below ++ n ∷ []) ns back stacked.1 in
-      ((stacked.0, parts.0), subst (λ (l : List ℕ). AreStacked shelves column_width l back) (append_assoc below (n ∷ []) ns) parts.1)
-
-  -- shelves that stand one on the other, after others that do
-  pub stacked-joined : (below front back : List ℕ) → AreStacked shelves column_width below front → AreStacked shelves column_width (below ++ front) back
-      → AreStacked shelves column_width below (front ++ back)
-  stacked-joined below [] back stacked others = subst (λ (l : List ℕ). AreStacked shelves column_width l back) (append-nil below) others
-  stacked-joined below (n ∷ ns) back stacked others = (
-    stacked.0,
-    stacked-joined (below ++ n ∷ []) ns back stacked.1 (subst (λ (l : List ℕ). AreStacked shelves column_width l back) (sym (append_assoc below (n ∷ []) ns)) others),
-  )
-
--- a shelf of another column adds no height
-height-other : (shelves : List LinkedShelf) (column_width column n : ℕ) → along_of shelves n / column_width ≢ column
-    → height_before shelves column_width column (n ∷ []) ≡ 0
-height-other shelves column_width column n other =
-    omega (arith, cond-false (along_of shelves n / column_width == column) (height_of shelves n) 0 (apart (along_of shelves n / column_width) column other))
-  where
-    apart : (a b : ℕ) → a ≢ b → (a == b) ≡ false
-    apart a b h = grind arith
-
-module _ (shelves new : List LinkedShelf) (column_width : ℕ) where
-  -- the heights of shelves that say the same
-  heights-among : (column : ℕ) (numbers : List ℕ) → ((k : ℕ) → 1 ≤ times k numbers → SameShelf shelves new k)
-      → height_before new column_width column numbers ≡ height_before shelves column_width column numbers
-  heights-among column [] same = refl
-  heights-among column (n ∷ ns) same =
-      omega (
-        arith,
-        height-one shelves new column_width column n (same n (omega (arith, times-here n ns))),
-        heights-among column ns (λ k stands. same k (omega (arith, stands))),
-      )
-
-  -- shelves of other columns than one that changed stand where they stood
-  stacked-others : (changed : ℕ) (before numbers : List ℕ)
-      → ((column : ℕ) → changed ≢ column → height_before new column_width column before ≡ height_before shelves column_width column before)
-      → ((k : ℕ) → 1 ≤ times k numbers → SameShelf shelves new k) → AllByRecursion (λ (n : ℕ). along_of shelves n / column_width ≢ changed) numbers
-      → AreStacked shelves column_width before numbers → AreStacked new column_width before numbers
-  stacked-others changed before [] heights same others stacked = tt
-  stacked-others changed before (n ∷ ns) heights same others stacked =
-      let own : SameShelf shelves new n = same n (omega (arith, times-here n ns)) in
-      let column : along_of new n / column_width ≡ along_of shelves n / column_width = ap (λ (a : ℕ). a / column_width) own.along in
-      let below : height_before new column_width (along_of shelves n / column_width) before ≡ height_before shelves column_width (along_of shelves n / column_width) before =
-      heights (along_of shelves n / column_width) (λ e. others.0 (sym e)) in (
-        own.across ∙ stacked.0 ∙ sym below ∙ sym (ap (λ (c : ℕ). height_before new column_width c before) column),
-        stacked-others changed (before ++ n ∷ []) ns
-            (λ c other. omega (
-              arith,
-              heights c other,
-              height-one shelves new column_width c n own,
-              height_before-append new column_width c before (n ∷ []),
-              height_before-append shelves column_width c before (n ∷ []),
-            ))
-            (λ k stands. same k (omega (arith, stands))) others.1 stacked.1,
-      )
-
-  -- shelves stand where they stood after the last one of a column became taller
-  stacked-taller : (before after : List ℕ) (number : ℕ) → along_of new number ≡ along_of shelves number → across_of new number ≡ across_of shelves number
-      → ((k : ℕ) → 1 ≤ times k before → SameShelf shelves new k) → ((k : ℕ) → 1 ≤ times k after → SameShelf shelves new k)
-      → AllByRecursion (λ (n : ℕ). along_of shelves n / column_width ≢ along_of shelves number / column_width) after
-      → AreStacked shelves column_width [] (before ++ number ∷ after) → AreStacked new column_width [] (before ++ number ∷ after)
-  stacked-taller before after number along across same_before same_after others stacked =
-      let parts = stacked-parts shelves column_width [] before (number ∷ after) stacked in
-      let column : along_of new number / column_width ≡ along_of shelves number / column_width = ap (λ (a : ℕ). a / column_width) along in
-      let under : height_before new column_width (along_of new number / column_width) before ≡ height_before shelves column_width (along_of shelves number / column_width) before =
-      ap (λ (c : ℕ). height_before new column_width c before) column ∙ heights-among (along_of shelves number / column_width) before same_before in
-      stacked-joined new column_width [] before (number ∷ after) (stacked-after shelves new column_width [] [] before (λ c. refl) same_before parts.0) (
-        across ∙ parts.1.0 ∙ sym under,
-        stacked-others (along_of shelves number / column_width) (before ++ number ∷ []) after
-            (λ c other. omega (
-              arith,
-              heights-among c before same_before,
-              height-other shelves column_width c number other,
-              height-other new column_width c number (λ e. other (sym column ∙ e)),
-              height_before-append new column_width c before (number ∷ []),
-              height_before-append shelves column_width c before (number ∷ []),
-            ))
-            same_after others parts.1.1,
-      )
+-- shelves stand where they stood after the last one of a column became taller
+stacked-taller : (shelves new : List LinkedShelf) (column_width : ℕ) (before after : List ℕ) (number : ℕ) → along_of new number ≡ along_of shelves number
+    → across_of new number ≡ across_of shelves number
+    → ((k : ℕ) → 1 ≤ times k before → SameShelf shelves new k) → ((k : ℕ) → 1 ≤ times k after → SameShelf shelves new k)
+    → AllByRecursion (λ (n : ℕ). along_of shelves n / column_width ≢ along_of shelves number / column_width) after
+    → AreStacked shelves column_width [] (before ++ number ∷ after) → AreStacked new column_width [] (before ++ number ∷ after)
+stacked-taller shelves new column_width before after number along across same_before same_after =
+    let column : ℕ = along_of shelves number / column_width in
+    stacked-edited shelves new column_width (λ c. c ≢ column) before (number ∷ []) (number ∷ []) after same_before same_after
+    (λ below stacked. (across ∙ stacked.0 ∙ sym (ap (λ a. height_before new column_width (a / column_width) before) along ∙ below column), tt))
+    (λ c other. height-other new column_width c number (λ e. other (sym e ∙ ap (λ a. a / column_width) along)) ∙ sym (height-other shelves column_width c number (λ e. other (sym e))))
 
 -- records with one shelf as tall as this
 abbrev pub with_tall : ℕ → ℕ → Records → Records
@@ -140,11 +64,6 @@ pub record IsTallerEnd (frame : Frame) (old : ℕ) (growing new : Growing) (befo
   pub own : spelled_shelf (bare frame new.records) entry
       ≡ combined_shelves (spelled_shelf (bare frame growing.records) entry) (end_shelf frame height (spelled_shelf (bare frame growing.records) entry))
   pub after_spelled : shelves_spelled frame new.records after ≡ shelves_spelled frame growing.records after
-
--- facts of the numbers of shelves
-each-number : (P : ℕ → Type 0) (entries : List Entry) → AllByRecursion (λ (entry : Entry). P entry.number) entries → AllByRecursion P (shelf_numbers entries)
-each-number P [] each = tt
-each-number P (entry ∷ entries) each = (each.0, each-number P entries each.1)
 
 -- the last shelf of a column becomes taller
 pub end-taller : (frame : Frame) (old : ℕ) (growing : Growing) (before after : List Entry) (entry : Entry) (unused_items unused_shelves : List ℕ) (items shelves height : ℕ)
@@ -184,17 +103,13 @@ end-taller frame old growing before after entry unused_items unused_shelves item
                   stacked = rw numbers
                       (stacked-taller records.shelves new.shelves column_width (shelf_numbers before) (shelf_numbers after) entry.number
                       (taller.along entry.number) (taller.across entry.number) same_before same_after
-                      (each-number (λ (n : ℕ). along_of records.shelves n / column_width ≢ along_of records.shelves entry.number / column_width) after others)
+                      (Each-numbers (λ (n : ℕ). along_of records.shelves n / column_width ≢ along_of records.shelves entry.number / column_width) after others)
                       (subst (λ (l : List ℕ). AreStacked records.shelves column_width [] l) numbers is.spelled.stacked));
                   unused = is.spelled.unused;
                 };
             flags = Each-append (HasFlag (bare frame new)) before (entry ∷ after) (front.flags (Each-front (HasFlag atlas) before (entry ∷ after) is.flags))
                 (taller.is_empty entry.number ∙ flags.0, back.flags flags.1);
-            counts =
-                record {
-                  shelves = (omega (arith, as_many, is.counts.shelves.0), omega (arith, as_many, is.counts.shelves.1));
-                  items = is.counts.items;
-                };
+            counts = counts-same atlas (bare frame new) (record { items = refl; shelves = as_many }) is.counts;
             more = is.more;
             used_up = is.used_up;
           };

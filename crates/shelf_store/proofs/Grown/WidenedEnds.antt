@@ -38,6 +38,18 @@ use Rattle.shelf_store.proofs.Spelled.SpelledMerges.{before-other, free-first, n
 use Rattle.shelf_store.proofs.Spelled.SpelledSplits.{shelf-parts}
 use Rattle.shelf_store.proofs.Spelled.SpelledUses.{Each-but_first, same-shelf, stranger}
 
+-- the records with a wider last item
+abbrev pub with_wider : ℕ → ℕ → Growing → Growing
+with_wider last width growing = record {
+  records = item_changed last (λ (item : LinkedItem). record item { width = width_of growing.records.items last + width }) growing.records;
+  made = growing.made;
+}
+
+-- the records with a free item after the last one
+abbrev pub with_end : ℕ → ℕ → ℕ → ℕ → Growing → Growing
+with_end number last place width growing =
+    record { records = end_inserted number last (next_item growing) place width (after_item growing).records; made = (after_item growing).made }
+
 module _ (frame grown : Frame) (old : ℕ) (growing : Growing) (before after : List Entry) (number last : ℕ) (front free unused_items unused_shelves : List ℕ) (items shelves width : ℕ) where
   -- the items of the shelf
   abbrev numbers : List ℕ
@@ -58,18 +70,10 @@ module _ (frame grown : Frame) (old : ℕ) (growing : Growing) (before after : L
   abbrev loose_shelves : Growing → List ℕ
   loose_shelves now = numbers_from now.made.shelf (shelves - length unused_shelves) ++ []
 
-  -- the records with a wider last item
-  abbrev pub with_wider : Growing
-  with_wider = record {
-    records =
-        item_changed last (λ (item : LinkedItem). record item { width = width_of growing.records.items last + width }) growing.records;
-    made = growing.made;
-  }
-
   -- a free last item becomes wider
   pub wider-edits : IsGrowing grown old growing (before ++ entry ∷ after) unused_items unused_shelves items shelves
       → is_allocated_at growing.records.items last ≡ false
-      → EditsShelf grown old growing with_wider before after entry entry unused_items unused_shelves items shelves (wider_shelf frame width shelf)
+      → EditsShelf grown old growing (with_wider last width growing) before after entry entry unused_items unused_shelves items shelves (wider_shelf frame width shelf)
   wider-edits is unmarked =
       let old_items : List LinkedItem = growing.records.items in
       let wide : ℕ = width_of old_items last + width in
@@ -112,10 +116,6 @@ module _ (frame grown : Frame) (old : ℕ) (growing : Growing) (before after : L
   abbrev next : ℕ
   next = next_item growing
 
-  -- the records with a free item after the last one
-  abbrev pub with_end : ℕ → Growing
-  with_end place = record { records = end_inserted number last next place width (after_item growing).records; made = (after_item growing).made }
-
   -- its lists then
   abbrev longer : Entry
   longer = entry_of number (front ++ last ∷ next ∷ []) (next ∷ free)
@@ -144,13 +144,13 @@ module _ (frame grown : Frame) (old : ℕ) (growing : Growing) (before after : L
   pub end-edits : (place : ℕ) → IsGrowing grown old growing (before ++ entry ∷ after) unused_items unused_shelves (suc items) shelves
       → is_allocated_at growing.records.items last ≡ true
       → place ≡ along_of growing.records.shelves number + widths growing.records.items numbers → place ≡ column_place frame shelf + frame.column_width
-      → EditsShelf grown old growing (with_end place) before after entry longer (but_first unused_items) unused_shelves items shelves (wider_shelf frame width shelf)
+      → EditsShelf grown old growing (with_end number last place width growing) before after entry longer (but_first unused_items) unused_shelves items shelves (wider_shelf frame width shelf)
   end-edits place is marked at column =
       let old_items : List LinkedItem = growing.records.items in
       let one : Records = (after_item growing).records in
       let two : Records = item_changed next (started place width number) one in
       let three : Records = item_inserted_after last next two in
-      let new : List LinkedItem = (with_end place).records.items in
+      let new : List LinkedItem = (with_end number last place width growing).records.items in
       let rest : List ℕ = but_first unused_items in
       let held : List ℕ = loose (after_item growing) items rest in
       let atlas : AtlasRecords = bare grown growing.records in
@@ -165,8 +165,8 @@ module _ (frame grown : Frame) (old : ℕ) (growing : Growing) (before after : L
       let entry_is : IsEntry growing.records entry = Each-middle (IsEntry growing.records) before entry after is.spelled.linked.entries in
       let placed : IsPlaced atlas entry = Each-middle (IsPlaced atlas) before entry after is.spelled.placed in
       let absent : times next free ≡ 0 = omega (arith, entry_is.members next, loose_next.no_used, count next) in
-      let same : (k : ℕ) → SameShelf growing.records.shelves (with_end place).records.shelves k = λ k.
-      shelves-same growing.records.shelves (with_end place).records.shelves k (free-first number (Some next) growing.records.shelves) in
+      let same : (k : ℕ) → SameShelf growing.records.shelves (with_end number last place width growing).records.shelves k = λ k.
+      shelves-same growing.records.shelves (with_end number last place width growing).records.shelves k (free-first number (Some next) growing.records.shelves) in
       let places : map (item_place_of new) free ≡ map (item_place_of old_items) free =
       map-agrees (item_place_of new) (item_place_of old_items) free (λ k stands. (has.others k (own k (omega (arith, stands, entry_is.members k)))).place) in
       record {
@@ -176,16 +176,16 @@ module _ (frame grown : Frame) (old : ℕ) (growing : Growing) (before after : L
             (item_inserted_after-linked (around_of before after rest unused_shelves) number next last front [] free
             (item_written-linked next (started place width number) linked));
         placed = record {
-          owners = end-owners old_items new number next place width front last has own placed.owners;
+          owners = end-owners front last has own placed.owners;
           along = ap (λ a. a % grown.column_width) (same number).along ∙ placed.along;
-          places = rw (same number).along (end-places old_items new (along_of growing.records.shelves number) number next place width front last has own at placed.places);
-          free_list = λ k. omega (arith, placed.free_list k, end-free old_items new number next place width front last has own marked k);
+          places = rw (same number).along (end-places front last has own (along_of growing.records.shelves number) at placed.places);
+          free_list = λ k. omega (arith, placed.free_list k, end-free front last has own marked k);
         };
-        own = shelf-parts (along_of (with_end place).records.shelves number / grown.column_width) shelf.column (height_of (with_end place).records.shelves number) shelf.height
+        own = shelf-parts (along_of (with_end number last place width growing).records.shelves number / grown.column_width) shelf.column (height_of (with_end number last place width growing).records.shelves number) shelf.height
             (map (item_at new) (front ++ last ∷ next ∷ [])) (wider_end width shelf.items) (item_place_of new next ∷ map (item_place_of new) free)
             (cond (ends_free shelf.items) shelf.free_list ((column_place frame shelf + frame.column_width) ∷ shelf.free_list))
             (ap (λ a. a / grown.column_width) (same number).along) (same number).height
-            (end-spelled old_items new number next place width front last has own marked)
+            (end-spelled front last has own marked)
             (ap (λ (p : ℕ). p ∷ map (item_place_of new) free) (has.place ∙ column)
             ∙ ap (λ (ps : List ℕ). (column_place frame shelf + frame.column_width) ∷ ps) places
             ∙ sym (cond-false _ _ _ (ends-spelled old_items front last true marked)));

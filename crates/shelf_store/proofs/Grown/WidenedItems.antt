@@ -16,7 +16,7 @@ use Rattle.shelf_links.specs.Records.{free_list, item_chain}
 use Rattle.etagere_links.proofs.FieldChanges.{field_at-changed}
 use Rattle.etagere_links.proofs.ListEnds.{times-here}
 use Rattle.etagere_links.proofs.RecordChanges.{get-changed_by-other, length-changed_by}
-use Rattle.etagere_links.proofs.RecordFrames.{length-linked_between, map-linked_between}
+use Rattle.etagere_links.proofs.RecordFrames.{map-linked_between}
 use Rattle.shelf_records.specs.AtlasRecords.{is_allocated_at, item_at, item_place_of, shelf_of, spelled_item}
 use Rattle.shelf_model.specs.Growing.{ends_free}
 use Rattle.shelf_store.specs.Private.RecordsGrown.{Growing, after_item, end_inserted, next_item}
@@ -50,10 +50,6 @@ wider_end-free width item front free = wider_end-last width item front ∙ ap (�
 wider_end-allocated : (width : ℕ) (item : Item) (front : List Item) → is_free item ≡ false
     → wider_end width (front ++ item ∷ []) ≡ front ++ item ∷ free_item width ∷ []
 wider_end-allocated width item front allocated = wider_end-last width item front ∙ ap (λ (items : List Item). front ++ items) (cond-false _ _ _ allocated)
-
--- what is spelled of items with one at their end
-spelled-end : (f : ℕ → Item) (front : List ℕ) (last : ℕ) → map f (front ++ last ∷ []) ≡ map f front ++ f last ∷ []
-spelled-end f front last = map-append f front (last ∷ [])
 
 -- they are some
 pub some-end : (f : ℕ → Item) (front : List ℕ) (last : ℕ) → 1 ≤ length (map f (front ++ last ∷ []))
@@ -89,16 +85,16 @@ wide-spelled items new width front last is other unmarked =
     let own : item_at new last ≡ free_item wide = is.item ∙ ap (λ (i : Item). record { width = wide; id = i.id }) (free-none (item_at items last) free) in
     let fronts : map (item_at new) front ≡ map (item_at items) front =
     map-agrees (item_at new) (item_at items) front (λ k stands. (is.others k (other k stands)).item) in
-    spelled-end (item_at new) front last
+    map-append (item_at new) front (last ∷ [])
     ∙ ap (λ (l : List Item). l ++ item_at new last ∷ []) fronts
     ∙ ap (λ (i : Item). map (item_at items) front ++ i ∷ []) own
-    ∙ sym (ap (wider_end width) (spelled-end (item_at items) front last) ∙ wider_end-free width (item_at items last) (map (item_at items) front) free)
+    ∙ sym (ap (wider_end width) (map-append (item_at items) front (last ∷ [])) ∙ wider_end-free width (item_at items last) (map (item_at items) front) free)
 
 -- a shelf ends with a free item where its last record is free
 pub ends-spelled : (items : List LinkedItem) (front : List ℕ) (last : ℕ) (allocated : Bool) → is_allocated_at items last ≡ allocated
     → ends_free (map (item_at items) (front ++ last ∷ [])) ≡ not allocated
 ends-spelled items front last allocated is =
-    ap ends_free (spelled-end (item_at items) front last) ∙ ends_free-last (item_at items last) (map (item_at items) front) ∙ free-item items last allocated is
+    ap ends_free (map-append (item_at items) front (last ∷ [])) ∙ ends_free-last (item_at items last) (map (item_at items) front) ∙ free-item items last allocated is
 
 -- what items say once a free one was put after the last one of a shelf
 pub record HasEnd (items new : List LinkedItem) (owner number here width : ℕ) : Type 0 where
@@ -137,64 +133,61 @@ end-values growing shelf last place width within =
           (get-changed_by-other (started place width shelf) one.items (Some number) k (λ e. let same : number ≡ k = cc in other same)
           ∙ used-other growing.records.unused_items items growing.made.item k other))
           (values k);
-      as_many = length-linked_between free_list three.items None (first_free_of three.shelves shelf) number
-          ∙ length-linked_between item_chain two.items (Some last) (link_at item_chain.next two.items last) number
-          ∙ length-changed_by (started place width shelf) one.items (Some number)
-          ∙ long;
+      as_many = simp length-changed_by long;
     }
 
--- items lie side by side where a free one was put after the last one
-pub end-places : (items new : List LinkedItem) (here shelf number place width : ℕ) (front : List ℕ) (last : ℕ) → HasEnd items new shelf number place width
-    → ((k : ℕ) → 1 ≤ times k (front ++ last ∷ []) → number ≢ k) → place ≡ here + widths items (front ++ last ∷ [])
-    → LieFrom items here (front ++ last ∷ []) → LieFrom new here (front ++ last ∷ number ∷ [])
-end-places items new here shelf number place width front last has other at lies =
-    let same_front : (k : ℕ) → 1 ≤ times k front → SameItem items new k = λ k stands. has.others k (other k (omega (arith, stands, times-append k front (last ∷ [])))) in
-    let same_last : SameItem items new last = has.others last (other last (omega (arith, times-append last front (last ∷ []), times-here last []))) in
-    let back : LieFrom items (here + widths items front) (last ∷ []) = LieFrom-back items here front (last ∷ []) lies in
-    let begins : here + widths new front ≡ here + widths items front = ap (λ w. here + w) (widths-same items new front same_front) in
-    let width_last : (item_at new last).width ≡ (item_at items last).width = ap (λ (i : Item). i.width) same_last.item in
-    LieFrom-append new here front (last ∷ number ∷ [])
-    (LieFrom-same items new here front same_front (LieFrom-front items here front (last ∷ []) lies))
-    (omega (arith, same_last.place, back.0, begins), (omega (arith, has.place, at, widths-append items front (last ∷ []), begins, width_last), tt))
+-- a free item was put after the last one of others
+module _ {items new : List LinkedItem} {shelf number place width : ℕ} (front : List ℕ) (last : ℕ) (has : HasEnd items new shelf number place width)
+    (other : (k : ℕ) → 1 ≤ times k (front ++ last ∷ []) → number ≢ k) where
+  -- the last one says what it said
+  same_last : SameItem items new last
+  same_last = has.others last (other last (omega (arith, times-append last front (last ∷ []), times-here last [])))
 
--- they name their shelf
-pub end-owners : (items new : List LinkedItem) (shelf number place width : ℕ) (front : List ℕ) (last : ℕ) → HasEnd items new shelf number place width
-    → ((k : ℕ) → 1 ≤ times k (front ++ last ∷ []) → number ≢ k) → AllByRecursion (λ item. shelf_of items item ≡ shelf) (front ++ last ∷ [])
-    → AllByRecursion (λ item. shelf_of new item ≡ shelf) (front ++ last ∷ number ∷ [])
-end-owners items new shelf number place width front last has other owners =
-    let all : AllByRecursion (λ item. shelf_of new item ≡ shelf) (front ++ last ∷ []) =
-    owners-same items new shelf (front ++ last ∷ []) (λ k stands. has.others k (other k stands)) owners in
-    Each-append (λ item. shelf_of new item ≡ shelf) front (last ∷ number ∷ [])
-    (Each-front (λ item. shelf_of new item ≡ shelf) front (last ∷ []) all)
-    ((Each-back (λ item. shelf_of new item ≡ shelf) front (last ∷ []) all).0, (has.shelf, tt))
+  -- items lie side by side where a free one was put after the last one
+  pub end-places : (here : ℕ) → place ≡ here + widths items (front ++ last ∷ [])
+      → LieFrom items here (front ++ last ∷ []) → LieFrom new here (front ++ last ∷ number ∷ [])
+  end-places here at lies =
+      let same_front : (k : ℕ) → 1 ≤ times k front → SameItem items new k = λ k stands. has.others k (other k (omega (arith, stands, times-append k front (last ∷ [])))) in
+      let back : LieFrom items (here + widths items front) (last ∷ []) = LieFrom-back items here front (last ∷ []) lies in
+      let begins : here + widths new front ≡ here + widths items front = ap (λ w. here + w) (widths-same items new front same_front) in
+      let width_last : (item_at new last).width ≡ (item_at items last).width = ap (λ (i : Item). i.width) same_last.item in
+      LieFrom-append new here front (last ∷ number ∷ [])
+      (LieFrom-same items new here front same_front (LieFrom-front items here front (last ∷ []) lies))
+      (omega (arith, same_last.place, back.0, begins), (omega (arith, has.place, at, widths-append items front (last ∷ []), begins, width_last), tt))
 
--- the free ones are those before and the new one
-pub end-free : (items new : List LinkedItem) (shelf number place width : ℕ) (front : List ℕ) (last : ℕ) → HasEnd items new shelf number place width
-    → ((k : ℕ) → 1 ≤ times k (front ++ last ∷ []) → number ≢ k) → is_allocated_at items last ≡ true → (k : ℕ)
-    → free_count new k (front ++ last ∷ number ∷ []) ≡ times k (number ∷ []) + free_count items k (front ++ last ∷ [])
-end-free items new shelf number place width front last has other allocated k =
-    let same_last : SameItem items new last = has.others last (other last (omega (arith, times-append last front (last ∷ []), times-here last []))) in
-    omega (
-      arith,
-      free_count-append new k front (last ∷ number ∷ []),
-      free_count-append items k front (last ∷ []),
-      free_count-allocated new k last (number ∷ []) (same_last.allocated ∙ allocated),
-      free_count-allocated items k last [] allocated,
-      free_count-free new k number [] has.free,
-      free_count-same items new k front (λ n stands. (has.others n (other n (omega (arith, stands, times-append n front (last ∷ []))))).allocated),
-    )
+  -- they name their shelf
+  pub end-owners : AllByRecursion (λ item. shelf_of items item ≡ shelf) (front ++ last ∷ [])
+      → AllByRecursion (λ item. shelf_of new item ≡ shelf) (front ++ last ∷ number ∷ [])
+  end-owners owners =
+      let all : AllByRecursion (λ item. shelf_of new item ≡ shelf) (front ++ last ∷ []) =
+      owners-same items new shelf (front ++ last ∷ []) (λ k stands. has.others k (other k stands)) owners in
+      Each-append (λ item. shelf_of new item ≡ shelf) front (last ∷ number ∷ [])
+      (Each-front (λ item. shelf_of new item ≡ shelf) front (last ∷ []) all)
+      ((Each-back (λ item. shelf_of new item ≡ shelf) front (last ∷ []) all).0, (has.shelf, tt))
 
--- what they spell is the items with a width at their end
-pub end-spelled : (items new : List LinkedItem) (shelf number place width : ℕ) (front : List ℕ) (last : ℕ) → HasEnd items new shelf number place width
-    → ((k : ℕ) → 1 ≤ times k (front ++ last ∷ []) → number ≢ k) → is_allocated_at items last ≡ true
-    → map (item_at new) (front ++ last ∷ number ∷ []) ≡ wider_end width (map (item_at items) (front ++ last ∷ []))
-end-spelled items new shelf number place width front last has other allocated =
-    let same_last : SameItem items new last = has.others last (other last (omega (arith, times-append last front (last ∷ []), times-here last []))) in
-    let fronts : map (item_at new) front ≡ map (item_at items) front =
-    map-agrees (item_at new) (item_at items) front (λ k stands. (has.others k (other k (omega (arith, stands, times-append k front (last ∷ []))))).item) in
-    map-append (item_at new) front (last ∷ number ∷ [])
-    ∙ ap (λ (l : List Item). l ++ item_at new last ∷ item_at new number ∷ []) fronts
-    ∙ ap (λ (i : Item). map (item_at items) front ++ i ∷ item_at new number ∷ []) same_last.item
-    ∙ ap (λ (i : Item). map (item_at items) front ++ item_at items last ∷ i ∷ []) has.item
-    ∙ sym (ap (wider_end width) (spelled-end (item_at items) front last)
-    ∙ wider_end-allocated width (item_at items last) (map (item_at items) front) (free-item items last true allocated))
+  -- the free ones are those before and the new one
+  pub end-free : is_allocated_at items last ≡ true → (k : ℕ)
+      → free_count new k (front ++ last ∷ number ∷ []) ≡ times k (number ∷ []) + free_count items k (front ++ last ∷ [])
+  end-free allocated k =
+      omega (
+        arith,
+        free_count-append new k front (last ∷ number ∷ []),
+        free_count-append items k front (last ∷ []),
+        free_count-allocated new k last (number ∷ []) (same_last.allocated ∙ allocated),
+        free_count-allocated items k last [] allocated,
+        free_count-free new k number [] has.free,
+        free_count-same items new k front (λ n stands. (has.others n (other n (omega (arith, stands, times-append n front (last ∷ []))))).allocated),
+      )
+
+  -- what they spell is the items with a width at their end
+  pub end-spelled : is_allocated_at items last ≡ true
+      → map (item_at new) (front ++ last ∷ number ∷ []) ≡ wider_end width (map (item_at items) (front ++ last ∷ []))
+  end-spelled allocated =
+      let fronts : map (item_at new) front ≡ map (item_at items) front =
+      map-agrees (item_at new) (item_at items) front (λ k stands. (has.others k (other k (omega (arith, stands, times-append k front (last ∷ []))))).item) in
+      map-append (item_at new) front (last ∷ number ∷ [])
+      ∙ ap (λ (l : List Item). l ++ item_at new last ∷ item_at new number ∷ []) fronts
+      ∙ ap (λ (i : Item). map (item_at items) front ++ i ∷ item_at new number ∷ []) same_last.item
+      ∙ ap (λ (i : Item). map (item_at items) front ++ item_at items last ∷ i ∷ []) has.item
+      ∙ sym (ap (wider_end width) (map-append (item_at items) front (last ∷ []))
+      ∙ wider_end-allocated width (item_at items last) (map (item_at items) front) (free-item items last true allocated))

@@ -1,6 +1,6 @@
 -- Widening all shelves of half grown records: each shelf spells the wider one, and as many records are put to use as end
 -- with an allocated item.
-use Rattle.std.proofs.Common.{◌≡◌, ℕ, zero, suc, ◌+◌, ◌-◌, ◌≤◌, cond, Option, None, Some, List, [], ◌∷◌, ◌++◌, length, map, refl, ap, arith, subst, sym, append_assoc, ◌∙◌}
+use Rattle.std.proofs.Common.{◌≡◌, ℕ, zero, suc, ◌+◌, ◌-◌, ◌≤◌, cond, Option, None, Some, List, [], ◌∷◌, ◌++◌, length, map, ap, arith, subst, sym, append_assoc, ◌∙◌}
 use Rattle.std.proofs.lemmas.List.{map-append}
 use Rattle.etagere_base.specs.declared.frames.Frame.{Frame}
 use Rattle.std.specs.List.{AllByRecursion}
@@ -11,9 +11,6 @@ use Rattle.shelf_links.specs.RecordLists.{Entry, shelf_numbers}
 use Rattle.shelf_links.specs.Records.{shelf_chain}
 use Rattle.etagere_links.proofs.Chains.{Leads-start, next-is}
 use Rattle.shelf_links.proofs.AllLists.LinkedFrames.{shelf_numbers-append}
-use Rattle.shelf_links.proofs.AllLists.LinkedUnused.{three-count}
-use Rattle.etagere_links.proofs.WalkedLists.{IsPart, part-of}
-use Rattle.etagere_links.proofs.Tallies.{length-once}
 use Rattle.shelf_records.specs.AtlasRecords.{spelled_shelf}
 use Rattle.shelf_model.specs.Growing.{ends_free}
 use Rattle.shelf_records.specs.Private.Kept.{bare}
@@ -23,8 +20,8 @@ use Rattle.shelf_store.proofs.Grown.EditedShelf.{HasEdited}
 use Rattle.shelf_model.proofs.Grown.GrownShelf.{wider_shelf}
 use Rattle.shelf_store.proofs.Grown.GrowSteps.{widened-none}
 use Rattle.shelf_store.proofs.Grown.HalfGrown.{HasGrown, IsGrowing, Widens, shelves_spelled}
-use Rattle.shelf_store.proofs.Grown.MadeLinked.{numbers_from}
 use Rattle.shelf_store.proofs.Grown.WidenedShelf.{Widening, shelf-widening}
+use Rattle.shelf_store.proofs.Spelled.KeptCounts.{shelves-few}
 
 -- how many shelves end with an allocated item
 abbrev allocated_ends : List Shelf → ℕ
@@ -34,11 +31,6 @@ allocated_ends shelves = total (λ (shelf : Shelf). cond (ends_free shelf.items)
 can-none : (place width steps : ℕ) (at : Option ℕ) (growing : Growing) → at ≡ None → CanWidenAll place width steps at growing
 can-none place width zero at growing ends = tt
 can-none place width (suc steps) at growing ends = rw ends tt
-
--- as many numbers as shelves
-length-numbers : (entries : List Entry) → length (shelf_numbers entries) ≡ length entries
-length-numbers [] = refl
-length-numbers (entry ∷ entries) = ap suc (length-numbers entries)
 
 module _ (frame grown : Frame) (old width : ℕ) (some : 1 ≤ frame.column_width) (wide : grown.column_width ≡ frame.column_width + width) (small : grown.column_width ≤ 65535) where
   -- what widening these shelves comes to, where others stand before them
@@ -118,15 +110,9 @@ pub widens : Widens
 widens frame grown old growing shelves width items more positive some wide small columns filled has =
     let entries : List Entry = has.entries in
     let is : IsGrowing grown old growing entries has.unused_items has.unused_shelves (allocated_ends shelves + items) more = has.is in
-    let left : List ℕ = numbers_from growing.made.shelf (more - length has.unused_shelves) ++ [] in
-    let part : IsPart (length growing.records.shelves) (shelf_numbers entries) =
-    part-of (length growing.records.shelves) (shelf_numbers entries ++ has.unused_shelves ++ left) (shelf_numbers entries) is.spelled.linked.shelves_once
-    (λ k. omega (arith, three-count (shelf_numbers entries) has.unused_shelves left k)) in
-    let few : length entries ≤ length growing.records.shelves =
-    omega (arith, length-numbers entries, length-once (length growing.records.shelves) (shelf_numbers entries) part.once part.within) in
     let all : WidensRest frame grown old width some wide small (length growing.records.shelves) growing.records.first_shelf growing [] entries items more =
     widens-rest frame grown old width some wide small (length growing.records.shelves) growing.records.first_shelf growing [] entries has.unused_items has.unused_shelves items more
-    few
+    (shelves-few has.is.spelled.linked)
     (Leads-start (link_at shelf_chain.next growing.records.shelves) (shelf_numbers entries) growing.records.first_shelf None is.spelled.linked.shelves.forward)
     (rw has.spelled columns) (rw has.spelled filled) (rw has.spelled is) in
     (all.can, rw (← has.spelled) all.has)

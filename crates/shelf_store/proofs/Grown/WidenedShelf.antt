@@ -10,7 +10,6 @@ use Rattle.shelf_links.proofs.AllLists.LinkedItems.{entry_of}
 use Rattle.shelf_links.proofs.AllLists.LinkedEdits.{linked-apart, around_of}
 use Rattle.shelf_links.specs.Records.{item_chain}
 use Rattle.shelf_links.specs.RecordLists.{Entry, IsEntry, Records, first_item_of}
-use Rattle.shelf_links.proofs.AllLists.LinkedUses.{but_first}
 use Rattle.etagere_links.proofs.Tallies.{length-once}
 use Rattle.shelf_records.specs.AtlasRecords.{along_of, is_allocated_at, item_at, spelled_shelf, width_of}
 use Rattle.shelf_model.specs.Growing.{ends_free}
@@ -84,7 +83,7 @@ module _ (frame grown : Frame) (old : ℕ) (growing : Growing) (before after : L
       → Widening frame grown old growing before after entry unused_shelves items shelves width
   widening-free is unmarked =
       let changed : shelf_widened number frame.column_width width growing
-      ≡ with_wider frame grown old growing before after number last front free unused_items unused_shelves items shelves width = rw (last_is, unmarked) refl in
+      ≡ with_wider last width growing = rw (last_is, unmarked) refl in
       record {
         can = record {
           small = number-small items is;
@@ -93,7 +92,7 @@ module _ (frame grown : Frame) (old : ℕ) (growing : Growing) (before after : L
         };
         has = subst (λ (g : Growing). HasEdited grown old growing g before after entry unused_shelves items shelves (wider_shelf frame width (spelled_shelf (bare grown growing.records) entry)))
             (sym changed)
-            (shelf-edited grown old growing _ before after entry entry unused_items unused_items unused_shelves items items shelves _ is
+            (shelf-edited is
             (wider-edits frame grown old growing before after number last front free unused_items unused_shelves items shelves width is unmarked));
       }
 
@@ -102,7 +101,7 @@ module _ (frame grown : Frame) (old : ℕ) (growing : Growing) (before after : L
       → Widening frame grown old growing before after entry unused_shelves items shelves width
   widening-allocated is marked =
       let changed : shelf_widened number frame.column_width width growing
-      ≡ with_end frame grown old growing before after number last front free unused_items unused_shelves items shelves width frame.column_width =
+      ≡ with_end number last frame.column_width width growing =
       rw (last_is, marked) refl in
       let along : along_of growing.records.shelves number ≡ 0 =
       first-place (along_of growing.records.shelves number) grown.column_width narrow.column
@@ -117,7 +116,7 @@ module _ (frame grown : Frame) (old : ℕ) (growing : Growing) (before after : L
         };
         has = subst (λ (g : Growing). HasEdited grown old growing g before after entry unused_shelves items shelves (wider_shelf frame width (spelled_shelf (bare grown growing.records) entry)))
             (sym changed)
-            (shelf-edited grown old growing _ before after entry _ unused_items (but_first unused_items) unused_shelves (suc items) items shelves _ is
+            (shelf-edited is
             (end-edits frame grown old growing before after number last front free unused_items unused_shelves items shelves width frame.column_width is marked
             (omega (arith, along, narrow.width, widths-total growing.records.items (front ++ last ∷ [])))
             (omega (arith, ap (λ (c : ℕ). c * frame.column_width) narrow.column))));

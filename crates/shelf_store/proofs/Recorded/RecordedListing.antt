@@ -20,18 +20,13 @@ use Rattle.shelf_records.specs.Private.Reading.{next_allocated, recorded_allocat
 use Rattle.shelf_model.specs.Returning.{has_id}
 use Rattle.shelf_records.proofs.Recorded.Members.{Each-member}
 use Rattle.shelf_records.proofs.Recorded.RecordsOfIds.{kept-allocations, kept-within, numbered}
+use Rattle.shelf_store.proofs.Spelled.ItemReturned.{allocated-id}
 
 -- an item that is not marked allocated has no id
 unmarked-free : (items : List LinkedItem) (label k : ℕ) → is_allocated_at items k ≡ false → (field_at (spelled_item label) (record { width = 0; id = None }) items k).id ≡ None
 unmarked-free [] label k e = refl
 unmarked-free (x ∷ xs) label zero e = ap (λ b. cond b (Some (label + 65536 * x.generation)) None) e
 unmarked-free (x ∷ xs) label (suc k) e = unmarked-free xs label k e
-
--- an item that is marked allocated has its id
-marked-id : (items : List LinkedItem) (label k : ℕ) → is_allocated_at items k ≡ true → (field_at (spelled_item label) (record { width = 0; id = None }) items k).id ≡ Some (label + 65536 * field_at (λ (x : LinkedItem). x.generation) 0 items k)
-marked-id [] label k e = absurd (cc)
-marked-id (x ∷ xs) label zero e = ap (λ b. cond b (Some (label + 65536 * x.generation)) None) e
-marked-id (x ∷ xs) label (suc k) e = marked-id xs label k e
 
 module _ (frame : Frame) (records : Records) where
   -- the allocation of an item
@@ -44,7 +39,7 @@ module _ (frame : Frame) (records : Records) where
 
   -- an item that is marked allocates itself
   marked-one : (k : ℕ) → is_allocated_at records.items k ≡ true → recorded_allocation frame records k ≡ allocation k ∷ []
-  marked-one k e = ap (λ owner. allocation_of owner (recorded_rectangle frame records k)) (marked-id records.items k k e)
+  marked-one k e = ap (λ owner. allocation_of owner (recorded_rectangle frame records k)) (allocated-id records.items k k e)
 
   -- the first that is marked among some numbers, and what is allocated after it
   pub record IsNext (from count number : ℕ) : Type 0 where

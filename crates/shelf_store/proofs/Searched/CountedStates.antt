@@ -30,6 +30,7 @@ use Rattle.shelf_store.specs.Private.Searching.{chosen_at}
 use Rattle.shelf_store.proofs.ByHeight.SearchableShelves.{bound-listed, listed-bound}
 use Rattle.shelf_store.proofs.Searched.FoundPlacements.{chosen-located, located-parts, located-splits}
 use Rattle.shelf_store.proofs.Searched.SearchedShelves.{IsSearched, kept-searched}
+use Rattle.shelf_store.proofs.ByHeight.SearchedOnes.{bounds-widest}
 
 -- the widest free item, and bounds
 bounded-greatest : (items : List Item) (bound : ℕ) → AllByRecursion (λ (item : Item). is_free item ≡ true → item.width ≤ bound) items → greatest free_width items ≤ bound
@@ -50,10 +51,6 @@ greatest-bounds (item ∷ items) bound low = (
 bounded-widest : (items : List LinkedItem) (numbers : List ℕ) (bound : ℕ) → AllByRecursion (λ n. (item_at items n).width ≤ bound) numbers → widest_of items numbers ≤ bound
 bounded-widest items [] bound each = omega arith
 bounded-widest items (n ∷ ns) bound each = omega (arith, each.0, bounded-widest items ns bound each.1)
-
-widest-bounds : (items : List LinkedItem) (numbers : List ℕ) (bound : ℕ) → widest_of items numbers ≤ bound → AllByRecursion (λ n. (item_at items n).width ≤ bound) numbers
-widest-bounds items [] bound low = tt
-widest-bounds items (n ∷ ns) bound low = (omega (arith, low), widest-bounds items ns bound (omega (arith, low)))
 
 -- the free ones of a shelf's items, by their records
 free-filtered : (items : List LinkedItem) (members : List ℕ) → length (filter is_free (map (item_at items) members)) ≡ length (filter (λ member. not (is_allocated_at items member)) members)
@@ -89,7 +86,7 @@ module _ (frame : Frame) (records : Records) where
       let lists = searched.placed.free_list in
       let below : widest_in (shelf_at n) ≤ widest_of items entry.free_list =
       bounded-greatest (map (item_at items) entry.items) (widest_of items entry.free_list)
-      (listed-bound items entry.items entry.free_list lists (widest_of items entry.free_list) (widest-bounds items entry.free_list (widest_of items entry.free_list) (omega arith))) in
+      (listed-bound items entry.items entry.free_list lists (widest_of items entry.free_list) (bounds-widest items entry.free_list (widest_of items entry.free_list) (omega arith))) in
       let above : widest_of items entry.free_list ≤ widest_in (shelf_at n) =
       bounded-widest items entry.free_list (widest_in (shelf_at n))
       (bound-listed items entry.items entry.free_list lists (widest_in (shelf_at n)) (greatest-bounds (map (item_at items) entry.items) (widest_in (shelf_at n)) (omega arith))) in
@@ -199,24 +196,6 @@ module _ (frame : Frame) (records : Records) where
       let parts = located-parts frame records sides (chosen_at frame records sides) (chosen (state_of frame records) sides) refl (chosen-located frame records sides kept) in
       let model = parts.1 found is in
       ap lacks model.chosen ∙ ap (λ n. nat_lt 65535 (items_in_use (state_of frame records).shelves + n)) (sym (located-splits records found model.placement model.located))
-
-  -- no place makes more than two splits
-  splits-few : (placement : Placement) → splits placement ≤ 2
-  splits-few placement = by_tests placement.splits_shelf placement.splits_item
-    where
-      by_tests : (b d : Bool) → cond b 1 0 + cond d 1 0 ≤ 2
-      by_tests true true = omega arith
-      by_tests true false = omega arith
-      by_tests false true = omega arith
-      by_tests false false = omega arith
-
-  -- where two more would do, no records lack
-  pub few-lacks : (sides : Sides) → items_in_use (state_of frame records).shelves + 2 ≤ 65535 → lacks_records (state_of frame records) sides ≡ false
-  few-lacks sides few = by_choice (chosen (state_of frame records) sides)
-    where
-      by_choice : (o : Option Placement) → lacks o ≡ false
-      by_choice None = refl
-      by_choice (Some placement) = let low : splits placement ≤ 2 = splits-few placement in grind (arith, nat_tests, low, few)
 
   -- no more items are free than there can be
   pub kept-free : AreKept frame records → (tally_of records (shelf_walk records).met).free_items ≤ 65535

@@ -107,11 +107,6 @@ module _ (records : Records) where
       let other : is_as_wide_at records width n ≡ false = grind (arith, nat_tests, narrow) in
       rw other (none-wide width ns (omega (arith, narrow)))
 
-  -- none counts as wide where there is no width
-  no-width : (shelves : List ℕ) → tallest_as 0 shelves ≡ 0
-  no-width [] = refl
-  no-width (n ∷ ns) = no-width ns
-
   -- of those as wide one more
   as_wide-more : (width : ℕ) (shelves : List ℕ) (n : ℕ) → tallest_as width (shelves ++ n ∷ []) ≡ max (tallest_as width shelves) (cond (is_as_wide_at records width n) (tall n) 0)
   as_wide-more width [] n = by_test (is_as_wide_at records width n)

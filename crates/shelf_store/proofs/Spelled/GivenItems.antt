@@ -10,19 +10,16 @@ use Rattle.etagere_base.specs.Lists.{times}
 use Rattle.shelf_links.proofs.AllLists.LinkedItems.{entry_of}
 use Rattle.shelf_links.proofs.AllLists.LinkedEdits.{linked-apart, Around}
 use Rattle.shelf_links.specs.declared.records.LinkedItem.{LinkedItem}
-use Rattle.shelf_links.specs.declared.records.LinkedShelf.{LinkedShelf}
-use Rattle.etagere_links.specs.Edits.{first_without, link_at, linked_between, unlinked, field_at}
+use Rattle.etagere_links.specs.Edits.{field_at}
 use Rattle.etagere_links.specs.Links.{no_link}
 use Rattle.shelf_links.specs.RecordEdits.{item_changed}
-use Rattle.shelf_links.specs.RecordLists.{Records, Entry, first_free_of, item_numbers, IsEntry}
+use Rattle.shelf_links.specs.RecordLists.{Records, Entry, item_numbers, IsEntry}
 use Rattle.shelf_links.specs.RecordMerges.{item_given, front_given}
-use Rattle.shelf_links.specs.Records.{item_chain, free_list}
 use Rattle.etagere_links.proofs.FieldChanges.{field_at-changed}
 use Rattle.shelf_links.proofs.AllLists.LinkedFrames.{item_numbers-append}
 use Rattle.shelf_links.proofs.AllLists.LinkedUnused.{lists_of}
 use Rattle.etagere_links.proofs.ListEnds.{times-here}
 use Rattle.etagere_links.proofs.RecordChanges.{length-changed_by}
-use Rattle.etagere_links.proofs.RecordFrames.{length-linked_between, length-unlinked}
 use Rattle.shelf_records.specs.AtlasRecords.{AtlasRecords, item_place_of, item_at, spelled_item, spelled_shelf}
 use Rattle.shelf_model.specs.Choice.{Placement}
 use Rattle.shelf_records.specs.Private.Kept.{HasFlag}
@@ -133,31 +130,16 @@ keeps-others {atlas} split_records new around added spot loose tall rests is_spl
 
 -- giving keeps the counts of records
 given-length : (records : Records) (shelf number : ℕ) → length (item_given shelf number records).items ≡ length records.items
-given-length records shelf number =
-    length-changed_by (λ (x : LinkedItem). record x { allocated = true }) (unlinked free_list number records.items) (Some number) ∙ length-unlinked free_list records.items number
+given-length records shelf number = simp length-changed_by refl
 
 pub given-shelves : (records : Records) (shelf number : ℕ) → length (item_given shelf number records).shelves ≡ length records.shelves
-given-shelves records shelf number =
-    let link : Option ℕ = first_without (link_at free_list.previous records.items number) (link_at free_list.next records.items number) (first_free_of records.shelves shelf) in
-    length-changed_by (λ (x : LinkedShelf). record x { first_unallocated = link }) records.shelves (Some shelf)
+given-shelves records shelf number = simp length-changed_by refl
 
 front-length : (records : Records) (shelf number rest width : ℕ) → length (front_given shelf number rest width records).items ≡ length records.items
-front-length records shelf number rest width =
-    let items : List LinkedItem = records.items in
-    let one : List LinkedItem = linked_between item_chain (Some number) (link_at item_chain.next items number) rest items in
-    let two : List LinkedItem = linked_between free_list (Some number) (link_at free_list.next one number) rest one in
-    length-changed_by (λ (x : LinkedItem). record x { width = width; allocated = true }) (unlinked free_list number two) (Some number)
-    ∙ length-unlinked free_list two number
-    ∙ length-linked_between free_list one (Some number) (link_at free_list.next one number) rest
-    ∙ length-linked_between item_chain items (Some number) (link_at item_chain.next items number) rest
+front-length records shelf number rest width = simp length-changed_by refl
 
 pub front-shelves : (records : Records) (shelf number rest width : ℕ) → length (front_given shelf number rest width records).shelves ≡ length records.shelves
-front-shelves records shelf number rest width =
-    let items : List LinkedItem = records.items in
-    let one : List LinkedItem = linked_between item_chain (Some number) (link_at item_chain.next items number) rest items in
-    let two : List LinkedItem = linked_between free_list (Some number) (link_at free_list.next one number) rest one in
-    let link : Option ℕ = first_without (link_at free_list.previous two number) (link_at free_list.next two number) (first_free_of records.shelves shelf) in
-    length-changed_by (λ (x : LinkedShelf). record x { first_unallocated = link }) records.shelves (Some shelf)
+front-shelves records shelf number rest width = simp length-changed_by refl
 
 -- an item was given whole
 pub item-whole : {atlas : AtlasRecords} (split_records : Records) (around : Around) (added : List Entry) (spot : FreeSpot) (placement : Placement) (rests : List Shelf) → spot.number < length atlas.records.items → IsPlacedAt atlas.records.items placement spot → placement.splits_item ≡ false → AllByRecursion (IsEntry atlas.records) (around.before ++ spot_entry spot ∷ around.after) → HasShelfSplit atlas split_records around added (spot_entry spot) [] placement.height rests → IsItemGiven atlas (item_given spot.shelf spot.number split_records) around added (spot_entry spot) (taken_from false placement (id_of atlas.records.items spot.number) (spelled_shelf atlas (spot_entry spot))) rests

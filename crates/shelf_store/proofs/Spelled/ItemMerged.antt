@@ -22,13 +22,14 @@ use Rattle.shelf_model.specs.State.{Item, Shelf}
 use Rattle.shelf_model.specs.Valid.{IsItem, IsShelf}
 use Rattle.shelf_model.proofs.Returned.MergedNear.{merged_items-freed}
 use Rattle.shelf_store.proofs.Spelled.EntryValues.{LieFrom-back, widths}
-use Rattle.shelf_store.proofs.Spelled.ItemsAround.{each-member, free-next, freed-here, place-here, place-next}
+use Rattle.shelf_store.proofs.Spelled.ItemsAround.{free-next, freed-here, place-here, place-next}
 use Rattle.shelf_store.proofs.Spelled.MergedAround.{is_first_free}
 use Rattle.shelf_store.proofs.Spelled.NextMerged.{MergesNext, merges-next}
 use Rattle.shelf_store.proofs.Spelled.PreviousMerged.{FreesItem, frees-item}
 use Rattle.shelf_records.proofs.Spelled.RecordValues.{SameShelf, SameShelf-then}
 use Rattle.shelf_records.proofs.Spelled.Witnesses.{Each-unmap}
 use Rattle.shelf_store.proofs.Spelled.SpelledLists.{with_lists, IsSpelled}
+use Rattle.shelf_records.proofs.Recorded.Members.{Each-member}
 
 -- what a step that frees an item and merges it makes of its shelf's lists, and what these spell
 pub record MergesItem (atlas : AtlasRecords) (step : Step) (around : Around) (shelf number : ℕ) (front back free : List ℕ) : Type 0 where
@@ -67,7 +68,7 @@ list-around items here front item others places =
 -- the items of a shelf are at least one pixel wide
 pub wide-items : (atlas : AtlasRecords) (shelf : ℕ) (numbers free : List ℕ) → IsShelf atlas.frame (spelled_shelf atlas (entry_of shelf numbers free)) → (n : ℕ) → 1 ≤ times n numbers → 1 ≤ width_of atlas.records.items n
 wide-items atlas shelf numbers free valid n stands =
-    (each-member (λ k. IsItem atlas.frame (item_at atlas.records.items k)) numbers n (Each-unmap (IsItem atlas.frame) (item_at atlas.records.items) numbers valid.items) stands).width
+    (Each-member (λ k. IsItem atlas.frame (item_at atlas.records.items k)) numbers n (Each-unmap (IsItem atlas.frame) (item_at atlas.records.items) numbers valid.items) stands).width
 
 -- an allocated item became free and was merged with its free neighbours
 pub merges-item : {atlas : AtlasRecords} (around : Around) (shelf number : ℕ) (front back free : List ℕ) → IsShelf atlas.frame (spelled_shelf atlas (entry_of shelf (front ++ number ∷ back) free)) → is_allocated_at atlas.records.items number ≡ true → IsSpelled atlas (with_entry around (entry_of shelf (front ++ number ∷ back) free)) → MergesItem atlas (item_merged shelf number atlas.records) around shelf number front back free

@@ -43,7 +43,7 @@ use Rattle.shelf_store.proofs.Spelled.ItemLocated.{HasItem, in-use-counted, loca
 use Rattle.shelf_store.proofs.Spelled.ItemMerged.{MergesItem, merges-item}
 use Rattle.shelf_store.proofs.Spelled.NeighboursMerged.{AreLow, MergesShelves, can-merge-all-by_height, can-merge-shelves, merges-shelves, shelf-before}
 use Rattle.shelf_store.proofs.Spelled.ReturnedAt.{returned-at}
-use Rattle.shelf_store.proofs.Spelled.ReturnedLengths.{SameLengths, returned-lengths}
+use Rattle.shelf_store.proofs.Spelled.ReturnedLengths.{SameLengths, returned-lengths, counts-same}
 use Rattle.shelf_store.proofs.Spelled.SpelledLists.{with_lists}
 use Rattle.shelf_records.proofs.Spelled.Witnesses.{witnessed-kept}
 
@@ -83,7 +83,7 @@ freed-flagged {atlas} around shelf number front back free valid allocated flagge
           ∙ ap (λ (s : Shelf). map (spelled_shelf atlas) around.before ++ s ∷ map (spelled_shelf middle) around.after) merges.returned
           ∙ ap (λ (ss : List Shelf). map (spelled_shelf atlas) around.before ++ merged_shelf (freed_shelf atlas.frame (length front) (spelled_shelf atlas entry)) ∷ ss) merges.after_same;
       counted = merges.counted;
-      in_list = frees-by_height atlas around.before around.after shelf number front back free around.unused_items around.unused_shelves valid flagged.spelled merges said.1;
+      in_list = frees-by_height atlas around shelf number front back free valid flagged.spelled merges said.1;
     }
 
 -- no column of a valid state is taller than 16 bits can say
@@ -118,11 +118,7 @@ kept-again : (frame : Frame) (records new : Records) (id left_unused : ℕ) (cha
 kept-again frame records new id left_unused change kept lengths is =
     let lists : Lists = is.lists in
     let linked : IsLinked new lists = is.flagged.spelled.linked in
-    let counts : HasCounts (atlas_of frame new) =
-    record {
-      shelves = (omega (arith, lengths.shelves, kept.counts.shelves.0), omega (arith, lengths.shelves, kept.counts.shelves.1));
-      items = (omega (arith, lengths.items, kept.counts.items.0), omega (arith, lengths.items, kept.counts.items.1));
-    } in
+    let counts : HasCounts (atlas_of frame new) = counts-same (atlas_of frame records) (atlas_of frame new) lengths kept.counts in
     let walked : walked_lists new ≡ lists = linked-lists new lists (linked-walks new lists counts.shelves.1 counts.items.1 linked) in
     let after : AtlasState = returned (state_of frame records) id in
     let spelled : state_of frame new ≡ spelled_state (bare frame new) lists.entries = ap (λ (l : Lists). spelled_state (bare frame new) l.entries) walked in

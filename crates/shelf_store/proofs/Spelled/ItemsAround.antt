@@ -1,10 +1,8 @@
 -- Lists of records around one of them, and the items that they spell there.
-use Rattle.std.proofs.Common.{◌≡◌, ◌≢◌, ℕ, zero, suc, ◌+◌, ◌≤◌, Bool, true, false, ◌==◌, Option, None, Some, List, [], ◌∷◌, ◌++◌, length, map, take, refl, ap, subst, arith, ◌∙◌}
-use Rattle.std.proofs.lemmas.Bool.{eqb-true}
+use Rattle.std.proofs.Common.{◌≡◌, ◌≢◌, ℕ, zero, suc, ◌+◌, ◌≤◌, Bool, true, false, Option, None, Some, List, [], ◌∷◌, ◌++◌, length, map, take, refl, ap, subst, arith, ◌∙◌}
 use Rattle.std.proofs.lemmas.List.{length-append, length-map}
 use Rattle.std.specs.Prelude.{not}
 use Rattle.etagere_base.proofs.TimesLemmas.{times-append}
-use Rattle.std.specs.List.{AllByRecursion}
 use Rattle.etagere_base.specs.Lists.{times}
 use Rattle.etagere_base.specs.MergingAt.{merged_at, merged_before}
 use Rattle.shelf_links.specs.declared.records.LinkedItem.{LinkedItem}
@@ -17,35 +15,6 @@ use Rattle.shelf_records.specs.StandsFor.{LieFrom}
 use Rattle.shelf_model.specs.State.{Item, is_free, total_width}
 use Rattle.shelf_store.proofs.Spelled.EntryValues.{widths, place-before, place-after}
 use Rattle.shelf_store.proofs.Spelled.MergedAround.{free_item, is_first_free, freed-after, merged-next, merged-next-none, merged-previous, merged-previous-none}
-
--- a member of a list, with what stands before and after it
-pub record IsMember (n : ℕ) (xs : List ℕ) : Type 0 where
-  pub front : List ℕ
-  pub back : List ℕ
-  pub whole : xs ≡ front ++ n ∷ back
-
--- a member of the rest of a list
-behind : (n x : ℕ) (xs : List ℕ) → IsMember n xs → IsMember n (x ∷ xs)
-behind n x xs rest = record { front = x ∷ rest.front; back = rest.back; whole = ap (λ (ys : List ℕ). x ∷ ys) rest.whole }
-
-pub member-of : (n : ℕ) (xs : List ℕ) → 1 ≤ times n xs → IsMember n xs
-member-of n [] stands = absurd (omega (arith, stands))
-member-of n (x ∷ xs) stands = by_test (x == n) refl (member-of n xs)
-  where
-    by_test : (b : Bool) → (x == n) ≡ b → (1 ≤ times n xs → IsMember n xs) → IsMember n (x ∷ xs)
-    by_test true e later = record { front = []; back = xs; whole = ap (λ (y : ℕ). y ∷ xs) (eqb-true x n e) }
-    by_test false e later =
-        let other : x ≢ n = grind arith in
-        behind n x xs (later (omega (arith, stands, times-other n x xs other)))
-
--- a fact of each element is one of each member
-pub each-member : (P : ℕ → Type 0) (xs : List ℕ) (k : ℕ) → AllByRecursion P xs → 1 ≤ times k xs → P k
-each-member P [] k each stands = absurd (omega (arith, stands))
-each-member P (x ∷ xs) k each stands = by_test (x == k) refl (each-member P xs k each.1)
-  where
-    by_test : (b : Bool) → (x == k) ≡ b → (1 ≤ times k xs → P k) → P k
-    by_test true e later = let same : x ≡ k = grind arith in subst P same each.0
-    by_test false e later = let other : x ≢ k = grind arith in later (omega (arith, stands, times-other k x xs other))
 
 -- a fact of lists holds of each where it holds of the empty one, and of each with a last element
 pub by_end : {X : Type 0} (P : List X → Type 0) → P [] → ((front : List X) (x : X) → P (front ++ x ∷ [])) → (xs : List X) → P xs

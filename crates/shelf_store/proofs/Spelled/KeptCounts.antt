@@ -1,9 +1,9 @@
 -- Kept records have a shelf and an item for each column, so that a clear makes none.
-use Rattle.std.proofs.Common.{◌≡◌, suc, ◌≤◌, List, [], ◌∷◌, length, arith, ap, refl}
+use Rattle.std.proofs.Common.{◌≡◌, ℕ, suc, ◌≤◌, List, [], ◌∷◌, length, arith, ap, refl}
 use Rattle.std.proofs.lemmas.List.{length-map}
 use Rattle.etagere_base.specs.declared.frames.Frame.{Frame}
 use Rattle.std.specs.List.{AllByRecursion}
-use Rattle.shelf_links.specs.RecordLists.{Records, Entry, shelf_numbers, walked_lists}
+use Rattle.shelf_links.specs.RecordLists.{Records, Entry, IsLinkedExcept, Lists, shelf_numbers, walked_lists}
 use Rattle.shelf_links.proofs.AllLists.LinkedUnused.{three-count}
 use Rattle.etagere_links.proofs.WalkedLists.{IsPart, part-of}
 use Rattle.etagere_links.proofs.Tallies.{length-once}
@@ -31,19 +31,21 @@ pub shelf_numbers-length : (entries : List Entry) → length (shelf_numbers entr
 shelf_numbers-length [] = refl
 shelf_numbers-length (entry ∷ entries) = ap suc (shelf_numbers-length entries)
 
--- there is a shelf record for each shelf
+-- links spell no more shelves than there are records
+pub shelves-few : {records : Records} {lists : Lists} {loose loose_shelves : List ℕ} → IsLinkedExcept records lists loose loose_shelves → length lists.entries ≤ length records.shelves
+shelves-few {records} {lists} {loose} {loose_shelves} linked =
+    let part : IsPart (length records.shelves) (shelf_numbers lists.entries) =
+    part-of (length records.shelves) _ (shelf_numbers lists.entries) linked.shelves_once (λ k. omega (arith, three-count (shelf_numbers lists.entries) lists.unused_shelves loose_shelves k)) in
+    omega (arith, shelf_numbers-length lists.entries, length-once (length records.shelves) (shelf_numbers lists.entries) part.once part.within)
+
+-- there is a shelf record for each column
 pub kept-shelf_records : (frame : Frame) (records : Records) → AreKept frame records → frame.columns ≤ length records.shelves
 kept-shelf_records frame records kept =
-    let entries : List Entry = (walked_lists records).entries in
-    let part : IsPart (length records.shelves) (shelf_numbers entries) =
-    part-of (length records.shelves) _ (shelf_numbers entries) kept.linked.shelves_once
-    (λ k. omega (arith, three-count (shelf_numbers entries) (walked_lists records).unused_shelves [] k)) in
     omega (
       arith,
       columns-le-shelves (state_of frame records) kept.valid,
-      length-map entries (spelled_shelf (bare frame records)),
-      shelf_numbers-length entries,
-      length-once (length records.shelves) (shelf_numbers entries) part.once part.within,
+      length-map (walked_lists records).entries (spelled_shelf (bare frame records)),
+      shelves-few kept.linked,
     )
 
 -- and an item record for each column

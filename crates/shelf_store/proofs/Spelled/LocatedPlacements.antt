@@ -1,8 +1,7 @@
 -- What a placement says of kept records in which it was located: its shelf and item, and that it takes that item.
-use Rattle.std.proofs.Common.{◌≡◌, ◌≢◌, ℕ, ◌+◌, ◌*◌, ◌≤◌, Bool, true, false, None, Some, List, [], ◌∷◌, ◌++◌, length, map, take, refl, ap, arith, ◌∙◌, sym, subst}
-use Rattle.std.proofs.lemmas.Nat.{div-add-mod'}
+use Rattle.std.proofs.Common.{◌≡◌, ◌≢◌, ℕ, ◌+◌, ◌≤◌, Bool, true, false, None, Some, List, [], ◌∷◌, ◌++◌, length, map, take, refl, ap, arith, ◌∙◌, sym, subst}
 use Rattle.std.proofs.lemmas.Option.{slice_get-map}
-use Rattle.std.specs.Prelude.{◌/◌, ◌%◌, is_none, not, option_map, slice_get}
+use Rattle.std.specs.Prelude.{is_none, not, option_map, slice_get}
 use Rattle.etagere_base.proofs.EachLemmas.{Each-get}
 use Rattle.etagere_base.proofs.ReplacedLists.{IsAt, split-at}
 use Rattle.etagere_base.proofs.TimesLemmas.{times-append}
@@ -25,9 +24,11 @@ use Rattle.shelf_model.specs.State.{Item, Shelf, AtlasState, is_free, total_widt
 use Rattle.shelf_model.specs.Valid.{IsItem}
 use Rattle.shelf_model.proofs.Chosen.Placed.{IsPlaced as IsChosenFor, placement_of-placed}
 use Rattle.shelf_store.proofs.Spelled.EntryValues.{widths, LieFrom-back, free_count, free_count-append, free_count-free}
-use Rattle.shelf_store.proofs.Spelled.ItemsAround.{IsMember, member-of, each-member, free-item, widths-total, place-apart}
+use Rattle.shelf_store.proofs.Spelled.ItemsAround.{free-item, widths-total, place-apart}
 use Rattle.shelf_store.proofs.Spelled.TakenItemSpelled.{IsPlacedAt, free_spot}
 use Rattle.shelf_model.proofs.Taken.TakenShelves.{IsTaking, taking}
+use Rattle.shelf_records.proofs.Recorded.Members.{Each-member, IsAmong, among}
+use Rattle.etagere_base.proofs.AlignedPlaces.{multiple}
 
 -- the shelf and the item of a placement in records
 pub record IsLocated (frame : Frame) (records : Records) (placement : Placement) (shelf number : ℕ) : Type 0 where
@@ -68,10 +69,6 @@ takes-split atlas placement entry split same takes = subst (λ (e : Entry). IsTa
 items-wide : (frame : Frame) (items : List LinkedItem) (xs : List ℕ) → AllByRecursion (IsItem frame) (map (item_at items) xs) → AllByRecursion (λ k. 1 ≤ (item_at items k).width) xs
 items-wide frame items [] each = tt
 items-wide frame items (x ∷ xs) each = (each.0.width, items-wide frame items xs each.1)
-
--- a multiple is what it is divided by times the quotient
-multiple : (n m : ℕ) → n % m ≡ 0 → n / m * m ≡ n
-multiple n m e = omega (arith, e, div-add-mod' n m)
 
 -- an item without an id is not marked
 free-unmarked : (items : List LinkedItem) (k : ℕ) → (item_at items k).id ≡ None → is_allocated_at items k ≡ false
@@ -118,7 +115,7 @@ located frame records size placement found kept h locates =
       free_count-free items number number back free,
       times-here number [],
     ) in
-    let free_member : IsMember number entry.free_list = member-of number entry.free_list stands in
+    let free_member : IsAmong number entry.free_list = among number entry.free_list stands in
     let numbers : List ℕ = front ++ number ∷ back in
     let places : List ℕ = free_member.front ++ number ∷ free_member.back in
     let here : ℕ = along_of records.shelves entry.number in
@@ -126,7 +123,7 @@ located frame records size placement found kept h locates =
     let fronts : total_width takes.found.at.front ≡ widths items front =
     ap total_width (sym takes.found.at.before ∙ ap (λ n. take n shelf.items) (sym takes.item ∙ sym member.number) ∙ ap (λ xs. take (length front) (map (item_at items) xs)) whole ∙ take-mapped (item_at items) front (number ∷ back))
     ∙ widths-total items front in
-    let column : column_place frame shelf ≡ here = multiple here frame.column_width placed.along in
+    let column : column_place frame shelf ≡ here = sym (multiple here frame.column_width placed.along) in
     let split : entry ≡ entry_of entry.number numbers places = entry-split entry numbers places whole free_member.whole in
     let apart = linked-apart (around_of at.front at.back lists.unused_items lists.unused_shelves) entry
     (subst (λ (es : List Entry). IsLinkedExcept records (lists_of es lists.unused_items lists.unused_shelves) [] []) at.whole kept.linked) in
@@ -149,7 +146,7 @@ located frame records size placement found kept h locates =
             free = free;
             split = λ e. omega (arith, takes.room.split e, ap (λ (i : Item). i.width) item);
             whole = λ e. takes.room.whole e ∙ ap (λ (i : Item). i.width) item;
-            apart = λ k among. place-apart items here front back number k (λ n in_items. each-member (λ k. 1 ≤ (item_at items k).width) (front ++ number ∷ back) n wide in_items) lies
+            apart = λ k among. place-apart items here front back number k (λ n in_items. Each-member (λ k. 1 ≤ (item_at items k).width) (front ++ number ∷ back) n wide in_items) lies
                 (omega (arith, among, times-same k entry.items numbers whole, times-same k entry.free_list places free_member.whole, is_entry.members k, times-append k free_member.front free_member.back, times-append k free_member.front (number ∷ free_member.back)))
                 (other-free free_member.front free_member.back number k (once k) among);
           };

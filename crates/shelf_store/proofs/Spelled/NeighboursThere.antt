@@ -19,8 +19,8 @@ use Rattle.shelf_records.specs.AtlasRecords.{AtlasRecords, is_allocated_at}
 use Rattle.shelf_store.specs.Private.ItemReturned.{FreeNextIsThere, AreThere, free_named, free_next}
 use Rattle.shelf_records.specs.Private.Kept.{IsPlaced}
 use Rattle.shelf_store.proofs.Spelled.EntryValues.{free_count, free_count-append, free_count-free}
-use Rattle.shelf_store.proofs.Spelled.ItemsAround.{IsMember, member-of}
 use Rattle.shelf_store.proofs.Spelled.SpelledLists.{IsSpelled}
+use Rattle.shelf_records.proofs.Recorded.Members.{IsAmong, among}
 
 -- a link that names a free item names this one, and this is free
 pub named-is : (items : List LinkedItem) (link : Option ℕ) (n : ℕ) → free_named items link ≡ Some n → (link ≡ Some n) × (is_allocated_at items n ≡ false)
@@ -37,7 +37,7 @@ named-is items (Some m) n e = by_mark (is_allocated_at items m) refl
 -- a member of a list that links spell has neighbours, where all members are there
 pub member-neighbours : {T : Type 0} (family : Family T) (records : List T) (first : Option ℕ) (xs : List ℕ) (number : ℕ) → ((k : ℕ) → 1 ≤ times k xs → k < length records) → IsChainIn family records first xs → 1 ≤ times number xs → HasNeighbours family records number
 member-neighbours family records first xs number within chain stands =
-    let member : IsMember number xs = member-of number xs stands in
+    let member : IsAmong number xs = among number xs stands in
     let split : IsChainIn family records first (member.front ++ number ∷ member.back) = subst (λ (ns : List ℕ). IsChainIn family records first ns) member.whole chain in
     let count : (k : ℕ) → times k xs ≡ times k member.front + times k (number ∷ member.back) =
     λ k. ap (λ (ns : List ℕ). times k ns) member.whole ∙ times-append k member.front (number ∷ member.back) in
@@ -104,7 +104,7 @@ free-next-there {atlas} around shelf number front back free spelled =
 
     is_free : (n : ℕ) → free_next items number ≡ Some n → 1 ≤ times n free
     is_free n e =
-        let member : IsMember n numbers = member-of n numbers (stands n e) in
+        let member : IsAmong n numbers = among n numbers (stands n e) in
         omega (
           arith,
           placed.free_list n,

@@ -21,11 +21,12 @@ use Rattle.shelf_store.specs.Private.ReturnedByHeight.{named_width}
 use Rattle.shelf_model.specs.State.{Item}
 use Rattle.shelf_store.proofs.Spelled.AbsorbedItems.{Absorbs, IsRest, rest-of, free-widens, widened-absorbs}
 use Rattle.shelf_store.proofs.Spelled.EntryValues.{IsWidened, LieFrom-back, free_count, free_count-append, free_count-free, widths}
-use Rattle.shelf_store.proofs.Spelled.ItemsAround.{IsMember, member-of, free-item, map-parts, next-merged, next-stays, place-apart, widths-append}
+use Rattle.shelf_store.proofs.Spelled.ItemsAround.{free-item, map-parts, next-merged, next-stays, place-apart, widths-append}
 use Rattle.shelf_store.proofs.Spelled.MergedAround.{free_item, is_first_free, remove-mapped}
 use Rattle.shelf_records.proofs.Spelled.RecordValues.{SameItem, SameShelf, items-same, map-agrees, shelves-same}
 use Rattle.shelf_store.proofs.Spelled.SpelledLists.{with_lists, IsSpelled, EditsItems, items-edited}
 use Rattle.shelf_store.proofs.Spelled.SpelledMerges.{free_absorbed-spelled}
+use Rattle.shelf_records.proofs.Recorded.Members.{IsAmong, among}
 
 -- what a step that merges an allocated item with the next one makes of its shelf's lists, and what these spell
 pub record MergesNext (atlas : AtlasRecords) (step : Step) (around : Around) (shelf number : ℕ) (front back free : List ℕ) : Type 0 where
@@ -168,7 +169,7 @@ merges-next {atlas} around shelf number front (next ∷ back) free wide allocate
     link : free_next atlas.records.items number ≡ free_named atlas.records.items (Some next)
     link = ap (free_named atlas.records.items) (next-is (link_at item_chain.next atlas.records.items) front (next ∷ back) number (first_item_of atlas.records.shelves shelf) None is.items.forward)
 
-    absorbed : is_allocated_at atlas.records.items next ≡ false → free_next atlas.records.items number ≡ Some next → IsMember next free → MergesNext atlas (next_absorbed shelf number (Some next) atlas.records) around shelf number front (next ∷ back) free
+    absorbed : is_allocated_at atlas.records.items next ≡ false → free_next atlas.records.items number ≡ Some next → IsAmong next free → MergesNext atlas (next_absorbed shelf number (Some next) atlas.records) around shelf number front (next ∷ back) free
     absorbed is_free named member =
         subst (λ (ns : List ℕ). MergesNext atlas (next_absorbed shelf number (Some next) atlas.records) around shelf number front (next ∷ back) ns) (sym member.whole)
         (next-taken around shelf number next front back member.front member.back wide allocated is_free named
@@ -192,4 +193,4 @@ merges-next {atlas} around shelf number front (next ∷ back) free wide allocate
           ap (λ ns. free_count atlas.records.items next ns) (append_assoc front (number ∷ []) (next ∷ back)),
         ) in
         subst (λ (o : Option ℕ). MergesNext atlas (next_absorbed shelf number o atlas.records) around shelf number front (next ∷ back) free) (sym (link ∙ some))
-        (absorbed e (link ∙ some) (member-of next free stands))
+        (absorbed e (link ∙ some) (among next free stands))

@@ -1,37 +1,20 @@
 -- Records that spell lists, between the steps of an edit: what an edit of one shelf's items keeps of the others.
 use Rattle.std.proofs.Common.{◌≡◌, ℕ, ◌+◌, ◌≤◌, false, List, [], ◌∷◌, ◌++◌, map, refl, ap, arith, sym, ◌∙◌}
 use Rattle.std.proofs.lemmas.List.{map-append}
-use Rattle.std.specs.Prelude.{◌/◌, ◌%◌, ◌==◌, if◌then◌else◌}
+use Rattle.std.specs.Prelude.{◌/◌, ◌%◌}
 use Rattle.etagere_base.proofs.EachLemmas.{Each-append, Each-front, Each-back}
 use Rattle.etagere_base.proofs.TimesLemmas.{times-append}
 use Rattle.std.specs.List.{AllByRecursion}
 use Rattle.etagere_base.specs.Lists.{times}
-use Rattle.shelf_links.specs.declared.records.LinkedShelf.{LinkedShelf}
 use Rattle.shelf_links.specs.RecordLists.{Records, Entry, Lists, shelf_numbers, item_numbers, IsEntry, IsLinkedExcept}
 use Rattle.shelf_links.proofs.AllLists.LinkedEdits.{same-numbers, linked-apart, Around, with_entry}
 use Rattle.shelf_records.specs.AtlasRecords.{AtlasRecords, is_allocated_at, item_place_of, along_of, height_of, item_at, spelled_shelf}
-use Rattle.shelf_records.specs.StandsFor.{AreStacked, height_before}
+use Rattle.shelf_records.specs.StandsFor.{AreStacked}
 use Rattle.shelf_model.specs.State.{Shelf}
 use Rattle.shelf_store.proofs.Spelled.EntryValues.{free_count-same}
 use Rattle.shelf_records.proofs.Spelled.RecordValues.{SameItem, SameShelf, map-agrees, LieFrom-same, owners-same}
 use Rattle.shelf_records.specs.Private.Kept.{IsPlaced}
-
--- the heights of shelves that say the same
-height-same : (shelves new : List LinkedShelf) (column_width column : ℕ) → ((k : ℕ) → SameShelf shelves new k) → (numbers : List ℕ) → height_before new column_width column numbers ≡ height_before shelves column_width column numbers
-height-same shelves new column_width column same [] = refl
-height-same shelves new column_width column same (n ∷ ns) =
-    ap (λ a. (if a / column_width == column then height_of new n else 0) + height_before new column_width column ns) (same n).along
-    ∙ ap (λ h. (if along_of shelves n / column_width == column then h else 0) + height_before new column_width column ns) (same n).height
-    ∙ ap (λ rest. (if along_of shelves n / column_width == column then height_of shelves n else 0) + rest) (height-same shelves new column_width column same ns)
-
--- shelves that say the same stand where they stood
-pub stacked-same : (shelves new : List LinkedShelf) (column_width : ℕ) → ((k : ℕ) → SameShelf shelves new k) → (before numbers : List ℕ) → AreStacked shelves column_width before numbers → AreStacked new column_width before numbers
-stacked-same shelves new column_width same before [] stacked = tt
-stacked-same shelves new column_width same before (n ∷ ns) stacked =
-    let own : height_before new column_width (along_of new n / column_width) before ≡ height_before shelves column_width (along_of shelves n / column_width) before =
-    height-same shelves new column_width (along_of new n / column_width) same before
-    ∙ ap (λ a. height_before shelves column_width (a / column_width) before) (same n).along in
-    ((same n).across ∙ stacked.0 ∙ sym own, stacked-same shelves new column_width same (before ++ n ∷ []) ns stacked.1)
+use Rattle.shelf_store.proofs.Spelled.StackedEdits.{stacked-same}
 
 -- the atlas with other records
 abbrev pub with_lists : AtlasRecords → Records → AtlasRecords
@@ -105,7 +88,7 @@ items-edited-but {atlas} lists around unused' loose entry edited spelled edits =
       record {
         linked = edits.linked;
         placed = Each-append (IsPlaced new) around.before (edited ∷ around.after) front.0 (edits.placed, back.0);
-        stacked = rw numbers (stacked-same atlas.records.shelves lists.shelves atlas.frame.column_width edits.shelf [] (shelf_numbers (around.before ++ entry ∷ around.after)) spelled.stacked);
+        stacked = rw numbers (stacked-same atlas.records.shelves lists.shelves atlas.frame.column_width edits.shelf (shelf_numbers (around.before ++ entry ∷ around.after)) spelled.stacked);
         unused = edits.left_unused;
       },
       map-append (spelled_shelf new) around.before (edited ∷ around.after)

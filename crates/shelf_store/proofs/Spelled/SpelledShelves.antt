@@ -22,7 +22,7 @@ use Rattle.shelf_store.proofs.Spelled.AbsorbedItems.{items-keep_values}
 use Rattle.shelf_records.proofs.Spelled.RecordValues.{item_values, shelf_values, SameItem, SameShelf, items-same, shelves-same, shelf-other}
 use Rattle.shelf_store.proofs.Spelled.SpelledLists.{with_lists, IsSpelled, placed-same}
 use Rattle.shelf_store.proofs.Spelled.SpelledMerges.{unmarked-same}
-use Rattle.shelf_records.proofs.Spelled.StackedMerges.{AbsorbsShelf, stacked-absorbed}
+use Rattle.shelf_store.proofs.Spelled.StackedEdits.{AbsorbsShelf, stacked-absorbed}
 use Rattle.shelf_records.specs.Private.Kept.{IsPlaced}
 
 -- the values of shelves are no part of the links between them
@@ -85,9 +85,9 @@ shelf_absorbed-spelled {atlas} around entry next item free column is_free spelle
       placed = Each-append (IsPlaced (with_lists atlas lists)) around.before (entry ∷ around.after)
           (still-placed atlas lists around.before taller.along taller.items (Each-front (IsPlaced atlas) around.before (entry ∷ gone ∷ around.after) spelled.placed))
           (still-placed atlas lists (entry ∷ around.after) taller.along taller.items (tail.0, tail.1.1));
-      stacked = rw fewer (stacked-absorbed old lists.shelves atlas.frame.column_width [] [] (shelf_numbers around.before) (shelf_numbers around.after) entry.number next absorbs (λ c. refl)
+      stacked = rw fewer (stacked-absorbed old lists.shelves atlas.frame.column_width (shelf_numbers around.before) (shelf_numbers around.after) entry.number next
           (λ k stands. taller.others k (apart.numbers k (omega (arith, stands))))
-          (λ k stands. taller.others k (apart.numbers k (omega (arith, stands))))
+          (λ k stands. taller.others k (apart.numbers k (omega (arith, stands)))) absorbs
           (rw (← numbers) spelled.stacked));
       unused = ((taller.items item).allocated ∙ is_free, unmarked-same items lists.items around.unused_items (λ k stands. taller.items k) spelled.unused);
     }

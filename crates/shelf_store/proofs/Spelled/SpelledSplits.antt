@@ -1,6 +1,5 @@
 -- Records that spell lists, after a shelf was split: the rest is an empty shelf of the same column.
 use Rattle.std.proofs.Common.{◌≡◌, ◌≢◌, ℕ, zero, suc, ◌+◌, ◌-◌, ◌*◌, ◌<◌, ◌≤◌, true, false, Option, None, Some, List, [], ◌∷◌, ◌++◌, length, map, refl, ap, arith, ◌∙◌, sym}
-use Rattle.std.proofs.lemmas.Nat.{div-add-mod'}
 use Rattle.std.specs.Prelude.{◌/◌, ◌%◌, slice_get}
 use Rattle.etagere_base.proofs.EachLemmas.{Each-append, Each-front, Each-back, Each-middle}
 use Rattle.etagere_base.proofs.TimesLemmas.{times-append}
@@ -28,12 +27,13 @@ use Rattle.shelf_records.specs.Private.Kept.{HasFlag, IsPlaced}
 use Rattle.shelf_store.specs.Private.PlacementTaken.{free_item, item_record, rest_shelf, shelf_record}
 use Rattle.shelf_model.specs.State.{Item, Shelf, empty_shelf, is_empty}
 use Rattle.shelf_store.proofs.Spelled.EntryValues.{free_count-free}
-use Rattle.shelf_records.proofs.Spelled.RecordValues.{shelf_values, SameItem, SameShelf, item-same, shelves-same, shelf-other}
+use Rattle.shelf_records.proofs.Spelled.RecordValues.{shelf_values, SameItem, SameShelf, item-same, shelves-same, shelf-other, SameShelf-then}
 use Rattle.shelf_store.proofs.Spelled.SpelledLists.{with_lists, IsSpelledBut, placed-same}
 use Rattle.shelf_store.proofs.Spelled.SpelledMerges.{unmarked-same}
 use Rattle.shelf_store.proofs.Spelled.SpelledShelves.{shelves-keep_values}
-use Rattle.shelf_store.proofs.Spelled.SpelledUses.{IsUsed, SameEntries, same-entries, same-shelf, SameShelf-then, stranger}
-use Rattle.shelf_store.proofs.Spelled.StackedSplits.{SplitsShelf, stacked-split}
+use Rattle.shelf_store.proofs.Spelled.SpelledUses.{IsUsed, SameEntries, same-entries, same-shelf, stranger}
+use Rattle.shelf_store.proofs.Spelled.StackedEdits.{SplitsShelf, stacked-split}
+use Rattle.etagere_base.proofs.AlignedPlaces.{multiple}
 
 -- a field of a record that is read whole
 pub read-record : {T X : Type 0} (field : T → X) (other : T) (xs : List T) (k : ℕ) → field (field_at (λ (x : T). x) other xs k) ≡ field_at field (field other) xs k
@@ -206,8 +206,8 @@ split-shelf {atlas} used around entry rest rest_item height loose tall is_used =
                 (record { next = refl; prev = refl; next_unallocated = refl; prev_unallocated = refl; first_item = refl; first_unallocated = refl }) spelled.linked;
             placed = Each-append (IsPlaced (with_lists atlas new)) around.before (entry ∷ added ∷ around.after) (Each-front (IsPlaced (with_lists atlas new)) around.before (entry ∷ around.after) all) (tail.0, (added_placed, tail.1));
             stacked = rw more_numbers
-                (stacked-split used.shelves new.shelves cw [] [] (shelf_numbers around.before) (shelf_numbers around.after) number rest is.splits (λ c. refl)
-                (λ k stands. others k (omega (arith, stands))) (λ k stands. others k (omega (arith, stands)))
+                (stacked-split used.shelves new.shelves cw (shelf_numbers around.before) (shelf_numbers around.after) number rest
+                (λ k stands. others k (omega (arith, stands))) (λ k stands. others k (omega (arith, stands))) is.splits
                 (rw (← numbers) spelled.stacked));
             unused = unmarked-same used.items new.items around.unused_items
                 (λ k stands. item-same used.items new.items k (item_same k (stranger rest_item k around.unused_items free.no_unused stands))) spelled.unused;
@@ -225,9 +225,6 @@ split-shelf {atlas} used around entry rest rest_item height loose tall is_used =
   where
     self-stands : (n : ℕ) (ns : List ℕ) → 1 ≤ times n (n ∷ ns)
     self-stands n ns = grind arith
-
-    multiple : (a width : ℕ) → a % width ≡ 0 → a ≡ a / width * width
-    multiple a width e = omega (arith, e, div-add-mod' a width)
 
 -- the record of the rest of an item, which stands in no list, is written
 pub split-written : {atlas : AtlasRecords} (new : Records) (around : Around) (added : List Entry) (entry : Entry) (loose : List ℕ) (tall : ℕ) (pieces : List Shelf) (rest : ℕ) (item : LinkedItem) → HasShelfSplit atlas new around added entry (rest ∷ loose) tall pieces → HasShelfSplit atlas (item_changed rest (λ _. item) new) around added entry (rest ∷ loose) tall pieces

@@ -15,8 +15,9 @@ use Rattle.etagere_links.proofs.WalkedLists.{once-part}
 use Rattle.shelf_records.specs.AtlasRecords.{AtlasRecords, is_allocated_at, spelled_shelf}
 use Rattle.shelf_records.specs.Private.Kept.{HasFlag, IsPlaced}
 use Rattle.shelf_model.specs.State.{Shelf, is_empty}
-use Rattle.shelf_records.proofs.Spelled.RecordValues.{SameItem, SameShelf, item-same}
-use Rattle.shelf_store.proofs.Spelled.SpelledLists.{with_lists, IsSpelledBut, shelf-same, placed-same, stacked-same}
+use Rattle.shelf_records.proofs.Spelled.RecordValues.{SameItem, SameShelf, item-same, SameShelf-then}
+use Rattle.shelf_store.proofs.Spelled.SpelledLists.{with_lists, IsSpelledBut, shelf-same, placed-same}
+use Rattle.shelf_store.proofs.Spelled.StackedEdits.{stacked-same}
 use Rattle.shelf_store.proofs.Spelled.SpelledMerges.{unmarked-same}
 
 -- shelves that say what they said
@@ -62,11 +63,6 @@ shelves-used None shelves k =
       is_empty = field_at-made (λ (s : LinkedShelf). s.is_empty) false shelves new_shelf k refl;
     }
 shelves-used (Some number) shelves k = same-shelf shelves k
-
--- saying the same carries over
-pub SameShelf-then : (shelves middle new : List LinkedShelf) (k : ℕ) → SameShelf shelves middle k → SameShelf middle new k → SameShelf shelves new k
-SameShelf-then shelves middle new k one two =
-    record { along = two.along ∙ one.along; across = two.across ∙ one.across; height = two.height ∙ one.height; is_empty = two.is_empty ∙ one.is_empty }
 
 -- a fact of each is one of each but the first
 pub Each-but_first : (P : ℕ → Type 0) (xs : List ℕ) → AllByRecursion P xs → AllByRecursion P (but_first xs)
@@ -168,7 +164,7 @@ used-shelf {atlas} {new} {lists} used room =
                 record {
                   linked = uses.linked;
                   placed = same.placed used.spelled.placed;
-                  stacked = stacked-same new.shelves last.shelves atlas.frame.column_width same_shelf [] (shelf_numbers lists.entries) used.spelled.stacked;
+                  stacked = stacked-same new.shelves last.shelves atlas.frame.column_width same_shelf (shelf_numbers lists.entries) used.spelled.stacked;
                   unused = used.spelled.unused;
                 };
             items = used.items;
