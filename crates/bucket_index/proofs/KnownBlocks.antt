@@ -3,7 +3,7 @@ use Rattle.std.proofs.Common.{◌≡◌, ℕ, zero, suc, ◌+◌, ◌-◌, ◌*�
 use Rattle.std.proofs.lemmas.Bool.{eqb-true, leb-false}
 use Rattle.std.proofs.lemmas.Option.{slice_get_within}
 use Rattle.std.specs.Option.{option_map_or}
-use Rattle.std.specs.Prelude.{option_map, nat_le, slice_get, slice_set, ◌||◌}
+use Rattle.std.specs.Prelude.{option_map, nat_le, slice_get, ◌||◌}
 use Rattle.etagere_links.specs.Edits.{changed_by}
 use Rattle.etagere_links.proofs.RecordChanges.{get-changed_by, get-changed_by-other}
 use Rattle.bucketed_records.specs.declared.records.KeptShelf.{KeptShelf}
@@ -11,16 +11,6 @@ use Rattle.bucketed_records.specs.Private.Store.{is_kept_idle}
 use Rattle.bucket_index.specs.declared.blocks.Block.{Block}
 use Rattle.bucket_index.specs.declared.blocks.Blocks.{Blocks}
 use Rattle.bucket_index.specs.Private.Blocks.{AreFirstKnown, AreKnown, AreKnownOf, AreKnownWhere, AreOthersKnown, IsKnown, IsKnownAt, IsKnownOf, IsPart, block_of, joined, may_be_idle, may_give, raised, with_shelf}
-
--- what is read from a list after a write to one place: what was written, or else what was there
-pub read-set : {X P : Type 0} (xs : List X) (i j : ℕ) (v y : X) → slice_get (slice_set xs i v) j ≡ Some y → ((z : X) → slice_get xs i ≡ Some z → j ≡ i → y ≡ v → P)
-    → ((j ≡ i → ⊥) → slice_get xs j ≡ Some y → P) → P
-read-set [] i j v y read here there = absurd (cc)
-read-set (x ∷ xs) zero zero v y read here there = here x refl refl (cc)
-read-set (x ∷ xs) zero (suc j) v y read here there = there (λ e. absurd (omega arith)) read
-read-set (x ∷ xs) (suc i) zero v y read here there = there (λ e. absurd (omega arith)) read
-read-set (x ∷ xs) (suc i) (suc j) v y read here there =
-    read-set xs i j v y read (λ z at same is. here z at (ap suc same) is) (λ other at. there (λ e. other (omega arith)) at)
 
 -- a shelf is known to a block that was counted with it
 pub known-own : (kept : KeptShelf) (block : Block) → IsKnown kept (with_shelf kept block)

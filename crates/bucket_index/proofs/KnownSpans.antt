@@ -62,10 +62,6 @@ lead-more zero Is xs at n within is lead = subst (λ (a : Option ℕ). Lead 1 Is
 lead-more (suc steps) Is xs None n within is lead = absurd lead
 lead-more (suc steps) Is xs (Some k) n within is lead = (lead.0, lead.1, lead-more steps Is xs (next_of xs k) n within is lead.2)
 
--- a single record on the way
-pub lead-one : (Is : ℕ → Type 0) (xs : List LinkedBucket) (n : ℕ) (b : LinkedBucket) → slice_get xs n ≡ Some b → Is n → Lead 1 Is xs (Some n) b.next
-lead-one Is xs n b at is = (slice_get_within xs n b at, is, next-at xs n b at)
-
 -- the first record on the way is there
 lead-first : (steps : ℕ) (Is : ℕ → Type 0) (xs : List LinkedBucket) (n : ℕ) (behind : Option ℕ) → 1 ≤ steps → Lead steps Is xs (Some n) behind → (n < length xs) × Is n
 lead-first zero Is xs n behind some lead = absurd (omega arith)

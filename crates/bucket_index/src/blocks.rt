@@ -3,7 +3,7 @@
 //!
 //! Definitions: `Private/Blocks`. What is known of a block may be too much, never too little.
 
-ghost use Rattle.std.specs.Prelude.{◌≡◌, ◌+◌, ◌-◌, ◌<◌, ◌≤◌, ◌^◌, Some, [], length, slice_get};
+ghost use Rattle.std.specs.Prelude.{◌≡◌, ◌+◌, ◌-◌, ◌*◌, ◌<◌, ◌≤◌, ◌^◌, Some, [], false, length, slice_get};
 ghost use Rattle.etagere_links.specs.Edits.{changed_by};
 ghost use Rattle.bucket_index.specs.Private.Blocks as spec;
 
@@ -146,6 +146,25 @@ fn end_of(size: usize, shelf: usize) -> usize
     shelf / size * size + size
 }
 
+/// Where a search for a shelf with room for this width goes on behind a small block in which none has: at the next small
+/// block of the same middle one in which a shelf may have room, or behind the middle one.
+fn behind_narrow_small(blocks: &[Block], shelf: usize, width: u32) -> usize
+    requires shelf { shelf < 2 ^ 62 }
+    requires narrow { spec.may_give width blocks.now (spec.block_of 8 shelf) ≡ false }
+    ensures on { shelf ≤ result }
+    ensures small { result ≤ shelf + 64 }
+    ensures narrow { (block : spec.ℕ) → spec.block_of 8 shelf ≤ block → block * 8 < result
+        → spec.may_give width blocks.now block ≡ false }
+{
+    let end = shelf / SHELVES_OF_MIDDLE * PARTS_OF_BLOCK + PARTS_OF_BLOCK;
+    for number in shelf / SHELVES_OF_BLOCK + 1..end {
+        if may_give(blocks, number, width) {
+            return number * SHELVES_OF_BLOCK;
+        }
+    }
+    end * SHELVES_OF_BLOCK
+}
+
 impl Blocks {
     /// Those of no shelves.
     pub fn new() -> Blocks
@@ -170,7 +189,7 @@ impl Blocks {
     }
 
     /// Where a search for a shelf with room for this width goes on that has come to the shelf of a number: at that
-    /// one, or behind a block in which none has room.
+    /// one, or behind blocks in which none has room.
     pub fn behind_narrow(&self, from: usize, width: u32) -> usize
         requires { from < 2 ^ 62 }
         ensures on { from ≤ result }
@@ -181,7 +200,7 @@ impl Blocks {
         if may_give(&self.small, from / SHELVES_OF_BLOCK, width) {
             from
         } else if may_give(&self.middle, from / SHELVES_OF_MIDDLE, width) {
-            end_of(SHELVES_OF_BLOCK, from)
+            behind_narrow_small(&self.small, from, width)
         } else if may_give(&self.large, from / SHELVES_OF_LARGE, width) {
             end_of(SHELVES_OF_MIDDLE, from)
         } else {

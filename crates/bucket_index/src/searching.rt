@@ -4,7 +4,6 @@
 //! comparison tells has none that is wanted.
 
 ghost use Rattle.std.specs.Prelude.{◌≡◌, ◌+◌, ◌<◌, ◌≤◌, IfSome, IsTrue, length, map, max, take, drop};
-ghost use Rattle.std.specs.Option.{option_map};
 ghost use Rattle.etagere_base.specs.Least.{first_least};
 ghost use Rattle.etagere_base.specs.Least as least;
 ghost use Rattle.bucketed_model.specs.Picking.{or_else};
@@ -238,10 +237,7 @@ fn least_waste(adds: bool, sides: &Sides, shelves: &[KeptShelf], blocks: &Blocks
 {
     let mut best = None;
     let mut from = 0;
-    for _block in 0..shelves.len() {
-        if from >= shelves.len() {
-            break;
-        }
+    while from < shelves.len() {
         let behind = blocks.behind_narrow(from, sides.along);
         if from < behind {
             from = behind;
@@ -272,8 +268,11 @@ fn least_in(
 {
     let mut best = best;
     for number in from..shelves.len().min(from + SHELVES_OF_BLOCK) {
-        best = better(best, number, waste(adds, sides, &shelves[number]));
-        if wastes_nothing(&best) {
+        let Some(rank) = waste(adds, sides, &shelves[number]) else {
+            continue;
+        };
+        best = better(best, number, rank);
+        if rank == 0 {
             break;
         }
     }
@@ -290,14 +289,10 @@ fn wastes_nothing(best: &Option<Least>) -> bool
     }
 }
 
-/// What was found before, unless the next shelf wastes less.
-fn better(best: Option<Least>, number: usize, waste: Option<u32>) -> Option<Least>
-    ensures { result ≡ least.better best
-        (option_map (λ rank. record { number = number; rank = rank }) waste) }
+/// What was found before, unless the next shelf, which wastes so much, wastes less.
+fn better(best: Option<Least>, number: usize, rank: u32) -> Option<Least>
+    ensures { result ≡ least.better best (Some (record { number = number; rank = rank })) }
 {
-    let Some(rank) = waste else {
-        return best;
-    };
     match best {
         Some(found) if found.rank <= rank => Some(found),
         _ => Some(Least { number, rank }),

@@ -1,6 +1,6 @@
 -- What contracts of steps and invariants of types cite; no public clause of the atlas does.
 pub mod DrawnRecords
-pub mod Growths
+pub mod Grows
 pub mod Placing
 pub mod Refusals
 pub mod Returns

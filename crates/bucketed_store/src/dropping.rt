@@ -65,7 +65,7 @@ fn link_to(buckets: &mut [LinkedBucket], number: usize, next: Link)
 }
 
 /// Puts the list of a bucket in front of the unused ones, and answers how many stand in it.
-fn put_row_aside(
+fn make_row_unused(
     buckets: &mut [LinkedBucket],
     spans: &mut Spans,
     unused: &mut Link,
@@ -73,7 +73,7 @@ fn put_row_aside(
 ) -> u32
     requires few { length buckets.old ≤ most_buckets }
     requires spans { AreSpans spans.old buckets.old }
-    ensures buckets { buckets.new ≡ spec.row_aside first unused.old buckets.old }
+    ensures buckets { buckets.new ≡ spec.row_unused first unused.old buckets.old }
     ensures unused { unused.new ≡ or_else first unused.old }
     ensures count { result ≡ spec.row_count buckets.old first }
     ensures spans { AreSpans spans.new buckets.new }
@@ -114,7 +114,7 @@ pub(crate) fn drop_idle_end(
         if last.live_items > 0 {
             break;
         }
-        dropped += put_row_aside(buckets, spans, unused, first);
+        dropped += make_row_unused(buckets, spans, unused, first);
         shelves.pop();
     }
     dropped

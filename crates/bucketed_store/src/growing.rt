@@ -1,6 +1,6 @@
 //! Giving shelves further buckets in a width that is added.
 //!
-//! Definitions: `Private/Growths`, and `Growing` for what they mean. Room for new records is reserved
+//! Definitions: `Private/Grows`, and `Growing` for what they mean. Room for new records is reserved
 //! before, by the caller.
 
 ghost use Rattle.std.specs.Prelude.{◌≡◌, ◌+◌, ◌-◌, ◌*◌, ◌<◌, ◌≤◌, ◌^◌, Some, length, vec_len, vec_capacity};
@@ -8,7 +8,7 @@ ghost use Rattle.etagere_links.specs.Edits.{changed_by};
 ghost use Rattle.etagere_links.specs.Links.{no_link};
 ghost use Rattle.bucketed_model.specs.State.{most_buckets};
 ghost use Rattle.bucket_index.specs.Private.Spans.{AreSpans};
-ghost use Rattle.bucketed_store.specs.Private.Growths as spec;
+ghost use Rattle.bucketed_store.specs.Private.Grows as spec;
 ghost use Rattle.bucketed_store.specs.Private.Returns.{width_of};
 
 use crate::making::{NewBuckets, make_buckets};

@@ -15,7 +15,7 @@ ghost use Rattle.bucketed_records.specs.Restoring as restoring;
 ghost use Rattle.bucket_index.specs.Private.Blocks.{AreKnown};
 ghost use Rattle.bucket_index.specs.Private.Searching as searching;
 ghost use Rattle.bucket_index.specs.Private.Spans.{AreSpans};
-ghost use Rattle.bucketed_store.specs.Private.Growths as growths;
+ghost use Rattle.bucketed_store.specs.Private.Grows as growths;
 ghost use Rattle.bucketed_store.specs.Private.Returns as returns;
 ghost use Rattle.bucketed_store.specs.Private.Placing as placing;
 ghost use Rattle.bucketed_store.specs.Private.StoreEdits as spec;
@@ -315,7 +315,7 @@ impl Store {
         area
     }
 
-    /// Drops the shelves at the end that hold nothing live, and answers how many buckets that puts aside.
+    /// Drops the shelves at the end that hold nothing live, and answers how many buckets that leaves unused.
     pub fn drop_idle_end(&mut self) -> u32
         requires shelves { length self.old.shelves ≤ most_buckets }
         requires buckets { length self.old.buckets ≤ most_buckets }

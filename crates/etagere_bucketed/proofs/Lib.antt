@@ -1,3 +1,3 @@
-pub mod AtlasGrowths
+pub mod AtlasGrows
 pub mod AtlasReturns
 pub mod Broken

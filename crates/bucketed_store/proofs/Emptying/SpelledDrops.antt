@@ -25,7 +25,7 @@ use Rattle.bucketed_records.specs.declared.records.KeptShelf.{KeptShelf}
 use Rattle.bucketed_records.specs.StandsFor.{live_of}
 use Rattle.bucketed_records.proofs.Spelling.KeptShelves.{kept-append, last-kept}
 use Rattle.bucketed_records.proofs.Spelling.ReadBack.{spelled-pile}
-use Rattle.bucketed_store.specs.Private.Returns.{Dropping, end_dropped, last_dropped, linked_to, row_aside, row_count, row_end, row_from}
+use Rattle.bucketed_store.specs.Private.Returns.{Dropping, end_dropped, last_dropped, linked_to, row_unused, row_count, row_end, row_from}
 use Rattle.bucketed_store.specs.declared.dropping.RowEnd.{RowEnd}
 use Rattle.bucketed_store.proofs.Emptying.SpelledPlaces.{shelf-spelled, shelves-frame, shelves-front-spelled}
 use Rattle.bucketed_store.proofs.Emptying.Splices.{last_of, last_of-stands, spliced}
@@ -59,17 +59,17 @@ idle-lives records shelf width (b ∷ bs) spelled idle =
 
 -- the records after a list of idle buckets became unused: which stay, and which are unused
 pub record IsAside (records : List LinkedBucket) (top : Option ℕ) (front unused : List ℕ) (bs : List Bucket) : Type 0 where
-  pub stays : (k : ℕ) → 1 ≤ times k front → slice_get (row_aside (first_link bs) top records) k ≡ slice_get records k
-  pub pool : IsPool (row_aside (first_link bs) top records) (or_else (first_link bs) top) front (numbers_of bs ++ unused)
+  pub stays : (k : ℕ) → 1 ≤ times k front → slice_get (row_unused (first_link bs) top records) k ≡ slice_get records k
+  pub pool : IsPool (row_unused (first_link bs) top records) (or_else (first_link bs) top) front (numbers_of bs ++ unused)
   pub count : row_count records (first_link bs) ≡ length bs
 
 -- idle buckets are unused
-pub row-set_aside : (records : List LinkedBucket) (top : Option ℕ) (front unused : List ℕ) (shelf width : ℕ) (bs : List Bucket)
+pub row-made_unused : (records : List LinkedBucket) (top : Option ℕ) (front unused : List ℕ) (shelf width : ℕ) (bs : List Bucket)
     → AreBucketsSpelled records shelf width bs → list_all is_idle_bucket bs ≡ true → IsPool records top (front ++ numbers_of bs) unused
     → IsAside records top front unused bs
-row-set_aside records top front unused shelf width [] spelled idle pool =
+row-made_unused records top front unused shelf width [] spelled idle pool =
     record { stays = λ k stands. refl; pool = subst (λ (ns : List ℕ). IsPool records top ns unused) (append-nil front) pool; count = refl }
-row-set_aside records top front unused shelf width (b ∷ bs) spelled idle pool =
+row-made_unused records top front unused shelf width (b ∷ bs) spelled idle pool =
     let n = b.tag.number in
     let ns = numbers_of bs in
     let end = last_of n ns in
@@ -129,13 +129,13 @@ drops-last frame done unused xs x spells idle =
     let numbers : bucket_numbers (xs ++ x ∷ []) ≡ bucket_numbers xs ++ numbers_of x.buckets =
     numbers-append xs (x ∷ []) ∙ ap (λ (ns : List ℕ). bucket_numbers xs ++ ns) (append-nil (numbers_of x.buckets)) in
     let row = shelf-spelled records 0 xs x [] spells.buckets in
-    let aside = row-set_aside records done.stored.unused (bucket_numbers xs) unused (0 + length xs) x.bucket_width x.buckets row idle
+    let aside = row-made_unused records done.stored.unused (bucket_numbers xs) unused (0 + length xs) x.bucket_width x.buckets row idle
     (subst (λ (ns : List ℕ). IsPool records done.stored.unused ns unused) numbers spells.pool) in
     record {
       last = ap last_kept spells.shelves ∙ last-kept frame xs x;
       spells = record {
         shelves = ap (λ (ks : List KeptShelf). take (length ks - 1) ks) whole ∙ front-kept (kept_shelves frame [] xs) kept;
-        buckets = shelves-frame records (row_aside (first_link x.buckets) done.stored.unused records) 0 xs aside.stays (shelves-front-spelled records 0 xs (x ∷ []) spells.buckets);
+        buckets = shelves-frame records (row_unused (first_link x.buckets) done.stored.unused records) 0 xs aside.stays (shelves-front-spelled records 0 xs (x ∷ []) spells.buckets);
         pool = aside.pool;
       };
       count = ap (λ (n : ℕ). done.count + n) aside.count;
@@ -171,6 +171,6 @@ end-idle steps rest done kept e last idle =
     is-zero n h = grind arith
 
 -- making unused keeps the number of records
-pub length-aside : (first top : Option ℕ) (records : List LinkedBucket) → length (row_aside first top records) ≡ length records
-length-aside None top records = refl
-length-aside (Some first) top records = length-changed_by (linked_to top) records (Some (row_end records first).last)
+pub length-unused : (first top : Option ℕ) (records : List LinkedBucket) → length (row_unused first top records) ≡ length records
+length-unused None top records = refl
+length-unused (Some first) top records = length-changed_by (linked_to top) records (Some (row_end records first).last)

@@ -8,7 +8,7 @@ use Rattle.bucketed_model.specs.Adding.{NewShelf, NewShelves, news_of, width_of_
 use Rattle.bucketed_model.specs.State.{column_place}
 use Rattle.bucketed_records.specs.declared.records.LinkedBucket.{LinkedBucket}
 use Rattle.bucketed_records.specs.Private.Store.{Stored}
-use Rattle.bucketed_store.specs.Private.Growths.{first_of, share, shelf_widened, shelves_widened}
+use Rattle.bucketed_store.specs.Private.Grows.{first_of, share, shelf_widened, shelves_widened}
 use Rattle.bucketed_store.specs.Private.Returns.{width_of}
 use Rattle.bucketed_store.specs.Private.StoreEdits.{Made, after_first, made_again, made_many, made_new, made_one, new_record, stored_shelf, stored_shelves}
 use Rattle.bucketed_store.specs.declared.making.NewBuckets.{NewBuckets}

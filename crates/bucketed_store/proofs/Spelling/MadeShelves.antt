@@ -12,7 +12,7 @@ use Rattle.etagere_base.specs.declared.sides.Sides.{Sides}
 use Rattle.etagere_base.specs.Lists.{times}
 use Rattle.bucketed_model.specs.Adding.{AreNewTags, IsTag, NewShelf, NewShelves, made_shelf, made_shelves, new_buckets, news_of, total_count, width_of_share}
 use Rattle.bucketed_model.specs.Frames.{IsBucketedFrame}
-use Rattle.bucketed_model.specs.State.{Bucket, BucketShelf, Tag, bucket_numbers, buckets_in_use, column_height, column_place, tag_numbers}
+use Rattle.bucketed_model.specs.State.{BucketShelf, Tag, bucket_numbers, buckets_in_use, column_height, column_place, tag_numbers}
 use Rattle.bucketed_model.specs.Valid.{AreShelves}
 use Rattle.bucketed_model.proofs.Shelving.Added.{added-one, FitsBehind, FitsNews}
 use Rattle.bucketed_model.proofs.Shelving.Made.{length-new, numbers-new}
@@ -46,11 +46,6 @@ room-new place width (tag ∷ tags) = omega (arith, room-new place width tags)
 -- and just that
 widest-new : (place width : ℕ) (tag : Tag) (tags : List Tag) → widest_room width (new_buckets place width (tag ∷ tags)) ≡ width
 widest-new place width tag tags = omega (arith, room-new place width tags)
-
--- the numbers of buckets end to end
-pub numbers-in : (k : ℕ) (xs ys : List Bucket) → times k (numbers_of (xs ++ ys)) ≡ times k (numbers_of xs) + times k (numbers_of ys)
-numbers-in k [] ys = omega arith
-numbers-in k (x ∷ xs) ys = omega (arith, numbers-in k xs ys)
 
 -- so many columns are opened after shelves as the last one says
 opened-last : (opened : ℕ) (xs : List BucketShelf) (x : BucketShelf) → opened_by opened (xs ++ x ∷ []) ≡ suc x.column

@@ -21,7 +21,7 @@ use Rattle.bucketed_records.specs.declared.records.KeptShelf.{KeptShelf}
 use Rattle.bucketed_records.specs.Private.Store.{Stored, kept_shelves}
 use Rattle.bucketed_records.specs.Private.Witnessed.{Witnessed}
 use Rattle.bucketed_records.proofs.Spelling.KeptShelves.{length-kept}
-use Rattle.bucketed_store.specs.Private.Growths.{left_after, share, shelves_widened}
+use Rattle.bucketed_store.specs.Private.Grows.{left_after, share, shelves_widened}
 use Rattle.bucketed_store.proofs.Widening.WidenedShelves.{widens-shelves, WidensShelves}
 
 -- columns begin in a frame where they do in another

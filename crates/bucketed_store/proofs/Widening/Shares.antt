@@ -3,7 +3,7 @@ use Rattle.std.proofs.Common.{◌≡◌, ℕ, zero, suc, ◌+◌, ◌-◌, ◌<�
 use Rattle.etagere_links.specs.Edits.{changed_by}
 use Rattle.bucketed_records.specs.declared.records.KeptShelf.{KeptShelf}
 use Rattle.bucketed_records.specs.Private.Store.{Stored}
-use Rattle.bucketed_store.specs.Private.Growths.{left_after, share, shelf_widened, shelves_widened}
+use Rattle.bucketed_store.specs.Private.Grows.{left_after, share, shelf_widened, shelves_widened}
 use Rattle.bucketed_store.specs.Private.Returns.{width_of}
 
 -- no more is left than was

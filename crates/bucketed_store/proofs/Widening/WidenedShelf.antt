@@ -17,7 +17,7 @@ use Rattle.bucketed_records.specs.declared.records.LinkedBucket.{LinkedBucket}
 use Rattle.bucketed_records.specs.Private.Store.{AreBucketsSpelled, AreShelvesSpelled, Spells, Stored, first_link, kept_shelf, kept_shelves, live_items, widest_room}
 use Rattle.bucketed_records.specs.declared.records.KeptShelf.{KeptShelf}
 use Rattle.bucketed_records.proofs.Spelling.KeptShelves.{kept-append, kept-heights, length-kept}
-use Rattle.bucketed_store.specs.Private.Growths.{first_of, shelf_made, shelf_widened, widened_kept}
+use Rattle.bucketed_store.specs.Private.Grows.{first_of, shelf_made, shelf_widened, widened_kept}
 use Rattle.bucketed_store.specs.Private.Returns.{width_of}
 use Rattle.bucketed_store.specs.Private.StoreEdits.{Made, made_many}
 use Rattle.bucketed_store.proofs.Emptying.ItemReturns.{changed-middle}

@@ -16,7 +16,7 @@ use Rattle.bucketed_model.proofs.Shelving.Shelves.{in-use-length}
 use Rattle.bucketed_records.specs.declared.records.KeptShelf.{KeptShelf}
 use Rattle.bucketed_records.specs.Private.Store.{Spells, Stored, kept_shelf, kept_shelves}
 use Rattle.bucketed_records.proofs.Spelling.KeptShelves.{kept-append, length-kept}
-use Rattle.bucketed_store.specs.Private.Growths.{share, shelf_widened, shelves_widened}
+use Rattle.bucketed_store.specs.Private.Grows.{share, shelf_widened, shelves_widened}
 use Rattle.bucketed_store.specs.Private.Returns.{width_of}
 use Rattle.bucketed_store.proofs.Widening.Shares.{widened-next}
 use Rattle.bucketed_store.proofs.Widening.WidenedShelf.{widens-shelf, WidensShelf, wider}

@@ -110,9 +110,9 @@ abbrev pub dropping_from : Stored → ℕ → Dropping
 dropping_from stored count = dropping_of stored.shelves stored.buckets stored.unused count
 
 -- the list of a bucket put in front of the unused ones
-abbrev pub row_aside : Option ℕ → Option ℕ → List LinkedBucket → List LinkedBucket
-row_aside None unused buckets = buckets
-row_aside (Some first) unused buckets =
+abbrev pub row_unused : Option ℕ → Option ℕ → List LinkedBucket → List LinkedBucket
+row_unused None unused buckets = buckets
+row_unused (Some first) unused buckets =
     changed_by (Some (row_end buckets first).last) (linked_to unused) buckets
 
 -- how many buckets stand in a list
@@ -125,7 +125,7 @@ abbrev pub last_dropped : KeptShelf → Dropping → Dropping
 last_dropped kept done =
     let first = kept.shelf.first_bucket in
     dropping_of (take (length done.stored.shelves - 1) done.stored.shelves)
-    (row_aside first done.stored.unused done.stored.buckets)
+    (row_unused first done.stored.unused done.stored.buckets)
     (or_else first done.stored.unused)
     (done.count + row_count done.stored.buckets first)
 

@@ -8,7 +8,6 @@ use Rattle.bucket_index.specs.Private.Searching.{kept_waste}
 use Rattle.bucket_index.proofs.PassedShelves.{least-past}
 use Rattle.bucket_index.proofs.Searched.{best-of_all}
 use Rattle.bucket_index.proofs.searching.least_waste.Goals as goal
-use Rattle.bucket_index.proofs.searching.least_waste.Goals.{then-from-behind, else-from-behind+else-wastes_nothing}
 
 -- what is found has a number below a length where its number, if any, has
 found-within : (o : Option Found) (n : ℕ) → IfSome (option_map (λ (found : Found). found.number) o) (λ k. k < n) → IfSome o (λ found. found.number < n)
@@ -23,38 +22,19 @@ all-within rank shelves best is = rw is (found-within (first_least (map rank she
 before-end : (rank : KeptShelf → Option ℕ) (shelves : List KeptShelf) (best : Option Found) (from : ℕ) → length shelves ≤ from → best ≡ first_least (map rank (take from shelves)) → best ≡ first_least (map rank shelves)
 before-end rank shelves best from past is = is ∙ ap (λ (xs : List KeptShelf). first_least (map rank xs)) (take_all from shelves past)
 
-pub loop-block-preserved : goal.loop-block-preserved
-loop-block-preserved c =
-    let rank = kept_waste c.args.adds c.args.sides.now in
-    let shelves = c.args.shelves.now in
+pub loop-from-preserved-then-from-behind : goal.loop-from-preserved-then-from-behind
+loop-from-preserved-then-from-behind c =
     let behind = c.behind_narrow-behind in
-    elim c.if-from-behind.branch [
-      | then-from-behind w ↦ record {
-        best = w.best-is
-            ∙ least-past c.args.adds c.args.sides.now shelves c.loop-block.best c.loop-block.from behind.result c.loop-block.invariant.best behind.ensures.on (behind.ensures.narrow shelves c.requires.known)
-            ∙ ap (λ (k : ℕ). first_least (map rank (take k shelves))) (sym w.from-is);
-        on = omega (arith, w.from-is, w.if-from-behind.true, c.loop-block.invariant.on);
-      }
-      | else-from-behind+else-wastes_nothing w ↦ record {
-        best = w.best-is ∙ w.least_in-best.ensures ∙ ap (λ (k : ℕ). first_least (map rank (take k shelves))) (sym w.from-is);
-        on = omega (arith, w.from-is, c.loop-block.invariant.on);
-      }
-    ]
+    least-past c.args.adds c.args.sides.now c.args.shelves.now c.loop-from.best c.loop-from.from behind.result c.loop-from.invariant behind.ensures.on (behind.ensures.narrow c.args.shelves.now c.requires.known)
 
-pub returns-then-from-shelves : goal.returns-then-from-shelves
-returns-then-from-shelves c =
+pub returns-after-loop-from : goal.returns-after-loop-from
+returns-after-loop-from c =
     let rank = kept_waste c.args.adds c.args.sides.now in
-    let is = before-end rank c.args.shelves.now c.loop-block.best c.loop-block.from c.if-from-shelves.true c.loop-block.invariant.best in
-    record { least = is; within = all-within rank c.args.shelves.now c.loop-block.best is }
-
-pub returns-after-loop-block : goal.returns-after-loop-block
-returns-after-loop-block c =
-    let rank = kept_waste c.args.adds c.args.sides.now in
-    let is = before-end rank c.args.shelves.now c.loop-block.best c.loop-block.from (omega (arith, c.loop-block-test.false, c.loop-block.invariant.on)) c.loop-block.invariant.best in
-    record { least = is; within = all-within rank c.args.shelves.now c.loop-block.best is }
+    let is = before-end rank c.args.shelves.now c.loop-from.best c.loop-from.from (omega (arith, c.loop-from-test.false)) c.loop-from.invariant in
+    record { least = is; within = all-within rank c.args.shelves.now c.loop-from.best is }
 
 pub returns-then-wastes_nothing : goal.returns-then-wastes_nothing
 returns-then-wastes_nothing c =
     let rank = kept_waste c.args.adds c.args.sides.now in
-    let is = sym (best-of_all rank c.args.shelves.now c.least_in-best.result (c.loop-block.from + 8) (sym c.least_in-best.ensures) (sym c.wastes_nothing.ensures ∙ c.if-wastes_nothing.true)) in
+    let is = sym (best-of_all rank c.args.shelves.now c.least_in-best.result (c.loop-from.from + 8) (sym c.least_in-best.ensures) (sym c.wastes_nothing.ensures ∙ c.if-wastes_nothing.true)) in
     record { least = is; within = all-within rank c.args.shelves.now c.least_in-best.result is }

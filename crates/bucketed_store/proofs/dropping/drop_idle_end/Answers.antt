@@ -1,7 +1,7 @@
 use Rattle.std.proofs.Common.{◌≡◌, ◌-◌, ◌+◌, length, vec_len, ap, sym, ◌∙◌, arith}
 use Rattle.std.specs.Option.{option_copied}
 use Rattle.bucketed_store.specs.Private.Returns as spec
-use Rattle.bucketed_store.proofs.Emptying.SpelledDrops.{end-busy, end-idle, end-none, length-aside}
+use Rattle.bucketed_store.proofs.Emptying.SpelledDrops.{end-busy, end-idle, end-none, length-unused}
 use Rattle.bucketed_store.proofs.dropping.drop_idle_end.Goals as goal
 
 pub loop-shelf-preserved : goal.loop-shelf-preserved
@@ -12,12 +12,12 @@ loop-shelf-preserved c =
     (omega (arith, c.loop-shelf-test.true)) last c.if-last-gt0.false in
     let long : vec_len c.loop-shelf.shelves ≡ length c.loop-shelf.shelves.items = omega (arith, c.deref.ensures.len, ap length c.deref.ensures.value) in
     record {
-      rest = rw (c.pop.ensures.rest, long, c.put_row_aside-dropped.ensures.buckets, c.put_row_aside-dropped.ensures.unused, c.put_row_aside-dropped.ensures.count)
+      rest = rw (c.pop.ensures.rest, long, c.make_row_unused-dropped.ensures.buckets, c.make_row_unused-dropped.ensures.unused, c.make_row_unused-dropped.ensures.count)
           (sym next ∙ c.loop-shelf.invariant.rest);
-      small = omega (arith, c.loop-shelf.invariant.small, c.put_row_aside-dropped.ensures.small);
-      few = rw (c.put_row_aside-dropped.ensures.buckets, length-aside c.in-Some.last.now.shelf.first_bucket c.loop-shelf.unused c.loop-shelf.buckets) c.loop-shelf.invariant.few;
+      small = omega (arith, c.loop-shelf.invariant.small, c.make_row_unused-dropped.ensures.small);
+      few = rw (c.make_row_unused-dropped.ensures.buckets, length-unused c.in-Some.last.now.shelf.first_bucket c.loop-shelf.unused c.loop-shelf.buckets) c.loop-shelf.invariant.few;
       capacity = c.pop.ensures.capacity ∙ c.loop-shelf.invariant.capacity;
-      spans = c.put_row_aside-dropped.ensures.spans;
+      spans = c.make_row_unused-dropped.ensures.spans;
     }
 
 pub returns-in_default-clause-dropped : goal.returns-in_default-clause-dropped

@@ -1,5 +1,5 @@
 use Rattle.std.proofs.Common.{◌≡◌, drop}
-use Rattle.bucketed_store.specs.Private.Growths as spec
+use Rattle.bucketed_store.specs.Private.Grows as spec
 use Rattle.bucketed_store.proofs.growing.left_after.Given as goal
 
 -- what the shelves from here on leave is what all leave

@@ -1,6 +1,6 @@
 use Rattle.std.proofs.Common.{Some, refl}
 use Rattle.etagere_links.proofs.EditLemmas.{set-changed_by}
-use Rattle.bucketed_store.specs.Private.Growths as spec
+use Rattle.bucketed_store.specs.Private.Grows as spec
 use Rattle.bucketed_store.proofs.growing.set_widened.Goals as goal
 
 pub returns : goal.returns

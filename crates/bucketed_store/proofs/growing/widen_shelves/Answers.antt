@@ -1,6 +1,6 @@
 use Rattle.std.proofs.Common.{◌≡◌, ◌-◌, ◌+◌, ◌<◌, suc, length, drop, ap, sym, ◌∙◌, arith}
 use Rattle.bucketed_records.specs.Private.Store.{Stored}
-use Rattle.bucketed_store.specs.Private.Growths as spec
+use Rattle.bucketed_store.specs.Private.Grows as spec
 use Rattle.bucketed_store.specs.Private.Returns.{width_of}
 use Rattle.bucketed_store.proofs.Spelling.MadeLengths.{widened-keeps}
 use Rattle.bucketed_store.proofs.Widening.Shares.{drop-changed, share-next, widened-next}

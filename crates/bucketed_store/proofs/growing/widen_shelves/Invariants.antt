@@ -1,7 +1,7 @@
 use Rattle.std.proofs.Common.{◌≡◌, ◌+◌, ◌-◌, ◌≤◌, drop, length, vec_len, vec_capacity}
 use Rattle.etagere_links.specs.Links.{no_link}
 use Rattle.bucket_index.specs.Private.Spans.{AreSpans}
-use Rattle.bucketed_store.specs.Private.Growths as spec
+use Rattle.bucketed_store.specs.Private.Grows as spec
 use Rattle.bucketed_store.proofs.growing.widen_shelves.Given as goal
 
 -- what the shelves so far and those from here on get is what all get; there is room for the rest

@@ -13,7 +13,7 @@ use Rattle.bucketed_records.specs.Private.Witnessed.{HasTotals, Witnessed}
 use Rattle.bucketed_store.proofs.Emptying.EndTotals.{tells-end}
 use Rattle.bucketed_store.proofs.Widening.Grown.{width-grows}
 use Rattle.etagere_bucketed.specs.Private.Consistent.{state_in}
-use Rattle.etagere_bucketed.proofs.AtlasGrowths.{after-growth, atlas-grown, growth-needs, growth-uses}
+use Rattle.etagere_bucketed.proofs.AtlasGrows.{after-growth, atlas-grown, growth-needs, growth-uses}
 use Rattle.etagere_bucketed.proofs.atlas.BucketedAtlasAllocator.grow.Goals as goal
 
 pub returns-in-Some-clause-promises : goal.returns-in-Some-clause-promises

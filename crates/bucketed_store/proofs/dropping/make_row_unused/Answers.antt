@@ -1,6 +1,6 @@
 use Rattle.bucket_index.proofs.KnownSpans.{spans-changed}
 use Rattle.bucketed_store.specs.Private.Returns as spec
-use Rattle.bucketed_store.proofs.dropping.put_row_aside.Goals as goal
+use Rattle.bucketed_store.proofs.dropping.make_row_unused.Goals as goal
 
 pub forget-requires : goal.forget-requires
 forget-requires c =

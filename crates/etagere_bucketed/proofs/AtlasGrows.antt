@@ -9,7 +9,7 @@ use Rattle.bucketed_model.specs.Space.{allocated_space}
 use Rattle.bucketed_model.specs.State.{BucketedState, buckets_in_use, buckets_left}
 use Rattle.bucketed_records.specs.Private.Store.{Stored}
 use Rattle.bucketed_records.specs.Private.Witnessed.{Witnessed}
-use Rattle.bucketed_store.specs.Private.Growths.{UsesUnused, left_after, shelves_widened}
+use Rattle.bucketed_store.specs.Private.Grows.{UsesUnused, left_after, shelves_widened}
 use Rattle.bucketed_store.proofs.Emptying.EndTotals.{TellsEnd, tells-end}
 use Rattle.bucketed_store.proofs.Widening.Grown.{IsGrownAtlas, grown-is, stored_grown}
 use Rattle.etagere_bucketed.specs.declared.atlas.BucketedAtlasAllocator.TheInside.{Inside}
@@ -24,7 +24,7 @@ left-is : (inside : Inside) → IsConsistent inside → 4095 - inside.buckets_in
 left-is inside consistent = ap (λ (n : ℕ). 4095 - n) consistent.totals.in_use
 
 -- what holds of the records that a growth leaves, in their frame
-pub record AfterGrowth (inside : Inside) (size : Size) (frame : Frame) (new : Stored) (made : ℕ) : Type 0 where
+pub record AfterGrow (inside : Inside) (size : Size) (frame : Frame) (new : Stored) (made : ℕ) : Type 0 where
   pub state : BucketedState
   pub grows : Grows (state_in inside) size state
   pub unused : List ℕ
@@ -38,7 +38,7 @@ pub after-growth : (inside : Inside) (size : Size) (frame : Frame) (new : Stored
     → frame ≡ grown_frame inside.frame size
     → new ≡ shelves_widened (length inside.store.shelves) 0 inside.frame.column_width (frame.column_width - inside.frame.column_width) (4095 - inside.buckets_in_use) inside.store
     → made ≡ 4095 - inside.buckets_in_use - left_after (frame.column_width - inside.frame.column_width) (4095 - inside.buckets_in_use) inside.store.shelves
-    → AfterGrowth inside size frame new made
+    → AfterGrow inside size frame new made
 after-growth inside size frame new made consistent fits resized widened count =
     let g = atlas-grown inside size consistent fits in
     let place = inside.frame.column_width in
