@@ -5,7 +5,7 @@ use Rattle.std.specs.List.{list_any}
 use Rattle.std.specs.Prelude.{◌==◌, nat_lt, if◌then◌else◌}
 use Rattle.etagere_base.specs.Lists.{times}
 use Rattle.etagere_base.proofs.TimesLemmas.{times-append}
-use Rattle.etagere_links.specs.declared.marking.WalkFault.TheVariants.{OutOfRange, Marked, Circular}
+use Rattle.etagere_links.specs.declared.marking.WalkFault.TheVariants.{Marked, Circular}
 use Rattle.etagere_links.specs.Links.{no_link}
 use Rattle.etagere_links.specs.Marks.{HasTwice, IsMarkedBy}
 use Rattle.etagere_links.specs.WalkFaults.{first_fault}
@@ -100,10 +100,6 @@ meets-none marks marks_then met marked =
     unmarked k stands false e later l before after = e
     unmarked k stands true e true l before after = absurd (omega (arith, before, after, stands, times-append k (marked_below (length marks) marks) met))
     unmarked k stands true e false l before after = absurd (omega (arith, before, after, stands, times-append k (marked_below (length marks) marks) met))
-
--- the fault of a walk that stops past the records
-pub first-past : (marks : List Bool) (count : ℕ) (walked : Walked) → walked.end ≢ no_link → count ≤ walked.end → first_fault marks count walked ≡ Some OutOfRange
-first-past marks count walked other past = grind arith
 
 -- the fault of one that stops elsewhere and meets a marked record
 pub first-marked : (marks : List Bool) (count : ℕ) (walked : Walked) → (walked.end ≢ no_link → walked.end < count) → ((k : ℕ) → times k walked.met ≤ 1)

@@ -1,6 +1,8 @@
 pub mod EditLemmas
 mod WalkRows
 mod WalkSteps
+mod MarkedWalks
+mod WalkPrefixes
 pub mod ChainEdits
 pub mod Chains
 mod FirstFaults

@@ -3,13 +3,14 @@ use Rattle.std.proofs.Common.{◌≡◌, ◌≢◌, ℕ, zero, suc, ◌+◌, ◌
 use Rattle.std.proofs.Math.ListN.{set}
 use Rattle.std.proofs.Math.Seq.{split_at}
 use Rattle.std.proofs.lemmas.List.{get_or-set_same, get_or-set_other, get_or_past, take_more}
-use Rattle.std.specs.Prelude.{◌==◌, nat_lt, if◌then◌else◌}
+use Rattle.std.specs.Prelude.{◌==◌, ◌||◌, nat_lt, if◌then◌else◌}
 use Rattle.etagere_base.proofs.TimesLemmas.{times-append}
 use Rattle.std.specs.List.{AllByRecursion}
 use Rattle.etagere_base.specs.Lists.{times}
 use Rattle.etagere_links.specs.Marks.{HasTwice, IsMarkedBy}
 use Rattle.etagere_links.proofs.ListEnds.{times-here, times-other}
 use Rattle.etagere_links.proofs.Tallies.{length-once}
+use Rattle.etagere_links.proofs.WalkSteps.{has}
 
 -- what each number of a list keeps, the one at a place does
 pub Each-at : (P : ℕ → Type 0) (xs : List ℕ) (i : ℕ) → i < length xs → AllByRecursion P xs → P (get_or xs i 0)
@@ -74,3 +75,30 @@ marked-length marks numbers marked = length-once (length marks) numbers once wit
         by_test false e =
             let none : times k numbers ≡ 0 = marked k ∙ ap (λ (b : Bool). if b then 1 else 0) (get_or_past marks k false (grind arith)) in
             absurd (omega (arith, none, stands))
+
+-- a number stands in a list with one more, or is that
+has-push : (number at : ℕ) (numbers : List ℕ) → has number (numbers ++ at ∷ []) ≡ (has number numbers || at == number)
+has-push number at [] = grind arith
+has-push number at (n ∷ numbers) = grind (arith, has-push number at numbers)
+
+-- which are marked once one more is
+pub seen-more : (marks marks_before : List Bool) (met : List ℕ) (at : ℕ) → at < length marks
+    → ((k : ℕ) → get_or marks k false ≡ (get_or marks_before k false || has k met))
+    → (k : ℕ) → get_or (set marks at true) k false ≡ (get_or marks_before k false || has k (met ++ at ∷ []))
+seen-more marks marks_before met at within seen k = by_test (at == k) refl
+  where
+    by_test : (b : Bool) → (at == k) ≡ b → get_or (set marks at true) k false ≡ (get_or marks_before k false || has k (met ++ at ∷ []))
+    by_test true e =
+        let same : at ≡ k = grind arith in
+        let now : get_or (set marks at true) k false ≡ true = rw (← same) (get_or-set_same marks at true false within) in
+        rw now (grind (arith, e, has-push k at met))
+    by_test false e =
+        let other : k ≢ at = grind arith in
+        let stays : get_or (set marks at true) k false ≡ get_or marks k false = get_or-set_other marks at k true false other in
+        rw stays (grind (arith, e, seen k, has-push k at met))
+
+-- some record is not marked
+pub record HasUnmarked (marks : List Bool) : Type 0 where
+  pub number : ℕ
+  pub within : number < length marks
+  pub not_marked : get_or marks number false ≡ false

@@ -1,6 +1,10 @@
 -- A record was met where the position noted for it is one of those that were met, and has it.
-use Rattle.std.proofs.Common.{◌≡◌, ◌≢◌, ℕ, zero, suc, ◌<◌, ◌≤◌, Bool, true, false, List, [], ◌∷◌, ◌++◌, length, get_or, refl, ap, arith, sym, ◌∙◌}
+use Rattle.std.proofs.Common.{◌≡◌, ◌≢◌, ℕ, zero, suc, ◌+◌, ◌<◌, ◌≤◌, Bool, true, false, List, [], ◌∷◌, ◌++◌, length, drop, get_or, take, refl, ap, arith, sym, ◌∙◌}
 use Rattle.std.proofs.Math.ListN.{set}
+use Rattle.std.proofs.Math.Seq.{split_at}
+use Rattle.etagere_base.proofs.TimesLemmas.{times-append}
+use Rattle.etagere_base.specs.Lists.{times}
+use Rattle.etagere_links.proofs.ListEnds.{times-here}
 use Rattle.std.proofs.lemmas.List.{get_or-set_same, get_or-set_other, get_or_append_left, get_or_push, length-append}
 use Rattle.std.proofs.lemmas.Bool.{eq-eqb, eqb-true}
 use Rattle.std.specs.Prelude.{◌==◌, nat_lt}
@@ -79,6 +83,24 @@ noted-past positions met position number noted past at_positions = by_test (has 
     by_test true e = absurd (omega (arith, noted, past, (has-noted positions met number at_positions e).0))
     by_test false e = grind arith
 
--- where none was met
-pub at_positions-none : (positions : List ℕ) → ArePositions positions []
-at_positions-none positions position within = absurd (omega arith)
+-- a number that stands nowhere in a list is not found
+not-has : (number : ℕ) (numbers : List ℕ) → times number numbers ≡ 0 → has number numbers ≡ false
+not-has number [] none = refl
+not-has number (n ∷ ns) none = by_test (n == number) refl (not-has number ns)
+  where
+    by_test : (b : Bool) → (n == number) ≡ b → (times number ns ≡ 0 → has number ns ≡ false) → has number (n ∷ ns) ≡ false
+    by_test true e later =
+        let here : 1 ≤ times number (n ∷ ns) = grind (arith, e) in
+        absurd (omega (arith, none, here))
+    by_test false e later =
+        let rest : times number ns ≡ 0 = grind (arith, e, none) in
+        grind (arith, e, later rest)
+
+-- the next of distinct numbers is none of those before it
+pub fresh-next : (met : List ℕ) (i number : ℕ) → i < length met → number ≡ get_or met i 0 → ((k : ℕ) → times k met ≤ 1)
+    → has number (take i met) ≡ false
+fresh-next met i number below is once =
+    let split : met ≡ take i met ++ number ∷ drop (suc i) met = split_at met i 0 below ∙ ap (λ (n : ℕ). take i met ++ n ∷ drop (suc i) met) (sym is) in
+    let count : times number met ≡ times number (take i met) + times number (number ∷ drop (suc i) met) =
+    ap (times number) split ∙ times-append number (take i met) (number ∷ drop (suc i) met) in
+    not-has number (take i met) (omega (arith, once number, count, times-here number (drop (suc i) met)))

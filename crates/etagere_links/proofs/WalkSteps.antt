@@ -35,8 +35,3 @@ pub walked-end : (steps : ℕ) (links met : List ℕ) (at : ℕ) (whole : Walked
 walked-end steps links met at whole e stops =
     let same = sym (walked_from-end steps links met at stops) ∙ e in
     (ap (λ (w : Walked). w.met) same, ap (λ (w : Walked). w.end) same)
-
--- what a walk was that has made all its steps
-pub walked-out : (steps : ℕ) (links met : List ℕ) (at : ℕ) (whole : Walked) → walked_from steps links met at ≡ whole → steps ≡ 0 → (met ≡ whole.met) × (at ≡ whole.end)
-walked-out zero links met at whole e out = (ap (λ (w : Walked). w.met) e, ap (λ (w : Walked). w.end) e)
-walked-out (suc steps) links met at whole e out = absurd (omega arith)

@@ -1,2 +1,3 @@
 -- What contracts of private functions cite; no public clause does.
+pub mod Marking
 pub mod Positions

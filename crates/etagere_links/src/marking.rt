@@ -2,17 +2,16 @@
 //!
 //! Definitions: `Marks`, and `WalkFaults` for what a walk is refused for.
 
-ghost use Rattle.std.specs.Prelude.{◌≡◌, ◌≢◌, ℕ, ◌+◌, ◌^◌, ◌++◌, ◌<◌, ◌≤◌, false, List, [], IsTrue, IfOk, IfErr, OnOk, length};
+ghost use Rattle.std.specs.Prelude.{◌≡◌, ℕ, ◌+◌, ◌^◌, ◌++◌, ◌<◌, ◌≤◌, false, List, [], IsTrue, IfOk, IfErr, OnOk, drop, length};
 ghost use Rattle.std.specs.List.{AllByRecursion};
-ghost use Rattle.etagere_base.specs.Lists.{times};
 ghost use Rattle.etagere_links.specs.Links.{no_link};
-ghost use Rattle.etagere_links.specs.declared.marking.WalkFault.TheVariants as faults;
 ghost use Rattle.etagere_links.specs.Marks.{HasTwice, IsMarkedBy};
 ghost use Rattle.etagere_links.specs.Lists.{HasEachOnce};
+ghost use Rattle.etagere_links.specs.Private.Marking.{IsMarkedAlong};
 ghost use Rattle.etagere_links.specs.WalkFaults.{BreaksOff, IsFirst, first_fault, links_by};
 ghost use Rattle.etagere_links.specs.Walks as spec;
 
-use crate::walking::{WalkRoom, behind};
+use crate::walking::WalkRoom;
 use std::alloc::{AllocError, Global};
 
 /// Why what a walk meets is no list of records of its own.
@@ -72,8 +71,9 @@ pub fn walk_marking(
 /// where the walk is refused.
 ///
 /// Returns the first fault, in the order of `WalkFault`, where what was met is no such list; then the marks and `met`
-/// are of no use. `Memory` comes only where there was none, and then no link was read. Takes memory only where `met` has
-/// too little room. The time is linear in the number of records met.
+/// are of no use. `Memory` comes only where there was none, and then no link is counted. Takes memory only where `met`
+/// has too little room. The time is linear in the number of records met.
+#[inline(always)]
 pub fn mark_onto(
     room: &mut WalkRoom,
     marks: &mut [bool],
@@ -107,47 +107,53 @@ pub fn mark_onto(
         return Ok(());
     }
     let before = met.len();
-    let Ok(end) = room.walk_onto(met, links, start) else {
+    let Ok(at) = mark_along(marks, met, links, start) else {
         return Err(WalkFault::Memory);
     };
-    mark_walked(marks, behind(met, before), end, steps)
-}
-
-/// Marks what a walk met that stopped at this link, and adds to `steps` how many that were.
-fn mark_walked(
-    marks: &mut [bool],
-    walked: &[u16],
-    end: u16,
-    steps: &mut u64,
-) -> Result<(), WalkFault>
-    requires steps { steps.old < 2 ^ 32 }
-    requires few { length marks.old ≤ no_link }
-    requires short { length walked.now ≤ length marks.old }
-    requires within { AllByRecursion (λ number. number < length marks.old) walked.now }
-    requires once { (number : ℕ) → times number walked.now ≤ 1 }
-    ensures end { OnOk result (end ≡ no_link) }
-    ensures marked { OnOk result ((numbers : List ℕ) → IsMarkedBy marks.old numbers →
-        IsMarkedBy marks.new (numbers ++ walked.now)) }
-    ensures none { OnOk result
-        (first_fault marks.old (length marks.old) (record { met = walked.now; end = end }) ≡ None) }
-    ensures first { IfErr result
-        (IsFirst marks.old (length marks.old) (record { met = walked.now; end = end })) }
-    ensures fault { IfErr result
-        (BreaksOff marks.old (length marks.old) (record { met = walked.now; end = end })) }
-    ensures steps { steps.new ≡ steps.old + length walked.now }
-    ensures memory { IfErr result (λ fault. fault ≢ faults.Memory) }
-{
-    *steps += walked.len() as u64;
-    if end != u16::MAX && marks.len() <= usize::from(end) {
+    let marked = met.len();
+    if at == u16::MAX {
+        *steps += (marked - before) as u64;
+        return Ok(());
+    }
+    let Ok(end) = room.walk_on(met, before, links, at) else {
+        return Err(WalkFault::Memory);
+    };
+    *steps += (met.len() - before) as u64;
+    if end != u16::MAX && links.len() <= usize::from(end) {
         return Err(WalkFault::OutOfRange);
     }
-    if !mark_all(marks, walked) {
+    if marked < met.len() {
         return Err(WalkFault::Marked);
     }
-    if end != u16::MAX {
-        return Err(WalkFault::Circular);
+    Err(WalkFault::Circular)
+}
+
+/// Follows links from `start` on as a walk does, but up to a record that is marked, and marks what it meets. Puts these
+/// records behind those in `met`, and returns the link at which it stopped.
+fn mark_along(
+    marks: &mut [bool],
+    met: &mut Vec<u16>,
+    links: &[u16],
+    start: u16,
+) -> Result<u16, AllocError>
+    requires few { length links.now ≤ no_link }
+    requires marks { length marks.old ≡ length links.now }
+    ensures met { OnOk result
+        (met.new.items ≡ met.old.items ++ drop (length met.old.items) met.new.items) }
+    ensures along { IfOk result (IsMarkedAlong marks.old marks.new links.now start
+        (drop (length met.old.items) met.new.items)) }
+{
+    let mut at = start;
+    for _ in 0..links.len() {
+        let number = usize::from(at);
+        if number >= links.len() || marks[number] {
+            break;
+        }
+        marks[number] = true;
+        met.push(at)?;
+        at = links[number];
     }
-    Ok(())
+    Ok(at)
 }
 
 /// No marks, for so many records. Takes a byte of memory for each.
@@ -178,17 +184,16 @@ pub fn mark_all(marks: &mut [bool], met: &[u16]) -> bool
     true
 }
 
-/// Whether all records are marked. The time is linear in their number.
+/// Whether all records are marked. The time is linear in their number. No mark ends the loop, so many are read at once.
 pub fn all_marked(marks: &[bool]) -> bool
     ensures all { IsTrue result → (numbers : List ℕ) →
         IsMarkedBy marks.now numbers → HasEachOnce (length marks.now) numbers }
     ensures missing { result ≡ false → (numbers : List ℕ) →
         IsMarkedBy marks.now numbers → HasEachOnce (length marks.now) numbers → ⊥ }
 {
+    let mut all = true;
     for is_marked in marks {
-        if !*is_marked {
-            return false;
-        }
+        all &= *is_marked;
     }
-    true
+    all
 }

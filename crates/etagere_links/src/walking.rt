@@ -3,11 +3,12 @@
 //! Definitions: `Walks`, and `Marks` for what many walks met. A `WalkRoom` is never cleared: what an earlier
 //! walk left in it is told apart by what the present one has met.
 
-ghost use Rattle.std.specs.Prelude.{◌≡◌, ◌+◌, ◌<◌, ◌≤◌, ◌==◌, ◌++◌, IfOk, OnOk, drop, length, vec_len};
-ghost use Rattle.std.specs.List.{list_any};
+ghost use Rattle.std.specs.Prelude.{◌≡◌, ℕ, ◌+◌, ◌<◌, ◌≤◌, ◌==◌, ◌++◌, IfOk, OnOk, drop, length, take, vec_len};
+ghost use Rattle.std.specs.List.{AllByRecursion, list_any};
+ghost use Rattle.etagere_base.specs.Lists.{times};
 ghost use Rattle.etagere_links.specs.Links.{no_link};
 ghost use Rattle.etagere_links.specs.Walks as spec;
-ghost use Rattle.etagere_links.specs.Private.Positions.{ArePositions};
+ghost use Rattle.etagere_links.specs.Private.Positions.{ArePositions, rest_of};
 
 pub mod walks;
 
@@ -79,7 +80,50 @@ impl WalkRoom {
         ensures end { IfOk result (λ end. end ≡ (spec.walk links.now start).end) }
         ensures bound { OnOk result (length met.new.items ≤ length met.old.items + length links.now) }
     {
-        walk_within(&mut self.positions, met, links, start)
+        walk_within(&mut self.positions, met, met.len(), links, start)
+    }
+
+    /// Goes on from `at` with a walk that has met what stands in `met` behind so many, and puts what it meets then behind
+    /// that. Returns the link at which it stopped.
+    ///
+    /// Takes memory only where `met` has too little room. The error comes only where there was none.
+    #[cold]
+    pub(crate) fn walk_on(
+        &mut self,
+        met: &mut Vec<u16>,
+        before: usize,
+        links: &[u16],
+        at: u16,
+    ) -> Result<u16, AllocError>
+        requires few { length links.now ≤ no_link }
+        requires room { length links.now ≤ self.old }
+        requires before { before ≤ length met.old.items }
+        requires short { length met.old.items ≤ before + length links.now }
+        requires within { AllByRecursion (λ number. number < length links.now) (drop before met.old.items) }
+        requires once { (number : ℕ) → times number (drop before met.old.items) ≤ 1 }
+        ensures room { self.new ≡ self.old }
+        ensures met { OnOk result
+            (drop before met.new.items ≡ (rest_of links.now (drop before met.old.items) at).met) }
+        ensures end { IfOk result
+            (λ end. end ≡ (rest_of links.now (drop before met.old.items) at).end) }
+        ensures whole { OnOk result (met.new.items
+            ≡ take before met.old.items ++ drop before met.new.items) }
+    {
+        note_all(&mut self.positions, behind(met, before));
+        walk_within(&mut self.positions, met, before, links, at)
+    }
+}
+
+/// Notes for each of these records, which are distinct, where among them it stands.
+fn note_all(positions: &mut [u16], met: &[u16])
+    requires few { length met.now ≤ no_link }
+    requires within { AllByRecursion (λ number. number < length positions.old) met.now }
+    requires once { (number : ℕ) → times number met.now ≤ 1 }
+    ensures positions { ArePositions positions.new met.now }
+    ensures room { length positions.new ≡ length positions.old }
+{
+    for position in 0..met.len() {
+        positions[usize::from(met[position])] = position as u16;
     }
 }
 
@@ -117,23 +161,29 @@ pub fn behind(met: &[u16], before: usize) -> &[u16]
     &met[before..]
 }
 
-/// Follows links from `start` on as `WalkRoom::walk_onto` does, and notes in `positions` where in the walk each record was
-/// met.
+/// Follows links from `start` on, where a walk has met what stands in `met` behind so many, and notes in `positions`
+/// where in the walk each record was met.
 fn walk_within(
     positions: &mut [u16],
     met: &mut Vec<u16>,
+    before: usize,
     links: &[u16],
     start: u16,
 ) -> Result<u16, AllocError>
     requires few { length links.now ≤ no_link }
     requires room { length links.now ≤ length positions.old }
-    ensures met { OnOk result (met.new.items ≡ met.old.items ++ (spec.walk links.now start).met) }
-    ensures end { IfOk result (λ end. end ≡ (spec.walk links.now start).end) }
-    ensures bound { OnOk result (length met.new.items ≤ length met.old.items + length links.now) }
+    requires before { before ≤ length met.old.items }
+    requires short { length met.old.items ≤ before + length links.now }
+    requires at_positions { ArePositions positions.old (drop before met.old.items) }
+    ensures met { OnOk result
+        (drop before met.new.items ≡ (rest_of links.now (drop before met.old.items) start).met) }
+    ensures end { IfOk result
+        (λ end. end ≡ (rest_of links.now (drop before met.old.items) start).end) }
+    ensures whole { OnOk result (met.new.items ≡ take before met.old.items ++ drop before met.new.items) }
+    ensures bound { OnOk result (length met.new.items ≤ before + length links.now) }
 {
-    let before = met.len();
     let mut at = start;
-    for step in 0..links.len() {
+    for step in met.len() - before..links.len() {
         let number = usize::from(at);
         if number >= links.len() || is_met(positions, met, before, at) {
             break;

@@ -1,4 +1,5 @@
 -- What passes over lists that walks have met need to judge the rules of a snapshot.
+pub mod ColumnStarts
 pub mod FlagPasses
 pub mod ItemPasses
 pub mod JudgedRules

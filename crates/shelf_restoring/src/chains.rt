@@ -150,16 +150,16 @@ fn walk_chains(
     let Ok(mut met) = Vec::with_capacity(alloc, links.len()) else {
         return Err(RestoreFault::Memory);
     };
-    let mut counts = Vec::new(alloc);
+    let Ok(mut counts) = Vec::with_capacity(alloc, numbers.len()) else {
+        return Err(RestoreFault::Memory);
+    };
     for number in numbers {
         let first = first_item_link(atlas.records.shelves(), usize::from(*number)).bits();
         let before = *steps;
         if let Err(fault) = mark_onto(room, marks, &mut met, links, first, steps) {
             return Err(chain_fault(fault));
         }
-        let Ok(()) = counts.push((*steps - before) as u16) else {
-            return Err(RestoreFault::Memory);
-        };
+        counts.push_reserved((*steps - before) as u16);
     }
     Ok(WalkedLists { met, counts })
 }

@@ -38,11 +38,11 @@ pub fn walked_shelves<'a>(
     for at in 0..numbers.len() {
         let count = usize::from(items.counts[at]);
         let free_count = usize::from(free_lists.counts[at]);
-        shelves.push(WalkedShelf {
+        shelves.push_reserved(WalkedShelf {
             number: numbers[at],
             items: part(&items.met, start, count),
             free_list: part(&free_lists.met, free_start, free_count),
-        })?;
+        });
         start += count;
         free_start += free_count;
     }

@@ -15,7 +15,7 @@ use Rattle.shelf_records.specs.Private.Judging.{atlas_of_records, column_at, hei
 use Rattle.shelf_records.specs.StandsFor.{AreStacked, height_before}
 use Rattle.shelf_model.specs.State.{Shelf}
 use Rattle.shelf_model.specs.Valid.{is_out_of_order}
-use Rattle.shelf_records.proofs.Spelled.StackedMerges.{height_before-append}
+use Rattle.shelf_records.proofs.Spelled.HeightsBefore.{height_before-append}
 
 -- what a shelf counts for another column than its own
 other-column : (column own height : ℕ) → own ≢ column → (if own == column then height else 0) ≡ 0

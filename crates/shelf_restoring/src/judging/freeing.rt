@@ -34,6 +34,7 @@ pub fn used_marks(alloc: Global, count: usize, unused: &[u16]) -> Result<Vec<boo
 
 /// Whether a free list has free items of the shelf of this number alone, so many, and links back. The marks say which
 /// items are in use.
+#[inline(always)]
 pub fn has_free_list(
     items: &[LinkedItem],
     marks: &[bool],

@@ -41,6 +41,7 @@ pub struct JudgedItems {
 }
 
 /// Judges the items of the shelf of this number, which begins at this place along.
+#[inline(always)]
 pub fn judge_items(
     frame: &Frame,
     items: &[LinkedItem],

@@ -82,6 +82,7 @@ pub fn judge_shelves(
 }
 
 /// Judges a shelf. The marks say which items are in use.
+#[inline(always)]
 fn judge_shelf(
     frame: &Frame,
     shelves: &[LinkedShelf],

@@ -1,9 +1,10 @@
 //! Whether the shelves fill each column, column after column, and stand one on the other.
 //!
 //! Definitions: `HasShelvesIn` of `Judging`, which is `HasShelves` of `StandsFor` over lists, and `FollowFrom` of
-//! `Rules`: since columns rise, one pass keeps the height of one column alone.
+//! `Rules`: since columns rise, one pass keeps the height of one column alone, and where it starts, so no shelf takes a
+//! division.
 
-ghost use Rattle.std.specs.Prelude.{◌≡◌, ◌≤◌, ◌/◌, List, length};
+ghost use Rattle.std.specs.Prelude.{◌≡◌, ◌≤◌, ◌/◌, ◌%◌, List, length};
 ghost use Rattle.etagere_base.specs.Deciding.{Decides};
 ghost use Rattle.etagere_base.specs.Frames.{IsFrame, longest_side};
 ghost use Rattle.etagere_links.specs.Links.{no_link};
@@ -35,63 +36,44 @@ fn fill_columns(frame: &Frame, shelves: &[LinkedShelf], entries: &[WalkedShelf])
     requires few { length entries.now ≤ no_link }
     ensures { Decides result (FollowFrom frame.now shelves.now 0 0 entries.now) }
 {
-    let mut column = 0;
+    let mut start = 0;
     let mut height = 0;
     for entry in entries {
-        if !is_next(frame, shelves, column, height, entry) {
+        if !is_next(frame, shelves, start, height, entry) {
             return false;
         }
-        let below = height_below(frame, shelves, column, height, entry);
-        height = below + u32::from(fields::height(shelves, usize::from(entry.number)));
-        column = column_of(frame, shelves, entry);
+        let shelf = usize::from(entry.number);
+        let along = u32::from(fields::along(shelves, shelf));
+        if along != start {
+            height = 0;
+        }
+        height += u32::from(fields::height(shelves, shelf));
+        start = along;
     }
-    height == frame.across_side() && column + 1 == frame.columns
+    height == frame.across_side() && start / frame.column_width + 1 == frame.columns
 }
 
-/// Whether a shelf stands where so much of this column is filled.
+/// Whether a shelf stands where so much is filled of the column that starts here.
 fn is_next(
     frame: &Frame,
     shelves: &[LinkedShelf],
-    column: u32,
+    start: u32,
     height: u32,
     entry: &WalkedShelf,
 ) -> bool
     requires wide { 1 ≤ frame.now.column_width }
-    requires small { column ≤ no_link }
-    ensures { Decides result (IsNext frame.now shelves.now column height entry.now) }
+    requires small { start ≤ no_link }
+    requires at_column { start % frame.now.column_width ≡ 0 }
+    ensures { Decides result
+        (IsNext frame.now shelves.now (start / frame.now.column_width) height entry.now) }
 {
     let shelf = usize::from(entry.number);
-    let own = column_of(frame, shelves, entry);
-    if own != column && !(height == frame.across_side() && own == column + 1) {
+    let along = u32::from(fields::along(shelves, shelf));
+    if along != start && (height != frame.across_side() || along != start + frame.column_width) {
         return false;
     }
-    if u32::from(fields::along(shelves, shelf)) % frame.column_width != 0 {
-        return false;
-    }
-    let below = height_below(frame, shelves, column, height, entry);
-    if u32::from(fields::across(shelves, shelf)) != below {
-        return false;
-    }
-    fields::height(shelves, shelf) >= 1
-}
-
-/// How much stands before a shelf in its column, where so much stands in this column.
-fn height_below(
-    frame: &Frame,
-    shelves: &[LinkedShelf],
-    column: u32,
-    height: u32,
-    entry: &WalkedShelf,
-) -> u32
-    requires { 1 ≤ frame.now.column_width }
-    ensures value { result ≡ judging.height_below frame.now shelves.now column height entry.now }
-    ensures small { result ≤ height }
-{
-    if column_of(frame, shelves, entry) == column {
-        height
-    } else {
-        0
-    }
+    let below = if along == start { height } else { 0 };
+    u32::from(fields::across(shelves, shelf)) == below && fields::height(shelves, shelf) >= 1
 }
 
 /// The number of the column in which a shelf stands.

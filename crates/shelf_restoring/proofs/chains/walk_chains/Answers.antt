@@ -15,11 +15,15 @@ use Rattle.shelf_restoring.proofs.Loaded.WalksBy.{breaks-by, links-length, walks
 use Rattle.etagere_links.specs.LinksRead.{links_until}
 use Rattle.etagere_links.specs.WalkFaults.{links_by}
 use Rattle.shelf_restoring.specs.RestoringSteps.{StopsAfter}
-use Rattle.shelf_restoring.proofs.Loaded.LinksFollowed.{chain-refused, chain-wanting}
+use Rattle.shelf_restoring.proofs.Loaded.LinksFollowed.{chain-refused}
 use Rattle.shelf_restoring.proofs.chains.walk_chains.Goals as goal
 
 pub returns-in_default-clause-bound : goal.returns-in_default-clause-bound
 returns-in_default-clause-bound c =
+    omega (arith, marked-length c.args.marks.now (unused_item_walk c.args.atlas.now.records).met c.requires.marked, c.requires.marks, links-length item_chain.next c.args.atlas.now.records.items c.args.links.now c.requires.links)
+
+pub returns-in_default-with_capacity-clause-bound : goal.returns-in_default-with_capacity-clause-bound
+returns-in_default-with_capacity-clause-bound c =
     omega (arith, marked-length c.args.marks.now (unused_item_walk c.args.atlas.now.records).met c.requires.marked, c.requires.marks, links-length item_chain.next c.args.atlas.now.records.items c.args.links.now c.requires.links)
 
 pub mark_onto-requires-clause-steps : goal.mark_onto-requires-clause-steps
@@ -47,13 +51,6 @@ returns-in-Err-clause-bound c =
     let items : List ℕ = item_numbers (map (chain_entry lists) (take c.loop-number.number-index c.args.numbers.now)) in
     omega (arith, kept.steps, both-length c.loop-number.marks (unused_item_walk lists).met items kept.marked, c.loop-number.auto.marks, c.requires.marks, c.in-Err.ensures.bound, links-length item_chain.next lists.items c.args.links.now c.requires.links)
 
-pub returns-in_default-push-clause-bound : goal.returns-in_default-push-clause-bound
-returns-in_default-push-clause-bound c =
-    let lists = c.args.atlas.now.records in
-    let kept = c.loop-number.invariant in
-    let items : List ℕ = item_numbers (map (chain_entry lists) (take c.loop-number.number-index c.args.numbers.now)) in
-    omega (arith, kept.steps, both-length c.loop-number.marks (unused_item_walk lists).met items kept.marked, c.loop-number.auto.marks, c.requires.marks, c.in_default-mark_onto.ensures.bound, links-length item_chain.next lists.items c.args.links.now c.requires.links)
-
 pub loop-number-preserved : goal.loop-number-preserved
 loop-number-preserved c =
     let atlas = c.args.atlas.now in
@@ -76,10 +73,12 @@ loop-number-preserved c =
           ∙ ap (λ (ns : List ℕ). ns ++ (walk c.args.links.now c.bits-first.result).met) kept.met
           ∙ ap (λ (w : Walked). items ++ w.met) walks
           ∙ sym (items-next atlas.records numbers i number within refl);
-      counts = c.in-Ok-push.ensures.items
+      counts = c.push_reserved.ensures.items
           ∙ ap (λ (ns : List ℕ). ns ++ more ∷ []) kept.counts
           ∙ ap (λ (n : ℕ). map (items_met atlas.records) (take i numbers) ++ n ∷ []) counted
           ∙ images-next (items_met atlas.records) numbers i number within refl;
+      long = omega (arith, c.push_reserved.ensures.len, kept.long, c.push_reserved.new.self.ok, c.loop-number.counts.ok);
+      capacity = c.push_reserved.ensures.capacity ∙ kept.capacity;
       marked = marks-next atlas.records unused numbers i number c.mark_onto.new.marks within refl
           (subst (λ (w : Walked). IsMarkedBy c.mark_onto.new.marks ((unused ++ items) ++ w.met)) walks (c.in_default-mark_onto.ensures.marked (unused ++ items) kept.marked));
       chains = each-next (HasChain atlas.records) numbers i number within refl kept.chains
@@ -113,15 +112,3 @@ returns-in-Err-clause-until c =
     (chain-refused atlas.records c.args.numbers.now (unused_item_walk atlas.records).met c.loop-number.number-index more c.args.steps.now c.loop-number.steps steps c.loop-number.marks c.in-Err.fault c.loop-number-test.true c.requires.few kept.chains kept.marked
     (breaks-by item_chain.next atlas.records.items (first_item_of atlas.records.shelves number) c.args.links.now c.bits-first.result c.loop-number.marks c.in-Err.fault c.requires.links start c.in-Err.ensures.fault)
     kept.steps counted)
-
-pub returns-in_default-push-clause-until : goal.returns-in_default-push-clause-until
-returns-in_default-push-clause-until c =
-    let atlas = c.args.atlas.now in
-    let kept = c.loop-number.invariant in
-    let number : ℕ = get_or c.args.numbers.now c.loop-number.number-index 0 in
-    let start : c.bits-first.result ≡ bits_of (first_item_of atlas.records.shelves number) =
-    c.bits-first.ensures.value ∙ ap bits_of (c.first_item_link.ensures ∙ ap (λ ss. first_item_of ss c.from.result) (c.shelves.ensures ∙ ap (λ (a : AtlasRecords). a.records.shelves) c.atlas.view_is) ∙ ap (first_item_of atlas.records.shelves) c.from.ensures) in
-    let walks = walks-by item_chain.next atlas.records.items (first_item_of atlas.records.shelves number) c.args.links.now c.bits-first.result c.requires.links start in
-    let steps = c.mark_onto.new.steps in
-    λ more. chain-wanting atlas.records c.args.numbers.now (unused_item_walk atlas.records).met c.loop-number.number-index more c.args.steps.now c.loop-number.steps steps c.loop-number.marks c.loop-number-test.true kept.chains kept.marked kept.steps
-    (subst (λ (w : Walked). steps ≡ c.loop-number.steps + length w.met) walks c.in_default-mark_onto.ensures.steps)

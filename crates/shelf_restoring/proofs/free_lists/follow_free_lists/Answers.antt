@@ -16,7 +16,7 @@ use Rattle.shelf_restoring.proofs.Loaded.WalksBy.{breaks-by, links-length, walks
 use Rattle.etagere_links.specs.LinksRead.{links_until}
 use Rattle.etagere_links.specs.WalkFaults.{links_by}
 use Rattle.shelf_restoring.specs.RestoringSteps.{StopsAfter}
-use Rattle.shelf_restoring.proofs.Loaded.LinksFollowed.{free-refused, free-wanting, frees-counted, frees-go}
+use Rattle.shelf_restoring.proofs.Loaded.LinksFollowed.{free-refused, frees-counted, frees-go}
 use Rattle.shelf_restoring.proofs.free_lists.follow_free_lists.Goals as goal
 
 pub mark_onto-requires-clause-steps : goal.mark_onto-requires-clause-steps
@@ -32,13 +32,6 @@ returns-in-Err-clause-bound c =
     let kept = c.loop-number.invariant in
     let free : List ℕ = free_numbers (map (walked_entry lists) (take c.loop-number.number-index c.args.numbers.now)) in
     omega (arith, kept.steps, marked-length c.loop-number.marks free kept.marked, c.loop-number.auto.marks, c.requires.marks, c.in-Err.ensures.bound, links-length free_list.next lists.items c.args.links.now c.requires.links)
-
-pub returns-in_default-push-clause-bound : goal.returns-in_default-push-clause-bound
-returns-in_default-push-clause-bound c =
-    let lists = c.args.atlas.now.records in
-    let kept = c.loop-number.invariant in
-    let free : List ℕ = free_numbers (map (walked_entry lists) (take c.loop-number.number-index c.args.numbers.now)) in
-    omega (arith, kept.steps, marked-length c.loop-number.marks free kept.marked, c.loop-number.auto.marks, c.requires.marks, c.in_default-mark_onto.ensures.bound, links-length free_list.next lists.items c.args.links.now c.requires.links)
 
 pub returns-clause-bound : goal.returns-clause-bound
 returns-clause-bound c =
@@ -84,10 +77,12 @@ loop-number-preserved c =
           ∙ ap (λ (ns : List ℕ). ns ++ (walk c.args.links.now c.bits-first.result).met) kept.met
           ∙ ap (λ (w : Walked). free ++ w.met) walks
           ∙ sym (free-next atlas.records numbers i number within refl);
-      counts = c.in-Ok-push.ensures.items
+      counts = c.push_reserved.ensures.items
           ∙ ap (λ (ns : List ℕ). ns ++ more ∷ []) kept.counts
           ∙ ap (λ (n : ℕ). map (frees_met atlas.records) (take i numbers) ++ n ∷ []) counted
           ∙ images-next (frees_met atlas.records) numbers i number within refl;
+      long = omega (arith, c.push_reserved.ensures.len, kept.long, c.push_reserved.new.self.ok, c.loop-number.counts.ok);
+      capacity = c.push_reserved.ensures.capacity ∙ kept.capacity;
       marked = subst (IsMarkedBy c.mark_onto.new.marks) (sym (free-next atlas.records numbers i number within refl))
           (subst (λ (w : Walked). IsMarkedBy c.mark_onto.new.marks (free ++ w.met)) walks (c.in_default-mark_onto.ensures.marked free kept.marked));
       free = each-next (HasFree atlas.records) numbers i number within refl kept.free
@@ -117,23 +112,6 @@ returns-in-Err-clause-until c =
     (free-refused atlas.records numbers i c.args.steps.now c.loop-number.steps steps c.loop-number.marks c.in-Err.fault within c.requires.few kept.free kept.marked
     (breaks-by free_list.next atlas.records.items (first_free_of atlas.records.shelves number) c.args.links.now c.bits-first.result c.loop-number.marks c.in-Err.fault c.requires.links start c.in-Err.ensures.fault)
     kept.steps (subst (λ (w : Walked). steps ≡ c.loop-number.steps + links_by w c.in-Err.fault) walks c.in-Err.ensures.read))
-
-pub returns-in_default-push-clause-until : goal.returns-in_default-push-clause-until
-returns-in_default-push-clause-until c =
-    let atlas = c.args.atlas.now in
-    let kept = c.loop-number.invariant in
-    let numbers = c.args.numbers.now in
-    let i = c.loop-number.number-index in
-    let within = c.loop-number-test.true in
-    let number : ℕ = get_or numbers i 0 in
-    let link : c.first_free_link.result ≡ first_free_of atlas.records.shelves number =
-    c.first_free_link.ensures ∙ ap (λ ss. first_free_of ss c.from.result) (c.shelves.ensures ∙ ap (λ (a : AtlasRecords). a.records.shelves) c.atlas.view_is) ∙ ap (first_free_of atlas.records.shelves) c.from.ensures in
-    let start : c.bits-first.result ≡ bits_of (first_free_of atlas.records.shelves number) = c.bits-first.ensures.value ∙ ap bits_of link in
-    let walks : walk c.args.links.now c.bits-first.result ≡ free_walk atlas.records number =
-    walks-by free_list.next atlas.records.items (first_free_of atlas.records.shelves number) c.args.links.now c.bits-first.result c.requires.links start in
-    let steps = c.mark_onto.new.steps in
-    free-wanting atlas.records numbers i c.args.steps.now c.loop-number.steps steps c.loop-number.marks within kept.free kept.marked kept.steps
-    (subst (λ (w : Walked). steps ≡ c.loop-number.steps + length w.met) walks c.in_default-mark_onto.ensures.steps)
 
 pub returns-clause-all : goal.returns-clause-all
 returns-clause-all c =

@@ -89,7 +89,9 @@ loop-at-preserved c =
     record {
       start = cut-within c.args.items.now.met.items own later c.loop-at.start c.from-count.result kept.start items count;
       free_start = cut-within c.args.free_lists.now.met.items own_free later_free c.loop-at.free_start c.from-free_count.result kept.free_start free free_count;
-      made = c.in_ok-push.ensures.items
+      long = omega (arith, c.push_reserved.ensures.len, kept.long, c.push_reserved.new.self.ok, c.loop-at.shelves.ok);
+      capacity = c.push_reserved.ensures.capacity ∙ kept.capacity;
+      made = c.push_reserved.ensures.items
           ∙ ap (λ (es : List Entry). es ++ entry_of c.part.result.now c.part-in-loop-at.result.now ∷ []) kept.made
           ∙ ap (λ (mine : List ℕ). map (walked_entry records) (take i numbers) ++ entry_of mine c.part-in-loop-at.result.now ∷ []) is
           ∙ ap (λ (frees : List ℕ). map (walked_entry records) (take i numbers) ++ entry_of own frees ∷ []) is_free

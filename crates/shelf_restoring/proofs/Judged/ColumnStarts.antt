@@ -1,0 +1,67 @@
+-- Where columns start along: at multiples of their width.
+use Rattle.std.proofs.Common.{◌≡◌, ℕ, ◌+◌, ◌*◌, ◌/◌, ◌%◌, ◌≤◌, Bool, true, false, List, ap, arith, refl, sym, ◌∙◌}
+use Rattle.std.proofs.lemmas.Nat.{div-add-mod'}
+use Rattle.std.proofs.Math.Nat.{add-div_right, add-mod_right}
+use Rattle.std.specs.Prelude.{nat_le}
+use Rattle.etagere_base.specs.Deciding.{Decides}
+use Rattle.etagere_base.specs.declared.frames.Frame.{Frame}
+use Rattle.etagere_base.specs.Frames.{across_side}
+use Rattle.shelf_links.specs.declared.records.LinkedShelf.{LinkedShelf}
+use Rattle.shelf_links.specs.RecordLists.{Entry}
+use Rattle.shelf_records.specs.AtlasRecords.{across_of, along_of, height_of}
+use Rattle.shelf_records.specs.Private.Judging.{column_at}
+use Rattle.shelf_restoring.specs.Private.Rules.{IsNext}
+
+-- a multiple is the quotient times the width
+is-product : (a width : ℕ) → a % width ≡ 0 → a ≡ a / width * width
+is-product a width e = omega (arith, e, div-add-mod' a width)
+
+-- two in one column start at the same place
+pub same-start : (a start width : ℕ) → a % width ≡ 0 → start % width ≡ 0 → a / width ≡ start / width → a ≡ start
+same-start a start width e f same = is-product a width e ∙ ap (λ (n : ℕ). n * width) same ∙ sym (is-product start width f)
+
+-- one in the next column starts where this column ends
+pub next-start : (a start width : ℕ) → a % width ≡ 0 → start % width ≡ 0 → a / width ≡ start / width + 1 → a ≡ start + width
+next-start a start width e f next =
+    is-product a width e ∙ ap (λ (n : ℕ). n * width) next ∙ times-next (start / width) width ∙ ap (λ (n : ℕ). n + width) (sym (is-product start width f))
+  where
+    times-next : (n w : ℕ) → (n + 1) * w ≡ n * w + w
+    times-next n w = grind arith
+
+-- where a column ends the next one starts
+pub starts-next : (start width : ℕ) → 1 ≤ width → start % width ≡ 0 → ((start + width) / width ≡ start / width + 1) × ((start + width) % width ≡ 0)
+starts-next start width wide e = (add-div_right start wide, add-mod_right start width ∙ e)
+
+-- a test of a height decides what holds just where it is a pixel at least
+pub decides-tall : (here height : ℕ) (P : Type 0) → here ≡ height → (1 ≤ height → P) → (P → 1 ≤ height) → Decides (nat_le 1 here) P
+decides-tall here height P is to from = by_test (nat_le 1 here) refl
+  where
+    by_test : (b : Bool) → nat_le 1 here ≡ b → Decides b P
+    by_test true e = to (grind (arith, e, is))
+    by_test false e = λ p. absurd (grind (arith, e, is, from p))
+
+module _ (frame : Frame) (shelves : List LinkedShelf) (entry : Entry) (start height : ℕ) (wide : 1 ≤ frame.column_width) (at_column : start % frame.column_width ≡ 0) where
+  -- a shelf of the column that starts here
+  pub next-here : along_of shelves entry.number ≡ start → across_of shelves entry.number ≡ height → 1 ≤ height_of shelves entry.number
+      → IsNext frame shelves (start / frame.column_width) height entry
+  next-here along across tall =
+      let same : column_at frame shelves entry ≡ start / frame.column_width = ap (λ (n : ℕ). n / frame.column_width) along in
+      record {
+        goes = grind (arith, same);
+        along = ap (λ (n : ℕ). n % frame.column_width) along ∙ at_column;
+        across = grind (arith, same, across);
+        tall = tall;
+      }
+
+  -- the first of the next one, after this one was filled
+  pub next-after : along_of shelves entry.number ≡ start + frame.column_width → height ≡ across_side frame → across_of shelves entry.number ≡ 0 → 1 ≤ height_of shelves entry.number
+      → IsNext frame shelves (start / frame.column_width) height entry
+  next-after along full across tall =
+      let next = starts-next start frame.column_width wide at_column in
+      let later : column_at frame shelves entry ≡ start / frame.column_width + 1 = ap (λ (n : ℕ). n / frame.column_width) along ∙ next.0 in
+      record {
+        goes = grind (arith, later, full);
+        along = ap (λ (n : ℕ). n % frame.column_width) along ∙ next.1;
+        across = grind (arith, later, across);
+        tall = tall;
+      }
