@@ -32,10 +32,6 @@ pub chosen-refused : (choice : PageChoice) (size : Size) (pages : List AtlasStat
     → AllByRecursion (λ (page : AtlasState). IsRefused page size) pages → chosen_of choice size pages ≡ None
 chosen-refused choice size pages each = ap (option_map (λ (found : Found). found.number)) (none-refused choice size pages each)
 
--- a first rank is found, or something after it
-first_or-some : (rank : ℕ) (o : Option Found) → option_map (λ (found : Found). found.number) (Some (first_or rank o)) ≡ None → ⊥
-first_or-some rank o h = cc
-
 -- where none is found, each page refuses
 pub refused-none : (choice : PageChoice) (size : Size) (pages : List AtlasState)
     → first_least (map (page_rank choice size) pages) ≡ None → AllByRecursion (λ (page : AtlasState). IsRefused page size) pages

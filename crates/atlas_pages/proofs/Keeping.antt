@@ -15,7 +15,7 @@ use Rattle.shelf_model.specs.Returning.{returned}
 use Rattle.shelf_model.specs.State.{AtlasState}
 use Rattle.shelf_model.proofs.Callers.{promises-cleared, promises-returned}
 use Rattle.atlas_pages.specs.declared.options.PageOptions.{PageOptions}
-use Rattle.atlas_pages.specs.declared.places.PagePlace.{PagePlace}
+use Rattle.atlas_pages.specs.declared.places.PagedAllocation.{PagedAllocation}
 use Rattle.atlas_pages.specs.Pages.{ArePageOptions, PagesState, empty_page, no_pages, page_frame}
 use Rattle.atlas_pages.specs.Places.{AllocatesOn, at_page, cleared, returned_on, shrunk, with_most}
 use Rattle.atlas_pages.specs.Promises.{IsPage, KeepsPagesPromises}
@@ -25,13 +25,13 @@ use Rattle.atlas_pages.proofs.PageLists.{Each-at_page, Each-map, Each-set, lengt
 use Rattle.atlas_pages.proofs.Used.{Each-used_pages, length-used_pages}
 
 -- a page on which a size was allocated
-pub page-allocated : (options : PageOptions) (size : Size) (place : PagePlace) (before after : AtlasState) → IsPage options before
+pub page-allocated : (options : PageOptions) (size : Size) (place : PagedAllocation) (before after : AtlasState) → IsPage options before
     → Allocates before size place.allocation after → KeepsPromises after → IsPage options after
 page-allocated options size place before after page allocates promises =
     record { promises = promises; frame = ap (λ (s : AtlasState). s.frame) allocates.after ∙ page.frame }
 
 -- pages of which one was allocated on
-pub keeps-allocated : (state : PagesState) (size : Size) (place : PagePlace) (pages : List AtlasState) → KeepsPagesPromises state
+pub keeps-allocated : (state : PagesState) (size : Size) (place : PagedAllocation) (pages : List AtlasState) → KeepsPagesPromises state
     → (allocates : AllocatesOn state.pages size place pages) → KeepsPromises allocates.after
     → KeepsPagesPromises (record { options = state.options; pages = pages })
 keeps-allocated state size place pages keeps allocates promises =
@@ -101,7 +101,7 @@ pub each-keeps : (state : PagesState) → KeepsPagesPromises state → AllByRecu
 each-keeps state keeps = Each-weaken (IsPage state.options) KeepsPromises state.pages (λ page is. is.promises) keeps.pages
 
 -- pages of which one was opened and allocated on
-pub keeps-opened_with : (state : PagesState) (size : Size) (place : PagePlace) (pages : List AtlasState) → KeepsPagesPromises state
+pub keeps-opened_with : (state : PagesState) (size : Size) (place : PagedAllocation) (pages : List AtlasState) → KeepsPagesPromises state
     → length state.pages < state.options.most_pages
     → (allocates : AllocatesOn (state.pages ++ empty_page state.options ∷ []) size place pages) → place.page ≡ length state.pages
     → IfSome (slice_get pages place.page) KeepsPromises
@@ -136,7 +136,7 @@ keeps-answered (Ok a) state page id pages keeps ok err = rw ok (keeps-returned s
 keeps-answered (Err b) state page id pages keeps ok err = rw err keeps
 
 -- what was given is large enough for a page
-pub large-taken : (state : PagesState) (size : Size) (place : PagePlace) (pages : List AtlasState) → KeepsPagesPromises state
+pub large-taken : (state : PagesState) (size : Size) (place : PagedAllocation) (pages : List AtlasState) → KeepsPagesPromises state
     → TakesPlace state.options.choice state.pages size place pages → IsLarge (page_frame state.options) size place.allocation.rectangle
 large-taken state size place pages keeps takes =
     let page = Each-get (IsPage state.options) state.pages place.page takes.allocates.before takes.allocates.is_open keeps.pages in

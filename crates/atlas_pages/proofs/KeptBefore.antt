@@ -15,7 +15,7 @@ use Rattle.shelf_model.specs.Fresh.{fresh}
 use Rattle.shelf_model.specs.Places.{allocations, rectangle_of}
 use Rattle.shelf_model.specs.State.{AtlasState}
 use Rattle.atlas_pages.specs.declared.options.PageOptions.{PageOptions}
-use Rattle.atlas_pages.specs.declared.places.PagePlace.{PagePlace}
+use Rattle.atlas_pages.specs.declared.places.PagedAllocation.{PagedAllocation}
 use Rattle.atlas_pages.specs.Choosing.{chosen_page, may_open, opened, ready_for}
 use Rattle.atlas_pages.specs.Pages.{PagesState, empty_page, page_frame}
 use Rattle.atlas_pages.specs.Places.{AllocatesOn, Places, rectangle_on}
@@ -46,7 +46,7 @@ ready-or_opened state size = by_tests (is_some (chosen_page state size)) (may_op
     by_tests false false = inl refl
 
 -- a page on which a size was allocated kept the promises before, where all pages do before and after
-pub kept-before : (old new : PagesState) (size : Size) (place : PagePlace) → KeepsPagesPromises old → KeepsPagesPromises new
+pub kept-before : (old new : PagesState) (size : Size) (place : PagedAllocation) → KeepsPagesPromises old → KeepsPagesPromises new
     → new.options ≡ old.options → (allocates : AllocatesOn (ready_for old size).pages size place new.pages)
     → KeepsPromises allocates.before
 kept-before old new size place was is same allocates =
@@ -70,7 +70,7 @@ kept-before old new size place was is same allocates =
         (subst (λ (f : Frame). KeepsPromises (fresh f)) after.frame (promises-cleared allocates.after after.promises.valid))
 
 -- what was given lies inside its page
-pub placed-inside : (old new : PagesState) (size : Size) (place : PagePlace) → KeepsPagesPromises old → KeepsPagesPromises new
+pub placed-inside : (old new : PagesState) (size : Size) (place : PagedAllocation) → KeepsPagesPromises old → KeepsPagesPromises new
     → Places old size place new → IsInside (page_frame new.options) place.allocation.rectangle
 placed-inside old new size place was is places =
     let there = places.allocates in

@@ -19,7 +19,7 @@ use Rattle.shelf_model.specs.Choice.{IsRefused, placement_of}
 use Rattle.shelf_model.specs.Listing.{allocations_at, listed}
 use Rattle.shelf_model.specs.Places.{allocations, record_number}
 use Rattle.shelf_model.specs.State.{AtlasState}
-use Rattle.atlas_pages.specs.declared.places.PagePlace.{PagePlace}
+use Rattle.atlas_pages.specs.declared.places.PagedAllocation.{PagedAllocation}
 use Rattle.atlas_pages.specs.Choosing.{IsRefusedByAll}
 use Rattle.atlas_pages.specs.Listing.{listed_places, on_page, places_from}
 use Rattle.atlas_pages.specs.Padded.{IsPaddedPage, KeepsPadding, PlacesPadded, trimmed_place}
@@ -47,7 +47,7 @@ page-near state rectangle keeps inside =
     near-inside (page_frame state.options) rectangle frame.width.1 frame.height.1 inside
 
 -- so what is given is near, and what is found
-pub given-near : (old new : PagesState) (size : Size) (place : PagePlace) → KeepsPagesPromises old → KeepsPagesPromises new
+pub given-near : (old new : PagesState) (size : Size) (place : PagedAllocation) → KeepsPagesPromises old → KeepsPagesPromises new
     → Places old size place new → IsNear place.allocation.rectangle
 given-near old new size place was is places =
     page-near new place.allocation.rectangle is (placed-inside old new size place was is places)
@@ -69,11 +69,11 @@ each-listed P page each = by_numbers (range_with_len 0 page.peak_items)
 
 -- so is everything that is listed
 pub listed-near : (state : PagesState) → KeepsPagesPromises state
-    → AllByRecursion (λ (place : PagePlace). IsNear place.allocation.rectangle) (listed_places state)
+    → AllByRecursion (λ (place : PagedAllocation). IsNear place.allocation.rectangle) (listed_places state)
 listed-near state keeps = from 0 state.pages keeps.pages
   where
     numbered : (number : ℕ) (given : List Allocation) → AllByRecursion (λ (a : Allocation). IsNear a.rectangle) given
-        → AllByRecursion (λ (place : PagePlace). IsNear place.allocation.rectangle) (on_page number given)
+        → AllByRecursion (λ (place : PagedAllocation). IsNear place.allocation.rectangle) (on_page number given)
     numbered number [] near = tt
     numbered number (a ∷ given) near = (near.0, numbered number given near.1)
 
@@ -85,14 +85,14 @@ listed-near state keeps = from 0 state.pages keeps.pages
         is.promises.inside)
 
     from : (number : ℕ) (pages : List AtlasState) → AllByRecursion (IsPage state.options) pages
-        → AllByRecursion (λ (place : PagePlace). IsNear place.allocation.rectangle) (places_from number pages)
+        → AllByRecursion (λ (place : PagedAllocation). IsNear place.allocation.rectangle) (places_from number pages)
     from number [] is = tt
     from number (page ∷ pages) is =
-        Each-append (λ (place : PagePlace). IsNear place.allocation.rectangle) (on_page number (listed page)) (places_from (number + 1) pages)
+        Each-append (λ (place : PagedAllocation). IsNear place.allocation.rectangle) (on_page number (listed page)) (places_from (number + 1) pages)
         (numbered number (listed page) (near_on page is.0)) (from (number + 1) pages is.1)
 
 -- with its padding a place that was trimmed is what the pages gave
-pub places-padded : (old new : PagesState) (padding : Padding) (size : Size) (place : PagePlace)
+pub places-padded : (old new : PagesState) (padding : Padding) (size : Size) (place : PagedAllocation)
     → Places old (padded padding size) place new
     → PlacesPadded (record { padding = padding; pages = old }) size (trimmed_place padding place) (record { padding = padding; pages = new })
 places-padded old new padding size place places =

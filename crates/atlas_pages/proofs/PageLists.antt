@@ -6,12 +6,6 @@ use Rattle.std.specs.List.{AllByRecursion}
 use Rattle.shelf_model.specs.State.{AtlasState}
 use Rattle.atlas_pages.specs.Places.{at_page}
 
--- what is there, written back, changes nothing
-pub slice_set-same : {X : Type 0} (xs : List X) (n : ℕ) (x : X) → slice_get xs n ≡ Some x → slice_set xs n x ≡ xs
-slice_set-same [] n x at = absurd (cc)
-slice_set-same (y ∷ ys) zero x at = let same : x ≡ y = cc in ap (λ z. z ∷ ys) same
-slice_set-same (y ∷ ys) (suc n) x at = ap (λ zs. y ∷ zs) (slice_set-same ys n x at)
-
 -- the last element, written over
 pub slice_set-last : {X : Type 0} (xs : List X) (x y : X) (n : ℕ) → n ≡ length xs → slice_set (xs ++ x ∷ []) n y ≡ xs ++ y ∷ []
 slice_set-last {X} xs x y n is = rw is (at_end xs)
@@ -50,16 +44,6 @@ pub Each-map : {X Y : Type 0} (P : X → Type 0) (Q : Y → Type 0) (f : X → Y
     → AllByRecursion P xs → AllByRecursion Q (map f xs)
 Each-map P Q f [] keeps each = tt
 Each-map P Q f (x ∷ xs) keeps each = (keeps x each.0, Each-map P Q f xs keeps each.1)
-
--- a fact of the first elements, and of one more
-pub Each-more : {X : Type 0} (P : X → Type 0) (xs : List X) (n : ℕ) (x : X) → slice_get xs n ≡ Some x → AllByRecursion P (take n xs) → P x
-    → AllByRecursion P (take (n + 1) xs)
-Each-more {X} P xs n x at each here = rw (add-one n) (more xs n at each)
-  where
-    more : (ys : List X) (m : ℕ) → slice_get ys m ≡ Some x → AllByRecursion P (take m ys) → AllByRecursion P (take (suc m) ys)
-    more [] m at each = absurd (cc)
-    more (y ∷ ys) zero at each = let same : x ≡ y = cc in (subst P same here, tt)
-    more (y ∷ ys) (suc m) at each = (each.0, more ys m at each.1)
 
 -- of all elements, after the last one
 pub Each-all_taken : {X : Type 0} (P : X → Type 0) (xs : List X) (n : ℕ) → length xs ≤ n → AllByRecursion P (take n xs) → AllByRecursion P xs

@@ -5,7 +5,7 @@ use Rattle.std.proofs.lemmas.Int.{to_z_pos}
 use Rattle.shelf_model.specs.State.{AtlasState}
 use lib.IntN.{nat_abs}
 use lib.Signed.{mag}
-use Rattle.std.proofs.lemmas.List.{take_all, take_more}
+use Rattle.std.proofs.lemmas.List.{take_more}
 use Rattle.etagere_base.specs.Lists.{total}
 
 -- a total and one more
@@ -17,10 +17,6 @@ total-last measure (y ∷ xs) x = omega (arith, total-last measure xs x)
 pub total-more : {X : Type 0} (measure : X → ℕ) (xs : List X) (n : ℕ) (d : X) → n < length xs
     → total measure (take (n + 1) xs) ≡ total measure (take n xs) + measure (get_or xs n d)
 total-more measure xs n d within = ap (total measure) (take_more xs n d within) ∙ total-last measure (take n xs) (get_or xs n d)
-
--- all of them
-pub total-all : {X : Type 0} (measure : X → ℕ) (xs : List X) (n : ℕ) → length xs ≤ n → total measure (take n xs) ≡ total measure xs
-total-all measure xs n all = ap (total measure) (take_all n xs all)
 
 -- a space that a call told, as an unsigned number
 pub told-back : (n : ℕ) (told : ℤ) → told ≡ pos n → mag told < 2147483648 → nat_abs (to_z w32 (of_z w32 told)) ≡ n

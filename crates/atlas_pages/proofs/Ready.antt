@@ -1,15 +1,14 @@
 -- Pages that are ready for a size: the page that is chosen among the open ones, or the one that is opened.
-use Rattle.std.proofs.Common.{◌≡◌, ℕ, ◌<◌, Bool, true, false, cond, Option, None, Some, List, [], ◌∷◌, ◌++◌, length, refl, ap, sym, ◌∙◌, subst, inl, inr, arith}
+use Rattle.std.proofs.Common.{◌≡◌, ℕ, ◌<◌, Bool, true, false, cond, Option, None, Some, List, [], ◌∷◌, ◌++◌, length, refl, ap, sym, ◌∙◌, subst, arith}
 use Rattle.std.specs.Prelude.{is_some, option_map, nat_lt, ◌&&◌}
 use Rattle.std.proofs.lemmas.Bool.Decides.{nat_tests}
 use Rattle.etagere_base.specs.Least.{Found}
 use Rattle.etagere_base.specs.declared.geometry.Size.{Size}
 use Rattle.shelf_model.specs.State.{AtlasState}
-use Rattle.atlas_pages.specs.declared.places.PagePlace.{PagePlace}
+use Rattle.atlas_pages.specs.declared.places.PagedAllocation.{PagedAllocation}
 use Rattle.atlas_pages.specs.Choosing.{IsRefusedByAll, chosen_page, has_place, may_open, opened, page_for, ready_for}
 use Rattle.atlas_pages.specs.Pages.{PagesState, empty_page}
-use Rattle.atlas_pages.specs.Places.{AllocatesOn, NeedsMemory, Places}
-use Rattle.atlas_pages.specs.Private.Taking.{NeedsSplitAmong, TakesPlace}
+use Rattle.atlas_pages.specs.Places.{AllocatesOn, Places}
 use Rattle.atlas_pages.proofs.Chosen.{chosen-last, refused-chosen}
 
 -- where an open page is chosen, none is opened
@@ -51,19 +50,8 @@ page_for-opened state size none opens =
 pub page_for-chosen : (state : PagesState) (size : Size) (n : ℕ) → chosen_page state size ≡ Some n → page_for state size ≡ Some n
 page_for-chosen state size n chosen = ap (λ (s : PagesState). chosen_page s size) (ready-chosen state size n chosen) ∙ chosen
 
--- a size that took a place on an open page got the place of its own
-pub places-taken : (state : PagesState) (size : Size) (place : PagePlace) (pages : List AtlasState)
-    → TakesPlace state.options.choice state.pages size place pages
-    → Places state size place (record { options = state.options; pages = pages })
-places-taken state size place pages takes =
-    record {
-      chosen = page_for-chosen state size place.page takes.chosen;
-      allocates = subst (λ (s : PagesState). AllocatesOn s.pages size place pages) (sym (ready-chosen state size place.page takes.chosen)) takes.allocates;
-      options = refl;
-    }
-
 -- so did one that took a place on a page that was opened
-pub places-opened : (state : PagesState) (size : Size) (place : PagePlace) (pages : List AtlasState)
+pub places-opened : (state : PagesState) (size : Size) (place : PagedAllocation) (pages : List AtlasState)
     → chosen_page state size ≡ None → may_open state size ≡ true → place.page ≡ length state.pages
     → AllocatesOn (state.pages ++ empty_page state.options ∷ []) size place pages
     → Places state size place (record { options = state.options; pages = pages })
@@ -78,11 +66,3 @@ places-opened state size place pages none opens number allocates =
 pub refused_by_all : (state : PagesState) (size : Size) → chosen_page state size ≡ None → may_open state size ≡ false → IsRefusedByAll state size
 refused_by_all state size none opens =
     record { pages = refused-chosen state.options.choice size state.pages none; none_opened = opens }
-
--- a size whose page has to be split, or opened, has a place that needs memory
-pub needs-split : (state : PagesState) (size : Size) → NeedsSplitAmong state.options.choice state.pages size → NeedsMemory state size
-needs-split state size needs =
-    inl (record { number = needs.number; page = needs.page; chosen = needs.chosen; is_open = needs.is_open; split = needs.split })
-
-pub needs-page : (state : PagesState) (size : Size) → chosen_page state size ≡ None → may_open state size ≡ true → NeedsMemory state size
-needs-page state size none opens = inr (record { none = none; opens = opens })

@@ -2,13 +2,11 @@
 use Rattle.std.proofs.Common.{◌≡◌, ℕ, zero, suc, ◌≤◌, Some, List, [], ◌∷◌, ◌++◌, length, refl, ap, sym, ◌∙◌, subst, arith, Result, Ok, Err}
 use Rattle.std.specs.Prelude.{IfErr, IfOk, slice_get}
 use Rattle.std.specs.List.{AllByRecursion}
-use Rattle.etagere_base.specs.declared.faults.RestoreFault.{RestoreFault}
-use Rattle.etagere_base.specs.declared.faults.RestoreFault.TheVariants as rules
 use Rattle.etagere_base.specs.declared.frames.Frame.{Frame}
 use Rattle.etagere_base.proofs.EachLemmas.{Each-get, Each-weaken}
 use Rattle.shelf_model.specs.State.{AtlasState}
 use Rattle.shelf_snapshots.specs.declared.AtlasSnapshot.{AtlasSnapshot}
-use Rattle.shelf_records.specs.Snapshots.{IsBroken, snapshot_records}
+use Rattle.shelf_records.specs.Snapshots.{snapshot_records}
 use Rattle.shelf_records.specs.StandsFor.{StandsFor}
 use Rattle.shelf_restoring.proofs.Loaded.WalksRestore.{stands-whole}
 use Rattle.atlas_pages.specs.declared.faults.PagesRestoreFault.{PagesRestoreFault}
@@ -17,7 +15,7 @@ use Rattle.atlas_pages.specs.declared.options.PageOptions.{PageOptions}
 use Rattle.atlas_pages.specs.declared.saving.PagesSnapshot.{PagesSnapshot}
 use Rattle.atlas_pages.specs.Pages.{ArePageOptions, PagesState, page_frame}
 use Rattle.atlas_pages.specs.Promises.{IsPage, KeepsPagesPromises}
-use Rattle.atlas_pages.specs.Private.Restored.{IsRefusedAt, page_fault}
+use Rattle.atlas_pages.specs.Private.Restored.{IsRefusedAt}
 use Rattle.atlas_pages.specs.Saved.{ArePagesBroken, BrokenPagesStandForNone, EachStandsFor, PagesStandFor, PagesStandForOne}
 
 -- one more of both
@@ -83,21 +81,6 @@ pages-none snapshot state (OtherFrame page) broken stands =
     absurd (broken.other (sym (ap (λ (s : AtlasState). s.frame) there.stands.spelled)
     ∙ Each-get (λ (p : AtlasState). p.frame ≡ page_frame snapshot.options) state.pages page there.page there.at stands.frames))
 pages-none snapshot state Memory broken stands = refl
-
--- a broken rule of a page's snapshot is told with the page
-pub refused-rule : (frame : Frame) (number : ℕ) (saved : AtlasSnapshot) (fault : RestoreFault) → IsBroken (snapshot_records saved) fault
-    → IsRefusedAt frame number saved (page_fault number fault)
-refused-rule frame number saved rules.Frame broken = (refl, broken, λ same. absurd (cc))
-refused-rule frame number saved rules.Counts broken = (refl, broken, λ same. absurd (cc))
-refused-rule frame number saved rules.Link broken = (refl, broken, λ same. absurd (cc))
-refused-rule frame number saved rules.Shelves broken = (refl, broken, λ same. absurd (cc))
-refused-rule frame number saved rules.Runs broken = (refl, broken, λ same. absurd (cc))
-refused-rule frame number saved rules.Neighbours broken = (refl, broken, λ same. absurd (cc))
-refused-rule frame number saved rules.FreeList broken = (refl, broken, λ same. absurd (cc))
-refused-rule frame number saved rules.Sharing broken = (refl, broken, λ same. absurd (cc))
-refused-rule frame number saved rules.Unused broken = (refl, broken, λ same. absurd (cc))
-refused-rule frame number saved rules.Space broken = (refl, broken, λ same. absurd (cc))
-refused-rule frame number saved rules.Memory broken = tt
 
 -- what is refused of one snapshot is broken of all
 pub refused-broken : (snapshot : PagesSnapshot) (frame : Frame) (number : ℕ) (saved : AtlasSnapshot) (fault : PagesRestoreFault)

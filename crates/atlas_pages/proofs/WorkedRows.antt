@@ -11,7 +11,7 @@ use Rattle.etagere_base.specs.declared.geometry.Rectangle.{Rectangle}
 use Rattle.padding.specs.declared.sides.Padding.{Padding}
 use Rattle.padding.specs.Padding.{padded, padding_refusal}
 use Rattle.shelf_model.specs.declared.faults.Refusal.TheVariants.{NotPositive, TooLong}
-use Rattle.atlas_pages.specs.declared.places.PagePlace.{PagePlace}
+use Rattle.atlas_pages.specs.declared.places.PagedAllocation.{PagedAllocation}
 use Rattle.atlas_pages.specs.Choosing.{page_for, ready_for}
 use Rattle.atlas_pages.specs.Listing.{listed_places}
 use Rattle.atlas_pages.specs.Padded.{trimmed_on}
@@ -104,7 +104,7 @@ no_page : pages_fault (page_options FirstFit 0) ≡ Some NoPages
 no_page = refl
 
 -- what is listed: page after page, without what was given back
-abbrev place_on : ℕ → ℕ → Rectangle → PagePlace
+abbrev place_on : ℕ → ℕ → Rectangle → PagedAllocation
 place_on page id rectangle = record { page = page; allocation = record { id = id; rectangle = rectangle } }
 
 abbrev two_listed : PagesState

@@ -3,20 +3,20 @@ use Rattle.std.specs.Prelude.{ℕ, ◌+◌, List, [], ◌∷◌, ◌++◌, map}
 use Rattle.etagere_base.specs.declared.ids.Allocation.{Allocation}
 use Rattle.shelf_model.specs.Listing.{listed}
 use Rattle.shelf_model.specs.State.{AtlasState}
-use Rattle.atlas_pages.specs.declared.places.PagePlace.{PagePlace}
+use Rattle.atlas_pages.specs.declared.places.PagedAllocation.{PagedAllocation}
 use Rattle.atlas_pages.specs.Pages.{PagesState}
 
 -- allocations of one page, with its number
-abbrev pub on_page : ℕ → List Allocation → List PagePlace
+abbrev pub on_page : ℕ → List Allocation → List PagedAllocation
 on_page page allocations =
     map (λ (allocation : Allocation). record { page = page; allocation = allocation }) allocations
 
 -- what is allocated on pages that are counted from a number on: on the first one, in the order of its own list, and then
 -- on the others
-abbrev pub places_from : ℕ → List AtlasState → List PagePlace
+abbrev pub places_from : ℕ → List AtlasState → List PagedAllocation
 places_from number [] = []
 places_from number (page ∷ pages) = on_page number (listed page) ++ places_from (number + 1) pages
 
 -- everything that is allocated
-abbrev pub listed_places : PagesState → List PagePlace
+abbrev pub listed_places : PagesState → List PagedAllocation
 listed_places state = places_from 0 state.pages

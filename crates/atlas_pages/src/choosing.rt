@@ -13,7 +13,7 @@ ghost use Rattle.atlas_pages.specs.Private.Taking.{NeedsSplitAmong, TakesPlace};
 
 use crate::open_pages::allocate_first;
 use crate::options::PageChoice;
-use crate::places::PagePlace;
+use crate::places::PagedAllocation;
 use etagere::{AtlasAllocator, Size};
 use std::alloc::AllocError;
 
@@ -22,7 +22,7 @@ pub(crate) fn allocate_open(
     choice: PageChoice,
     pages: &mut Vec<AtlasAllocator>,
     size: Size,
-) -> Result<Option<PagePlace>, AllocError>
+) -> Result<Option<PagedAllocation>, AllocError>
     requires few { length pages.old.items < 2 ^ 32 }
     requires kept { AllByRecursion KeepsPromises pages.old.items }
     ensures placed { IfOk result (λ answer. IfSome answer
@@ -50,7 +50,7 @@ struct Candidate {
 fn allocate_on_fullest(
     pages: &mut Vec<AtlasAllocator>,
     size: Size,
-) -> Result<Option<PagePlace>, AllocError>
+) -> Result<Option<PagedAllocation>, AllocError>
     requires few { length pages.old.items < 2 ^ 32 }
     requires kept { AllByRecursion KeepsPromises pages.old.items }
     ensures placed { IfOk result (λ answer. IfSome answer
@@ -68,7 +68,7 @@ fn allocate_on_fullest(
         unreachable!()
     };
     let page = number as u32;
-    Ok(Some(PagePlace { page, allocation }))
+    Ok(Some(PagedAllocation { page, allocation }))
 }
 
 /// The number of the fullest page that has a place for a size.

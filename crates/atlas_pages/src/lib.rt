@@ -26,5 +26,5 @@ pub use options::{PageChoice, PageOptions};
 pub use padded::PaddedPages;
 pub use padded_listing::PaddedIter;
 pub use pages::AtlasPages;
-pub use places::PagePlace;
+pub use places::PagedAllocation;
 pub use saving::PagesSnapshot;

@@ -7,7 +7,7 @@ ghost use Rattle.std.specs.Iterator.{YieldsFirst, item_count};
 ghost use Rattle.atlas_pages.specs.Listing as spec;
 ghost use Rattle.atlas_pages.specs.Private.Listed.{left_of, left_on};
 
-use crate::places::PagePlace;
+use crate::places::PagedAllocation;
 use etagere::{self, AtlasAllocator};
 use std::iter::FusedIterator;
 use std::marker::Model;
@@ -25,9 +25,9 @@ pub struct Iter<'a> {
 
 impl<'a> Model for Iter<'a> {
     ghost use Rattle.std.specs.Prelude.{List};
-    ghost use Rattle.atlas_pages.specs.declared.places.PagePlace.{PagePlace};
+    ghost use Rattle.atlas_pages.specs.declared.places.PagedAllocation.{PagedAllocation};
 
-    ghost Value = { List PagePlace };
+    ghost Value = { List PagedAllocation };
 
     ghost use Rattle.atlas_pages.specs.Private.Listed.{IsListed, listed_in};
 
@@ -51,13 +51,13 @@ impl<'a> Iter<'a> {
 }
 
 impl<'a> Iterator for Iter<'a> {
-    type Item = PagePlace;
+    type Item = PagedAllocation;
 
     ghost next_gives = { YieldsFirst (λ rest. rest) };
 
     ghost remaining = { item_count (λ rest. rest) };
 
-    fn next(&mut self) -> Option<PagePlace> {
+    fn next(&mut self) -> Option<PagedAllocation> {
         for page in self.next..self.pages.len() as u32 {
             if let Some(place) = next_on(&mut self.begun) {
                 return Some(place);
@@ -82,15 +82,15 @@ struct OnPage<'a> {
 }
 
 impl<'a> Iterator for OnPage<'a> {
-    type Item = PagePlace;
+    type Item = PagedAllocation;
 
     ghost next_gives = { YieldsFirst left_on };
 
     ghost remaining = { item_count left_on };
 
-    fn next(&mut self) -> Option<PagePlace> {
+    fn next(&mut self) -> Option<PagedAllocation> {
         let allocation = self.allocations.next()?;
-        Some(PagePlace {
+        Some(PagedAllocation {
             page: self.page,
             allocation,
         })
@@ -98,7 +98,7 @@ impl<'a> Iterator for OnPage<'a> {
 }
 
 /// What comes next on the page that was begun last.
-fn next_on(begun: &mut Option<OnPage<'_>>) -> Option<PagePlace>
+fn next_on(begun: &mut Option<OnPage<'_>>) -> Option<PagedAllocation>
     ensures { YieldsFirst left_of begun.old result begun.new }
 {
     match begun {

@@ -19,7 +19,7 @@ ghost use Rattle.atlas_pages.specs.Places.{AllocatesOn, at_page, used_pages};
 ghost use Rattle.atlas_pages.specs.Private.Taking.{NeedsSplitAmong, TakesPlace};
 
 use crate::options::{PageChoice, PageOptions};
-use crate::places::PagePlace;
+use crate::places::PagedAllocation;
 use etagere::{AllocId, AtlasAllocator, Rectangle, Size, UnknownId};
 use std::alloc::{AllocError, Global};
 
@@ -27,7 +27,7 @@ use std::alloc::{AllocError, Global};
 pub(crate) fn allocate_first(
     pages: &mut Vec<AtlasAllocator>,
     size: Size,
-) -> Result<Option<PagePlace>, AllocError>
+) -> Result<Option<PagedAllocation>, AllocError>
     requires { length pages.old.items < 2 ^ 32 }
     ensures placed { IfOk result (λ answer. IfSome answer
         (λ place. TakesPlace PageChoice.FirstFit pages.old.items size place pages.new.items)) }
@@ -40,7 +40,7 @@ pub(crate) fn allocate_first(
     for number in 0..pages.len() {
         if let Some(allocation) = pages[number].allocate(size)? {
             let page = number as u32;
-            return Ok(Some(PagePlace { page, allocation }));
+            return Ok(Some(PagedAllocation { page, allocation }));
         }
     }
     Ok(None)
@@ -52,7 +52,7 @@ pub(crate) fn open_with(
     options: &PageOptions,
     pages: &mut Vec<AtlasAllocator>,
     size: Size,
-) -> Result<PagePlace, AllocError>
+) -> Result<PagedAllocation, AllocError>
     requires options { ArePageOptions options.now }
     requires fits { has_place size (empty_page options.now) ≡ true }
     requires few { length pages.old.items < 2 ^ 32 }
@@ -72,7 +72,7 @@ pub(crate) fn open_with(
     };
     let page = pages.len() as u32;
     pages.push(opened)?;
-    Ok(PagePlace { page, allocation })
+    Ok(PagedAllocation { page, allocation })
 }
 
 /// The rectangle that is allocated on a page under an id.

@@ -14,7 +14,7 @@ use crate::faults::{FewerPages, PagesFault};
 use crate::options::PageOptions;
 use crate::padded_listing::{PaddedIter, trimmed_place};
 use crate::pages::AtlasPages;
-use crate::places::PagePlace;
+use crate::places::PagedAllocation;
 use etagere::{AllocId, Rectangle, Size, UnknownId};
 use padding::Padding;
 use std::alloc::{AllocError, Global};
@@ -88,7 +88,7 @@ impl PaddedPages {
     ///
     /// With its padding, the rectangle lies inside its page, and shares no pixel with any other and its padding. `Err`
     /// and costs are those of `AtlasPages::allocate`.
-    pub fn allocate(&mut self, size: Size) -> Result<Option<PagePlace>, AllocError>
+    pub fn allocate(&mut self, size: Size) -> Result<Option<PagedAllocation>, AllocError>
         ensures placed { IfOk result
             (λ answer. IfSome answer (λ place. PlacesPadded self.old size place self.new)) }
         ensures large { IfOk result
@@ -197,7 +197,7 @@ impl PaddedPages {
 }
 
 impl<'a> IntoIterator for &'a PaddedPages {
-    type Item = PagePlace;
+    type Item = PagedAllocation;
 
     type IntoIter = PaddedIter<'a>;
 

@@ -6,11 +6,11 @@ ghost use Rattle.std.specs.Prelude.{◌≡◌, map};
 ghost use Rattle.std.specs.Iterator.{YieldsFirst, item_count};
 ghost use Rattle.std.specs.List.{AllByRecursion};
 ghost use Rattle.padding.specs.Padding.{IsNear};
-ghost use Rattle.atlas_pages.specs.declared.places.PagePlace as model;
+ghost use Rattle.atlas_pages.specs.declared.places.PagedAllocation as model;
 ghost use Rattle.atlas_pages.specs.Padded as spec;
 
 use crate::listing::Iter;
-use crate::places::PagePlace;
+use crate::places::PagedAllocation;
 use etagere::Allocation;
 use padding::Padding;
 use std::iter::FusedIterator;
@@ -28,9 +28,9 @@ pub struct PaddedIter<'a> {
 
 impl<'a> Model for PaddedIter<'a> {
     ghost use Rattle.std.specs.Prelude.{List};
-    ghost use Rattle.atlas_pages.specs.declared.places.PagePlace.{PagePlace};
+    ghost use Rattle.atlas_pages.specs.declared.places.PagedAllocation.{PagedAllocation};
 
-    ghost Value = { List PagePlace };
+    ghost Value = { List PagedAllocation };
 
     ghost use Rattle.atlas_pages.specs.Private.ListedPadded.{AreNear, trimmed_in};
 
@@ -42,7 +42,7 @@ impl<'a> Model for PaddedIter<'a> {
 impl<'a> PaddedIter<'a> {
     /// These places, of which each rectangle has the padding.
     pub(crate) fn new(places: Iter<'a>, padding: Padding) -> PaddedIter<'a>
-        requires { AllByRecursion (λ (place : model.PagePlace). IsNear place.allocation.rectangle) places }
+        requires { AllByRecursion (λ (place : model.PagedAllocation). IsNear place.allocation.rectangle) places }
         ensures { result ≡ map (spec.trimmed_place padding) places.entry }
     {
         PaddedIter { places, padding }
@@ -50,13 +50,13 @@ impl<'a> PaddedIter<'a> {
 }
 
 impl<'a> Iterator for PaddedIter<'a> {
-    type Item = PagePlace;
+    type Item = PagedAllocation;
 
     ghost next_gives = { YieldsFirst (λ rest. rest) };
 
     ghost remaining = { item_count (λ rest. rest) };
 
-    fn next(&mut self) -> Option<PagePlace> {
+    fn next(&mut self) -> Option<PagedAllocation> {
         let place = self.places.next()?;
         Some(trimmed_place(self.padding, &place))
     }
@@ -65,12 +65,12 @@ impl<'a> Iterator for PaddedIter<'a> {
 impl<'a> FusedIterator for PaddedIter<'a> {}
 
 /// A place without the padding of its rectangle, which is near the origin.
-pub(crate) fn trimmed_place(padding: Padding, place: &PagePlace) -> PagePlace
+pub(crate) fn trimmed_place(padding: Padding, place: &PagedAllocation) -> PagedAllocation
     requires { IsNear place.now.allocation.rectangle }
     ensures { result ≡ spec.trimmed_place padding place.now }
 {
     let Allocation { id, rectangle } = place.allocation;
-    PagePlace {
+    PagedAllocation {
         page: place.page,
         allocation: Allocation {
             id,

@@ -28,7 +28,7 @@ use crate::listing::Iter;
 use crate::open_pages::{self, clear_each, drop_empty_end, open_with, return_on};
 use crate::options::{PageOptions, pages_fault};
 use crate::picture::send_pages;
-use crate::places::PagePlace;
+use crate::places::PagedAllocation;
 use crate::saving::{PagesSnapshot, restored_pages, saved_pages};
 use etagere::{AllocId, AtlasAllocator, Rectangle, Size, UnknownId};
 use etagere_base::atlas_frame;
@@ -95,7 +95,7 @@ impl AtlasPages {
     ///
     /// By first fit the pages are asked in turn up to the first that has a place. By fullest first each is asked that is
     /// fuller than the best so far, and goes through its shelves for that.
-    pub fn allocate(&mut self, size: Size) -> Result<Option<PagePlace>, AllocError>
+    pub fn allocate(&mut self, size: Size) -> Result<Option<PagedAllocation>, AllocError>
         ensures placed { IfOk result
             (λ answer. IfSome answer (λ place. Places self.old size place self.new)) }
         ensures large { IfOk result (λ answer. IfSome answer
@@ -303,7 +303,7 @@ impl AtlasPages {
 }
 
 impl<'a> IntoIterator for &'a AtlasPages {
-    type Item = PagePlace;
+    type Item = PagedAllocation;
 
     type IntoIter = Iter<'a>;
 

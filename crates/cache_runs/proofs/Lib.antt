@@ -1,6 +1,13 @@
+pub mod CacheKept
+pub mod LayoutAllocated
 pub mod MapAnswers
 pub mod MapLeft
 pub mod MapRunsOn
 pub mod MapStepsTold
+pub mod PaddedAnswers
+pub mod PaddedRunsOn
+pub mod PaddedStepsTold
 pub mod PagedRunsOn
 pub mod PagedStepsTold
+pub mod Refused
+pub mod Shown

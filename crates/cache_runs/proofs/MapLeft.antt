@@ -1,9 +1,8 @@
 -- What a map lists when keys go first or out, when another value stands first, and when the last ones went.
-use Rattle.std.proofs.Common.{◌≡◌, ℕ, zero, suc, ◌-◌, Bool, true, false, cond, Option, Some, None, List, [], ◌∷◌, length, map, take, refl, ap, sym, ◌∙◌}
+use Rattle.std.proofs.Common.{◌≡◌, ℕ, zero, suc, ◌-◌, Bool, true, Option, Some, List, [], ◌∷◌, length, map, take, refl, ap, sym, ◌∙◌}
 use Rattle.std.proofs.lemmas.List.{length-map}
-use Rattle.std.specs.Map.{lookup, lookup_entry, remove_entry}
+use Rattle.std.specs.Map.{lookup, remove_entry}
 use Rattle.std.specs.Option.{option_map_or}
-use Rattle.std.specs.Prelude.{option_map}
 use Rattle.lru.specs.LruCache.{promoted}
 use Rattle.etagere_base.specs.declared.geometry.Rectangle.{Rectangle}
 use Rattle.etagere_base.specs.declared.ids.Allocation.{Allocation}
@@ -11,6 +10,7 @@ use Rattle.glyph_map.specs.Calls.{revalued, seen, used, with_value}
 use Rattle.glyph_map.specs.State.{Held, MapState, cache_of, pairs_of}
 use Rattle.glyph_map.proofs.Entries.{entry-passes, entry-some}
 use Rattle.cache_runs.specs.MapTold.{entries_seen, with_first_value, without_last}
+use Rattle.cache_runs.proofs.Shown as shows
 
 module _ {K V : Type 0} where
   -- an entry as it is listed
@@ -66,35 +66,13 @@ module _ {K V : Type 0} where
       ∙ ap (λ (l : List (K × (Rectangle × V))). (key, (allocation.rectangle, value)) ∷ l) (left-zipped old n kept marks kept_is left_is)
 
   module _ (test : K → Bool) where
-    lookup-shown : (entries : List (K × Held V)) → lookup_entry test (map shown entries) ≡ option_map shown (lookup_entry test entries)
-    lookup-shown [] = refl
-    lookup-shown (e ∷ entries) = here (test e.0) (lookup-shown entries)
-      where
-        here : (b : Bool) → lookup_entry test (map shown entries) ≡ option_map shown (lookup_entry test entries)
-            → cond b (Some (shown e)) (lookup_entry test (map shown entries)) ≡ option_map shown (cond b (Some e) (lookup_entry test entries))
-        here true later = refl
-        here false later = later
-
     -- a key is taken out of what is listed
     pub removed-shown : (entries : List (K × Held V)) → map shown (remove_entry test entries) ≡ remove_entry test (map shown entries)
-    removed-shown [] = refl
-    removed-shown (e ∷ entries) = here (test e.0) (removed-shown entries)
-      where
-        here : (b : Bool) → map shown (remove_entry test entries) ≡ remove_entry test (map shown entries)
-            → map shown (cond b entries (e ∷ remove_entry test entries)) ≡ cond b (map shown entries) (shown e ∷ remove_entry test (map shown entries))
-        here true later = refl
-        here false later = ap (λ (l : List (K × (Rectangle × V))). shown e ∷ l) later
+    removed-shown entries = shows.removed-shown seen test entries
 
     -- or goes first
     pub promoted-shown : (entries : List (K × Held V)) → map shown (promoted test entries) ≡ promoted test (map shown entries)
-    promoted-shown entries =
-        by_found (lookup_entry test entries)
-        ∙ ap (λ (o : Option (K × (Rectangle × V))). option_map_or (λ e. e ∷ remove_entry test (map shown entries)) o (map shown entries)) (sym (lookup-shown entries))
-      where
-        by_found : (o : Option (K × Held V)) → map shown (option_map_or (λ e. e ∷ remove_entry test entries) o entries)
-            ≡ option_map_or (λ e. e ∷ remove_entry test (map shown entries)) (option_map shown o) (map shown entries)
-        by_found None = refl
-        by_found (Some e) = ap (λ (l : List (K × (Rectangle × V))). shown e ∷ l) (removed-shown entries)
+    promoted-shown entries = shows.promoted-shown seen test entries
 
     first-revalued : (value : V) (e : K × Held V) (rest : List (K × Held V)) → test e.0 ≡ true
         → map shown (revalued test value (e ∷ rest)) ≡ with_first_value value (map shown (e ∷ rest))

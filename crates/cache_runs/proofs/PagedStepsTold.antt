@@ -1,15 +1,13 @@
 -- A call changes what is in a cache over pages just as its reply tells.
-use Rattle.std.proofs.Common.{◌≡◌, ℕ, zero, suc, ◌-◌, true, Option, Some, None, List, ◌∷◌, inl, inr, length, take, refl, ap, sym, ◌∙◌, arith}
-use Rattle.std.proofs.lemmas.Bool.Decides.{nat_tests}
+use Rattle.std.proofs.Common.{◌≡◌, ℕ, zero, suc, ◌-◌, Option, Some, None, List, ◌∷◌, inl, inr, length, take, refl, ap, sym, ◌∙◌, arith}
 use Rattle.std.proofs.lemmas.List.{length-take, take-take, take_all}
-use Rattle.std.specs.Map.{lookup, remove_entry}
+use Rattle.std.specs.Map.{remove_entry}
 use Rattle.std.specs.Option.{option_map_or}
 use Rattle.std.specs.Prelude.{nat_eq}
-use Rattle.lru.specs.LruCache.{last_entry, promoted}
+use Rattle.lru.specs.LruCache.{last_entry}
 use Rattle.etagere_base.specs.declared.geometry.Size.{Size}
-use Rattle.atlas_pages.specs.declared.places.PagePlace.{PagePlace}
+use Rattle.atlas_pages.specs.declared.places.PagedAllocation.{PagedAllocation}
 use Rattle.used_keys.proofs.Entries.{last-none}
-use Rattle.glyph_map.proofs.Entries.{entry-passes, entry-some}
 use Rattle.glyph_map.proofs.Found.{none-removed}
 use Rattle.paged_cache.specs.Held.{GivesPlace, has_page, place_returned}
 use Rattle.paged_cache.specs.Keyed.{RanOut, after_dropping, place_at}
@@ -20,30 +18,18 @@ use Rattle.cache_runs.specs.declared.paged_calls.PagedCall.{PagedCall}
 use Rattle.cache_runs.specs.declared.paged_calls.PagedCall.TheVariants.{Place, Get, Remove, Clear}
 use Rattle.cache_runs.specs.declared.paged_calls.PagedReply.{PagedReply}
 use Rattle.cache_runs.specs.declared.paged_calls.PagedReply.TheVariants.{Placed, TooLarge, NoMemory, At, Removed, NotThere, Cleared}
+use Rattle.cache_runs.proofs.Shown.{used-first}
 use Rattle.cache_runs.specs.PagedRuns.{MayAnswer, PlacesAgain, PlacesNew, told_after, without_last}
 
 abbrev Entries : Type 0
-Entries = List (ℕ × PagePlace)
-
-number-same : (n m : ℕ) → nat_eq n m ≡ true → m ≡ n
-number-same n m h = grind (arith, nat_tests)
-
--- a key that is there stands first once it is used
-used-first : (es : Entries) (key : ℕ) (place : PagePlace) → lookup (nat_eq key) es ≡ Some place
-    → promoted (nat_eq key) es ≡ (key, place) ∷ remove_entry (nat_eq key) es
-used-first es key place there =
-    let entry = entry-some (nat_eq key) es place there in
-    let same : entry.0 ≡ key = number-same key entry.0 (entry-passes (nat_eq key) es (entry.0, place) entry.1) in
-    let others : Entries = remove_entry (nat_eq key) es in
-    ap (λ (o : Option (ℕ × PagePlace)). option_map_or (λ (e : ℕ × PagePlace). let l : Entries = e ∷ others in l) o es) entry.1
-    ∙ ap (λ (k : ℕ). let l : Entries = (k, place) ∷ others in l) same
+Entries = List (ℕ × PagedAllocation)
 
 -- without the last entry
 entries-without_last : (state : PagedCacheState) → (keyed.without_last place_returned state).entries ≡ take (length state.entries - 1) state.entries
 entries-without_last state = by_last (last_entry state.entries) refl
   where
-    by_last : (o : Option (ℕ × PagePlace)) → last_entry state.entries ≡ o
-        → (option_map_or (λ (entry : ℕ × PagePlace). let s : PagedCacheState = record { entries = take (length state.entries - 1) state.entries; capacity = state.capacity; places = place_returned state.places entry.1 } in s) o state).entries
+    by_last : (o : Option (ℕ × PagedAllocation)) → last_entry state.entries ≡ o
+        → (option_map_or (λ (entry : ℕ × PagedAllocation). let s : PagedCacheState = record { entries = take (length state.entries - 1) state.entries; capacity = state.capacity; places = place_returned state.places entry.1 } in s) o state).entries
         ≡ take (length state.entries - 1) state.entries
     by_last None last = rw (last-none state.entries last) refl
     by_last (Some e) last = refl
@@ -65,16 +51,16 @@ entries-dropped state (suc n) =
     ∙ ap (take (length state.entries - suc n)) (entries-dropped state n)
     ∙ take-take (length state.entries - suc n) (length state.entries - n) state.entries (omega arith)
 
-told-again : (old new : PagedCacheState) (key : ℕ) (placed : PlacedKey PagePlace) → PlacesAgain old key placed new
+told-again : (old new : PagedCacheState) (key : ℕ) (placed : PlacedKey PagedAllocation) → PlacesAgain old key placed new
     → new.entries ≡ (key, placed.place) ∷ without_last (length placed.evicted.items) (remove_entry (nat_eq key) old.entries)
 told-again old new key placed again =
     let others = remove_entry (nat_eq key) old.entries in
     ap (λ (s : PagedCacheState). s.entries) again.after
-    ∙ used-first old.entries key placed.place again.there
+    ∙ used-first key old.entries placed.place again.there
     ∙ ap (λ (l : Entries). let m : Entries = (key, placed.place) ∷ l in m) (sym (take_all (length others - 0) others (omega arith)))
     ∙ ap (λ (l : List ℕ). let m : Entries = (key, placed.place) ∷ without_last (length l) others in m) (sym again.none)
 
-told-new : (old new : PagedCacheState) (key : ℕ) (size : Size) (placed : PlacedKey PagePlace) → PlacesNew old key size placed new
+told-new : (old new : PagedCacheState) (key : ℕ) (size : Size) (placed : PlacedKey PagedAllocation) → PlacesNew old key size placed new
     → new.entries ≡ (key, placed.place) ∷ without_last (length placed.evicted.items) (remove_entry (nat_eq key) old.entries)
 told-new old new key size placed first =
     let n = length placed.evicted.items in
@@ -91,10 +77,10 @@ told-ran_out old new size evicted ran_out = undone ran_out.rest ∙ entries-drop
     undone (inl same) = ap (λ (s : PagedCacheState). s.entries) same
     undone (inr back) = back.entries
 
-told-removed : (old : PagedCacheState) (key : ℕ) (place : PagePlace) → place_at old key ≡ Some place
+told-removed : (old : PagedCacheState) (key : ℕ) (place : PagedAllocation) → place_at old key ≡ Some place
     → (without_key old key).entries ≡ remove_entry (nat_eq key) old.entries
 told-removed old key place there =
-    ap (λ (o : Option PagePlace). (option_map_or (λ (p : PagePlace). let s : PagedCacheState = record { entries = remove_entry (nat_eq key) old.entries; capacity = old.capacity; places = place_returned old.places p } in s) o old).entries) there
+    ap (λ (o : Option PagedAllocation). (option_map_or (λ (p : PagedAllocation). let s : PagedCacheState = record { entries = remove_entry (nat_eq key) old.entries; capacity = old.capacity; places = place_returned old.places p } in s) o old).entries) there
 
 pub told-step : (old new : PagedCacheState) (call : PagedCall) (reply : PagedReply) → MayAnswer old call reply new
     → new.entries ≡ told_after call reply old.entries

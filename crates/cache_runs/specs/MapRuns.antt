@@ -3,13 +3,12 @@ use Rattle.std.specs.Prelude.{◌≡◌, ℕ, ◌≤◌, ◌⊎◌, Bool, None, 
 use Rattle.std.specs.NonZero.{non_zero_usize_get}
 use Rattle.etagere_base.specs.declared.geometry.Size.{Size}
 use Rattle.etagere_base.specs.Rectangles.{IsLarge}
-use Rattle.shelf_model.specs.Growing.{grow_fault, records_needed}
-use Rattle.shelf_model.specs.declared.faults.AtlasGrowFault.{AtlasGrowFault}
-use Rattle.shelf_model.specs.declared.faults.AtlasGrowFault.TheVariants as grow_faults
+use Rattle.shelf_model.specs.Growing.{grow_fault}
 use Rattle.glyph_map.specs.Calls.{dropped_pairs, empty_map, in_new_frame, map_grown, seen_at, surplus, used, with_capacity, with_value, without_key}
 use Rattle.glyph_map.specs.Placing.{IsFrameFull, IsLeft, IsNew, IsTooLarge, Places, Spares, evictable}
 use Rattle.glyph_map.specs.Promises.{KeepsMapPromises}
 use Rattle.glyph_map.specs.State.{MapState}
+use Rattle.cache_runs.specs.Grows.{IsNotGrown}
 use Rattle.cache_runs.specs.MapTold.{entries_seen, told_from}
 use Rattle.cache_runs.specs.declared.map_calls.MapCall.{MapCall}
 use Rattle.cache_runs.specs.declared.map_calls.MapCall.TheVariants.{Place, UseKey, Remove, BeginFrame, Grow, SetCapacity, Clear}
@@ -58,12 +57,6 @@ module _ {K V : Type 0} (eq : K → K → Bool) where
     pub left : IsLeft old size refused.fault new
     pub spared : Spares old refused.fault
 
-  -- why an atlas doesn't grow
-  abbrev pub IsNotGrown : MapState K V → Size → AtlasGrowFault → Type 0
-  IsNotGrown old size fault =
-      (grow_fault old.atlas size ≡ Some fault)
-      ⊎ ((grow_fault old.atlas size ≡ None) × (fault ≡ grow_faults.Memory) × (1 ≤ records_needed old.atlas size))
-
   -- a map may give this reply to a call, and become the new one
   abbrev pub MayAnswer : MapState K V → MapCall K V → MapReply K V → MapState K V → Type 0
   MayAnswer old (Place key value size) (reply.Placed placed) new =
@@ -77,7 +70,7 @@ module _ {K V : Type 0} (eq : K → K → Bool) where
   MayAnswer old (Remove key) reply.NotThere new = IsNew (eq key) old × (new ≡ old)
   MayAnswer old BeginFrame reply.Begun new = new ≡ in_new_frame old
   MayAnswer old (Grow size) reply.Grown new = (grow_fault old.atlas size ≡ None) × (new ≡ map_grown old size)
-  MayAnswer old (Grow size) (reply.NotGrown fault) new = IsNotGrown old size fault × (new ≡ old)
+  MayAnswer old (Grow size) (reply.NotGrown fault) new = IsNotGrown old.atlas size fault × (new ≡ old)
   MayAnswer old (SetCapacity capacity) (reply.Evicted evicted) new =
       (evicted.items ≡ dropped_pairs old (surplus old (non_zero_usize_get capacity)))
       × (new ≡ with_capacity old (non_zero_usize_get capacity))

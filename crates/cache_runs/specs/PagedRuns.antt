@@ -5,7 +5,7 @@ use Rattle.std.specs.Map.{remove_entry}
 use Rattle.lru.specs.LruCache.{promoted}
 use Rattle.etagere_base.specs.declared.geometry.Size.{Size}
 use Rattle.etagere_base.specs.Rectangles.{IsLarge}
-use Rattle.atlas_pages.specs.declared.places.PagePlace.{PagePlace}
+use Rattle.atlas_pages.specs.declared.places.PagedAllocation.{PagedAllocation}
 use Rattle.atlas_pages.specs.Pages.{page_frame}
 use Rattle.paged_cache.specs.Held.{GivesPlace, has_page, place_returned}
 use Rattle.paged_cache.specs.Keyed.{IsNew, RanOut, place_at, used}
@@ -17,14 +17,14 @@ use Rattle.cache_runs.specs.declared.paged_calls.PagedReply.{PagedReply}
 use Rattle.cache_runs.specs.declared.paged_calls.PagedReply.TheVariants.{Placed, TooLarge, NoMemory, At, Removed, NotThere, Cleared}
 
 -- a key that is there keeps its place, and nothing is evicted for it
-pub record PlacesAgain (old : PagedCacheState) (key : ℕ) (placed : PlacedKey PagePlace) (new : PagedCacheState)
+pub record PlacesAgain (old : PagedCacheState) (key : ℕ) (placed : PlacedKey PagedAllocation) (new : PagedCacheState)
     : Type 0 where
   pub there : place_at old key ≡ Some placed.place
   pub none : placed.evicted.items ≡ []
   pub after : new ≡ used old key
 
 -- a new key is placed after the evictions that its size needs, in a rectangle that is large enough
-pub record PlacesNew (old : PagedCacheState) (key : ℕ) (size : Size) (placed : PlacedKey PagePlace)
+pub record PlacesNew (old : PagedCacheState) (key : ℕ) (size : Size) (placed : PlacedKey PagedAllocation)
     (new : PagedCacheState) : Type 0 where
   pub is_new : IsNew old key
   pub fits : ¬ (IsTooLarge old size)
@@ -59,7 +59,7 @@ Runs old calls replies new = ⊥
 
 -- keys with their places, the most recently used first
 abbrev pub Told : Type 0
-Told = List (ℕ × PagePlace)
+Told = List (ℕ × PagedAllocation)
 
 -- without the last ones, which were evicted
 abbrev pub without_last : ℕ → Told → Told

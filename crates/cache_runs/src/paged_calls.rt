@@ -2,7 +2,7 @@
 //!
 //! The definition of runs (`PagedRuns`) matches on them.
 
-use atlas_pages::PagePlace;
+use atlas_pages::PagedAllocation;
 use etagere::Size;
 use paged_cache::PlacedKey;
 
@@ -23,15 +23,15 @@ pub enum PagedCall {
 #[derive(Drop)]
 pub enum PagedReply {
     /// The key has this place.
-    Placed(PlacedKey<PagePlace>),
+    Placed(PlacedKey<PagedAllocation>),
     /// An empty page has no room for the size. Nothing changed.
     TooLarge,
     /// There was no memory. These keys went.
     NoMemory(Vec<u64>),
     /// The key has this place.
-    At(PagePlace),
+    At(PagedAllocation),
     /// The key had this place.
-    Removed(PagePlace),
+    Removed(PagedAllocation),
     /// The key isn't there. Nothing changed.
     NotThere,
     /// Nothing is there any more.

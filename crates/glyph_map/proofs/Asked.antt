@@ -16,9 +16,6 @@ module _ {F K V : Type 0} (calls : Mut F (Bor K × (Bor V × Unit {0})) Bool) (i
       (more : List K) → Refuses calls is_clone now (reverse (unticketed rest)) more
       → Refuses calls is_clone test (reverse (unticketed all)) (clones ++ more)
 
-  pub starts : ComesTo test all []
-  starts more refuses = refuses
-
   pub ends : (now : F) (rest : List (K × Ticketed V)) (clones : List K) → rest ≡ [] → ComesTo now rest clones
       → Refuses calls is_clone test (reverse (unticketed all)) clones
   ends now rest clones none so_far =

@@ -42,19 +42,6 @@ went-few s (Err below.TooLarge) ok err = omega arith
 went-few s (Err (below.Memory evicted)) ok err = omega arith
 went-few s (Err below.FrameFull) ok err = omega arith
 
--- which fault of the cache is behind one of the map
-pub too_large-below : {K V : Type 0} (refused : GlyphFault) (taken : List (K × V)) (fault : MapFault K V) → IsFaultOf refused taken fault
-    → fault ≡ TooLarge → refused ≡ below.TooLarge
-too_large-below below.TooLarge taken TooLarge is h = refl
-too_large-below below.TooLarge taken (Memory gone) is h = absurd is
-too_large-below below.TooLarge taken FrameFull is h = absurd is
-too_large-below (below.Memory evicted) taken TooLarge is h = absurd is
-too_large-below (below.Memory evicted) taken (Memory gone) is h = absurd (cc)
-too_large-below (below.Memory evicted) taken FrameFull is h = absurd is
-too_large-below below.FrameFull taken TooLarge is h = absurd is
-too_large-below below.FrameFull taken (Memory gone) is h = absurd is
-too_large-below below.FrameFull taken FrameFull is h = absurd (cc)
-
 pub frame_full-below : {K V : Type 0} (refused : GlyphFault) (taken : List (K × V)) (fault : MapFault K V) → IsFaultOf refused taken fault
     → fault ≡ FrameFull → refused ≡ below.FrameFull
 frame_full-below below.TooLarge taken TooLarge is h = absurd (cc)

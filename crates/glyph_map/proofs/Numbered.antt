@@ -1,7 +1,7 @@
 -- Keys that go by their places, from 0 on: a cache with such keys keeps its promises, and is saved with them.
-use Rattle.std.proofs.Common.{◌≡◌, ℕ, ◌+◌, ◌<◌, ◌≤◌, ◌==◌, Bool, true, false, cond, None, List, [], ◌∷◌, ◌++◌, length, map, refl, ap, sym, ◌∙◌, subst, arith}
+use Rattle.std.proofs.Common.{◌≡◌, ℕ, ◌+◌, ◌<◌, ◌≤◌, ◌==◌, Bool, true, false, cond, None, List, [], ◌∷◌, length, map, refl, ap, sym, ◌∙◌, subst, arith}
 use Rattle.std.proofs.lemmas.Bool.Decides.{nat_tests}
-use Rattle.std.proofs.lemmas.List.{append_assoc, append-nil, length-append, length-map}
+use Rattle.std.proofs.lemmas.List.{length-map}
 use Rattle.std.proofs.lemmas.List.FromFn.{length-enumerate_from}
 use Rattle.std.specs.List.{AllByRecursion, enumerate_from, range_with_len}
 use Rattle.std.specs.Map.{keys_of, values_of}
@@ -23,25 +23,6 @@ use Rattle.glyph_map.specs.State.{pairs_of}
 use Rattle.glyph_map.specs.declared.ticketed.Ticketed.{Ticketed}
 use Rattle.glyph_map.proofs.Joined.{AreInStep, joined-cache, joined-length, map_of, same-length}
 use Rattle.glyph_map.proofs.Unkeyed.{bare}
-
--- one more of the saved keys has its number
-pub numbered-more : (all rest after : List SavedKey) (first : SavedKey) (numbered longer : List SavedKey)
-    → numbered_from 0 all ≡ numbered ++ numbered_from (length numbered) rest → rest ≡ first ∷ after
-    → longer ≡ numbered ++ record { key = length numbered; id = first.id } ∷ []
-    → numbered_from 0 all ≡ longer ++ numbered_from (length longer) after
-numbered-more all rest after first numbered longer is split more =
-    let one : SavedKey = record { key = length numbered; id = first.id } in
-    let long : length longer ≡ length numbered + 1 = ap length more ∙ length-append numbered (one ∷ []) in
-    is
-    ∙ ap (λ (l : List SavedKey). numbered ++ numbered_from (length numbered) l) split
-    ∙ sym (append_assoc numbered (one ∷ []) (numbered_from (length numbered + 1) after))
-    ∙ ap (λ (l : List SavedKey). l ++ numbered_from (length numbered + 1) after) (sym more)
-    ∙ ap (λ (n : ℕ). longer ++ numbered_from n after) (sym long)
-
-pub numbered-all : (all rest numbered : List SavedKey) → numbered_from 0 all ≡ numbered ++ numbered_from (length numbered) rest
-    → length rest ≡ 0 → numbered ≡ numbered_from 0 all
-numbered-all all [] numbered is none = sym (is ∙ append-nil numbered)
-numbered-all all (x ∷ rest) numbered is none = absurd (omega arith)
 
 -- the numbers are those from 0 on
 numbers-are : (n : ℕ) (saved : List SavedKey) → map (λ (s : SavedKey). s.key) (numbered_from n saved) ≡ range_with_len n (length saved)

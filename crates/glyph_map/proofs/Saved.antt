@@ -1,33 +1,23 @@
 -- What is saved of a map, and how its keys and values come back under numbers.
-use Rattle.std.proofs.Common.{◌≡◌, ℕ, zero, suc, ◌+◌, ◌-◌, ◌≤◌, ◌^◌, Bool, true, false, cond, Some, None, List, [], ◌∷◌, ◌++◌, drop, length, refl, ap, sym, ◌∙◌, arith}
-use Rattle.std.specs.List.{IsDistinct, slice_get}
+use Rattle.std.proofs.Common.{◌≡◌, ℕ, zero, suc, ◌+◌, ◌-◌, ◌≤◌, ◌^◌, Bool, true, false, cond, Some, List, [], ◌∷◌, ◌++◌, drop, length, refl, ap, sym, ◌∙◌, arith}
+use Rattle.std.specs.List.{slice_get}
 use Rattle.std.specs.Map.{keys_of, lookup}
 use Rattle.std.specs.Prelude.{is_some}
-use Rattle.std.proofs.lemmas.List.{append_assoc, append-nil, drop_at, length-append, length-map, map-append}
+use Rattle.std.proofs.lemmas.List.{append-nil, drop_at, length-append, length-map}
 use Rattle.lru.specs.LruCache.{LruCache, lru_cache}
 use Rattle.etagere_base.specs.declared.geometry.Rectangle.{Rectangle}
 use Rattle.etagere_base.specs.declared.ids.Allocation.{Allocation}
 use Rattle.glyph_shelf.specs.Cache.{CacheState, listed, with_rectangles}
-use Rattle.glyph_shelf.specs.Saved.{CacheStandsFor, IsCacheBroken, saved_key}
-use Rattle.glyph_shelf.specs.declared.faults.CacheRestoreFault.{CacheRestoreFault}
-use Rattle.glyph_shelf.specs.declared.faults.CacheRestoreFault.TheVariants as cache_faults
+use Rattle.glyph_shelf.specs.Saved.{CacheStandsFor, saved_key}
 use Rattle.glyph_shelf.specs.declared.saving.CacheSnapshot.{CacheSnapshot}
-use Rattle.glyph_map.specs.Private.Entering.{ArePairsRefused, EntersLast, IsLastRefused, StandUnder, cache_fault}
+use Rattle.glyph_map.specs.Private.Entering.{ArePairsRefused, IsLastRefused}
 use Rattle.glyph_map.specs.Private.Evicting.{unticketed}
 use Rattle.glyph_map.specs.Private.Lockstep.{tickets_of}
-use Rattle.glyph_map.specs.Saved.{IsMapBroken, MapStandsFor}
+use Rattle.glyph_map.specs.Saved.{MapStandsFor}
 use Rattle.glyph_map.specs.declared.faults.MapRestoreFault.{MapRestoreFault}
 use Rattle.glyph_map.specs.declared.faults.MapRestoreFault.TheVariants.{Cache, Memory, WrongCount, SameKey}
 use Rattle.glyph_map.specs.declared.ticketed.Ticketed.{Ticketed}
 use Rattle.glyph_map.proofs.Joined.{AreInStep, joined-cache, joined-pairs, map_of}
-
-first-split : {X : Type 0} (xs : List X) (x : X) → slice_get xs 0 ≡ Some x → xs ≡ x ∷ drop 1 xs
-first-split [] x h = absurd (cc)
-first-split (y ∷ xs) x h = let same : y ≡ x = cc in ap (λ z. z ∷ xs) same
-
-none-first : {X : Type 0} (xs : List X) → slice_get xs 0 ≡ None → xs ≡ []
-none-first [] h = refl
-none-first (y ∷ xs) h = absurd (cc)
 
 last-at : {X : Type 0} (xs : List X) (x : X) → slice_get (xs ++ x ∷ []) (length xs) ≡ Some x
 last-at [] x = refl
@@ -42,34 +32,12 @@ at-append [] ys n x h = absurd (cc)
 at-append (y ∷ xs) ys zero x h = h
 at-append (y ∷ xs) ys (suc n) x h = at-append xs ys n x h
 
-no-length : {X : Type 0} (xs : List X) → length xs ≡ 0 → xs ≡ []
-no-length [] h = refl
-no-length (x ∷ xs) h = absurd (omega arith)
-
 -- the last of pairs stands at their last place
 pub last-is : {X : Type 0} (pairs left : List X) (pair : X) (place : ℕ) → pairs ≡ left ++ pair ∷ [] → place ≡ length pairs - 1
     → slice_get pairs place ≡ Some pair
 last-is pairs left pair place split at =
     let place_is : place ≡ length left = omega (arith, at, ap length split, length-append left (pair ∷ [])) in
     ap (λ (n : ℕ). slice_get pairs n) place_is ∙ ap (λ l. slice_get l (length left)) split ∙ last-at left pair
-
--- the fault of a map whose snapshot its cache refuses
-pub cache-refused : {K V : Type 0} (eq : K → K → Bool) (snapshot : CacheSnapshot) (pairs : List (K × V)) (fault : CacheRestoreFault)
-    → IsCacheBroken snapshot fault → IsMapBroken eq snapshot pairs (cache_fault fault)
-cache-refused eq snapshot pairs (cache_faults.Atlas f) broken = (broken, λ same. absurd (cc))
-cache-refused eq snapshot pairs cache_faults.Memory broken = tt
-cache-refused eq snapshot pairs cache_faults.NoCapacity broken = (broken, λ same. absurd (cc))
-cache-refused eq snapshot pairs cache_faults.TooManyKeys broken = (broken, λ same. absurd (cc))
-cache-refused eq snapshot pairs (cache_faults.KeyTwice k) broken = (broken, λ same. absurd (cc))
-cache-refused eq snapshot pairs (cache_faults.WrongId i) broken = (broken, λ same. absurd (cc))
-cache-refused eq snapshot pairs cache_faults.NoKey broken = (broken, λ same. absurd (cc))
-
-pub pairs-refused : {K V : Type 0} (eq : K → K → Bool) (snapshot : CacheSnapshot) (pairs : List (K × V)) (fault : MapRestoreFault)
-    → ArePairsRefused eq pairs fault → IsMapBroken eq snapshot pairs fault
-pairs-refused eq snapshot pairs (Cache f) refused = absurd refused
-pairs-refused eq snapshot pairs Memory refused = tt
-pairs-refused eq snapshot pairs WrongCount refused = absurd refused
-pairs-refused eq snapshot pairs (SameKey place) refused = refused
 
 -- as many keys as are saved
 pub saved-count : (snapshot : CacheSnapshot) (c : CacheState) → CacheStandsFor snapshot c → length snapshot.keys.items ≡ length c.entries
@@ -101,22 +69,6 @@ module _ {K V : Type 0} where
       here true later = refl
       here false later = later
 
-  -- one more entry comes back behind pairs
-  pub given-more : (given pairs longer : List (K × V)) (es rest : List (K × Ticketed V)) (key : K) (entry : Ticketed V)
-      → given ≡ pairs ++ unticketed es → slice_get es 0 ≡ Some (key, entry) → longer ≡ pairs ++ (key, entry.value) ∷ []
-      → rest ≡ drop 1 es → given ≡ longer ++ unticketed rest
-  given-more given pairs longer es rest key entry is at listed after =
-      let e : K × Ticketed V = (key, entry) in
-      is
-      ∙ ap (λ (l : List (K × Ticketed V)). pairs ++ unticketed l) (first-split es e at ∙ ap (λ (l : List (K × Ticketed V)). e ∷ l) (sym after))
-      ∙ sym (append_assoc pairs ((key, entry.value) ∷ []) (unticketed rest))
-      ∙ ap (λ (l : List (K × V)). l ++ unticketed rest) (sym listed)
-
-  pub given-all : (given pairs : List (K × V)) (es : List (K × Ticketed V)) → given ≡ pairs ++ unticketed es → slice_get es 0 ≡ None
-      → pairs ≡ given
-  given-all given pairs es is none =
-      sym (is ∙ ap (λ (l : List (K × Ticketed V)). pairs ++ unticketed l) (none-first es none) ∙ append-nil pairs)
-
   -- the last of pairs stand under the last of a cache's numbers
   pub record AreEntering (pairs : List (K × V)) (c : CacheState) (tickets : List (ℕ × Rectangle)) (left : List (K × V))
       (entries : LruCache K (Ticketed V)) : Type 0 where
@@ -144,32 +96,6 @@ module _ {K V : Type 0} where
         ap length is.split ∙ length-append left (unticketed entries.entries)
         ∙ ap (λ (n : ℕ). length left + n) (length-map entries.entries (λ (e : K × Ticketed V). let p : K × V = (e.0, e.1.value) in p))
 
-    pub entering-more : (before : List (ℕ × Rectangle)) (ticket : ℕ) (rectangle : Rectangle) (rest : List (K × V)) (new : LruCache K (Ticketed V))
-        → tickets ≡ before ++ (ticket, rectangle) ∷ [] → EntersLast ticket left entries rest new → AreEntering pairs c before rest new
-    entering-more before ticket rectangle rest new last enters =
-        let one : ℕ × Rectangle = (ticket, rectangle) in
-        let entry : K × Ticketed V = (enters.pair.0, record { ticket = ticket; value = enters.pair.1 }) in
-        let entered : new.entries ≡ entry ∷ entries.entries = ap (λ (l : LruCache K (Ticketed V)). l.entries) enters.entered in
-        record {
-          split = is.split
-              ∙ ap (λ (l : List (K × V)). l ++ unticketed entries.entries) enters.split
-              ∙ append_assoc rest (enters.pair ∷ []) (unticketed entries.entries)
-              ∙ ap (λ (l : List (K × Ticketed V)). rest ++ unticketed l) (sym entered);
-          tickets_are = is.tickets_are
-              ∙ ap (λ (l : List (ℕ × Rectangle)). keys_of l ++ tickets_of entries.entries) last
-              ∙ ap (λ (l : List ℕ). l ++ tickets_of entries.entries) (map-append (λ (o : ℕ × Rectangle). o.0) before (one ∷ []))
-              ∙ append_assoc (keys_of before) (ticket ∷ []) (tickets_of entries.entries)
-              ∙ ap (λ (l : List (K × Ticketed V)). keys_of before ++ tickets_of l) (sym entered);
-          unbounded = ap (λ (l : LruCache K (Ticketed V)). l.cap) enters.entered ∙ is.unbounded;
-          even = fewer (length-append rest (enters.pair ∷ [])) (length-append before (one ∷ [])) (ap length enters.split) (ap length last) is.even;
-        }
-      where
-        fewer : length (rest ++ enters.pair ∷ []) ≡ length rest + 1
-            → length (before ++ (ticket, rectangle) ∷ []) ≡ length before + 1
-            → length left ≡ length (rest ++ enters.pair ∷ []) → length tickets ≡ length (before ++ (ticket, rectangle) ∷ [])
-            → length left ≡ length tickets → length rest ≡ length before
-        fewer h1 h2 h3 h4 h5 = omega arith
-
     pub entering-refused : (eq : K → K → Bool) (fault : MapRestoreFault) → IsLastRefused eq left entries.entries fault
         → ArePairsRefused eq pairs fault
     entering-refused eq (Cache f) refused = absurd refused
@@ -185,14 +111,4 @@ module _ {K V : Type 0} where
           again = ap (λ (l : List (K × V)). is_some (lookup (eq pair.0) (drop (place + 1) l))) is.split
               ∙ ap (λ (l : List (K × V)). is_some (lookup (eq pair.0) l)) (drop_at left (unticketed entries.entries) (place + 1) end)
               ∙ found-unticketed (eq pair.0) entries.entries ∙ refused.3;
-        }
-
-    pub entering-all : (eq : K → K → Bool) → tickets ≡ [] → IsDistinct eq (keys_of entries.entries) → StandUnder eq c pairs entries
-    entering-all eq none keys =
-        let nothing : left ≡ [] = no-length left (is.even ∙ ap length none) in
-        record {
-          pairs_are = sym (is.split ∙ ap (λ (l : List (K × V)). l ++ unticketed entries.entries) nothing);
-          tickets = is.tickets_are ∙ ap (λ (l : List (ℕ × Rectangle)). keys_of l ++ tickets_of entries.entries) none;
-          keys = keys;
-          unbounded = is.unbounded;
         }

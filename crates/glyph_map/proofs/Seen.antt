@@ -1,6 +1,5 @@
 -- What an iterator over a map shows.
-use Rattle.std.proofs.Common.{◌≡◌, ℕ, List, [], ◌∷◌, length, refl, ap, sym, ◌∙◌}
-use Rattle.std.proofs.lemmas.List.{length-map}
+use Rattle.std.proofs.Common.{◌≡◌, ℕ, List, [], ◌∷◌, refl, ap}
 use Rattle.etagere_base.specs.declared.geometry.Rectangle.{Rectangle}
 use Rattle.etagere_base.specs.declared.ids.Allocation.{Allocation}
 use Rattle.glyph_shelf.specs.Cache.{CacheState, with_rectangles}
@@ -8,7 +7,7 @@ use Rattle.glyph_shelf.specs.Cache as cache
 use Rattle.glyph_map.specs.Calls.{listed}
 use Rattle.glyph_map.specs.Private.Listed.{seen_both}
 use Rattle.glyph_map.specs.declared.ticketed.Ticketed.{Ticketed}
-use Rattle.glyph_map.proofs.Joined.{AreInStep, map_of, same-length}
+use Rattle.glyph_map.proofs.Joined.{map_of}
 
 module _ {K V : Type 0} where
   pub both-listed : (es : List (K × Ticketed V)) (c : CacheState) → seen_both es (cache.listed c) ≡ listed (map_of es c)
@@ -18,7 +17,3 @@ module _ {K V : Type 0} where
       over [] cs = refl
       over (e ∷ es) [] = refl
       over (e ∷ es) (o ∷ cs) = ap (λ (l : List (K × Rectangle × V)). (e.0, o.1.rectangle, e.1.value) ∷ l) (over es cs)
-
-  pub as-long : (es : List (K × Ticketed V)) (c : CacheState) → AreInStep es c.entries → length es ≡ length (cache.listed c)
-  as-long es c step =
-      sym (same-length es c.entries step) ∙ sym (length-map c.entries (λ (o : ℕ × Allocation). let p : ℕ × Rectangle = (o.0, o.1.rectangle) in p))

@@ -17,7 +17,7 @@ use Rattle.glyph_map.specs.Private.Evicting.{unticketed}
 use Rattle.glyph_map.specs.Private.Lockstep.{joined, tickets_of}
 use Rattle.glyph_map.specs.declared.ticketed.Ticketed.{Ticketed}
 use Rattle.glyph_map.proofs.Joined.{AreInStep, joined-cache, joined-length, joined-pairs, map_of, same-length}
-use Rattle.glyph_map.proofs.Unkeyed.{dropped-few, evictable-unkeyed, room-dropping, unkeyed-dropping, unkeyed-places, unkeyed-same, zeros}
+use Rattle.glyph_map.proofs.Unkeyed.{evictable-unkeyed, room-dropping, unkeyed-dropping, unkeyed-places, unkeyed-same, zeros}
 
 module _ {K V : Type 0} where
   -- what stands first of both is in step
@@ -93,9 +93,6 @@ module _ {K V : Type 0} where
   -- the ticket was placed
   module _ (es : List (K × Ticketed V)) (c new : CacheState) (key : K) (entry : Ticketed V) (size : Size) (rectangle : Rectangle)
       (tickets : List ℕ) (step : AreInStep es c.entries) (places : cache.Places c entry.ticket size rectangle tickets new) where
-    pub placed-few : length tickets ≤ length es
-    placed-few = subst (λ (k : ℕ). length tickets ≤ k) (same-length es c.entries step) (dropped-few c tickets places.listed)
-
     pub placed-step : (taken : List (K × V)) (left : List (K × Ticketed V)) → AreOut es key entry (length tickets) taken left
         → AreInStep left new.entries
     placed-step taken left out =
@@ -131,9 +128,6 @@ module _ {K V : Type 0} where
   -- memory ran out before the ticket was placed, and the new entry came out again
   module _ (es : List (K × Ticketed V)) (c new : CacheState) (key : K) (entry : Ticketed V) (size : Size) (tickets : List ℕ)
       (step : AreInStep es c.entries) (ran : cache.RanOut c size tickets new) where
-    pub ran-few : length tickets ≤ length es
-    ran-few = subst (λ (k : ℕ). length tickets ≤ k) (same-length es c.entries step) (dropped-few c tickets ran.listed)
-
     pub ran-step : (left : List (K × Ticketed V)) → left ≡ take (length es - length tickets) es → AreInStep left new.entries
     ran-step left out =
         let n = length tickets in

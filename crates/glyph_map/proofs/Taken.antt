@@ -1,7 +1,7 @@
 -- Entries that come out of a map one after another, the least recently used first.
-use Rattle.std.proofs.Common.{◌≡◌, ℕ, suc, ◌+◌, ◌-◌, ◌≤◌, Some, None, List, [], ◌∷◌, ◌++◌, length, take, drop, reverse, refl, ap, sym, ◌∙◌, subst, arith}
+use Rattle.std.proofs.Common.{◌≡◌, ℕ, suc, ◌+◌, ◌-◌, ◌≤◌, Some, None, List, [], ◌∷◌, ◌++◌, length, take, drop, reverse, ap, sym, ◌∙◌, subst, arith}
 use Rattle.std.specs.List.{slice_get}
-use Rattle.std.proofs.lemmas.List.{append_assoc, length-append, length-drop, length-map, length-reverse, length-take, map-append, reverse-append, take-append-drop, take-take, take_all, take_at}
+use Rattle.std.proofs.lemmas.List.{append_assoc, length-append, length-drop, length-map, length-reverse, length-take, map-append, reverse-append, take-append-drop, take-take, take_at}
 use Rattle.lru.specs.LruCache.{last_entry}
 use Rattle.glyph_map.specs.Private.Evicting.{unticketed}
 use Rattle.glyph_map.specs.declared.ticketed.Ticketed.{Ticketed}
@@ -30,14 +30,6 @@ module _ {K V : Type 0} where
     pub left_is : left ≡ take (length old - count) old
     pub taken_is : taken ≡ take count (reverse (unticketed old))
     pub few : count ≤ length old
-
-  pub taken-none : (old : List (K × Ticketed V)) → AreTaken old 0 [] old
-  taken-none old =
-      record {
-        left_is = sym (take_all (length old - 0) old (omega arith));
-        taken_is = refl;
-        few = omega arith;
-      }
 
   pub left-length : (old : List (K × Ticketed V)) (count : ℕ) (taken : List (K × V)) (left : List (K × Ticketed V))
       → AreTaken old count taken left → length left ≡ length old - count

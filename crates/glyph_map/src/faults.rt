@@ -1,9 +1,9 @@
 //! Why a map has no room for a key, with what was to be placed; and why it can't be restored, with its keys and values.
 //!
-//! Definition: `Faults`. Numbers and messages are public: a new fault gets a new number.
+//! Definitions: `Faults`. Numbers and messages are public: a new fault gets a new number.
 
 ghost use Rattle.std.specs.Prelude.{◌≡◌};
-ghost use Rattle.glyph_map.specs.Faults.{map_restore_fault_number};
+ghost use Rattle.glyph_map.specs.Faults.{map_fault_number, map_restore_fault_number};
 
 use glyph_shelf::CacheRestoreFault;
 use thiserror::Error;
@@ -18,6 +18,19 @@ pub enum MapFault<K, V> {
     Memory(Vec<(K, V)>),
     /// The key is new, and there would be no room though all keys went that weren't used in this frame. Nothing changed.
     FrameFull,
+}
+
+impl<K, V> MapFault<K, V> {
+    /// The fault's number, from 1 to 3.
+    pub fn number(&self) -> u32
+        ensures { result ≡ map_fault_number self.now }
+    {
+        match self {
+            MapFault::TooLarge => 1,
+            MapFault::Memory(_) => 2,
+            MapFault::FrameFull => 3,
+        }
+    }
 }
 
 /// A key that wasn't placed, and why: key and value come back.

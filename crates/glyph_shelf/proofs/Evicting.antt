@@ -1,5 +1,5 @@
 -- Evictions: what has gone after some of them, that there is room in the end, and what a placement made of them.
-use Rattle.std.proofs.Common.{◌≡◌, ℕ, zero, suc, ◌-◌, ◌<◌, ◌≤◌, Bool, true, false, Option, Some, None, List, [], ◌∷◌, ◌++◌, append-nil, append_assoc, length, take, reverse, refl, ap, sym, ◌∙◌, subst, arith}
+use Rattle.std.proofs.Common.{◌≡◌, ℕ, zero, suc, ◌-◌, ◌<◌, ◌≤◌, Bool, true, false, Option, Some, None, List, [], ◌∷◌, ◌++◌, append_assoc, length, take, reverse, refl, ap, sym, ◌∙◌, subst, arith}
 use Rattle.std.specs.Map.{keys_of, lookup, values_of}
 use Rattle.std.specs.Option.{option_map_or}
 use Rattle.std.specs.Prelude.{is_some, nat_eq, nat_lt, option_map}
@@ -87,10 +87,6 @@ below_next P n below here k lt = elim (nat_lt k n) as (λ b. nat_lt k n ≡ b �
   | true ↦ λ is. below k (grind (arith, nat_tests))
   | false ↦ λ is. let same : n ≡ k = grind (arith, nat_tests) in subst P same here
 ] refl
-
--- none has gone
-pub dropped-none : (old : CacheState) → HasDropped old [] old
-dropped-none old = record { gone = []; parts = sym (append-nil old.entries); keys = refl; after = refl }
 
 -- one more goes
 pub dropped-more : (old : CacheState) (keys : List ℕ) (left : CacheState) (e : ℕ × Allocation)
@@ -317,3 +313,27 @@ evicting-some old key size evicted left is full at = stuck (has_room-nothing lef
 
     stuck : has_room left size ≡ true → ⊥
     stuck room = cc
+
+-- where memory runs out before any is needed
+pub ran_out-none : (old new : CacheState) (size : Size) (evicted : List ℕ) → evicted ≡ [] → has_room old size ≡ true → SameLayout old new → RanOut old size evicted new
+ran_out-none old new size evicted none room same =
+    subst (λ (l : List ℕ). RanOut old size l new) (sym none)
+    (record {
+      evictions = 0;
+      least = record { room = room; least = λ fewer less. absurd (omega arith) };
+      few = omega arith;
+      needed = λ some. absurd (omega arith);
+      listed = refl;
+      rest = same;
+    })
+
+-- a key that enters where there is room was placed
+pub places-none : (old : CacheState) (key : ℕ) (size : Size) (rectangle : Rectangle) (evicted : List ℕ) (new : CacheState) → evicted ≡ [] → has_room old size ≡ true
+    → Enters old key size rectangle new → Places old key size rectangle evicted new
+places-none old key size rectangle evicted new none room enters =
+    subst (λ (l : List ℕ). Places old key size rectangle l new) (sym none)
+    (record {
+      least = record { room = room; least = λ fewer less. absurd (omega arith) };
+      listed = refl;
+      entered = enters;
+    })

@@ -54,14 +54,6 @@ pub full-places : (old : CacheState) (key : ℕ) (size : Size) (rectangle : Rect
 full-places old key size rectangle evicted new full places spared =
     full-lacks old size full (record { count = length evicted; few = spared; room = places.least.room })
 
--- so many evictions as were needed are no more than make room
-pub evicted-few : (old : CacheState) (size : Size) (evicted : List ℕ) (left : CacheState) (most : ℕ)
-    → HasEvicted old size evicted left → MakesRoom old size most → length evicted ≤ most
-evicted-few old size evicted left most has makes = elim (nat_lt makes.count (length evicted)) as (λ b. nat_lt makes.count (length evicted) ≡ b → length evicted ≤ most) [
-  | true ↦ λ is. let none = has.none makes.count (grind (arith, nat_tests)) in let room = makes.room in absurd (cc)
-  | false ↦ λ is. let few = makes.few in grind (arith, nat_tests)
-] refl
-
 -- one more may go where there is no room yet
 pub evicted-fewer : (old : CacheState) (size : Size) (evicted : List ℕ) (left : CacheState) (most : ℕ)
     → HasEvicted old size evicted left → has_room left size ≡ false → MakesRoom old size most → length evicted + 1 ≤ most

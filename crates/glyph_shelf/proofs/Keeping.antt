@@ -143,12 +143,6 @@ pub keeps-grown : {A B : Type 0} (state : CacheState) (atlas : AtlasState) (grow
 keeps-grown state atlas (Ok a) promises kept same unchanged = keeps-atlas state atlas promises kept same
 keeps-grown state atlas (Err b) promises kept same unchanged = keeps-atlas state atlas promises kept (ap allocations unchanged)
 
--- a cache of another capacity, of which there are no more entries
-pub keeps-capacity : (state : CacheState) (capacity : ℕ) → KeepsCachePromises state → length state.entries ≤ capacity
-    → 1 ≤ capacity → KeepsCachePromises (cache state.entries capacity state.atlas state.used_in_frame)
-keeps-capacity state capacity promises few some =
-    keeps (cache state.entries capacity state.atlas state.used_in_frame) promises.atlas few some promises.keys promises.tied promises.uses
-
 -- what was allocated is tied to what a cache keeps, and one more
 entered-tied : (old : CacheState) (a : Allocation) (after : List Allocation) → KeepsCachePromises old
     → Adds (allocations old.atlas) a after → is_allocated old.atlas a.id ≡ false → AreTied (a ∷ kept_allocations old) after

@@ -1,6 +1,7 @@
 mod Asking
 pub mod Callers
 mod Evicting
+mod Fitting
 mod FrameUses
 mod FullFrames
 mod Keeping

@@ -5,8 +5,6 @@ use Rattle.std.proofs.lemmas.List.{length-append, length-map, map-append}
 use Rattle.std.specs.List.{AllByRecursion, find}
 use Rattle.std.specs.Map.{keys_of, lookup, values_of}
 use Rattle.std.specs.Prelude.{is_some, nat_eq, option_map}
-use Rattle.etagere_base.specs.declared.faults.RestoreFault.{RestoreFault}
-use Rattle.etagere_base.specs.declared.faults.RestoreFault.TheVariants as rules
 use Rattle.etagere_base.specs.declared.geometry.Rectangle.{Rectangle}
 use Rattle.etagere_base.specs.declared.ids.Allocation.{Allocation}
 use Rattle.etagere_base.specs.Lists.{times}
@@ -15,14 +13,12 @@ use Rattle.shelf_model.specs.Atlas.{KeepsPromises, without_id}
 use Rattle.shelf_model.specs.Callers.{IsFound}
 use Rattle.shelf_model.specs.Places.{allocations, is_allocated, rectangle_of}
 use Rattle.shelf_model.specs.State.{AtlasState}
-use Rattle.shelf_snapshots.specs.declared.AtlasSnapshot.{AtlasSnapshot}
-use Rattle.shelf_records.specs.Snapshots.{IsBroken, snapshot_records}
+use Rattle.shelf_records.specs.Snapshots.{snapshot_records}
 use Rattle.shelf_records.specs.StandsFor.{StandsFor}
 use Rattle.used_keys.specs.Keys.{KeysState, no_keys, uses_in}
 use Rattle.glyph_shelf.specs.Cache.{CacheState, frame_uses}
-use Rattle.glyph_shelf.specs.Promises.{KeepsCachePromises}
-use Rattle.glyph_shelf.specs.Private.Restoring.{AreKeysRefused, AreRestored, EntersSaved, IsAtlasRefused, IsKeyRefused, atlas_fault, ids_in, keys_in}
-use Rattle.glyph_shelf.specs.Saved.{CacheStandsFor, IsCacheBroken, saved_key, without_frame}
+use Rattle.glyph_shelf.specs.Private.Restoring.{AreKeysRefused, AreRestored, EntersSaved, IsKeyRefused, ids_in, keys_in}
+use Rattle.glyph_shelf.specs.Saved.{CacheStandsFor, saved_key}
 use Rattle.glyph_shelf.specs.declared.faults.CacheRestoreFault.{CacheRestoreFault}
 use Rattle.glyph_shelf.specs.declared.faults.CacheRestoreFault.TheVariants.{Atlas, Memory, NoCapacity, TooManyKeys, KeyTwice, WrongId, NoKey}
 use Rattle.glyph_shelf.specs.declared.saving.CacheSnapshot.{CacheSnapshot}
@@ -245,42 +241,6 @@ restored-left saved [] capacity atlas keys left are none promises some = first (
         ap (λ (l : List SavedKey). times a.id (ids_in l)) are.order ∙ ap (times a.id) (ids-saved keys.entries) in
         (a.id, there-allocated atlas a.id (omega arith), omega arith)
 
--- an atlas that is refused is one of the cache
-pub atlas-refused : (saved : AtlasSnapshot) (fault : RestoreFault) → IsBroken (snapshot_records saved) fault → IsAtlasRefused saved (atlas_fault fault)
-atlas-refused saved rules.Frame broken = (broken, λ same. absurd (cc))
-atlas-refused saved rules.Counts broken = (broken, λ same. absurd (cc))
-atlas-refused saved rules.Link broken = (broken, λ same. absurd (cc))
-atlas-refused saved rules.Shelves broken = (broken, λ same. absurd (cc))
-atlas-refused saved rules.Runs broken = (broken, λ same. absurd (cc))
-atlas-refused saved rules.Neighbours broken = (broken, λ same. absurd (cc))
-atlas-refused saved rules.FreeList broken = (broken, λ same. absurd (cc))
-atlas-refused saved rules.Sharing broken = (broken, λ same. absurd (cc))
-atlas-refused saved rules.Unused broken = (broken, λ same. absurd (cc))
-atlas-refused saved rules.Space broken = (broken, λ same. absurd (cc))
-atlas-refused saved rules.Memory broken = tt
-
-pub atlas-broken : (snapshot : CacheSnapshot) (fault : CacheRestoreFault) → IsAtlasRefused snapshot.atlas fault → IsCacheBroken snapshot fault
-atlas-broken snapshot (Atlas fault) refused = refused
-atlas-broken snapshot Memory refused = tt
-atlas-broken snapshot NoCapacity refused = absurd refused
-atlas-broken snapshot TooManyKeys refused = absurd refused
-atlas-broken snapshot (KeyTwice key) refused = absurd refused
-atlas-broken snapshot (WrongId id) refused = absurd refused
-atlas-broken snapshot NoKey refused = absurd refused
-
--- keys that are refused are those of the cache
-pub keys-broken : (snapshot : CacheSnapshot) (atlas : AtlasState) (fault : CacheRestoreFault)
-    → StandsFor (snapshot_records snapshot.atlas) atlas → AreKeysRefused snapshot.keys.items atlas fault → IsCacheBroken snapshot fault
-keys-broken snapshot atlas (KeyTwice key) stands refused = refused
-keys-broken snapshot atlas (WrongId id) stands refused =
-    record { atlas = atlas; stands = stands; saved = refused.0; several = refused.1 }
-keys-broken snapshot atlas NoKey stands refused =
-    record { atlas = atlas; stands = stands; id = refused.0; allocated = refused.1; unsaved = refused.2 }
-keys-broken snapshot atlas Memory stands refused = tt
-keys-broken snapshot atlas (Atlas fault) stands refused = absurd refused
-keys-broken snapshot atlas NoCapacity stands refused = absurd refused
-keys-broken snapshot atlas TooManyKeys stands refused = absurd refused
-
 abbrev cache_of : KeysState → AtlasState → CacheState
 cache_of keys atlas = record { entries = keys.entries; capacity = keys.cap; atlas = atlas; used_in_frame = keys.uses }
 
@@ -298,17 +258,4 @@ restored-cache snapshot capacity atlas keys same some few stands promises are =
       keys = are.keys_are;
       unframed = are.unframed;
       promises = keeps (cache_of keys atlas) promises (omega arith) (omega arith) are.once are.tied (omega arith);
-    }
-
--- a cache stands as it is saved, but for the frame
-pub saved-stands : (snapshot : CacheSnapshot) (state : CacheState) → KeepsCachePromises state → snapshot.capacity ≡ state.capacity
-    → StandsFor (snapshot_records snapshot.atlas) state.atlas → snapshot.keys.items ≡ map saved_key state.entries
-    → CacheStandsFor snapshot (without_frame state)
-saved-stands snapshot state promises capacity atlas keys =
-    record {
-      capacity = sym capacity;
-      atlas = atlas;
-      keys = keys;
-      unframed = refl;
-      promises = keeps (without_frame state) promises.atlas promises.few promises.capacity promises.keys promises.tied (omega arith);
     }

@@ -124,10 +124,16 @@ impl GlyphCache {
         if let Some(rectangle) = self.kept.look(key) {
             return Ok(Placed { rectangle, evicted });
         }
+        let Ok(entered) = self.kept.enter(key, size) else {
+            return Err(GlyphFault::Memory(evicted));
+        };
+        if let Some(rectangle) = entered {
+            return Ok(Placed { rectangle, evicted });
+        }
         if !self.kept.atlas().fits_when_empty(size) {
             return Err(GlyphFault::TooLarge);
         }
-        let Ok(answer) = self.kept.place_new(key, size, &mut evicted) else {
+        let Ok(answer) = self.kept.evict_and_enter(key, size, &mut evicted) else {
             return Err(GlyphFault::Memory(evicted));
         };
         let Some(rectangle) = answer else {

@@ -328,7 +328,7 @@ impl Kept {
     /// Puts a new key in front, if there is room for one entry more and the atlas has room for the size.
     ///
     /// After an `Err` the entries are those before, and the layout of the atlas is.
-    fn enter(&mut self, key: u64, size: Size) -> Result<Option<Rectangle>, AllocError>
+    pub fn enter(&mut self, key: u64, size: Size) -> Result<Option<Rectangle>, AllocError>
         requires { lookup (nat_eq key) self.old.entries ≡ None }
         ensures entered { IfOk result
             (λ answer. IfSome answer
@@ -359,10 +359,10 @@ impl Kept {
         }
     }
 
-    /// Puts a new key in front. Where there is no room, entries are dropped before, the least recently used first,
-    /// no more than needed and none that was used in this frame, and their keys listed in that order; for each there is
-    /// room before it goes. None where dropping all of these makes no room; then nothing changes.
-    pub fn place_new(
+    /// Puts a new key for which there is no room in front, after entries are dropped, the least recently used first, no
+    /// more than needed and none that was used in this frame, and their keys listed in that order; for each there is room
+    /// before it goes. None where dropping all of these makes no room; then nothing changes.
+    pub fn evict_and_enter(
         &mut self,
         key: u64,
         size: Size,
@@ -370,7 +370,9 @@ impl Kept {
     ) -> Result<Option<Rectangle>, AllocError>
         requires new { lookup (nat_eq key) self.old.entries ≡ None }
         requires fits { is_some (choice.placement_of (fresh self.old.atlas.frame) size) ≡ true }
+        requires full { has_room self.old size ≡ false }
         requires none { evicted.old.items ≡ [] }
+        requires promises { KeepsCachePromises self.old }
         ensures ok { IfOk result
             (λ answer. IfSome answer
             (λ rectangle. Places self.old key size rectangle evicted.new.items self.new)) }
@@ -387,9 +389,6 @@ impl Kept {
         ensures frame { self.new.atlas.frame ≡ self.old.atlas.frame }
         ensures promises { KeepsCachePromises self.new }
     {
-        if let Some(rectangle) = self.enter(key, size)? {
-            return Ok(Some(rectangle));
-        }
         if !self.makes_room(size)? {
             return Ok(None);
         }

@@ -1,1 +1,2 @@
 pub mod PaddedLemmas
+pub mod RetainedLemmas

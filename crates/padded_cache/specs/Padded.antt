@@ -1,5 +1,5 @@
 -- A cache with a padding: what is asked of it has it, and what is given back has not.
-use Rattle.std.specs.Prelude.{◌≡◌, ℕ, Option, List, map, option_map}
+use Rattle.std.specs.Prelude.{◌≡◌, ℕ, Bool, Option, List, map, option_map}
 use Rattle.etagere_base.specs.declared.geometry.Rectangle.{Rectangle}
 use Rattle.etagere_base.specs.declared.geometry.Size.{Size}
 use Rattle.padding.specs.declared.sides.Padding.{Padding}
@@ -7,6 +7,7 @@ use Rattle.padding.specs.Padding.{ArePadded, padded, trimmed, trimmed_allocation
 use Rattle.glyph_shelf.specs.Cache.{CacheState, kept_allocations, listed, rectangle_at}
 use Rattle.glyph_shelf.specs.Placing.{Places}
 use Rattle.glyph_shelf.specs.Promises.{KeepsCachePromises}
+use Rattle.glyph_shelf.specs.Retaining.{Retains}
 
 -- a cache with a padding: the cache holds the rectangles with it
 pub record PaddedCacheState : Type 0 where
@@ -28,6 +29,14 @@ trimmed_list state = map (trimmed_entry state.padding) (listed state.cache)
 pub record PlacesPadded (old : PaddedCacheState) (key : ℕ) (size : Size) (rectangle : Rectangle)
     (evicted : List ℕ) (new : PaddedCacheState) : Type 0 where
   pub places : Places old.cache key (padded old.padding size) (with_padding old.padding rectangle) evicted new.cache
+  pub padding : new.padding ≡ old.padding
+
+-- a cache keeps the keys of which a test says so, which is told of their rectangles without their padding
+pub record RetainsPadded {F : Type 0} (says : F → ℕ → Rectangle → Bool → F → Type 0) (test : F)
+    (old new : PaddedCacheState) : Type 0 where
+  pub retains : Retains
+      (λ before key rectangle answer after. says before key (trimmed old.padding rectangle) answer after)
+      test old.cache new.cache
   pub padding : new.padding ≡ old.padding
 
 -- the cache keeps its promises, and what is given back of it, with its padding, lies inside the

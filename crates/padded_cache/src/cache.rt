@@ -4,6 +4,7 @@
 
 ghost use Rattle.std.specs.Prelude.{◌≡◌, ◌↔◌, ◌≤◌, [], Err, None, IfOk, IfErr, IfSome, IsOkAnd, IsErrAnd, IsErrOf, OnErr, OnOk, length};
 ghost use Rattle.std.specs.NonZero.{non_zero_usize_get};
+ghost use Rattle.etagere_base.specs.declared.geometry.Rectangle as geometry;
 ghost use Rattle.etagere_base.specs.Frames.{IsAccepted, atlas_frame, longest_side, options_fault};
 ghost use Rattle.etagere_base.specs.declared.faults.OptionsFault.TheVariants as faults;
 ghost use Rattle.shelf_model.specs.Growing.{grow_fault, records_needed};
@@ -12,10 +13,11 @@ ghost use Rattle.glyph_shelf.specs.Cache.{empty_cache, evictable, frame_uses, in
 ghost use Rattle.glyph_shelf.specs.Placing.{EvictsNone, IsFrameFull, IsLeft, IsNew, IsTooLarge, Spares};
 ghost use Rattle.glyph_shelf.specs.Sizing.{cache_grown, surplus, surplus_keys, with_capacity};
 ghost use Rattle.glyph_shelf.specs.declared.faults.GlyphFault.TheVariants as glyph_faults;
-ghost use Rattle.padding.specs.Padding.{HasSize, padded, padding_refusal};
-ghost use Rattle.padded_cache.specs.Padded.{KeepsCachePadding, PlacesPadded, trimmed_at, trimmed_list};
+ghost use Rattle.padding.specs.Padding.{HasSize, IsNear, padded, padding_refusal, trimmed};
+ghost use Rattle.padded_cache.specs.Padded.{KeepsCachePadding, PlacesPadded, RetainsPadded, trimmed_at, trimmed_list};
 
 use crate::listing::Iter;
+use crate::trimming::without_padding;
 use etagere::{AllocatorOptions, AtlasGrowFault, OptionsFault, Rectangle, Size};
 use glyph_shelf::{GlyphCache, GlyphFault, Placed};
 use padding::Padding;
@@ -200,6 +202,25 @@ impl PaddedCache {
         let rectangle = self.peek(key);
         self.cache.remove(key);
         rectangle
+    }
+
+    /// Keeps the keys of which a test says so, as `GlyphCache::retain` does. The test is asked once of each key and its
+    /// rectangle without its padding, the least recently used first; the others are removed in this order. The order of
+    /// use stays, and so does what was used in the frame.
+    ///
+    /// Takes no memory. Costs what that call does.
+    pub fn retain<F: FnMut(u64, Rectangle) -> bool>(&mut self, mut keeps: F)
+        requires { F.IsAlwaysCallable keeps }
+        ensures retained { RetainsPadded F.step keeps self.old self.new }
+        ensures promises { KeepsCachePadding self.new }
+    {
+        let padding = self.padding;
+        let asked = |key: u64, rectangle: Rectangle|
+            requires { F.IsAlwaysCallable keeps }
+            ensures { (told : geometry.Rectangle) × (IsNear rectangle → told ≡ trimmed padding rectangle)
+                × F.step keeps.entry key told result keeps.exit }
+        { keeps(key, without_padding(padding, rectangle)) };
+        self.cache.retain(asked);
     }
 
     /// Begins a frame, as `GlyphCache::begin_frame` does. Takes no memory, and constant time.

@@ -15,7 +15,7 @@ use Rattle.rearranging.specs.Order.{size_of}
 use Rattle.rearranging.specs.Private.Sides.{HasSides}
 use Rattle.atlas_pages.proofs.KeptBefore.{allocated-inside, get-set}
 use Rattle.atlas_pages.specs.declared.options.PageOptions.{PageOptions}
-use Rattle.atlas_pages.specs.declared.places.PagePlace.{PagePlace}
+use Rattle.atlas_pages.specs.declared.places.PagedAllocation.{PagedAllocation}
 use Rattle.atlas_pages.specs.Choosing.{ready_for}
 use Rattle.atlas_pages.specs.Pages.{PagesState, page_frame}
 use Rattle.atlas_pages.specs.Places.{Places}
@@ -26,32 +26,32 @@ use Rattle.page_moves.specs.Tied.{AreTiedOn, IsFoundOn, times_on}
 use Rattle.page_moves.specs.declared.moves.PageMove.{PageMove}
 
 -- the new pages keep their promises
-pub arranges-kept : {start end : PagesState} {asked unplaced : List PagePlace} {moves : List PageMove}
+pub arranges-kept : {start end : PagesState} {asked unplaced : List PagedAllocation} {moves : List PageMove}
     → Arranges start asked moves unplaced end → KeepsPagesPromises start → KeepsPagesPromises end
 arranges-kept nothing keeps = keeps
 arranges-kept (moved before so_far places large kept) keeps = kept
 arranges-kept (refused before so_far refuses) keeps = arranges-kept so_far keeps
 
 -- and their options
-pub arranges-options : {start end : PagesState} {asked unplaced : List PagePlace} {moves : List PageMove}
+pub arranges-options : {start end : PagesState} {asked unplaced : List PagedAllocation} {moves : List PageMove}
     → Arranges start asked moves unplaced end → end.options ≡ start.options
 arranges-options nothing = refl
 arranges-options (moved before so_far places large kept) = places.options ∙ arranges-options so_far
 arranges-options (refused before so_far refuses) = arranges-options so_far
 
 -- what moved is all that is allocated on them
-pub arranges-tied : {start end : PagesState} {asked unplaced : List PagePlace} {moves : List PageMove}
+pub arranges-tied : {start end : PagesState} {asked unplaced : List PagedAllocation} {moves : List PageMove}
     → Arranges start asked moves unplaced end → KeepsPagesPromises start → AreTiedOn [] start → AreTiedOn (moved_to moves) end
 arranges-tied nothing keeps none = none
 arranges-tied (moved {moves = moves} {state = state} {next = next} {after = after} before so_far places large kept) keeps none =
-    subst (λ (all : List PagePlace). AreTiedOn all next)
+    subst (λ (all : List PagedAllocation). AreTiedOn all next)
     (sym (map-append (λ (move : PageMove). move.after) moves (record { before = before; after = after } ∷ [])))
     (tied-added state next (size_of before.allocation.rectangle) after (arranges-kept so_far keeps) kept places large (moved_to moves)
     (arranges-tied so_far keeps none))
 arranges-tied (refused before so_far refuses) keeps none = arranges-tied so_far keeps none
 
 -- pages on which a size was given a place have a frame
-placed-frame : (old new : PagesState) (size : Size) (place : PagePlace) → Places old size place new → KeepsPagesPromises new
+placed-frame : (old new : PagesState) (size : Size) (place : PagedAllocation) → Places old size place new → KeepsPagesPromises new
     → IsFrame longest_side (page_frame old.options)
 placed-frame old new size place places is =
     let there = places.allocates in
@@ -63,7 +63,7 @@ placed-frame old new size place places is =
     (subst (IsFrame longest_side) after.frame after.promises.valid.frame)
 
 -- nothing was cut
-pub arranges-room : {start end : PagesState} {asked unplaced : List PagePlace} {moves : List PageMove}
+pub arranges-room : {start end : PagesState} {asked unplaced : List PagedAllocation} {moves : List PageMove}
     → Arranges start asked moves unplaced end → AllByRecursion HasRoom moves
 arranges-room nothing = tt
 arranges-room (moved {moves = moves} {state = state} {next = next} {after = after} before so_far places large kept) =
@@ -75,13 +75,13 @@ arranges-room (moved {moves = moves} {state = state} {next = next} {after = afte
 arranges-room (refused before so_far refuses) = arranges-room so_far
 
 -- what asked is what moved and what was refused
-arranges-each : {start end : PagesState} {asked unplaced : List PagePlace} {moves : List PageMove} (P : PagePlace → Type 0)
+arranges-each : {start end : PagesState} {asked unplaced : List PagedAllocation} {moves : List PageMove} (P : PagedAllocation → Type 0)
     → Arranges start asked moves unplaced end → AllByRecursion P asked → AllByRecursion P (moved_from moves ++ unplaced)
 arranges-each P nothing each = tt
 arranges-each P (moved {asked = asked} {moves = moves} {unplaced = unplaced} {after = after} before so_far places large kept) each =
     let rest = arranges-each P so_far (Each-front P asked (before ∷ []) each) in
     let here = (Each-back P asked (before ∷ []) each).0 in
-    subst (λ (l : List PagePlace). AllByRecursion P (l ++ unplaced))
+    subst (λ (l : List PagedAllocation). AllByRecursion P (l ++ unplaced))
     (sym (map-append (λ (move : PageMove). move.before) moves (record { before = before; after = after } ∷ [])))
     (Each-append P (moved_from moves ++ before ∷ []) unplaced
     (Each-append P (moved_from moves) (before ∷ []) (Each-front P (moved_from moves) unplaced rest) (here, tt))
@@ -92,7 +92,7 @@ arranges-each P (refused {asked = asked} {moves = moves} {unplaced = unplaced} b
     subst (AllByRecursion P) (append_assoc (moved_from moves) unplaced (before ∷ []))
     (Each-append P (moved_from moves ++ unplaced) (before ∷ []) rest (here, tt))
 
-arranges-counted : {start end : PagesState} {asked unplaced : List PagePlace} {moves : List PageMove} (page id : ℕ)
+arranges-counted : {start end : PagesState} {asked unplaced : List PagedAllocation} {moves : List PageMove} (page id : ℕ)
     → Arranges start asked moves unplaced end → times_on page id (moved_from moves ++ unplaced) ≡ times_on page id asked
 arranges-counted page id nothing = refl
 arranges-counted page id (moved {asked = asked} {moves = moves} {unplaced = unplaced} {after = after} before so_far places large kept) =
@@ -116,7 +116,7 @@ arranges-counted page id (refused {asked = asked} {moves = moves} {unplaced = un
     )
 
 -- so where what asked is all that was allocated, what moved and what was refused are that too
-pub arranges-once : {start end : PagesState} {asked unplaced : List PagePlace} {moves : List PageMove} (old : PagesState)
+pub arranges-once : {start end : PagesState} {asked unplaced : List PagedAllocation} {moves : List PageMove} (old : PagesState)
     → Arranges start asked moves unplaced end → AreTiedOn asked old → AreTiedOn (moved_from moves ++ unplaced) old
 arranges-once old arranges tied =
     record {
@@ -125,7 +125,7 @@ arranges-once old arranges tied =
     }
 
 -- what is found on pages has sides that can be told
-pub found-sides : (state : PagesState) → KeepsPagesPromises state → (place : PagePlace) → IsFoundOn state place → HasSides place.allocation
+pub found-sides : (state : PagesState) → KeepsPagesPromises state → (place : PagedAllocation) → IsFoundOn state place → HasSides place.allocation
 found-sides state keeps place found =
     inside-sides (page_frame state.options) (by_page (slice_get state.pages place.page) refl found) place.allocation
     (allocated-inside state place.page place.allocation.id place.allocation.rectangle keeps found)
@@ -138,7 +138,7 @@ found-sides state keeps place found =
         let page = Each-get (IsPage state.options) state.pages place.page atlas at keeps.pages in
         subst (IsFrame longest_side) page.frame page.promises.valid.frame
 
-pub tied-sides : (state : PagesState) (places : List PagePlace) → KeepsPagesPromises state → AreTiedOn places state
-    → AllByRecursion (λ (place : PagePlace). HasSides place.allocation) places
+pub tied-sides : (state : PagesState) (places : List PagedAllocation) → KeepsPagesPromises state → AreTiedOn places state
+    → AllByRecursion (λ (place : PagedAllocation). HasSides place.allocation) places
 tied-sides state places keeps tied =
-    Each-weaken (IsFoundOn state) (λ (place : PagePlace). HasSides place.allocation) places (found-sides state keeps) tied.found
+    Each-weaken (IsFoundOn state) (λ (place : PagedAllocation). HasSides place.allocation) places (found-sides state keeps) tied.found

@@ -3,7 +3,7 @@ use Rattle.std.proofs.Common.{◌≡◌, List, [], ◌++◌, refl, ap, sym, ◌�
 use Rattle.std.specs.List.{AllByRecursion}
 use Rattle.std.specs.List.Sorted.{IsPermutation}
 use Rattle.atlas_pages.specs.declared.options.PageOptions.{PageOptions}
-use Rattle.atlas_pages.specs.declared.places.PagePlace.{PagePlace}
+use Rattle.atlas_pages.specs.declared.places.PagedAllocation.{PagedAllocation}
 use Rattle.atlas_pages.specs.Listing.{listed_places}
 use Rattle.atlas_pages.specs.Pages.{PagesState, no_pages}
 use Rattle.atlas_pages.specs.Promises.{KeepsPagesPromises}
@@ -15,7 +15,7 @@ use Rattle.page_moves.specs.Tied.{AreTiedOn}
 use Rattle.page_moves.specs.declared.moves.PageMove.{PageMove}
 
 -- the clauses
-pub record IsDone (old : PagesState) (moves : List PageMove) (unplaced : List PagePlace) (new : PagesState) : Type 0 where
+pub record IsDone (old : PagesState) (moves : List PageMove) (unplaced : List PagedAllocation) (new : PagesState) : Type 0 where
   pub rearranged : IsRearranged old moves unplaced new
   pub each : AreTiedOn (moved_from moves ++ unplaced) old
   pub whole : AreTiedOn (moved_to moves) new
@@ -28,12 +28,12 @@ none-tied : (options : PageOptions) → AreTiedOn [] (no_pages options)
 none-tied options = record { found = tt; counted = λ page id. refl }
 
 -- they hold where what pages list, in order, has asked new ones
-pub arranged-done : (old start new : PagesState) (listed asked unplaced : List PagePlace) (moves : List PageMove)
+pub arranged-done : (old start new : PagesState) (listed asked unplaced : List PagedAllocation) (moves : List PageMove)
     → KeepsPagesPromises old → start ≡ no_pages old.options → KeepsPagesPromises start
     → listed ≡ listed_places old → IsPermutation listed asked → AreTallestFirst old.options.atlas.vertical_shelves asked
     → Arranges start asked moves unplaced new → IsDone old moves unplaced new
 arranged-done old start new listed asked unplaced moves old_kept made start_kept is permuted ordered arranged =
-    let all = tied-permuted listed asked old (subst (λ (l : List PagePlace). AreTiedOn l old) (sym is) (tied-listed old old_kept)) permuted in
+    let all = tied-permuted listed asked old (subst (λ (l : List PagedAllocation). AreTiedOn l old) (sym is) (tied-listed old old_kept)) permuted in
     record {
       rearranged = record {
         asked = asked;

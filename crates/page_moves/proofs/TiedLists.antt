@@ -24,7 +24,7 @@ use Rattle.shelf_model.specs.Listing.{listed}
 use Rattle.shelf_model.specs.Places.{allocations, rectangle_of}
 use Rattle.shelf_model.specs.State.{AtlasState}
 use Rattle.atlas_pages.proofs.PageLists.{Each-map}
-use Rattle.atlas_pages.specs.declared.places.PagePlace.{PagePlace}
+use Rattle.atlas_pages.specs.declared.places.PagedAllocation.{PagedAllocation}
 use Rattle.atlas_pages.specs.Listing.{listed_places, on_page, places_from}
 use Rattle.atlas_pages.specs.Pages.{PagesState, page_frame}
 use Rattle.atlas_pages.specs.Places.{Places, is_allocated_on, rectangle_on}
@@ -62,10 +62,10 @@ shift : (number page : ℕ) → number + 1 + page ≡ number + suc page
 shift number page = omega arith
 
 -- how often a page and an id stand among places end to end
-pub times_on-append : (page id : ℕ) (front back : List PagePlace)
+pub times_on-append : (page id : ℕ) (front back : List PagedAllocation)
     → times_on page id (front ++ back) ≡ times_on page id front + times_on page id back
 times_on-append page id front back =
-    total-append (λ (place : PagePlace). cond (are place.page place.allocation.id page id) 1 0) front back
+    total-append (λ (place : PagedAllocation). cond (are place.page place.allocation.id page id) 1 0) front back
 
 -- an id that stands once at most among allocations stands there where it is found
 times-found : (id : ℕ) (all : List Allocation) → times id (ids_of all) ≤ 1
@@ -145,7 +145,7 @@ times-listed (x ∷ pages) number (suc page) id keeps =
     )
 
 -- a place is found on pages that are counted from a number on
-abbrev IsThere : List AtlasState → ℕ → PagePlace → Type 0
+abbrev IsThere : List AtlasState → ℕ → PagedAllocation → Type 0
 IsThere pages number place =
     (page : ℕ) × (place.page ≡ number + page) × (among pages page place.allocation.id ≡ Some place.allocation.rectangle)
 
@@ -166,9 +166,9 @@ listed-there (x ∷ pages) number keeps =
 
 -- each listed place is found
 pub listed-found : (state : PagesState) → KeepsPagesPromises state
-    → AllByRecursion (λ (place : PagePlace). rectangle_on state place.page place.allocation.id ≡ Some place.allocation.rectangle) (listed_places state)
+    → AllByRecursion (λ (place : PagedAllocation). rectangle_on state place.page place.allocation.id ≡ Some place.allocation.rectangle) (listed_places state)
 listed-found state keeps =
-    Each-weaken (IsThere state.pages 0) (λ (place : PagePlace). rectangle_on state place.page place.allocation.id ≡ Some place.allocation.rectangle) (listed_places state)
+    Each-weaken (IsThere state.pages 0) (λ (place : PagedAllocation). rectangle_on state place.page place.allocation.id ≡ Some place.allocation.rectangle) (listed_places state)
     (λ place there. ap (λ p. rectangle_on state p place.allocation.id) (there.1 ∙ zero-add there.0) ∙ there.2)
     (listed-there state.pages 0
     (Each-weaken (IsPage state.options) KeepsPromises state.pages (λ atlas it. it.promises) keeps.pages))
@@ -184,14 +184,14 @@ tied-listed state keeps =
     }
 
 -- a count as a sum
-times-sum : (page id : ℕ) (places : List PagePlace)
-    → times_on page id places ≡ sum_by (λ (place : PagePlace). cond (are place.page place.allocation.id page id) 1 0) places
+times-sum : (page id : ℕ) (places : List PagedAllocation)
+    → times_on page id places ≡ sum_by (λ (place : PagedAllocation). cond (are place.page place.allocation.id page id) 1 0) places
 times-sum page id =
-    is_sum_by (λ (places : List PagePlace). times_on page id places)
-    (λ (place : PagePlace). cond (are place.page place.allocation.id page id) 1 0) refl (λ _ _. refl)
+    is_sum_by (λ (places : List PagedAllocation). times_on page id places)
+    (λ (place : PagedAllocation). cond (are place.page place.allocation.id page id) 1 0) refl (λ _ _. refl)
 
 -- also in another order
-pub tied-permuted : (places other : List PagePlace) (state : PagesState) → AreTiedOn places state → IsPermutation places other
+pub tied-permuted : (places other : List PagedAllocation) (state : PagesState) → AreTiedOn places state → IsPermutation places other
     → AreTiedOn other state
 tied-permuted places other state tied moved =
     record {
@@ -199,12 +199,12 @@ tied-permuted places other state tied moved =
           (All-permutation (IsFoundOn state) places other moved (All-from_recursion (IsFoundOn state) places tied.found));
       counted = λ page id.
           times-sum page id other
-          ∙ sum_by-IsPermutation (λ (place : PagePlace). cond (are place.page place.allocation.id page id) 1 0) places other moved
+          ∙ sum_by-IsPermutation (λ (place : PagedAllocation). cond (are place.page place.allocation.id page id) 1 0) places other moved
           ∙ sym (times-sum page id places)
           ∙ tied.counted page id;
     }
 
-module _ (old new : PagesState) (size : Size) (after : PagePlace) (was : KeepsPagesPromises old) (is : KeepsPagesPromises new)
+module _ (old new : PagesState) (size : Size) (after : PagedAllocation) (was : KeepsPagesPromises old) (is : KeepsPagesPromises new)
     (places : Places old size after new) (large : IsLarge (page_frame old.options) size after.allocation.rectangle) where
   -- once a size was given a place, only that changes
   seen : (page id : ℕ)
@@ -235,7 +235,7 @@ module _ (old new : PagesState) (size : Size) (after : PagePlace) (was : KeepsPa
       by_tests false here b it same = absurd (cc)
 
   -- what was found before is found still
-  found-still : (place : PagePlace) → IsFoundOn old place → IsFoundOn new place
+  found-still : (place : PagedAllocation) → IsFoundOn old place → IsFoundOn new place
   found-still place found = by_test (are after.page after.allocation.id place.page place.allocation.id) refl
     where
       by_test : (b : Bool) → are after.page after.allocation.id place.page place.allocation.id ≡ b → IsFoundOn new place
@@ -258,7 +258,7 @@ module _ (old new : PagesState) (size : Size) (after : PagePlace) (was : KeepsPa
       own a b here it = rw (here, it) refl
 
   -- where places are all that was allocated, they are with the new one
-  pub tied-added : (kept : List PagePlace) → AreTiedOn kept old → AreTiedOn (kept ++ after ∷ []) new
+  pub tied-added : (kept : List PagedAllocation) → AreTiedOn kept old → AreTiedOn (kept ++ after ∷ []) new
   tied-added kept tied =
       record {
         found = Each-append (IsFoundOn new) kept (after ∷ [])

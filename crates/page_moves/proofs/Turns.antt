@@ -11,7 +11,7 @@ use denote.Param.Members.{Mut}
 use Rattle.std.proofs.lemmas.Bool.Decides.{nat_tests}
 use Rattle.rearranging.specs.Order.{height_across}
 use Rattle.rearranging.proofs.Sorting.{sorted-neighbours}
-use Rattle.atlas_pages.specs.declared.places.PagePlace.{PagePlace}
+use Rattle.atlas_pages.specs.declared.places.PagedAllocation.{PagedAllocation}
 use Rattle.page_moves.specs.Order.{AreTallestFirst, is_out_of_turn}
 
 -- the order of the keys of a sort is that of heights, pages and ids
@@ -21,7 +21,7 @@ turn-lt : (h k p q i j : ℕ)
 turn-lt h k p q i j = grind (arith, nat_tests)
 
 -- the key by which places are sorted
-abbrev key_of : Bool → PagePlace → Reverse ℕ × ℕ × ℕ
+abbrev key_of : Bool → PagedAllocation → Reverse ℕ × ℕ × ℕ
 key_of vertical place =
     (record { 0 = height_across vertical place.allocation.rectangle }, place.page, place.allocation.id)
 
@@ -30,10 +30,10 @@ abbrev key_cmp : Reverse ℕ × ℕ × ℕ → Reverse ℕ × ℕ × ℕ → Ord
 key_cmp x y = ordering_then (ordering_then (nat_cmp y.0.0 x.0.0) (nat_cmp x.1 y.1)) (nat_cmp x.2 y.2)
 
 -- what was sorted by these keys stands in order
-pub sorted-tallest_first : (vertical : Bool) {F : Type 0} {g : Mut F (Bor PagePlace × Unit {0}) (Reverse ℕ × ℕ × ℕ)} {f : F}
-    (xs : List PagePlace)
-    → ((key : PagePlace → Reverse ℕ × ℕ × ℕ) → ComputesKey g key f → IsSortedByKey key key_cmp xs)
-    → ((a : Bor PagePlace × Unit {0}) (r : Reverse ℕ × ℕ × ℕ) (f' : F) → Called g f a r f'
+pub sorted-tallest_first : (vertical : Bool) {F : Type 0} {g : Mut F (Bor PagedAllocation × Unit {0}) (Reverse ℕ × ℕ × ℕ)} {f : F}
+    (xs : List PagedAllocation)
+    → ((key : PagedAllocation → Reverse ℕ × ℕ × ℕ) → ComputesKey g key f → IsSortedByKey key key_cmp xs)
+    → ((a : Bor PagedAllocation × Unit {0}) (r : Reverse ℕ × ℕ × ℕ) (f' : F) → Called g f a r f'
     → (r ≡ key_of vertical a.0.now) × (f' ≡ f))
     → AreTallestFirst vertical xs
 sorted-tallest_first vertical {g = g} {f = f} xs sorted computes =

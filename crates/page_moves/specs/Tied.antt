@@ -2,22 +2,22 @@
 use Rattle.std.specs.Prelude.{◌≡◌, ℕ, Some, List, if◌then◌else◌}
 use Rattle.std.specs.List.{AllByRecursion}
 use Rattle.etagere_base.specs.Lists.{total}
-use Rattle.atlas_pages.specs.declared.places.PagePlace.{PagePlace}
+use Rattle.atlas_pages.specs.declared.places.PagedAllocation.{PagedAllocation}
 use Rattle.atlas_pages.specs.Pages.{PagesState}
 use Rattle.atlas_pages.specs.Places.{is_allocated_on, rectangle_on}
 use Rattle.page_runs.specs.Told.{are}
 
 -- how often a page and an id stand among places
-abbrev pub times_on : ℕ → ℕ → List PagePlace → ℕ
+abbrev pub times_on : ℕ → ℕ → List PagedAllocation → ℕ
 times_on page id places =
-    total (λ (place : PagePlace). if are place.page place.allocation.id page id then 1 else 0) places
+    total (λ (place : PagedAllocation). if are place.page place.allocation.id page id then 1 else 0) places
 
 -- the rectangle of a place is what is allocated there
-abbrev pub IsFoundOn : PagesState → PagePlace → Type 0
+abbrev pub IsFoundOn : PagesState → PagedAllocation → Type 0
 IsFoundOn state place = rectangle_on state place.page place.allocation.id ≡ Some place.allocation.rectangle
 
 -- each of some places is found on pages, and each page and id under which something is allocated stands there once, and no
 -- other
-pub record AreTiedOn (places : List PagePlace) (state : PagesState) : Type 0 where
+pub record AreTiedOn (places : List PagedAllocation) (state : PagesState) : Type 0 where
   pub found : AllByRecursion (IsFoundOn state) places
   pub counted : (page id : ℕ) → times_on page id places ≡ (if is_allocated_on state page id then 1 else 0)

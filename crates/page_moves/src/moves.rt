@@ -5,19 +5,19 @@
 ghost use Rattle.std.specs.Prelude.{[], ◌∷◌, ◌++◌, List, OnOk};
 ghost use Rattle.rearranging.specs.Private.Sides.{HasSides};
 ghost use Rattle.atlas_pages.specs.Pages as state;
-ghost use Rattle.atlas_pages.specs.declared.places.PagePlace as places;
+ghost use Rattle.atlas_pages.specs.declared.places.PagedAllocation as places;
 ghost use Rattle.page_moves.specs.Arranging.{Arranges};
 
-use atlas_pages::{AtlasPages, PagePlace};
+use atlas_pages::{AtlasPages, PagedAllocation};
 use std::alloc::AllocError;
 
 /// A rectangle that found a place on the new pages.
 #[derive(Clone, Copy, Debug, PartialEq)]
 pub struct PageMove {
     /// The old page, and there the id and the rectangle.
-    pub before: PagePlace,
+    pub before: PagedAllocation,
     /// The new page, and there the id and the rectangle, which is at least as wide and as tall as the old one.
-    pub after: PagePlace,
+    pub after: PagedAllocation,
 }
 
 /// New pages, and what of the old ones lies where on them.
@@ -28,13 +28,13 @@ pub struct RearrangedPages {
     /// What moved, the tallest first, and of equally tall ones in the order of old pages and ids.
     pub moves: Vec<PageMove>,
     /// What found no place, as it lies on the old pages, in the same order.
-    pub unplaced: Vec<PagePlace>,
+    pub unplaced: Vec<PagedAllocation>,
 }
 
 /// Asks the new pages for a place as large as a rectangle of the old ones, and keeps the answer.
-pub fn place_next(done: &mut RearrangedPages, before: PagePlace) -> Result<(), AllocError>
+pub fn place_next(done: &mut RearrangedPages, before: PagedAllocation) -> Result<(), AllocError>
     requires { HasSides before.allocation }
-    ensures { OnOk result ((start : state.PagesState) (asked : List places.PagePlace)
+    ensures { OnOk result ((start : state.PagesState) (asked : List places.PagedAllocation)
         → Arranges start asked done.old.moves.items done.old.unplaced.items done.old.pages
         → Arranges start (asked ++ before ∷ []) done.new.moves.items done.new.unplaced.items done.new.pages) }
 {

@@ -7,14 +7,14 @@ ghost use Rattle.std.specs.List.{AllByRecursion};
 ghost use Rattle.std.specs.List.Sorted.{IsPermutation};
 ghost use Rattle.rearranging.specs.Private.Sides.{HasSides};
 ghost use Rattle.atlas_pages.specs.Promises.{KeepsPagesPromises};
-ghost use Rattle.atlas_pages.specs.declared.places.PagePlace as places;
+ghost use Rattle.atlas_pages.specs.declared.places.PagedAllocation as places;
 ghost use Rattle.page_moves.specs.Arranging.{Arranges, HasRoom, IsRearranged, moved_from, moved_to};
 ghost use Rattle.page_moves.specs.Order.{AreTallestFirst};
 ghost use Rattle.page_moves.specs.Tied.{AreTiedOn};
 
 use crate::moves::{RearrangedPages, place_next};
 use crate::order::sort_tallest_first;
-use atlas_pages::{AtlasPages, Iter, PagePlace};
+use atlas_pages::{AtlasPages, Iter, PagedAllocation};
 use std::alloc::{AllocError, Global};
 
 /// Places all that is allocated on pages on new pages of the same options, and so without the gaps that returns have left.
@@ -57,11 +57,11 @@ fn tallest_first(
     alloc: Global,
     allocated: Iter<'_>,
     vertical: bool,
-) -> Result<Vec<PagePlace>, AllocError>
+) -> Result<Vec<PagedAllocation>, AllocError>
     ensures same { IfOk result (λ sorted. IsPermutation allocated.entry sorted.items) }
     ensures ordered { IfOk result (λ sorted. AreTallestFirst vertical sorted.items) }
 {
-    let mut sorted: Vec<PagePlace> = allocated.collect(alloc)?;
+    let mut sorted: Vec<PagedAllocation> = allocated.collect(alloc)?;
     sort_tallest_first(&mut sorted, vertical);
     Ok(sorted)
 }
@@ -70,9 +70,9 @@ fn tallest_first(
 fn place_each(
     alloc: Global,
     pages: AtlasPages,
-    asked: &[PagePlace],
+    asked: &[PagedAllocation],
 ) -> Result<RearrangedPages, AllocError>
-    requires { AllByRecursion (λ (place : places.PagePlace). HasSides place.allocation) asked.now }
+    requires { AllByRecursion (λ (place : places.PagedAllocation). HasSides place.allocation) asked.now }
     ensures { IfOk result
         (λ done. Arranges pages asked.now done.moves.items done.unplaced.items done.pages) }
 {

@@ -5,14 +5,14 @@
 ghost use Rattle.std.specs.List.Sorted.{IsPermutation};
 ghost use Rattle.page_moves.specs.Order.{AreTallestFirst};
 
-use atlas_pages::PagePlace;
+use atlas_pages::PagedAllocation;
 use rearranging::height_across;
 use std::cmp::Reverse;
 
 /// Sorts what is allocated on pages: the tallest first, and of equally tall ones in the order of pages and ids.
 ///
 /// Takes no memory. Makes as many comparisons as a sort.
-pub fn sort_tallest_first(places: &mut Vec<PagePlace>, vertical: bool)
+pub fn sort_tallest_first(places: &mut Vec<PagedAllocation>, vertical: bool)
     ensures same { IsPermutation places.old.items places.new.items }
     ensures ordered { AreTallestFirst vertical places.new.items }
 {

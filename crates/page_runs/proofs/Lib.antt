@@ -1,2 +1,3 @@
+mod PaddedRunsOn
 mod RunsOn
 pub mod StepsTold

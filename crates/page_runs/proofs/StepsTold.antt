@@ -1,16 +1,15 @@
 -- A step changes what is allocated just as its reply tells, and of the options only how many pages there may be.
-use Rattle.std.proofs.Common.{◌≡◌, ◌≢◌, ◌⊎◌, ℕ, zero, suc, Bool, true, false, cond, ◌&&◌, ◌==◌, Option, Some, List, [], ◌∷◌, ◌++◌, inl, inr, length, map, refl, ap, sym, ◌∙◌, subst, ⊎_elim, arith}
+use Rattle.std.proofs.Common.{◌≡◌, ◌≢◌, ◌⊎◌, ℕ, zero, suc, Bool, true, false, cond, ◌&&◌, ◌==◌, Option, Some, List, [], ◌∷◌, ◌++◌, length, map, refl, ap, sym, ◌∙◌, subst, ⊎_elim, arith}
 use Rattle.std.proofs.lemmas.Bool.{eqb-true}
 use Rattle.std.proofs.lemmas.Bool.Decides.{nat_tests}
-use Rattle.std.specs.Prelude.{None, is_some, option_and_then, option_map, slice_get, slice_set}
+use Rattle.std.specs.Prelude.{None, option_and_then, option_map, slice_get, slice_set}
 use Rattle.std.specs.List.{AllByRecursion, find}
-use Rattle.etagere_base.specs.declared.frames.Frame.{Frame}
 use Rattle.etagere_base.specs.declared.geometry.Rectangle.{Rectangle}
 use Rattle.etagere_base.specs.declared.geometry.Size.{Size}
 use Rattle.etagere_base.specs.declared.ids.Allocation.{Allocation}
 use Rattle.etagere_base.proofs.EachLemmas.{Each-get, Each-weaken}
 use Rattle.shelf_model.proofs.Allocations.SeenById.{takes-away}
-use Rattle.shelf_model.proofs.Callers.{allocates-adds, find-inserted_other, found-new, found-rectangle, fresh-allocated, not_allocated-any, promises-cleared, returned-allocated}
+use Rattle.shelf_model.proofs.Callers.{allocates-adds, find-inserted_other, found-new, found-rectangle, fresh-allocated, not_allocated-any, returned-allocated}
 use Rattle.shelf_model.specs.Atlas.{Adds, Allocates, KeepsPromises}
 use Rattle.shelf_model.specs.ById.{TakesAway}
 use Rattle.shelf_model.specs.Fresh.{fresh}
@@ -18,10 +17,10 @@ use Rattle.shelf_model.specs.Places.{allocations, rectangle_of}
 use Rattle.shelf_model.specs.Returning.{returned}
 use Rattle.shelf_model.specs.State.{AtlasState}
 use Rattle.atlas_pages.specs.declared.options.PageOptions.{PageOptions}
-use Rattle.atlas_pages.specs.declared.places.PagePlace.{PagePlace}
-use Rattle.atlas_pages.specs.Choosing.{chosen_page, may_open, opened, ready_for}
+use Rattle.atlas_pages.specs.declared.places.PagedAllocation.{PagedAllocation}
+use Rattle.atlas_pages.specs.Choosing.{ready_for}
 use Rattle.atlas_pages.specs.Pages.{PagesState, empty_page, page_frame}
-use Rattle.atlas_pages.specs.Places.{AllocatesOn, at_page, is_unused, rectangle_on, used_pages}
+use Rattle.atlas_pages.specs.Places.{Places, at_page, is_unused, rectangle_on, used_pages}
 use Rattle.atlas_pages.specs.Promises.{IsPage, KeepsPagesPromises}
 use Rattle.atlas_pages.proofs.KeptBefore.{get-set, kept-before, ready-or_opened}
 use Rattle.atlas_pages.proofs.PageLists.{at_page-set}
@@ -30,7 +29,7 @@ use Rattle.page_runs.specs.declared.commands.PageCommand.TheVariants.{Allocate, 
 use Rattle.page_runs.specs.declared.commands.PageReply.{PageReply}
 use Rattle.page_runs.specs.declared.commands.PageReply.TheVariants.{Placed, Refused, NoMemory, Returned, Unknown, Cleared, Grown, Fewer, Closed}
 use Rattle.page_runs.specs.Runs.{PageStep}
-use Rattle.page_runs.specs.Told.{Told, are, told_after}
+use Rattle.page_runs.specs.Told.{Told, are, told_after, with_place}
 
 -- the rectangle on one of some pages under an id
 abbrev among : List AtlasState → ℕ → ℕ → Option Rectangle
@@ -195,12 +194,12 @@ among-used (x ∷ pages) page id =
     by_tests later true here false behind m = stays later m
     by_tests later false here b behind m = stays later m
 
--- a step changes what is on pages as its reply tells
-pub told-step : (old : PagesState) (command : PageCommand) (reply : PageReply) (new : PagesState) (told : Told)
-    → KeepsPagesPromises old → KeepsPagesPromises new → PageStep old command reply new
+-- a place that was given is told beside what was there
+pub told-placed : (old : PagesState) (size : Size) (place : PagedAllocation) (new : PagesState) (told : Told)
+    → KeepsPagesPromises old → KeepsPagesPromises new → Places old size place new
     → ((page id : ℕ) → told page id ≡ rectangle_on old page id)
-    → (page id : ℕ) → told_after command reply told page id ≡ rectangle_on new page id
-told-step old (Allocate size) (Placed place) new told was is (places, large) tells page id =
+    → (page id : ℕ) → with_place place told page id ≡ rectangle_on new page id
+told-placed old size place new told was is places tells page id =
     let allocates = places.allocates in
     let before = kept-before old new size place was is places.options allocates in
     let given = place.allocation in
@@ -209,6 +208,14 @@ told-step old (Allocate size) (Placed place) new told was is (places, large) tel
     ∙ sym (among-set (ready_for old size).pages place.page allocates.before allocates.after given.id (Some given.rectangle) allocates.is_open
     (seen-allocated allocates.before size given allocates.after before allocates.allocates) page id)
     ∙ sym (ap (λ (l : List AtlasState). among l page id) allocates.others)
+
+-- a step changes what is on pages as its reply tells
+pub told-step : (old : PagesState) (command : PageCommand) (reply : PageReply) (new : PagesState) (told : Told)
+    → KeepsPagesPromises old → KeepsPagesPromises new → PageStep old command reply new
+    → ((page id : ℕ) → told page id ≡ rectangle_on old page id)
+    → (page id : ℕ) → told_after command reply told page id ≡ rectangle_on new page id
+told-step old (Allocate size) (Placed place) new told was is (places, large) tells page id =
+    told-placed old size place new told was is places tells page id
 told-step old (Allocate size) Refused new told was is (refused, same) tells page id =
     tells page id ∙ sym (ap (λ (s : PagesState). rectangle_on s page id) same)
 told-step old (Allocate size) NoMemory new told was is (needs, same) tells page id =

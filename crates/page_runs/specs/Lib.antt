@@ -1,3 +1,4 @@
 pub mod Packing
+pub mod PaddedRuns
 pub mod Runs
 pub mod Told

@@ -1,7 +1,7 @@
 -- What is allocated on pages, as far as replies tell of it.
 use Rattle.std.specs.Prelude.{ℕ, Bool, ◌&&◌, Option, None, Some, List, ◌∷◌, ◌==◌, if◌then◌else◌}
 use Rattle.etagere_base.specs.declared.geometry.Rectangle.{Rectangle}
-use Rattle.atlas_pages.specs.declared.places.PagePlace.{PagePlace}
+use Rattle.atlas_pages.specs.declared.places.PagedAllocation.{PagedAllocation}
 use Rattle.page_runs.specs.declared.commands.PageCommand.{PageCommand}
 use Rattle.page_runs.specs.declared.commands.PageCommand.TheVariants.{Deallocate}
 use Rattle.page_runs.specs.declared.commands.PageReply.{PageReply}
@@ -19,7 +19,7 @@ abbrev pub are : ℕ → ℕ → ℕ → ℕ → Bool
 are this_page this_id page id = this_page == page && this_id == id
 
 -- and beside it what was given a place
-abbrev pub with_place : PagePlace → Told → Told
+abbrev pub with_place : PagedAllocation → Told → Told
 with_place place told page id =
     if are place.page place.allocation.id page id then Some place.allocation.rectangle else told page id
 

@@ -2,7 +2,7 @@
 //!
 //! The definition of runs (`Runs`) matches on them.
 
-use atlas_pages::PagePlace;
+use atlas_pages::PagedAllocation;
 use etagere::{AllocId, Size};
 
 /// A command of a run on pages.
@@ -24,7 +24,7 @@ pub enum PageCommand {
 #[derive(Clone, Copy, Debug, PartialEq)]
 pub enum PageReply {
     /// The size has this place.
-    Placed(PagePlace),
+    Placed(PagedAllocation),
     /// No page has a place for the size, and none may be opened for it. Nothing changed.
     Refused,
     /// The size has a place that needs memory, and there was none. Nothing changed.

@@ -4,7 +4,7 @@ use Rattle.std.specs.Prelude.{IfNone, IfOk, IfSome, OnErr, is_some}
 use Rattle.std.specs.declared.alloc.AllocError.{AllocError}
 use Rattle.etagere_base.specs.declared.geometry.Size.{Size}
 use Rattle.etagere_base.specs.Rectangles.{IsLarge}
-use Rattle.atlas_pages.specs.declared.places.PagePlace.{PagePlace}
+use Rattle.atlas_pages.specs.declared.places.PagedAllocation.{PagedAllocation}
 use Rattle.atlas_pages.specs.Choosing.{IsRefusedByAll, chosen_page, may_open, opened, ready_for}
 use Rattle.atlas_pages.specs.Pages.{PagesState, page_frame}
 use Rattle.atlas_pages.specs.Places.{NeedsMemory, Places}
@@ -12,7 +12,7 @@ use Rattle.atlas_pages.proofs.Chosen.{chosen-refused}
 use Rattle.atlas_pages.proofs.Ready.{page_for-chosen, page_for-opened}
 use Rattle.paged_cache.specs.Held.{GivesPlace, has_page}
 
-pages-placed : (old new : PagesState) (size : Size) (place : PagePlace) → Places old size place new → has_page old size ≡ true
+pages-placed : (old new : PagesState) (size : Size) (place : PagedAllocation) → Places old size place new → has_page old size ≡ true
 pages-placed old new size place given = ap is_some given.chosen
 
 pages-refused : (state : PagesState) (size : Size) → IsRefusedByAll state size → has_page state size ≡ false
@@ -27,19 +27,19 @@ pages-needing : (state : PagesState) (size : Size) → NeedsMemory state size �
 pages-needing state size (inl split) = ap is_some (page_for-chosen state size split.number split.chosen)
 pages-needing state size (inr page) = ap is_some (page_for-opened state size page.none page.opens)
 
-pub pages-have : (told : Result (Option PagePlace) AllocError) (old new : PagesState) (size : Size)
+pub pages-have : (told : Result (Option PagedAllocation) AllocError) (old new : PagesState) (size : Size)
     → IfOk told (λ answer. IfSome answer (λ place. Places old size place new)) → IfOk told (λ answer. IfNone answer (IsRefusedByAll old size))
     → IfOk told (λ answer. is_some answer ≡ has_page old size)
 pages-have (Ok (Some place)) old new size placed refused = sym (pages-placed old new size place placed)
 pages-have (Ok None) old new size placed refused = sym (pages-refused old size refused)
 pages-have (Err e) old new size placed refused = tt
 
-pub pages-have_had : (told : Result (Option PagePlace) AllocError) (old : PagesState) (size : Size) → OnErr told (NeedsMemory old size)
+pub pages-have_had : (told : Result (Option PagedAllocation) AllocError) (old : PagesState) (size : Size) → OnErr told (NeedsMemory old size)
     → OnErr told (has_page old size ≡ true)
 pages-have_had (Ok answer) old size needs = tt
 pages-have_had (Err e) old size needs = pages-needing old size needs
 
-pub pages-give : (told : Result (Option PagePlace) AllocError) (old new : PagesState) (size : Size)
+pub pages-give : (told : Result (Option PagedAllocation) AllocError) (old new : PagesState) (size : Size)
     → IfOk told (λ answer. IfSome answer (λ place. Places old size place new))
     → IfOk told (λ answer. IfSome answer (λ place. IsLarge (page_frame old.options) size place.allocation.rectangle))
     → IfOk told (λ answer. IfSome answer (λ place. GivesPlace old size place new))

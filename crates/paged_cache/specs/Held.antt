@@ -10,7 +10,7 @@ use Rattle.shelf_model.specs.Fresh.{fresh}
 use Rattle.shelf_model.specs.Places.{allocations, is_allocated}
 use Rattle.shelf_model.specs.Returning.{returned}
 use Rattle.shelf_model.specs.State.{AtlasState}
-use Rattle.atlas_pages.specs.declared.places.PagePlace.{PagePlace}
+use Rattle.atlas_pages.specs.declared.places.PagedAllocation.{PagedAllocation}
 use Rattle.atlas_pages.specs.Choosing.{has_place, page_for}
 use Rattle.atlas_pages.specs.Pages.{PagesState, empty_page, page_frame}
 use Rattle.atlas_pages.specs.Places.{Places, is_allocated_on, returned_on}
@@ -45,26 +45,26 @@ abbrev pub fits_page : PagesState → Size → Bool
 fits_page state size = has_place size (empty_page state.options)
 
 -- after a place was given back
-abbrev pub place_returned : PagesState → PagePlace → PagesState
+abbrev pub place_returned : PagesState → PagedAllocation → PagesState
 place_returned state place = returned_on state place.page place.allocation.id
 
 -- something is allocated at a place
-abbrev pub is_place_held : PagesState → PagePlace → Bool
+abbrev pub is_place_held : PagesState → PagedAllocation → Bool
 is_place_held state place = is_allocated_on state place.page place.allocation.id
 
 -- of some places those on one page, as what is allocated there
-abbrev pub kept_on : ℕ → List PagePlace → List Allocation
+abbrev pub kept_on : ℕ → List PagedAllocation → List Allocation
 kept_on page [] = []
 kept_on page (place ∷ places) =
     if place.page == page then place.allocation ∷ kept_on page places else kept_on page places
 
 -- places are all that is allocated on pages: each lies on an open one, and on each page they are what is allocated there
-pub record AreAllPlaces (state : PagesState) (places : List PagePlace) : Type 0 where
-  pub open_pages : AllByRecursion (λ (place : PagePlace). place.page < length state.pages) places
+pub record AreAllPlaces (state : PagesState) (places : List PagedAllocation) : Type 0 where
+  pub open_pages : AllByRecursion (λ (place : PagedAllocation). place.page < length state.pages) places
   pub tied : (number : ℕ) (page : AtlasState) → slice_get state.pages number ≡ Some page
       → AreTied (kept_on number places) (allocations page)
 
 -- a size gets a place on pages, and a rectangle that is large enough
-pub record GivesPlace (old : PagesState) (size : Size) (place : PagePlace) (new : PagesState) : Type 0 where
+pub record GivesPlace (old : PagesState) (size : Size) (place : PagedAllocation) (new : PagesState) : Type 0 where
   pub places : Places old size place new
   pub large : IsLarge (page_frame old.options) size place.allocation.rectangle

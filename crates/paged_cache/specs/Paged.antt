@@ -2,7 +2,7 @@
 use Rattle.std.specs.Prelude.{◌≡◌, ℕ, false, List}
 use Rattle.etagere_base.specs.declared.geometry.Size.{Size}
 use Rattle.atlas_pages.specs.declared.options.PageOptions.{PageOptions}
-use Rattle.atlas_pages.specs.declared.places.PagePlace.{PagePlace}
+use Rattle.atlas_pages.specs.declared.places.PagedAllocation.{PagedAllocation}
 use Rattle.atlas_pages.specs.Pages.{PagesState, no_pages}
 use Rattle.atlas_pages.specs.Places.{cleared}
 use Rattle.atlas_pages.specs.Promises.{KeepsPagesPromises}
@@ -12,7 +12,7 @@ use Rattle.paged_cache.specs.Keyed as keyed
 
 -- a cache: keys with their places, the most recently used first; how many there may be; and the pages
 abbrev pub PagedCacheState : Type 0
-PagedCacheState = keyed.KeyedState PagesState PagePlace
+PagedCacheState = keyed.KeyedState PagesState PagedAllocation
 
 -- a new one: no page is open
 abbrev pub empty_cache : PageOptions → ℕ → PagedCacheState
@@ -31,7 +31,7 @@ abbrev pub IsTooLarge : PagedCacheState → Size → Type 0
 IsTooLarge state size = fits_page state.places size ≡ false
 
 -- a new key was placed: just the evictions that its size needs went, the least recently used first, and then it entered
-abbrev pub PlacesKey : PagedCacheState → ℕ → Size → PagePlace → List ℕ → PagedCacheState → Type 0
+abbrev pub PlacesKey : PagedCacheState → ℕ → Size → PagedAllocation → List ℕ → PagedCacheState → Type 0
 PlacesKey old key size place evicted new = keyed.Places place_returned has_page GivesPlace old key size place evicted new
 
 -- what a fault of a new key left: all, or what memory running out did

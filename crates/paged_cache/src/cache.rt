@@ -14,7 +14,7 @@ ghost use Rattle.paged_cache.specs.Paged.{IsLeft, IsTooLarge, KeepsPagedPromises
 use crate::faults::{NewCacheFault, PlacingFault};
 use crate::keyed::{KeyedPlaces, PlacedKey};
 use crate::listing::Iter;
-use atlas_pages::{AtlasPages, PageOptions, PagePlace};
+use atlas_pages::{AtlasPages, PageOptions, PagedAllocation};
 use etagere::Size;
 use std::alloc::Global;
 use std::marker::Model;
@@ -82,7 +82,11 @@ impl PagedCache {
     ///
     /// Takes memory for the entry, for what the allocation takes, and for the list of the evicted keys. Asks the pages
     /// once, and once more for each key that is evicted.
-    pub fn place(&mut self, key: u64, size: Size) -> Result<PlacedKey<PagePlace>, PlacingFault>
+    pub fn place(
+        &mut self,
+        key: u64,
+        size: Size,
+    ) -> Result<PlacedKey<PagedAllocation>, PlacingFault>
         ensures found { IfSome (place_at self.old key)
             (λ place. IsOkAnd result
             (λ placed. (placed.place ≡ place) × (placed.evicted.items ≡ []))
@@ -103,7 +107,7 @@ impl PagedCache {
     /// changes.
     ///
     /// Takes no memory, and constant time.
-    pub fn get(&mut self, key: u64) -> Option<PagePlace>
+    pub fn get(&mut self, key: u64) -> Option<PagedAllocation>
         ensures value { result ≡ place_at self.old key }
         ensures used { self.new ≡ used self.old key }
         ensures promises { KeepsPagedPromises self.new }
@@ -114,7 +118,7 @@ impl PagedCache {
     /// The place of a key; none where the key isn't there. Nothing changes: what is only looked at so isn't used.
     ///
     /// Takes no memory, and constant time.
-    pub fn peek(&self, key: u64) -> Option<PagePlace>
+    pub fn peek(&self, key: u64) -> Option<PagedAllocation>
         ensures { result ≡ place_at self.now key }
     {
         self.kept.peek(key)
@@ -124,7 +128,7 @@ impl PagedCache {
     /// page stays open.
     ///
     /// Takes no memory. Costs what `AtlasPages::deallocate` does.
-    pub fn remove(&mut self, key: u64) -> Option<PagePlace>
+    pub fn remove(&mut self, key: u64) -> Option<PagedAllocation>
         ensures value { result ≡ place_at self.old key }
         ensures removed { self.new ≡ without_key self.old key }
         ensures promises { KeepsPagedPromises self.new }
@@ -175,7 +179,7 @@ impl PagedCache {
 }
 
 impl<'a> IntoIterator for &'a PagedCache {
-    type Item = (u64, PagePlace);
+    type Item = (u64, PagedAllocation);
 
     type IntoIter = Iter<'a>;
 

@@ -5,7 +5,7 @@
 ghost use Rattle.std.specs.Prelude.{◌≡◌};
 ghost use Rattle.std.specs.Iterator.{YieldsFirst, item_count};
 
-use atlas_pages::PagePlace;
+use atlas_pages::PagedAllocation;
 use std::iter::FusedIterator;
 use std::marker::Model;
 
@@ -14,21 +14,21 @@ use std::marker::Model;
 /// A step takes constant time.
 #[derive(Drop)]
 pub struct Iter<'a> {
-    entries: lru::Iter<'a, u64, PagePlace>,
+    entries: lru::Iter<'a, u64, PagedAllocation>,
 }
 
 impl<'a> Model for Iter<'a> {
     ghost use Rattle.std.specs.Prelude.{ℕ, List};
-    ghost use Rattle.atlas_pages.specs.declared.places.PagePlace.{PagePlace};
+    ghost use Rattle.atlas_pages.specs.declared.places.PagedAllocation.{PagedAllocation};
 
-    ghost Value = { List (ℕ × PagePlace) };
+    ghost Value = { List (ℕ × PagedAllocation) };
 
     ghost view = { λ iter. iter.entries };
 }
 
 impl<'a> Iter<'a> {
     /// These entries, the most recently used first.
-    pub(crate) fn new(entries: lru::Iter<'a, u64, PagePlace>) -> Iter<'a>
+    pub(crate) fn new(entries: lru::Iter<'a, u64, PagedAllocation>) -> Iter<'a>
         ensures { result ≡ entries.entry }
     {
         Iter { entries }
@@ -36,13 +36,13 @@ impl<'a> Iter<'a> {
 }
 
 impl<'a> Iterator for Iter<'a> {
-    type Item = (u64, PagePlace);
+    type Item = (u64, PagedAllocation);
 
     ghost next_gives = { YieldsFirst (λ rest. rest) };
 
     ghost remaining = { item_count (λ rest. rest) };
 
-    fn next(&mut self) -> Option<(u64, PagePlace)> {
+    fn next(&mut self) -> Option<(u64, PagedAllocation)> {
         let (key, place) = self.entries.next()?;
         Some((*key, *place))
     }

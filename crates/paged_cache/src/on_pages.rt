@@ -9,14 +9,14 @@ ghost use Rattle.paged_cache.specs.Held as held;
 ghost use Rattle.paged_cache.specs.Private.PagesLaws as laws;
 
 use crate::allocating::Allocates;
-use atlas_pages::{AtlasPages, PagePlace};
+use atlas_pages::{AtlasPages, PagedAllocation};
 use etagere::Size;
 use etagere_base::atlas_frame;
 use shelf_store::choosing::fits_when_empty;
 use std::alloc::AllocError;
 
 impl Allocates for AtlasPages {
-    type Place = PagePlace;
+    type Place = PagedAllocation;
 
     ghost keeps = { promises.KeepsPagesPromises };
 
@@ -34,11 +34,11 @@ impl Allocates for AtlasPages {
 
     ghost are_held = { held.AreAllPlaces };
 
-    fn give(&mut self, size: Size) -> Result<Option<PagePlace>, AllocError> {
+    fn give(&mut self, size: Size) -> Result<Option<PagedAllocation>, AllocError> {
         self.allocate(size)
     }
 
-    fn take_back(&mut self, place: PagePlace) {
+    fn take_back(&mut self, place: PagedAllocation) {
         let _ = self.deallocate(place.page, place.allocation.id);
     }
 

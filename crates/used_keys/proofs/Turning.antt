@@ -1,5 +1,5 @@
 -- Entries that go to the end one by one: in the end they stand as before.
-use Rattle.std.proofs.Common.{◌≡◌, ℕ, zero, suc, ◌+◌, ◌<◌, ◌≤◌, ◌==◌, Bool, true, false, cond, List, [], ◌∷◌, ◌++◌, append_assoc, length, take, drop, refl, ap, sym, ◌∙◌, arith}
+use Rattle.std.proofs.Common.{◌≡◌, ℕ, zero, suc, ◌+◌, ◌<◌, ◌≤◌, ◌==◌, Bool, true, cond, List, [], ◌∷◌, ◌++◌, append_assoc, length, take, drop, refl, ap, sym, ◌∙◌, arith}
 use Rattle.std.proofs.lemmas.List.{map-append}
 use Rattle.std.proofs.lemmas.Bool.Decides.{nat_tests}
 use Rattle.std.specs.Prelude.{map}
@@ -39,20 +39,6 @@ turned-more before now n less is =
     ∙ ap (λ l. drop (suc n) before ++ l) (sym (ap (map (with_stamp 0)) here.taken ∙ map-append (with_stamp 0) (take n before) (here.entry ∷ [])))
     ∙ ap (λ (k : ℕ). drop k before ++ map (with_stamp 0) (take k before)) (sym next)
 
-pub turned-all : (before now : List (ℕ × Entry)) (n : ℕ) → length before ≡ n → IsTurned before n now → now ≡ map (with_stamp 0) before
-turned-all before now n all is = is ∙ ap (λ (k : ℕ). drop k before ++ map (with_stamp 0) (take k before)) (sym all) ∙ whole before
-  where
-    whole : (es : List (ℕ × Entry)) → drop (length es) es ++ map (with_stamp 0) (take (length es) es) ≡ map (with_stamp 0) es
-    whole [] = refl
-    whole (e ∷ es) = pushed (drop (length es) es) (map (with_stamp 0) (take (length es) es)) (with_stamp 0 e) (none es) ∙ ap (λ l. with_stamp 0 e ∷ l) (whole es)
-      where
-        none : (es : List (ℕ × Entry)) → drop (length es) es ≡ []
-        none [] = refl
-        none (e ∷ es) = none es
-
-        pushed : (front back : List (ℕ × Entry)) (e : ℕ × Entry) → front ≡ [] → front ++ e ∷ back ≡ e ∷ (front ++ back)
-        pushed front back e nothing = rw nothing refl
-
 -- entries without stamps are the same
 pub turned-bare : (es : List (ℕ × Entry)) → unstamped (map (with_stamp 0) es) ≡ unstamped es
 turned-bare [] = refl
@@ -74,14 +60,6 @@ counted-more frame es rest n e is counted same =
     behind zero (f ∷ es) h = let tail : es ≡ rest = cc in tail
     behind (suc n) [] h = absurd (cc)
     behind (suc n) (f ∷ es) h = behind n es h
-
-pub counted-here : (frame : ℕ) (es rest : List (ℕ × Entry)) (n : ℕ) (e : ℕ × Entry) → drop n es ≡ e ∷ rest
-    → stamped_first frame es ≡ n + stamped_first frame (drop n es) → (e.1.frame ≡ frame → ⊥) → n ≡ stamped_first frame es
-counted-here frame es rest n e is counted differs =
-    let other : (e.1.frame == frame) ≡ false = grind (arith, nat_tests) in
-    let first : stamped_first frame (drop n es) ≡ 0 =
-    ap (stamped_first frame) is ∙ ap (λ (b : Bool). cond b (suc (stamped_first frame rest)) 0) other in
-    omega arith
 
 -- something is left where not all have been passed
 pub some-left : (es rest : List (ℕ × Entry)) (n : ℕ) → n < length es → rest ≡ drop n es → rest ≡ [] → ⊥

@@ -3,13 +3,13 @@ use Rattle.std.specs.Prelude.{List, map}
 use Rattle.std.specs.List.{AllByRecursion}
 use Rattle.padding.specs.Padding.{IsNear}
 use Rattle.atlas_pages.specs.declared.padded_listing.PaddedIter.TheInside.{Inside}
-use Rattle.atlas_pages.specs.declared.places.PagePlace.{PagePlace}
+use Rattle.atlas_pages.specs.declared.places.PagedAllocation.{PagedAllocation}
 use Rattle.atlas_pages.specs.Padded.{trimmed_place}
 
 -- the places that are left, without their padding
-abbrev pub trimmed_in : Inside → List PagePlace
+abbrev pub trimmed_in : Inside → List PagedAllocation
 trimmed_in fields = map (trimmed_place fields.padding) fields.places
 
 -- none of their rectangles is far from the origin
 abbrev pub AreNear : Inside → Type 0
-AreNear fields = AllByRecursion (λ (place : PagePlace). IsNear place.allocation.rectangle) fields.places
+AreNear fields = AllByRecursion (λ (place : PagedAllocation). IsNear place.allocation.rectangle) fields.places

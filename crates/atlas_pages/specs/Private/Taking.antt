@@ -5,13 +5,13 @@ use Rattle.etagere_base.specs.Rectangles.{IsLarge}
 use Rattle.shelf_model.specs.Atlas.{KeepsPromises, NeedsSplit}
 use Rattle.shelf_model.specs.State.{AtlasState}
 use Rattle.atlas_pages.specs.declared.options.PageChoice.{PageChoice}
-use Rattle.atlas_pages.specs.declared.places.PagePlace.{PagePlace}
+use Rattle.atlas_pages.specs.declared.places.PagedAllocation.{PagedAllocation}
 use Rattle.atlas_pages.specs.Choosing.{chosen_of}
 use Rattle.atlas_pages.specs.Places.{AllocatesOn}
 use Rattle.std.specs.Prelude.{slice_get}
 
 -- a size gets a place on the page that is chosen among open ones
-pub record TakesPlace (choice : PageChoice) (old : List AtlasState) (size : Size) (place : PagePlace)
+pub record TakesPlace (choice : PageChoice) (old : List AtlasState) (size : Size) (place : PagedAllocation)
     (new : List AtlasState) : Type 0 where
   pub chosen : chosen_of choice size old ≡ Some place.page
   pub allocates : AllocatesOn old size place new

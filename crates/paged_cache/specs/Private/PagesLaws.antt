@@ -22,7 +22,7 @@ use Rattle.shelf_model.specs.State.{AtlasState}
 use Rattle.shelf_model.proofs.Callers.{allocates-adds, found-rectangle, fresh-allocated, not_allocated-any, returned-allocated, tied-added, tied-empty, tied-none, tied-returned}
 use Rattle.atlas_pages.specs.declared.faults.PagesFault.TheVariants.{NoPages}
 use Rattle.atlas_pages.specs.declared.options.PageOptions.{PageOptions}
-use Rattle.atlas_pages.specs.declared.places.PagePlace.{PagePlace}
+use Rattle.atlas_pages.specs.declared.places.PagedAllocation.{PagedAllocation}
 use Rattle.atlas_pages.specs.Choosing.{chosen_of, chosen_page, has_place, may_open, opened, ready_for}
 use Rattle.atlas_pages.specs.Pages.{ArePageOptions, PagesState, empty_page, or_no_pages, page_frame}
 use Rattle.atlas_pages.specs.Places.{at_page, cleared}
@@ -95,13 +95,13 @@ same_number : (m n : ℕ) → (m == n) ≡ true → m ≡ n
 same_number m n is = grind (arith, nat_tests)
 
 -- what is kept on a page, of a place and others
-kept-here : (n : ℕ) (place : PagePlace) (places : List PagePlace) → (place.page == n) ≡ true → kept_on n (place ∷ places) ≡ place.allocation ∷ kept_on n places
+kept-here : (n : ℕ) (place : PagedAllocation) (places : List PagedAllocation) → (place.page == n) ≡ true → kept_on n (place ∷ places) ≡ place.allocation ∷ kept_on n places
 kept-here n place places is = ap (λ b. cond b (place.allocation ∷ kept_on n places) (kept_on n places)) is
 
-kept-elsewhere : (n : ℕ) (place : PagePlace) (places : List PagePlace) → (place.page == n) ≡ false → kept_on n (place ∷ places) ≡ kept_on n places
+kept-elsewhere : (n : ℕ) (place : PagedAllocation) (places : List PagedAllocation) → (place.page == n) ≡ false → kept_on n (place ∷ places) ≡ kept_on n places
 kept-elsewhere n place places is = ap (λ b. cond b (place.allocation ∷ kept_on n places) (kept_on n places)) is
 
-kept-append : (n : ℕ) (front back : List PagePlace) → kept_on n (front ++ back) ≡ kept_on n front ++ kept_on n back
+kept-append : (n : ℕ) (front back : List PagedAllocation) → kept_on n (front ++ back) ≡ kept_on n front ++ kept_on n back
 kept-append n [] back = refl
 kept-append n (place ∷ front) back = by_test (place.page == n) (kept-append n front back)
   where
@@ -111,7 +111,7 @@ kept-append n (place ∷ front) back = by_test (place.page == n) (kept-append n 
     by_test true rest = ap (λ l. place.allocation ∷ l) rest
     by_test false rest = rest
 
-kept-among : (n : ℕ) (front back : List PagePlace) (place : PagePlace) → (place.page == n) ≡ true
+kept-among : (n : ℕ) (front back : List PagedAllocation) (place : PagedAllocation) → (place.page == n) ≡ true
     → Adds (kept_on n (front ++ back)) place.allocation (kept_on n (front ++ place ∷ back))
 kept-among n front back place is =
     record {
@@ -121,12 +121,12 @@ kept-among n front back place is =
       after = kept-append n front (place ∷ back) ∙ ap (λ l. kept_on n front ++ l) (kept-here n place back is);
     }
 
-kept-without : (n : ℕ) (front back : List PagePlace) (place : PagePlace) → (place.page == n) ≡ false
+kept-without : (n : ℕ) (front back : List PagedAllocation) (place : PagedAllocation) → (place.page == n) ≡ false
     → kept_on n (front ++ place ∷ back) ≡ kept_on n (front ++ back)
 kept-without n front back place is =
     kept-append n front (place ∷ back) ∙ ap (λ l. kept_on n front ++ l) (kept-elsewhere n place back is) ∙ sym (kept-append n front back)
 
-kept-none : (n : ℕ) (places : List PagePlace) → AllByRecursion (λ (place : PagePlace). place.page < n) places → kept_on n places ≡ []
+kept-none : (n : ℕ) (places : List PagedAllocation) → AllByRecursion (λ (place : PagedAllocation). place.page < n) places → kept_on n places ≡ []
 kept-none n [] below = refl
 kept-none n (place ∷ places) below =
     let other : (place.page == n) ≡ false = (let few = below.0 in grind (arith, nat_tests)) in
@@ -141,10 +141,10 @@ by_number P m n same other = by_test (m == n) refl
     by_test false is = other is
 
 -- a page that is opened holds nothing
-held-opened : (state : PagesState) (places : List PagePlace) → AreAllPlaces state places → AreAllPlaces (opened state) places
+held-opened : (state : PagesState) (places : List PagedAllocation) → AreAllPlaces state places → AreAllPlaces (opened state) places
 held-opened state places held =
     record {
-      open_pages = Each-weaken (λ (place : PagePlace). place.page < length state.pages) (λ (place : PagePlace). place.page < length (opened state).pages) places
+      open_pages = Each-weaken (λ (place : PagedAllocation). place.page < length state.pages) (λ (place : PagedAllocation). place.page < length (opened state).pages) places
           (λ place few. omega (arith, few, length-append state.pages (empty_page state.options ∷ []))) held.open_pages;
       tied = λ number page at.
           ⊎_elim (λ here. held.tied number page here)
@@ -153,14 +153,14 @@ held-opened state places held =
           (get-last state.pages (empty_page state.options) number page at);
     }
 
-held-ready : (state : PagesState) (size : Size) (places : List PagePlace) → AreAllPlaces state places → AreAllPlaces (ready_for state size) places
+held-ready : (state : PagesState) (size : Size) (places : List PagedAllocation) → AreAllPlaces state places → AreAllPlaces (ready_for state size) places
 held-ready state size places held =
     ⊎_elim (λ same. subst (λ (s : PagesState). AreAllPlaces s places) (sym same) held)
     (λ opens. subst (λ (s : PagesState). AreAllPlaces s places) (sym opens) (held-opened state places held))
     (ready-or_opened state size)
 
 -- a place that was given is held with the others
-pub one-more : (old : PagesState) (size : Size) (place : PagePlace) (new : PagesState) (places : List PagePlace) → KeepsPagesPromises old
+pub one-more : (old : PagesState) (size : Size) (place : PagedAllocation) (new : PagesState) (places : List PagedAllocation) → KeepsPagesPromises old
     → KeepsPagesPromises new → GivesPlace old size place new → AreAllPlaces old places → AreAllPlaces new (place ∷ places)
 one-more old size place new places was is gives held_old =
     let given = gives.places in
@@ -172,7 +172,7 @@ one-more old size place new places was is gives held_old =
     record {
       open_pages = (
         omega (arith, long, within-get ready.pages place.page there.before there.is_open),
-        Each-weaken (λ (p : PagePlace). p.page < length ready.pages) (λ (p : PagePlace). p.page < length new.pages) places
+        Each-weaken (λ (p : PagedAllocation). p.page < length ready.pages) (λ (p : PagedAllocation). p.page < length new.pages) places
             (λ p few. omega (arith, few, long)) held.open_pages,
       );
       tied = λ number page at.
@@ -200,14 +200,14 @@ one-more old size place new places was is gives held_old =
     same_page {one} {two} h = cc
 
 -- a place that was given back is held no more
-pub one-less : (state : PagesState) (front back : List PagePlace) (place : PagePlace) → KeepsPagesPromises state
+pub one-less : (state : PagesState) (front back : List PagedAllocation) (place : PagedAllocation) → KeepsPagesPromises state
     → AreAllPlaces state (front ++ place ∷ back) → AreAllPlaces (place_returned state place) (front ++ back)
 one-less state front back place keeps held =
     let change : AtlasState → AtlasState = λ atlas. returned atlas place.allocation.id in
     record {
-      open_pages = Each-weaken (λ (p : PagePlace). p.page < length state.pages) (λ (p : PagePlace). p.page < length (at_page place.page change state.pages)) (front ++ back)
+      open_pages = Each-weaken (λ (p : PagedAllocation). p.page < length state.pages) (λ (p : PagedAllocation). p.page < length (at_page place.page change state.pages)) (front ++ back)
           (λ p few. omega (arith, few, length-at_page change state.pages place.page))
-          (Each-remove_place (λ (p : PagePlace). p.page < length state.pages) front place back held.open_pages);
+          (Each-remove_place (λ (p : PagedAllocation). p.page < length state.pages) front place back held.open_pages);
       tied = λ number page at.
           by_number (AreTied (kept_on number (front ++ back)) (allocations page)) place.page number
           (λ same.
@@ -226,13 +226,13 @@ one-less state front back place keeps held =
     }
 
 -- the order of places says nothing
-pub to-front : (state : PagesState) (front back : List PagePlace) (place : PagePlace)
+pub to-front : (state : PagesState) (front back : List PagedAllocation) (place : PagedAllocation)
     → AreAllPlaces state (front ++ place ∷ back) → AreAllPlaces state (place ∷ front ++ back)
 to-front state front back place held =
     record {
       open_pages = (
-        Each-middle (λ (p : PagePlace). p.page < length state.pages) front place back held.open_pages,
-        Each-remove_place (λ (p : PagePlace). p.page < length state.pages) front place back held.open_pages,
+        Each-middle (λ (p : PagedAllocation). p.page < length state.pages) front place back held.open_pages,
+        Each-remove_place (λ (p : PagedAllocation). p.page < length state.pages) front place back held.open_pages,
       );
       tied = λ number page at.
           by_number (AreTied (kept_on number (place ∷ front ++ back)) (allocations page)) place.page number
@@ -246,10 +246,10 @@ to-front state front back place held =
     }
 
 -- each place that is held is allocated
-pub among-held : (state : PagesState) (front back : List PagePlace) (place : PagePlace)
+pub among-held : (state : PagesState) (front back : List PagedAllocation) (place : PagedAllocation)
     → AreAllPlaces state (front ++ place ∷ back) → is_place_held state place ≡ true
 among-held state front back place held =
-    let page = get-within state.pages place.page (Each-middle (λ (p : PagePlace). p.page < length state.pages) front place back held.open_pages) in
+    let page = get-within state.pages place.page (Each-middle (λ (p : PagedAllocation). p.page < length state.pages) front place back held.open_pages) in
     let adds = kept-among place.page front back place (grind (arith, nat_tests)) in
     let found : IsFound (allocations page.0) place.allocation =
     Each-middle (IsFound (allocations page.0)) adds.front place.allocation adds.back
@@ -257,7 +257,7 @@ among-held state front back place held =
     ap (λ o. is_some (option_and_then (λ (atlas : AtlasState). rectangle_of atlas place.allocation.id) o)) page.1
     ∙ ap is_some (found-rectangle page.0 place.allocation found)
 
-pub still-keeps : (state : PagesState) (place : PagePlace) → KeepsPagesPromises state → KeepsPagesPromises (place_returned state place)
+pub still-keeps : (state : PagesState) (place : PagedAllocation) → KeepsPagesPromises state → KeepsPagesPromises (place_returned state place)
 still-keeps state place keeps = keeps-returned state place.page place.allocation.id keeps
 
 -- pages that were emptied hold nothing
@@ -325,6 +325,6 @@ none-held state size keeps held fits = by_pages state.pages refl
         (unused-fits state.options page size one (tied-empty (allocations page) (held.tied 0 page at)) fits)
 
 -- what fits stays
-pub fits-given : (old : PagesState) (size asked : Size) (place : PagePlace) (new : PagesState) → GivesPlace old asked place new
+pub fits-given : (old : PagesState) (size asked : Size) (place : PagedAllocation) (new : PagesState) → GivesPlace old asked place new
     → fits_page new size ≡ fits_page old size
 fits-given old size asked place new given = ap (λ (o : PageOptions). has_place size (empty_page o)) given.places.options

@@ -2,7 +2,7 @@ use Rattle.std.proofs.Common.{◌≡◌, List, ◌++◌, ap, sym, ◌∙◌, sub
 use Rattle.std.proofs.lemmas.Result.{IfOk-weaker}
 use Rattle.std.specs.List.{AllByRecursion}
 use Rattle.atlas_pages.specs.declared.options.PageOptions.{PageOptions}
-use Rattle.atlas_pages.specs.declared.places.PagePlace.{PagePlace}
+use Rattle.atlas_pages.specs.declared.places.PagedAllocation.{PagedAllocation}
 use Rattle.atlas_pages.specs.Pages.{no_pages}
 use Rattle.atlas_pages.specs.Promises.{KeepsPagesPromises}
 use Rattle.rearranging.specs.Private.Sides.{HasSides}
@@ -19,8 +19,8 @@ pub place_each-requires : goal.place_each-requires
 place_each-requires c =
     let old = c.args.pages.now in
     let keeps = c.iter-allocated.ensures.promises in
-    let listed = subst (λ (l : List PagePlace). AreTiedOn l old) (sym c.iter-allocated.ensures.listed) (tied-listed old keeps) in
-    subst (AllByRecursion (λ (place : PagePlace). HasSides place.allocation)) (sym c.deref.ensures.value)
+    let listed = subst (λ (l : List PagedAllocation). AreTiedOn l old) (sym c.iter-allocated.ensures.listed) (tied-listed old keeps) in
+    subst (AllByRecursion (λ (place : PagedAllocation). HasSides place.allocation)) (sym c.deref.ensures.value)
     (tied-sides old c.in_ok-asked.asked.items keeps
     (tied-permuted c.iter-allocated.result c.in_ok-asked.asked.items old listed c.in_ok-asked.ensures.same))
 
@@ -37,7 +37,7 @@ is-done c done arranged =
     c.iter-allocated.ensures.promises (c.in-Ok.ensures.ok ∙ ap no_pages c.options-options.ensures) c.in-Ok.ensures.promises
     c.iter-allocated.ensures.listed c.in_ok-asked.ensures.same
     (subst (λ (o : PageOptions). AreTallestFirst o.atlas.vertical_shelves asked) c.options-options.ensures c.in_ok-asked.ensures.ordered)
-    (subst (λ (l : List PagePlace). Arranges c.in-Ok.new l done.moves.items done.unplaced.items done.pages) c.deref.ensures.value arranged)
+    (subst (λ (l : List PagedAllocation). Arranges c.in-Ok.new l done.moves.items done.unplaced.items done.pages) c.deref.ensures.value arranged)
 
 pub returns-clause-rearranged : goal.returns-clause-rearranged
 returns-clause-rearranged c =

@@ -2,7 +2,7 @@ use Rattle.std.proofs.Common.{subst, sym}
 use Rattle.etagere_base.specs.declared.geometry.Size.{Size}
 use Rattle.etagere_base.specs.Rectangles.{IsLarge}
 use Rattle.padding.specs.Padding.{HasSize, padded}
-use Rattle.atlas_pages.specs.declared.places.PagePlace.{PagePlace}
+use Rattle.atlas_pages.specs.declared.places.PagedAllocation.{PagedAllocation}
 use Rattle.atlas_pages.specs.Choosing.{IsRefusedByAll}
 use Rattle.atlas_pages.specs.Padded.{PaddedState, PlacesPadded}
 use Rattle.atlas_pages.specs.Pages.{page_frame}
@@ -33,7 +33,7 @@ returns-clause-placed c =
     subst (λ (s : Size). Places c.self.inside.pages s c.in-Some.place c.allocate.new.self) c.in-Ok.ensures.ok
     (rw c.in-Some.is at c.in_ok-place.ensures.placed) in
     subst (λ (s : PaddedState). PlacesPadded s c.args.size c.trimmed_place.result new) c.self.view_is
-    (subst (λ (p : PagePlace). PlacesPadded (record { padding = c.self.inside.padding; pages = c.self.inside.pages }) c.args.size p new)
+    (subst (λ (p : PagedAllocation). PlacesPadded (record { padding = c.self.inside.padding; pages = c.self.inside.pages }) c.args.size p new)
     (sym c.trimmed_place.ensures)
     (places-padded c.self.inside.pages c.allocate.new.self c.self.inside.padding c.args.size c.in-Some.place taken))
 
@@ -43,6 +43,6 @@ returns-clause-large c =
     let large : IsLarge frame (padded c.self.inside.padding c.args.size) c.in-Some.place.allocation.rectangle =
     subst (λ (s : Size). IsLarge frame s c.in-Some.place.allocation.rectangle) c.in-Ok.ensures.ok
     (rw c.in-Some.is at c.in_ok-place.ensures.large) in
-    subst (λ (p : PagePlace). HasSize c.args.size p.allocation.rectangle) (sym c.trimmed_place.ensures)
+    subst (λ (p : PagedAllocation). HasSize c.args.size p.allocation.rectangle) (sym c.trimmed_place.ensures)
     (has-size c.self.inside.pages c.self.inside.padding c.args.size c.in-Some.place.allocation.rectangle c.self.invariant.pages
     c.in-Ok.ensures.accepted large)
