@@ -1,6 +1,5 @@
 -- What was streamed for a script answers it, and what answers all that was read answers the reader.
 use Rattle.std.proofs.Common.{◌≡◌, ℕ, Option, None, Some, List, ◌++◌, Result, Ok, Err, take, refl, ap, ◌∙◌}
-use Rattle.std.specs.Prelude.{IfSome}
 use Rattle.std.specs.Io.KnownBytes.{Appends, Keeps}
 use Rattle.std.proofs.KnownBytes.{Keeps-trans}
 use Rattle.etagere_base.specs.declared.faults.OptionsFault.{OptionsFault}
@@ -105,22 +104,6 @@ begun-replays T input size options (OfBuckets commands) old new spelled accepted
   ),
   out,
 )
-
--- an input that is all that a reader had left, where that is known
-same-input : (remaining : Option (List ℕ)) (input other : List ℕ) → IfSome remaining (λ bytes. input ≡ bytes) → other ≡ input
-    → IfSome remaining (λ bytes. other ≡ bytes)
-same-input None input other known is = tt
-same-input (Some bytes) input other known is = is ∙ known
-
--- what answers that input answers the reader
-pub reader-replays : (remaining old new : Option (List ℕ)) (input : List ℕ) (result : Result Outcome ReplayFault)
-    → IfSome remaining (λ bytes. input ≡ bytes) → Replays (Some input) old new result → Replays remaining old new result
-reader-replays remaining old new input (Ok outcome) known (text, (other, is, answers), out) =
-    (text, (other, same-input remaining input other known is, answers), out)
-reader-replays remaining old new input (Err Read) known keeps = keeps
-reader-replays remaining old new input (Err Write) known (outcome, text, (other, is, answers), out) =
-    (outcome, text, (other, same-input remaining input other known is, answers), out)
-reader-replays remaining old new input (Err Memory) known keeps = keeps
 
 -- what was appended after nothing was
 keeps-appends : (old middle new : Option (List ℕ)) (text : List ℕ) → Keeps old middle → Appends middle new text → Appends old new text

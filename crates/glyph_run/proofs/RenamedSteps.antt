@@ -39,7 +39,7 @@ use Rattle.run_scripts.specs.ReplyText.{corners_text}
 use Rattle.run_answers.specs.Private.Renamed.{renamed, renamed_allocation}
 use Rattle.run_answers.proofs.Renamed.NewNames.{HasNewName, new-name}
 use Rattle.run_answers.proofs.Renamed.RenamedChoice.{placement_of-renamed}
-use Rattle.run_answers.proofs.Renamed.RenamedGrowth.{fresh-renamed}
+use Rattle.run_answers.proofs.Renamed.RenamedGrow.{fresh-renamed}
 use Rattle.run_answers.proofs.Renamed.RenamedTaking.{taken-renamed}
 
 -- two caches are the same, but that ids have other numbers

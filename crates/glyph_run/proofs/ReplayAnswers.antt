@@ -1,6 +1,5 @@
 -- What was streamed for a script answers it, and what answers all that was read answers the reader.
 use Rattle.std.proofs.Common.{◌≡◌, ℕ, ◌+◌, inr, Option, None, Some, List, [], ◌∷◌, ◌++◌, Result, Ok, Err, length, take, refl, ap, sym, ◌∙◌, subst, arith}
-use Rattle.std.specs.Prelude.{IfSome}
 use Rattle.std.specs.Io.KnownBytes.{Appends, Keeps}
 use Rattle.std.proofs.Math.Seq.{take-append-add}
 use Rattle.std.proofs.lemmas.List.{length-append, take_all}
@@ -77,22 +76,6 @@ module _ (input : List ℕ) (request : Request) (old new : Option (List ℕ))
         }),
         whole,
       )
-
--- an input that is all that a reader had left, where that is known
-same-input : (remaining : Option (List ℕ)) (input other : List ℕ) → IfSome remaining (λ bytes. input ≡ bytes) → other ≡ input
-    → IfSome remaining (λ bytes. other ≡ bytes)
-same-input None input other known is = tt
-same-input (Some bytes) input other known is = is ∙ known
-
--- what answers that input answers the reader
-pub reader-replays : (remaining old new : Option (List ℕ)) (input : List ℕ) (result : Result Outcome ReplayFault)
-    → IfSome remaining (λ bytes. input ≡ bytes) → Replays (Some input) old new result → Replays remaining old new result
-reader-replays remaining old new input (Ok outcome) known (other, text, is, answers, out) =
-    (other, text, same-input remaining input other known is, answers, out)
-reader-replays remaining old new input (Err Read) known keeps = keeps
-reader-replays remaining old new input (Err Write) known (other, text, is, begun, out) =
-    (other, text, same-input remaining input other known is, begun, out)
-reader-replays remaining old new input (Err Memory) known keeps = keeps
 
 -- what was appended after nothing was
 keeps-appends : (old middle new : Option (List ℕ)) (text : List ℕ) → Keeps old middle → Appends middle new text → Appends old new text

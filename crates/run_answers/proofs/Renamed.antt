@@ -1,7 +1,7 @@
 pub mod NewNames
 pub mod OtherNames
 pub mod RenamedChoice
-pub mod RenamedGrowth
+pub mod RenamedGrow
 pub mod RenamedPicture
 pub mod RenamedReturns
 pub mod RenamedRuns

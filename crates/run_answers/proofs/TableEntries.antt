@@ -3,7 +3,7 @@ use Rattle.std.proofs.Common.{◌≡◌, ℕ, zero, suc, ◌+◌, ◌-◌, ◌<�
 use Rattle.std.specs.Prelude.{IfNone, IfSome, slice_get, slice_set}
 use Rattle.std.proofs.lemmas.Bool.Decides.{nat_tests}
 use Rattle.std.proofs.lemmas.Bool.{cases_lt}
-use Rattle.std.proofs.lemmas.List.{drop-append-le, drop-set-add, get_or-map, get_or_default, length-drop, length-map, map-append, map-set, set-get_or}
+use Rattle.std.proofs.lemmas.List.{drop-append-le, drop-set-add, get_or-map, get_or_default, length-drop, length-map, map-set, set-get_or}
 use Rattle.std.proofs.lemmas.Option.{slice_get_past, slice_get_read}
 use Rattle.etagere_base.specs.declared.ids.Allocation.{Allocation}
 use Rattle.run_answers.specs.Live.{Entry, allocation_at, without}
@@ -202,11 +202,6 @@ pub ids-emptied : (ids after : List (Option ℕ)) (slots : List (Option Allocati
     → after ≡ slice_set ids slot id → id ≡ None → after ≡ ids_in (slice_set slots slot None)
 ids-emptied ids after slots slot id before is none =
     is ∙ ap (λ n. slice_set ids slot n) none ∙ ap (λ l. slice_set l slot None) before ∙ sym (map-set id_in slots slot None)
-
-pub ids-more : (ids after : List (Option ℕ)) (slots : List (Option Allocation)) (given : Option Allocation) → ids ≡ ids_in slots
-    → after ≡ ids ++ id_in given ∷ [] → after ≡ ids_in (slots ++ given ∷ [])
-ids-more ids after slots given before is =
-    is ∙ ap (λ l. l ++ id_in given ∷ []) before ∙ sym (map-append id_in slots (given ∷ []))
 
 -- what holds holds where nothing was taken, and where something was taken
 pub none-taken : {T P : Type 0} (taken : Option T) → (taken ≡ None → P) → IfNone taken P

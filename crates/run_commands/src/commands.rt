@@ -2,7 +2,7 @@
 //!
 //! The definitions of runs (`AtlasRuns`, `BucketedRuns`) and of the text of replies (`ReplyText`) match on them.
 
-use etagere::{Allocation, Rectangle, Size};
+use etagere_base::{Allocation, Rectangle, Size};
 
 /// A command of a run on a shelf atlas. A position is the number, from 0, of an earlier command.
 #[derive(Clone, Copy, Debug, PartialEq, Eq)]

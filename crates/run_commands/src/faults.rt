@@ -7,7 +7,7 @@
 ghost use Rattle.std.specs.Prelude.{◌≡◌};
 ghost use Rattle.run_commands.specs.Faults.{checked_status, drawing_status, fault_status, fault_words, outcome_status, replay_fault_number, run_fault_number, stream_fault_number};
 
-use etagere::OptionsFault;
+use etagere_base::OptionsFault;
 use std::fmt::{self, Display, Formatter};
 use thiserror::Error;
 

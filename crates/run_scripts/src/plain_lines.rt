@@ -7,7 +7,7 @@ ghost use Rattle.std.specs.Prelude.{◌≡◌, ◌<◌, ◌^◌, pos, IfSome};
 ghost use Rattle.run_scripts.specs.Private.PlainLines.{BeginsWithCommand, BeginsWithNumber};
 
 use crate::words::Spelled;
-use etagere::Size;
+use etagere_base::Size;
 
 /// How many bytes a number and what ends it have at most. So many have to be there, which leaves one test for the end
 /// of the bytes in place of one at each digit.

@@ -9,7 +9,7 @@ ghost use Rattle.run_scripts.specs.ReplyText as spec;
 ghost use Rattle.run_scripts.specs.ReplyText.{HasPlaces, IsPlace, TellsPlaces, corners_text, longest_line};
 
 use crate::short_text::ShortText;
-use etagere::{Allocation, Rectangle};
+use etagere_base::{Allocation, Rectangle};
 use run_commands::commands::Reply;
 use std::marker::Model;
 

@@ -8,7 +8,7 @@ ghost use Rattle.run_scripts.specs.Words as spec;
 
 use crate::lines::split_word;
 use crate::numbers::{number_of, position_of};
-use etagere::{AllocatorOptions, Size};
+use etagere_base::{AllocatorOptions, Size};
 use run_commands::commands::{AtlasCommand, BucketedCommand};
 
 /// What kind of atlas a script is for.

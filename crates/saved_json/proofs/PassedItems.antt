@@ -25,10 +25,6 @@ pub record SpellsOn {R : Type 0} (Is : Json → R → Type 0) (depth : ℕ) (old
   pub enough : length now ≤ turns
   pub goes_on : (new : List Token) → Spells Is depth turns now left new → Spells Is depth (length old) old all new
 
-pub spells-begin : {R : Type 0} (Is : Json → R → Type 0) (depth : ℕ) (old : List Token) (all : List R)
-    → SpellsOn Is depth old old all all
-spells-begin Is depth old all = record { turns = length old; enough = omega arith; goes_on = λ new spells. spells }
-
 spells-turn : {R : Type 0} (Is : Json → R → Type 0) (depth n : ℕ) (old now new : List Token) (first : R)
     (left : List R) → PassesItem Is depth old first now → length old ≤ n → Spells Is depth (n - 1) now left new
     → Spells Is depth n old (first ∷ left) new

@@ -8,8 +8,9 @@ ghost use Rattle.json.specs.Value.{value_view};
 ghost use Rattle.saved_json.specs.Records.{IsBucket, IsBucketShelf, IsItem, IsShelf};
 
 use crate::json_fields::{holds_boolean, holds_natural};
-use etagere::{BucketRecord, BucketShelfRecord, ItemRecord, ShelfRecord};
+use bucketed_snapshots::{BucketRecord, BucketShelfRecord};
 use json::Value;
+use shelf_snapshots::{ItemRecord, ShelfRecord};
 
 /// A record that a JSON value may spell.
 pub trait Spelled {

@@ -6,9 +6,10 @@ ghost use Rattle.std.specs.Prelude.{IfOk, IsTrue};
 ghost use Rattle.json.specs.Value.{value_view};
 
 use crate::records::Spelled;
-use etagere::{AtlasSnapshot, BucketedSnapshot};
+use bucketed_snapshots::BucketedSnapshot;
 use json::{Scratch, Value};
 use serde::{Deserialize, Serialize};
+use shelf_snapshots::AtlasSnapshot;
 use std::alloc::Global;
 
 /// What a JSON text may hold, under its one key.

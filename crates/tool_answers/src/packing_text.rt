@@ -3,7 +3,7 @@
 use crate::packing_lines::Wanted;
 use crate::pieces::Piece::{Count, Number, Words};
 use crate::pieces::push_pieces;
-use atlas_pages::PagePlace;
+use atlas_pages::PagedAllocation;
 use etagere::Size;
 use page_runs::PageReply;
 use std::alloc::{AllocError, Global};
@@ -24,7 +24,11 @@ pub fn plain_text(
     Ok(text)
 }
 
-fn push_line(text: &mut String, one: &Wanted<'_>, place: &PagePlace) -> Result<(), AllocError> {
+fn push_line(
+    text: &mut String,
+    one: &Wanted<'_>,
+    place: &PagedAllocation,
+) -> Result<(), AllocError> {
     let corner = place.allocation.rectangle.min;
     let space = if one.name.is_empty() { "" } else { " " };
     push_pieces(
@@ -86,7 +90,11 @@ fn count_pages(replies: &[PageReply]) -> u64 {
     pages
 }
 
-fn push_object(text: &mut String, one: &Wanted<'_>, place: &PagePlace) -> Result<(), AllocError> {
+fn push_object(
+    text: &mut String,
+    one: &Wanted<'_>,
+    place: &PagedAllocation,
+) -> Result<(), AllocError> {
     if !one.name.is_empty() {
         text.push_str("\"name\":\"")?;
         push_escaped(text, one.name)?;

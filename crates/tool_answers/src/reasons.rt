@@ -107,7 +107,7 @@ pub fn bucket_why(reason: BucketedRefusal) -> Why {
 }
 
 /// Why an atlas doesn't grow to a size, which is the fault of this number.
-pub fn growth_why(number: u32) -> Why {
+pub fn grow_why(number: u32) -> Why {
     Why::Told(match number {
         1 => "a side is out of range",
         2 => "a side is below the present one",

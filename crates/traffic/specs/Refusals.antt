@@ -15,7 +15,7 @@ use Rattle.run_commands.specs.declared.commands.Reply.{Reply}
 use Rattle.run_commands.specs.declared.commands.Reply.TheVariants as replies
 use Rattle.run_answers.specs.Runs.{Kind}
 use Rattle.traffic.specs.declared.going_on.Finding.{Finding}
-use Rattle.traffic.specs.declared.going_on.Reason.TheVariants.{OfShelves, OfBuckets, OfGrowth}
+use Rattle.traffic.specs.declared.going_on.Reason.TheVariants.{OfShelves, OfBuckets, OfGrow}
 use Rattle.traffic.specs.declared.going_on.Refused.{Refused}
 use Rattle.traffic.specs.GoingOn.{GoesOn, HasMemory}
 
@@ -26,7 +26,7 @@ atlas_told state (atlas.Allocate size) replies.Refused =
     (λ reason. record { asked = size; reason = OfShelves reason; largest_free = shelf_usages.largest_free state })
     (shelf_refusals.refusal state size)
 atlas_told state (atlas.Grow size) (replies.GrowRefused number) =
-    Some (record { asked = size; reason = OfGrowth number; largest_free = shelf_usages.largest_free state })
+    Some (record { asked = size; reason = OfGrow number; largest_free = shelf_usages.largest_free state })
 atlas_told state command reply = None
 
 -- the same of a bucketed atlas
@@ -36,7 +36,7 @@ bucketed_told state (buckets.Allocate size) replies.Refused =
     (λ reason. record { asked = size; reason = OfBuckets reason; largest_free = bucket_usages.largest_free state })
     (bucket_refusals.refusal state size)
 bucketed_told state (buckets.Grow size) (replies.GrowRefused number) =
-    Some (record { asked = size; reason = OfGrowth number; largest_free = bucket_usages.largest_free state })
+    Some (record { asked = size; reason = OfGrow number; largest_free = bucket_usages.largest_free state })
 bucketed_told state command reply = None
 
 -- a new atlas of a frame may run the commands so that just this is told of them, where memory was there for each

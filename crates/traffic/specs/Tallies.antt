@@ -22,14 +22,14 @@ abbrev pub is_atlas_command : CommandKind → AtlasCommand → Bool
 is_atlas_command asking.Allocation (atlas.Allocate size) = true
 is_atlas_command asking.Return (atlas.Return position) = true
 is_atlas_command asking.Look (atlas.Look position) = true
-is_atlas_command asking.Growth (atlas.Grow size) = true
+is_atlas_command asking.Grow (atlas.Grow size) = true
 is_atlas_command asking.Clear atlas.Clear = true
 is_atlas_command kind command = false
 
 abbrev pub is_bucketed_command : CommandKind → BucketedCommand → Bool
 is_bucketed_command asking.Allocation (buckets.Allocate size) = true
 is_bucketed_command asking.Return (buckets.Return position) = true
-is_bucketed_command asking.Growth (buckets.Grow size) = true
+is_bucketed_command asking.Grow (buckets.Grow size) = true
 is_bucketed_command asking.Clear buckets.Clear = true
 is_bucketed_command kind command = false
 
@@ -42,7 +42,7 @@ is_reply kinds.Shown (replies.At rectangle index) = true
 is_reply kinds.NotLive replies.NotLive = true
 is_reply kinds.Cleared replies.Cleared = true
 is_reply kinds.Grown replies.Grown = true
-is_reply kinds.GrowthRefused (replies.GrowRefused number) = true
+is_reply kinds.GrowRefused (replies.GrowRefused number) = true
 is_reply kinds.NoMemory replies.NoMemory = true
 is_reply kind reply = false
 
@@ -73,10 +73,10 @@ pub record IsTallyOf {C : Type 0} (sorted : CommandKind → C → Bool) (asked :
   pub allocations : tally.allocations ≡ count_by (sorted asking.Allocation) asked
   pub returns : tally.returns ≡ count_by (sorted asking.Return) asked
   pub looks : tally.looks ≡ count_by (sorted asking.Look) asked
-  pub growths : tally.growths ≡ count_by (sorted asking.Growth) asked
+  pub growths : tally.growths ≡ count_by (sorted asking.Grow) asked
   pub clears : tally.clears ≡ count_by (sorted asking.Clear) asked
   pub refused : tally.refused ≡ count_by (is_reply kinds.Refused) answers
-  pub growths_refused : tally.growths_refused ≡ count_by (is_reply kinds.GrowthRefused) answers
+  pub growths_refused : tally.growths_refused ≡ count_by (is_reply kinds.GrowRefused) answers
   pub not_live : tally.not_live ≡ count_by (is_reply kinds.NotLive) answers
   pub no_memory : tally.no_memory ≡ count_by (is_reply kinds.NoMemory) answers
   pub live : tally.live ≡ live_counts answers

@@ -22,7 +22,7 @@ pub enum Reason {
     /// A bucketed atlas has no place for the size.
     OfBuckets(BucketedRefusal),
     /// The atlas can't grow to the size, for the fault of this number, from 1 to 4.
-    OfGrowth(u32),
+    OfGrow(u32),
 }
 
 /// A command that was refused: what it asked for, why it isn't there, and what was free instead.

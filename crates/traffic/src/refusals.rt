@@ -26,7 +26,7 @@ impl Explaining for AtlasAllocator {
                 (size, Reason::OfShelves(self.refusal(size)?))
             }
             (AtlasCommand::Grow(size), Reply::GrowRefused(number)) => {
-                (size, Reason::OfGrowth(*number))
+                (size, Reason::OfGrow(*number))
             }
             _ => return None,
         };
@@ -47,7 +47,7 @@ impl Explaining for BucketedAtlasAllocator {
                 (size, Reason::OfBuckets(self.refusal(size)?))
             }
             (BucketedCommand::Grow(size), Reply::GrowRefused(number)) => {
-                (size, Reason::OfGrowth(*number))
+                (size, Reason::OfGrow(*number))
             }
             _ => return None,
         };

@@ -19,7 +19,7 @@ pub enum CommandKind {
     Allocation,
     Return,
     Look,
-    Growth,
+    Grow,
     Clear,
 }
 
@@ -33,7 +33,7 @@ pub enum ReplyKind {
     NotLive,
     Cleared,
     Grown,
-    GrowthRefused,
+    GrowRefused,
     NoMemory,
 }
 
@@ -99,7 +99,7 @@ impl Sorted for AtlasCommand {
             CommandKind::Allocation => matches!(self, AtlasCommand::Allocate(_)),
             CommandKind::Return => matches!(self, AtlasCommand::Return(_)),
             CommandKind::Look => matches!(self, AtlasCommand::Look(_)),
-            CommandKind::Growth => matches!(self, AtlasCommand::Grow(_)),
+            CommandKind::Grow => matches!(self, AtlasCommand::Grow(_)),
             CommandKind::Clear => matches!(self, AtlasCommand::Clear),
         }
     }
@@ -122,7 +122,7 @@ impl Sorted for BucketedCommand {
             CommandKind::Allocation => matches!(self, BucketedCommand::Allocate(_)),
             CommandKind::Return => matches!(self, BucketedCommand::Return(_)),
             CommandKind::Look => false,
-            CommandKind::Growth => matches!(self, BucketedCommand::Grow(_)),
+            CommandKind::Grow => matches!(self, BucketedCommand::Grow(_)),
             CommandKind::Clear => matches!(self, BucketedCommand::Clear),
         }
     }
@@ -144,10 +144,10 @@ pub fn tally_of<C: Sorted>(commands: &[C], replies: &[Reply]) -> Tally
         allocations: count_commands(commands, CommandKind::Allocation),
         returns: count_commands(commands, CommandKind::Return),
         looks: count_commands(commands, CommandKind::Look),
-        growths: count_commands(commands, CommandKind::Growth),
+        growths: count_commands(commands, CommandKind::Grow),
         clears: count_commands(commands, CommandKind::Clear),
         refused: count_replies(replies, ReplyKind::Refused),
-        growths_refused: count_replies(replies, ReplyKind::GrowthRefused),
+        growths_refused: count_replies(replies, ReplyKind::GrowRefused),
         not_live: count_replies(replies, ReplyKind::NotLive),
         no_memory: count_replies(replies, ReplyKind::NoMemory),
         live: live_counts(replies),
@@ -216,7 +216,7 @@ fn is_reply(reply: &Reply, kind: ReplyKind) -> bool
         ReplyKind::NotLive => matches!(reply, Reply::NotLive),
         ReplyKind::Cleared => matches!(reply, Reply::Cleared),
         ReplyKind::Grown => matches!(reply, Reply::Grown),
-        ReplyKind::GrowthRefused => matches!(reply, Reply::GrowRefused(_)),
+        ReplyKind::GrowRefused => matches!(reply, Reply::GrowRefused(_)),
         ReplyKind::NoMemory => matches!(reply, Reply::NoMemory),
     }
 }

@@ -33,7 +33,7 @@ use Rattle.run_answers.proofs.AtlasAnswers.{atlas-steps}
 use Rattle.run_answers.proofs.Renamed.NewNames.{HasNewName, new-name}
 use Rattle.run_answers.proofs.Renamed.OtherNames.{entries-agree}
 use Rattle.run_answers.proofs.Renamed.RenamedChoice.{placement_of-renamed}
-use Rattle.run_answers.proofs.Renamed.RenamedGrowth.{fault-renamed, fresh-renamed, grown-renamed}
+use Rattle.run_answers.proofs.Renamed.RenamedGrow.{fault-renamed, fresh-renamed, grown-renamed}
 use Rattle.run_answers.proofs.Renamed.RenamedReturns.{returned-renamed}
 use Rattle.run_answers.proofs.Renamed.RenamedTaking.{taken-renamed}
 

@@ -45,11 +45,6 @@ ranks-changed : {X : Type 0} (change : X → X) (rank : X → Option ℕ) → ((
 ranks-changed change rank same [] = refl
 ranks-changed change rank same (x ∷ xs) = ap (λ r. r ∷ map rank (map change xs)) (same x) ∙ ap (λ rs. rank x ∷ rs) (ranks-changed change rank same xs)
 
--- what was found or comes after, changed
-or_else-changed : {X Y : Type 0} (change : X → Y) (one other : Option X) → or_else (option_map change one) (option_map change other) ≡ option_map change (or_else one other)
-or_else-changed change None other = refl
-or_else-changed change (Some x) other = refl
-
 module _ (name : ℕ → ℕ) where
   -- a shelf holds nothing live alike
   pub idle-renumbered : (shelf : BucketShelf) → is_idle (renumbered_shelf name shelf) ≡ is_idle shelf
