@@ -6,6 +6,7 @@
 # They are kept in out/, or in the user's cache where the checkout can't be written to. Where `rt` isn't in the path, a
 # program that was kept of these sources is run, whichever toolchain made it; else the one that was released in dist/.
 
+# The checkout, and where programs are kept if that can't be written to: all that the functions share.
 root=$(dirname -- "$(dirname -- "$(readlink -f -- "${BASH_SOURCE[0]}")")")
 cache=${XDG_CACHE_HOME:-${HOME:-}/.cache}/etagere
 

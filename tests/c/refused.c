@@ -1,4 +1,4 @@
-/* Makes every call that takes memory, where any growth may be refused: prints the name of each call that had none, and
+/* Makes every call that takes memory, where any request may be refused: prints the name of each call that had none, and
  * fails where such a call has changed something. It gives back all that it has. */
 
 #include <stdio.h>

@@ -28,7 +28,7 @@ class Recording(Stage):
 
 
 def told(test):
-    """The lines of a test, and how many growths each asks for, if that is said; and rows that are answered otherwise."""
+    """The lines of a test, and how many requests each makes, if that is said; and rows that are answered otherwise."""
     stage, taken, wrong, takes = Recording(path_of("rows"), test.kind), [], [], None
     try:
         for row, turn in test.turns():
@@ -94,8 +94,8 @@ def is_mended(program, lines):
     return judge
 
 
-def growths_otherwise(program, lines, taken):
-    """The calls that ask for more or fewer growths than is said. Each is compared with one that does nothing, and that is
+def requests_otherwise(program, lines, taken):
+    """The calls that make more or fewer requests than is said. Each is compared with one that does nothing, and that is
     as long, so that reading them takes the same."""
     wrong = []
     for number, takes in enumerate(taken):
@@ -103,7 +103,7 @@ def growths_otherwise(program, lines, taken):
             continue
         neutral = f"{lines[number].split(' ')[0]} {NOTHING} ".ljust(len(lines[number]), "x")
         before = "".join(f"{line}\n" for line in lines[:number])
-        asked = [program.run(f"{before}{line}\n").growths for line in (lines[number], neutral)]
+        asked = [program.run(f"{before}{line}\n").requests for line in (lines[number], neutral)]
         if asked[0] - asked[1] != takes:
-            wrong.append(f"`{lines[number]}` asks for {asked[0] - asked[1]} growths, not {takes}")
+            wrong.append(f"`{lines[number]}` makes {asked[0] - asked[1]} requests, not {takes}")
     return wrong

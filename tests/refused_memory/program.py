@@ -1,4 +1,4 @@
-"""A program that runs with a library preloaded, which counts its growths of memory and refuses some."""
+"""A program that runs with a library preloaded, which counts its requests for memory and refuses some."""
 
 import os
 import subprocess
@@ -11,13 +11,13 @@ from cases import HERE, ROOT
 
 @dataclass
 class Ended:
-    """How a run ended: what it wrote, its status, the growths it asked for, the most bytes at once, those left; and
-    whether all growths after the refused one were refused too."""
+    """How a run ended: what it wrote, its status, the requests it made, the most bytes at once, those left; and
+    whether all requests after the refused one were refused too."""
 
     out: bytes
     said: bytes
     status: int
-    growths: int
+    requests: int
     most: int
     left: int
     from_there: bool
@@ -38,7 +38,7 @@ def path_of(crate):
 
 
 def make_library(room):
-    """Makes the library that counts growths and refuses some, in a folder, and gives its path."""
+    """Makes the library that counts requests and refuses some, in a folder, and gives its path."""
     library = f"{room}/shim.so"
     subprocess.run(["cc", "-shared", "-fPIC", "-O2", "-o", library, HERE / "shim.c"], check=True)
     return library
@@ -50,16 +50,16 @@ class Program:
         self.library = library
 
     def run(self, text, number=0, from_there=False):
-        """Runs it on this input, with the growth of this number refused, and those after it."""
+        """Runs it on this input, with the request of this number refused, and those after it."""
         with tempfile.NamedTemporaryFile() as told:
-            environment = {**os.environ, "LD_PRELOAD": self.library, "GROWTHS_TO": told.name}
+            environment = {**os.environ, "LD_PRELOAD": self.library, "REQUESTS_TO": told.name}
             if number:
-                environment["REFUSED_GROWTH"] = str(number)
+                environment["REFUSED_REQUEST"] = str(number)
             if from_there:
                 environment["REFUSED_FROM"] = "1"
             done = subprocess.run(
                 self.command, input=text.encode(), capture_output=True, env=environment, check=False
             )
             # A program that a signal ended tells nothing.
-            growths, most, left = map(int, Path(told.name).read_text().split() or (0, 0, 0))
-        return Ended(done.stdout, done.stderr, done.returncode, growths, most, left, from_there)
+            requests, most, left = map(int, Path(told.name).read_text().split() or (0, 0, 0))
+        return Ended(done.stdout, done.stderr, done.returncode, requests, most, left, from_there)

@@ -1,9 +1,9 @@
 /*
- * Preloaded into a program: counts its growths of memory and refuses some.
+ * Preloaded into a program: counts its requests for memory and refuses some.
  *
- * REFUSED_GROWTH=N refuses growth N, counted from 1; with REFUSED_FROM=1 each one from it on. At the end the
- * number of growths asked for, the most bytes that were there at once and those that are left are written to the file
- * that GROWTHS_TO names.
+ * REFUSED_REQUEST=N refuses request N, counted from 1; with REFUSED_FROM=1 each one from it on. At the end the
+ * number of requests, the most bytes that were there at once and those that are left are written to the file
+ * that REQUESTS_TO names.
  */
 #define _GNU_SOURCE
 #include <errno.h>
@@ -19,7 +19,7 @@ extern void *__libc_realloc(void *old, size_t size);
 extern void *__libc_memalign(size_t alignment, size_t size);
 extern void __libc_free(void *old);
 
-static long growths;
+static long requests;
 static long there;
 static long most;
 static long refused;
@@ -27,26 +27,26 @@ static int from_there;
 
 __attribute__((constructor)) static void read_environment(void)
 {
-    const char *number = getenv("REFUSED_GROWTH");
+    const char *number = getenv("REFUSED_REQUEST");
     refused = number ? atol(number) : 0;
     from_there = getenv("REFUSED_FROM") != NULL;
-    growths = 0;
+    requests = 0;
 }
 
-__attribute__((destructor)) static void tell_growths(void)
+__attribute__((destructor)) static void tell_requests(void)
 {
-    const char *path = getenv("GROWTHS_TO");
+    const char *path = getenv("REQUESTS_TO");
     int file = path ? open(path, O_WRONLY | O_CREAT | O_TRUNC, 0600) : -1;
     if (file >= 0) {
-        dprintf(file, "%ld %ld %ld\n", growths, most, there);
+        dprintf(file, "%ld %ld %ld\n", requests, most, there);
         close(file);
     }
 }
 
 static int is_refused(void)
 {
-    growths++;
-    if (refused && (growths == refused || (from_there && growths > refused))) {
+    requests++;
+    if (refused && (requests == refused || (from_there && requests > refused))) {
         errno = ENOMEM;
         return 1;
     }

@@ -209,9 +209,9 @@ impl AtlasAllocator {
     /// `Err` comes only where the item or shelf must be split, too few records are unused for that, and there was no
     /// memory. After an `Err` or none nothing has changed. Memory is taken only for records that are made: of items,
     /// and of a shelf with its entry in the list by height. A split for which there are unused records takes none, nor
-    /// does a size that needs no split. Finds the first shelf that is tall enough by binary search, and goes on by
-    /// height; of each shelf that may have an item wide enough it searches the free list up to the first that is. Where
-    /// a shelf is split, one end of the list by height moves to make room for the new one.
+    /// does a size that needs no split. Finds the first shelf that is tall enough where it did last time, or by binary
+    /// search, and goes on by height; of each shelf that may have an item wide enough it searches the free list up to
+    /// the first that is. Where a shelf is split, one end of the list by height moves to make room for the new one.
     #[inline(always)]
     pub fn allocate(&mut self, size: Size) -> Result<Option<Allocation>, AllocError>
         ensures placed { IfOk result

@@ -14,16 +14,6 @@ pub denied : (b : Bool) (P : Type 0) → Decides b P → b ≡ false → P → �
 denied true P decides e = absurd (cc)
 denied false P decides e = decides
 
--- a fact that holds is decided by a yes
-pub yes : (b : Bool) (P : Type 0) → b ≡ true → P → Decides b P
-yes true P e p = p
-yes false P e p = absurd (cc)
-
--- a fact that does not hold is decided by a no
-pub no : (b : Bool) (P : Type 0) → b ≡ false → (P → ⊥) → Decides b P
-no true P e p = absurd (cc)
-no false P e p = p
-
 -- the same test decides a fact that holds where the first does
 pub decides-map : (b : Bool) (P Q : Type 0) → (P → Q) → (Q → P) → Decides b P → Decides b Q
 decides-map true P Q to from decides = to decides

@@ -1,5 +1,5 @@
 -- How often a number stands in a list, and in the list with a number replaced or left out.
-use Rattle.std.proofs.Common.{◌≡◌, ◌≢◌, ℕ, suc, ◌+◌, ◌≤◌, Bool, true, false, cond, Some, List, [], ◌∷◌, ◌++◌, refl, ap, arith, ◌∙◌, sym, ◌||◌}
+use Rattle.std.proofs.Common.{◌≡◌, ◌≢◌, ℕ, ◌+◌, ◌≤◌, Bool, true, false, cond, Some, List, [], ◌∷◌, ◌++◌, refl, ap, arith, ◌∙◌, sym, ◌||◌}
 use Rattle.std.proofs.lemmas.Bool.{eq-eqb, eqb-true}
 use Rattle.std.specs.List.{flat_map, list_any}
 use Rattle.std.specs.Prelude.{find, not, ◌==◌, nat_lt}
@@ -106,11 +106,6 @@ times-one c (m ∷ ms) h =
 
     alike : (m c n k : ℕ) → m ≡ c → cond (m == n) 1 0 + k ≡ cond (c == n) 1 0 + 0 → k ≡ 0
     alike m c n k e h = grind arith
-
--- a number above all of a list
-abbrev pub unused : List ℕ → ℕ
-unused [] = 0
-unused (n ∷ ns) = suc n + unused ns
 
 -- an id stands in a list
 abbrev pub is_among : ℕ → List ℕ → Bool

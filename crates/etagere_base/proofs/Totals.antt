@@ -22,25 +22,12 @@ module _ {X : Type 0} (measure : X → ℕ) where
       let same : y ≡ x = cc in rw same (omega (arith, total-append (pieces x) ys))
   total-replaced_at pieces (suc n) (y ∷ ys) x h = omega (arith, total-replaced_at pieces n ys x h)
 
-  -- and raises it by no more than any pieces are above their element
-  pub total-replaced_at-le : (more : ℕ) (pieces : X → List X) → ((x : X) → total measure (pieces x) ≤ measure x + more)
-      → (n : ℕ) (xs : List X) → total measure (replaced_at n pieces xs) ≤ total measure xs + more
-  total-replaced_at-le more pieces le n [] = omega arith
-  total-replaced_at-le more pieces le zero (x ∷ xs) = omega (arith, total-append (pieces x) xs, le x)
-  total-replaced_at-le more pieces le (suc n) (x ∷ xs) = omega (arith, total-replaced_at-le more pieces le n xs)
-
   -- writing an element over another changes the total by theirs
   pub total-set : (n : ℕ) (xs : List X) (x new : X) → slice_get xs n ≡ Some x
       → total measure (set xs n new) + measure x ≡ total measure xs + measure new
   total-set n [] x new h = absurd (cc)
   total-set zero (y ∷ ys) x new h = let same : y ≡ x = cc in rw same (omega arith)
   total-set (suc n) (y ∷ ys) x new h = omega (arith, total-set n ys x new h)
-
-  -- the first elements come to no more than all
-  pub total-take-le : (n : ℕ) (xs : List X) → total measure (take n xs) ≤ total measure xs
-  total-take-le zero xs = omega arith
-  total-take-le (suc n) [] = omega arith
-  total-take-le (suc n) (x ∷ xs) = omega (arith, total-take-le n xs)
 
   -- an element and those before it come to no more than all
   pub total-upto : (n : ℕ) (xs : List X) (x : X) → slice_get xs n ≡ Some x → total measure (take n xs) + measure x ≤ total measure xs

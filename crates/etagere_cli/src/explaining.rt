@@ -12,7 +12,7 @@ use tool_answers::ending::{Answer, Failure};
 use tool_answers::pieces::Piece::{Count, Words};
 use tool_answers::pieces::push_pieces;
 use tool_answers::places::{line_numbers, line_of_command};
-use tool_answers::reasons::{bucket_why, growth_why, push_largest, push_why, shelf_why};
+use tool_answers::reasons::{bucket_why, grow_why, push_largest, push_why, shelf_why};
 use traffic::going_on::{Finding, Reason, Refused};
 use traffic::refusals::{explain_atlas, explain_buckets};
 
@@ -81,9 +81,9 @@ fn findings_text(
 /// Adds what is said of a refused command behind its line.
 fn push_refused(text: &mut String, refused: &Refused, is_vertical: bool) -> Result<(), AllocError> {
     let why = match refused.reason {
-        Reason::OfGrowth(number) => {
+        Reason::OfGrow(number) => {
             text.push_str("growth to ")?;
-            return push_why(text, growth_why(number), refused.asked, false);
+            return push_why(text, grow_why(number), refused.asked, false);
         }
         Reason::OfShelves(reason) => shelf_why(reason),
         Reason::OfBuckets(reason) => bucket_why(reason),

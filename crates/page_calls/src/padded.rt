@@ -3,7 +3,7 @@
 use crate::pages::{
     copy_of, options_of, page_and_id_of, say_answer, say_place, say_spaces, spaces,
 };
-use atlas_pages::{AtlasPages, PaddedPages, PageOptions, PagePlace, PagesFault};
+use atlas_pages::{AtlasPages, PaddedPages, PageOptions, PagedAllocation, PagesFault};
 use etagere::{AllocId, Rectangle, Size, UnknownId};
 use padding::Padding;
 use row_calls::lines::{numbers, say, say_if, say_number, say_rectangle, size_of};
@@ -85,7 +85,7 @@ fn with_padding(pages: AtlasPages, padding: Padding) -> PaddedPages {
     PaddedPages::from_pages(pages, padding)
 }
 
-fn asked(pages: &mut PaddedPages, size: Size) -> Result<Option<PagePlace>, AllocError> {
+fn asked(pages: &mut PaddedPages, size: Size) -> Result<Option<PagedAllocation>, AllocError> {
     pages.allocate(size)
 }
 

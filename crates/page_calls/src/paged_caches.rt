@@ -1,7 +1,7 @@
 //! Calls of a cache over several pages.
 
 use crate::pages::options_of;
-use atlas_pages::{PageOptions, PagePlace};
+use atlas_pages::{PageOptions, PagedAllocation};
 use etagere::Size;
 use paged_cache::{NewCacheFault, PagedCache, PlacedKey, PlacingFault};
 use row_calls::lines::{
@@ -75,7 +75,7 @@ fn place(cache: &mut PagedCache, rt: &impl Print, words: &str) -> io::Result<()>
 }
 
 /// Writes the page and the corners of a place, or that there is none.
-fn say_place(rt: &impl Print, place: Option<PagePlace>) -> io::Result<()> {
+fn say_place(rt: &impl Print, place: Option<PagedAllocation>) -> io::Result<()> {
     let Some(place) = place else {
         return say(rt, "none");
     };
@@ -107,19 +107,19 @@ fn placed(
     cache: &mut PagedCache,
     key: u64,
     size: Size,
-) -> Result<PlacedKey<PagePlace>, PlacingFault> {
+) -> Result<PlacedKey<PagedAllocation>, PlacingFault> {
     cache.place(key, size)
 }
 
-fn look(cache: &mut PagedCache, key: u64) -> Option<PagePlace> {
+fn look(cache: &mut PagedCache, key: u64) -> Option<PagedAllocation> {
     cache.get(key)
 }
 
-fn peek(cache: &PagedCache, key: u64) -> Option<PagePlace> {
+fn peek(cache: &PagedCache, key: u64) -> Option<PagedAllocation> {
     cache.peek(key)
 }
 
-fn remove(cache: &mut PagedCache, key: u64) -> Option<PagePlace> {
+fn remove(cache: &mut PagedCache, key: u64) -> Option<PagedAllocation> {
     cache.remove(key)
 }
 

@@ -2,7 +2,7 @@
 
 use atlas_pages::laws::saved_and_restored;
 use atlas_pages::{
-    AtlasPages, FewerPages, PageChoice, PageOptions, PagePlace, PagesFault, PagesRestoreFault,
+    AtlasPages, FewerPages, PageChoice, PageOptions, PagedAllocation, PagesFault, PagesRestoreFault,
 };
 use etagere::{AllocId, AllocatorOptions, DEFAULT_OPTIONS, Rectangle, Size, UnknownId, size2};
 use page_moves::{PageMove, RearrangedPages, rearranged_pages};
@@ -85,7 +85,7 @@ pub fn page_and_id_of(words: &str) -> (u32, AllocId) {
 /// Writes what an allocation answers.
 pub fn say_answer(
     rt: &impl Print,
-    answer: &Result<Option<PagePlace>, AllocError>,
+    answer: &Result<Option<PagedAllocation>, AllocError>,
 ) -> io::Result<()> {
     match answer {
         Ok(Some(place)) => say_place(rt, "placed", place),
@@ -95,7 +95,7 @@ pub fn say_answer(
 }
 
 /// Writes the page, the corners and the id of a place.
-pub fn say_place(rt: &impl Print, word: &str, place: &PagePlace) -> io::Result<()> {
+pub fn say_place(rt: &impl Print, word: &str, place: &PagedAllocation) -> io::Result<()> {
     print!(rt; "page {} ", place.page)?;
     say_given(rt, word, &place.allocation)
 }
@@ -158,7 +158,7 @@ fn moved(alloc: Global, pages: &AtlasPages) -> Result<RearrangedPages, AllocErro
     rearranged_pages(alloc, pages)
 }
 
-fn asked(pages: &mut AtlasPages, size: Size) -> Result<Option<PagePlace>, AllocError> {
+fn asked(pages: &mut AtlasPages, size: Size) -> Result<Option<PagedAllocation>, AllocError> {
     pages.allocate(size)
 }
 

@@ -48,6 +48,7 @@ impl Called for CalledPaddedCache {
             "get" => say_rectangle(rt, look(cache, key_of(words))),
             "peek" => say_rectangle(rt, peek(cache, key_of(words))),
             "remove" => say_rectangle(rt, remove(cache, key_of(words))),
+            "retain" => retain(cache, rt, words),
             "iter" => list(cache, rt),
             "frame" => begin_frame(cache, rt),
             "clear" => clear(cache, rt),
@@ -133,6 +134,13 @@ fn peek(cache: &PaddedCache, key: u64) -> Option<Rectangle> {
 
 fn remove(cache: &mut PaddedCache, key: u64) -> Option<Rectangle> {
     cache.remove(key)
+}
+
+/// Keeps the keys that aren't below a number, and of which the rectangle begins above row 17.
+fn retain(cache: &mut PaddedCache, rt: &impl Print, words: &str) -> io::Result<()> {
+    let least = key_of(words);
+    cache.retain(|key, rectangle| key >= least && rectangle.min.y < 17);
+    say(rt, "retained")
 }
 
 fn begin_frame(cache: &mut PaddedCache, rt: &impl Print) -> io::Result<()> {

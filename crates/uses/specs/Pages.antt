@@ -4,11 +4,11 @@ use Rattle.etagere_base.specs.declared.geometry.Size.{Size}
 use Rattle.shelf_model.specs.Choice.{IsRefused}
 use Rattle.shelf_model.specs.Places.{rectangle_of}
 use Rattle.shelf_model.specs.State.{AtlasState}
-use Rattle.uses.specs.declared.pages.PagePlace.{PagePlace}
+use Rattle.uses.specs.declared.pages.PagedAllocation.{PagedAllocation}
 
 -- a size got a place: every page before it refused the size, its page has the rectangle under the
 -- id, and all other pages are as they were
-pub record IsOnPage (old : List AtlasState) (size : Size) (place : PagePlace) (new : List AtlasState)
+pub record IsOnPage (old : List AtlasState) (size : Size) (place : PagedAllocation) (new : List AtlasState)
     : Type 0 where
   pub refused : (page : ℕ) → page < place.page → (state : AtlasState)
       → slice_get old page ≡ Some state → IsRefused state size

@@ -20,7 +20,7 @@ pub const PAGE: Size = Size {
 
 /// A place on one of several pages, which count from 0.
 #[derive(Clone, Copy, Debug, PartialEq)]
-pub struct PagePlace {
+pub struct PagedAllocation {
     pub page: usize,
     pub allocation: Allocation,
 }
@@ -33,7 +33,7 @@ pub fn allocate_on_pages(
     alloc: Global,
     pages: &mut Vec<AtlasAllocator>,
     size: Size,
-) -> Result<Option<PagePlace>, AllocError>
+) -> Result<Option<PagedAllocation>, AllocError>
     ensures placed { IfOk result (λ answer. IfSome answer
         (λ place. IsOnPage pages.old.items size place pages.new.items)) }
     ensures none { IfOk result (λ answer. IfNone answer
@@ -43,7 +43,7 @@ pub fn allocate_on_pages(
 {
     for page in 0..pages.len() {
         if let Some(allocation) = pages[page].allocate(size)? {
-            return Ok(Some(PagePlace { page, allocation }));
+            return Ok(Some(PagedAllocation { page, allocation }));
         }
     }
     let Ok(mut opened) = AtlasAllocator::new(alloc, PAGE) else {
@@ -54,5 +54,5 @@ pub fn allocate_on_pages(
     };
     let page = pages.len();
     pages.push(opened)?;
-    Ok(Some(PagePlace { page, allocation }))
+    Ok(Some(PagedAllocation { page, allocation }))
 }
