@@ -2,6 +2,7 @@ pub mod CacheKept
 pub mod LayoutAllocated
 pub mod MapAnswers
 pub mod MapLeft
+pub mod MapRefused
 pub mod MapRunsOn
 pub mod MapStepsTold
 pub mod PaddedAnswers

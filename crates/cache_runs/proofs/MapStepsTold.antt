@@ -4,7 +4,7 @@ use Rattle.std.proofs.lemmas.List.{length-map, length-reverse, length-take, take
 use Rattle.std.specs.Map.{lookup}
 use Rattle.std.specs.Option.{option_map_or}
 use Rattle.std.specs.NonZero.{non_zero_usize_get}
-use Rattle.std.specs.Prelude.{Bool, option_map}
+use Rattle.std.specs.Prelude.{Bool, not, option_map}
 use Rattle.lru.specs.LruCache.{promoted}
 use Rattle.etagere_base.specs.declared.geometry.Rectangle.{Rectangle}
 use Rattle.etagere_base.specs.declared.geometry.Size.{Size}
@@ -18,12 +18,14 @@ use Rattle.glyph_map.specs.declared.faults.MapFault.{MapFault}
 use Rattle.glyph_map.specs.declared.faults.MapFault.TheVariants.{TooLarge, Memory, FrameFull}
 use Rattle.glyph_map.specs.declared.map.Placed.{Placed}
 use Rattle.cache_runs.specs.declared.map_calls.MapCall.{MapCall}
-use Rattle.cache_runs.specs.declared.map_calls.MapCall.TheVariants.{Place, UseKey, Remove, BeginFrame, Grow, SetCapacity, Clear}
+use Rattle.cache_runs.specs.declared.map_calls.MapCall.TheVariants.{Place, UseKey, Remove, Retain, BeginFrame, Grow, SetCapacity, Clear}
 use Rattle.cache_runs.specs.declared.map_calls.MapReply.{MapReply}
 use Rattle.cache_runs.specs.declared.map_calls.MapReply.TheVariants as reply
+use Rattle.cache_runs.specs.Dropping.{is_among}
 use Rattle.cache_runs.specs.MapRuns.{MayAnswer, PlacesAgain, PlacesNew}
 use Rattle.cache_runs.specs.MapTold.{Told, entries_seen, told_after, with_first_value, without_evicted, without_last}
 use Rattle.cache_runs.proofs.MapLeft.{left-listed, placed-listed, promoted-shown, removed-shown, revalued-listed, shown}
+use Rattle.cache_runs.proofs.Shown.{kept-shown}
 
 module _ {K V : Type 0} where
   -- the cache's entries when so many went
@@ -97,6 +99,9 @@ module _ {K V : Type 0} where
     told-step old new (UseKey key) reply.NotThere (is_new, same) = ap entries_seen same
     told-step old new (Remove key) (reply.Removed rectangle value) (there, after) = ap entries_seen after ∙ removed-shown (eq key) old.entries
     told-step old new (Remove key) reply.NotThere (is_new, same) = ap entries_seen same
+    told-step old new (Retain gone) reply.Retained drops =
+        ap (map shown) drops.order ∙ kept-shown seen (λ key. not (is_among eq gone.items key)) old.entries
+    told-step old new (Retain gone) reply.NoMemory same = ap entries_seen same
     told-step old new BeginFrame reply.Begun after = ap entries_seen after
     told-step old new (Grow size) reply.Grown (none, after) = ap entries_seen after
     told-step old new (Grow size) (reply.NotGrown fault) (is_fault, same) = ap entries_seen same

@@ -1,5 +1,5 @@
 -- A call changes what a cache with a padding lists just as its reply tells.
-use Rattle.std.proofs.Common.{◌≡◌, ℕ, ◌+◌, ◌-◌, ℤ, pos, ◌+ℤ◌, ◌-ℤ◌, Option, Some, None, List, [], ◌∷◌, inl, inr, length, map, take, reverse, refl, ap, sym, ◌∙◌, arith}
+use Rattle.std.proofs.Common.{◌≡◌, ℕ, ◌-◌, ℤ, pos, ◌+ℤ◌, ◌-ℤ◌, Option, Some, None, List, [], ◌∷◌, inl, inr, length, map, take, reverse, refl, ap, sym, ◌∙◌, arith}
 use Rattle.std.proofs.lemmas.Int.{ints}
 use Rattle.std.proofs.lemmas.List.{length-map, length-reverse, length-take, take-map, take_all}
 use Rattle.std.specs.List.{filter}
@@ -25,7 +25,7 @@ use Rattle.cache_runs.specs.declared.padded_calls.PaddedCall.{PaddedCall}
 use Rattle.cache_runs.specs.declared.padded_calls.PaddedCall.TheVariants.{Place, Get, Remove, Retain, BeginFrame, Grow, SetCapacity, Clear}
 use Rattle.cache_runs.specs.declared.padded_calls.PaddedReply.{PaddedReply}
 use Rattle.cache_runs.specs.declared.padded_calls.PaddedReply.TheVariants as reply
-use Rattle.cache_runs.specs.PaddedRuns.{MayAnswer, PlacesAgain, PlacesNew, Told, round, told_after, without_last}
+use Rattle.cache_runs.specs.PaddedRuns.{MayAnswer, PlacesAgain, PlacesNew, Told, told_after, without_last}
 use Rattle.cache_runs.proofs.Shown.{kept-shown, promoted-shown, removed-shown, shown, used-first}
 
 abbrev Entries : Type 0

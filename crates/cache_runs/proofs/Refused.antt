@@ -48,6 +48,10 @@ module _ {X : Type 0} where
       ∙ ap (filter p) (reverse-reverse xs)
 
   module _ {Y : Type 0} where
+    pub map-twice : {Z : Type 0} (f : X → Y) (g : Y → Z) (xs : List X) → map g (map f xs) ≡ map (λ (x : X). g (f x)) xs
+    map-twice f g [] = refl
+    map-twice {Z} f g (x ∷ xs) = ap (λ (l : List Z). g (f x) ∷ l) (map-twice f g xs)
+
     pub map-reversed : (f : X → Y) (xs : List X) → map f (reverse xs) ≡ reverse (map f xs)
     map-reversed f [] = refl
     map-reversed f (x ∷ xs) =
@@ -106,7 +110,3 @@ drops-keys {F} says test old new retains gone stays tells at =
           ∙ ap (without_keys old) (refused-among p (reverse (keys_of es)));
       order = retains.order ∙ ap (λ (l : List Bool). reverse (items_where_true l (reverse es))) by_entry ∙ kept-in_order stays_of es;
     }
-  where
-    map-twice : {X Y Z : Type 0} (f : X → Y) (g : Y → Z) (xs : List X) → map g (map f xs) ≡ map (λ (x : X). g (f x)) xs
-    map-twice f g [] = refl
-    map-twice {Z = Z} f g (x ∷ xs) = ap (λ (l : List Z). g (f x) ∷ l) (map-twice f g xs)

@@ -1,5 +1,6 @@
 -- Lists of calls of a map: what each call may answer and leave, and what holds after them.
-use Rattle.std.specs.Prelude.{◌≡◌, ℕ, ◌≤◌, ◌⊎◌, Bool, None, Some, option_map, List, [], ◌∷◌, length, take}
+use Rattle.std.specs.Prelude.{◌≡◌, ℕ, ◌≤◌, ◌⊎◌, ⊤, Bool, None, Some, not, option_map, List, [], ◌∷◌, filter, length, reverse, take}
+use Rattle.std.specs.Map.{keys_of}
 use Rattle.std.specs.NonZero.{non_zero_usize_get}
 use Rattle.etagere_base.specs.declared.geometry.Size.{Size}
 use Rattle.etagere_base.specs.Rectangles.{IsLarge}
@@ -7,11 +8,13 @@ use Rattle.shelf_model.specs.Growing.{grow_fault}
 use Rattle.glyph_map.specs.Calls.{dropped_pairs, empty_map, in_new_frame, map_grown, seen_at, surplus, used, with_capacity, with_value, without_key}
 use Rattle.glyph_map.specs.Placing.{IsFrameFull, IsLeft, IsNew, IsTooLarge, Places, Spares, evictable}
 use Rattle.glyph_map.specs.Promises.{KeepsMapPromises}
-use Rattle.glyph_map.specs.State.{MapState}
+use Rattle.glyph_map.specs.Retaining.{without_keys}
+use Rattle.glyph_map.specs.State.{Held, MapState}
+use Rattle.cache_runs.specs.Dropping.{is_among}
 use Rattle.cache_runs.specs.Grows.{IsNotGrown}
 use Rattle.cache_runs.specs.MapTold.{entries_seen, told_from}
 use Rattle.cache_runs.specs.declared.map_calls.MapCall.{MapCall}
-use Rattle.cache_runs.specs.declared.map_calls.MapCall.TheVariants.{Place, UseKey, Remove, BeginFrame, Grow, SetCapacity, Clear}
+use Rattle.cache_runs.specs.declared.map_calls.MapCall.TheVariants.{Place, UseKey, Remove, Retain, BeginFrame, Grow, SetCapacity, Clear}
 use Rattle.cache_runs.specs.declared.map_calls.MapReply.{MapReply}
 use Rattle.cache_runs.specs.declared.map_calls.MapReply.TheVariants as reply
 use Rattle.glyph_map.specs.declared.faults.MapFault.{MapFault}
@@ -57,6 +60,11 @@ module _ {K V : Type 0} (eq : K → K → Bool) where
     pub left : IsLeft old size refused.fault new
     pub spared : Spares old refused.fault
 
+  -- these keys go, one after another, the least recently used first; the others stand in the order of use
+  pub record DropsKeys (old : MapState K V) (gone : List K) (new : MapState K V) : Type 0 where
+    pub left : new ≡ without_keys eq old (filter (is_among eq gone) (reverse (keys_of old.entries)))
+    pub order : new.entries ≡ filter (λ (entry : K × Held V). not (is_among eq gone entry.0)) old.entries
+
   -- a map may give this reply to a call, and become the new one
   abbrev pub MayAnswer : MapState K V → MapCall K V → MapReply K V → MapState K V → Type 0
   MayAnswer old (Place key value size) (reply.Placed placed) new =
@@ -68,6 +76,8 @@ module _ {K V : Type 0} (eq : K → K → Bool) where
   MayAnswer old (Remove key) (reply.Removed rectangle value) new =
       (seen_at (eq key) old ≡ Some (rectangle, value)) × (new ≡ without_key (eq key) old)
   MayAnswer old (Remove key) reply.NotThere new = IsNew (eq key) old × (new ≡ old)
+  MayAnswer old (Retain gone) reply.Retained new = DropsKeys old gone.items new
+  MayAnswer old (Retain gone) reply.NoMemory new = new ≡ old
   MayAnswer old BeginFrame reply.Begun new = new ≡ in_new_frame old
   MayAnswer old (Grow size) reply.Grown new = (grow_fault old.atlas size ≡ None) × (new ≡ map_grown old size)
   MayAnswer old (Grow size) (reply.NotGrown fault) new = IsNotGrown old.atlas size fault × (new ≡ old)
@@ -106,6 +116,11 @@ module _ {K V : Type 0} (eq : K → K → Bool) where
   abbrev pub RunKeepsPromisesThroughout : MapState K V → List (MapCall K V) → List (MapReply K V) → Type 0
   RunKeepsPromisesThroughout start calls answers =
       (n : ℕ) → n ≤ length calls → RunKeepsPromises start (take n calls) (take n answers)
+
+-- a call that needs no clone of a key
+abbrev pub NeedsNoClone : {K V : Type 0} → MapCall K V → Type 0
+NeedsNoClone (Retain gone) = ⊥
+NeedsNoClone call = ⊤
 
 -- That holds of every list of calls of a map that keeps its promises: a new one, where nothing is there, or any other.
 abbrev pub EveryRunKeepsPromises : {K : Type 0} → Type 0 → (K → K → Bool) → Type 0

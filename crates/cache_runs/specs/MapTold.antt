@@ -1,15 +1,16 @@
 -- What replies to calls tell of what is there.
-use Rattle.std.specs.Prelude.{ℕ, ◌-◌, Bool, List, [], ◌∷◌, length, map, take}
+use Rattle.std.specs.Prelude.{ℕ, ◌-◌, Bool, not, List, [], ◌∷◌, filter, length, map, take}
 use Rattle.std.specs.Map.{remove_entry}
 use Rattle.std.specs.Option.{option_map_or}
 use Rattle.lru.specs.LruCache.{promoted}
 use Rattle.etagere_base.specs.declared.geometry.Rectangle.{Rectangle}
 use Rattle.glyph_map.specs.Calls.{seen}
 use Rattle.glyph_map.specs.State.{Held, MapState}
+use Rattle.cache_runs.specs.Dropping.{is_among}
 use Rattle.cache_runs.specs.declared.map_calls.MapCall.{MapCall}
-use Rattle.cache_runs.specs.declared.map_calls.MapCall.TheVariants.{Place, UseKey, Remove}
+use Rattle.cache_runs.specs.declared.map_calls.MapCall.TheVariants.{Place, UseKey, Remove, Retain}
 use Rattle.cache_runs.specs.declared.map_calls.MapReply.{MapReply}
-use Rattle.cache_runs.specs.declared.map_calls.MapReply.TheVariants.{At, Cleared, Evicted, Placed, Refused, Removed}
+use Rattle.cache_runs.specs.declared.map_calls.MapReply.TheVariants.{At, Cleared, Evicted, Placed, Refused, Removed, Retained}
 use Rattle.glyph_map.specs.declared.faults.MapFault.{MapFault}
 use Rattle.glyph_map.specs.declared.faults.MapFault.TheVariants.{Memory}
 
@@ -45,6 +46,8 @@ module _ {K V : Type 0} where
     told_after (Place key value size) (Refused refused) told = without_evicted refused.fault told
     told_after (UseKey key) (At rectangle) told = promoted (eq key) told
     told_after (Remove key) (Removed rectangle value) told = remove_entry (eq key) told
+    told_after (Retain gone) Retained told =
+        filter (λ (entry : K × (Rectangle × V)). not (is_among eq gone.items entry.0)) told
     told_after call (Evicted evicted) told = without_last (length evicted.items) told
     told_after call Cleared told = []
     told_after call answer told = told

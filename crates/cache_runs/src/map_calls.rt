@@ -13,8 +13,10 @@ pub enum MapCall<K, V> {
     Place(K, V, Size),
     /// `use_key`, as `get` does before it looks.
     UseKey(K),
-    /// `remove`, as `retain` does with each key that goes.
+    /// `remove`.
     Remove(K),
+    /// `retain` of the keys that equal none of these.
+    Retain(Vec<K>),
     /// `begin_frame`.
     BeginFrame,
     /// `grow` to a size in pixels.
@@ -38,6 +40,8 @@ pub enum MapReply<K, V> {
     Removed(Rectangle, V),
     /// The key isn't there. Nothing changed.
     NotThere,
+    /// None of those keys is there any more.
+    Retained,
     /// A frame has begun.
     Begun,
     /// The atlas has grown.

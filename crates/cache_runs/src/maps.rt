@@ -2,7 +2,11 @@
 //!
 //! Definitions: `MapRuns` for what a call does and what holds, `MapTold` for what replies tell.
 
-ghost use Rattle.cache_runs.specs.MapRuns.{EveryRunKeepsPromises, Step};
+ghost use Rattle.std.specs.Prelude.{◌≡◌, not};
+ghost use Rattle.cache_runs.specs.Dropping.{is_among};
+ghost use Rattle.cache_runs.specs.MapRuns.{EveryRunKeepsPromises, NeedsNoClone, Step};
+ghost use Rattle.glyph_map.specs.Promises.{KeepsMapPromises};
+ghost use Rattle.glyph_map.specs.Retaining.{AreClonesEqual};
 
 use crate::map_calls::{MapCall, MapReply};
 use etagere::Size;
@@ -18,21 +22,44 @@ pub fn every_run_keeps_promises<K: Eq + Hash, V>()
 
 /// Calls a map, and gives what it answers.
 ///
-/// Takes the memory of that call, and costs what it does.
+/// Takes the memory of that call, and costs what it does. `retain_on_map` makes `Retain`, which clones keys.
 pub fn answer_on_map<K: Eq + Hash + Drop, V: Drop>(
     map: &mut GlyphMap<K, V>,
     call: MapCall<K, V>,
 ) -> MapReply<K, V>
+    requires { NeedsNoClone call }
     ensures { Step K.eq map.old call result map.new }
 {
     match call {
         MapCall::Place(key, value, size) => place(map, key, value, size),
         MapCall::UseKey(key) => use_key(map, key),
         MapCall::Remove(key) => remove(map, key),
+        MapCall::Retain(_) => unreachable!(),
         MapCall::BeginFrame => begin_frame(map),
         MapCall::Grow(size) => grow(map, size),
         MapCall::SetCapacity(capacity) => set_capacity(map, capacity),
         MapCall::Clear => clear(map),
+    }
+}
+
+/// Retains the keys of a map that equal none of these, and gives what it answers. That is a step where a clone of a key
+/// equals it.
+///
+/// Takes the memory of `retain`, and costs what it does; it goes through these keys for each key that is there.
+pub fn retain_on_map<K: Eq + Hash + Clone, V: Drop>(
+    map: &mut GlyphMap<K, V>,
+    gone: Vec<K>,
+) -> MapReply<K, V>
+    ensures step { AreClonesEqual K.is_clone K.eq
+        → Step K.eq map.old (MapCall.Retain gone) result map.new }
+    ensures promises { KeepsMapPromises K.eq map.new }
+{
+    let stays = |key: &K, _: &V|
+        ensures { result ≡ not (is_among K.eq gone.items key.now) }
+    { !gone.contains(key) };
+    match map.retain(stays) {
+        Ok(()) => MapReply::Retained,
+        Err(_) => MapReply::NoMemory,
     }
 }
 
