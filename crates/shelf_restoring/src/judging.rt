@@ -10,7 +10,6 @@ pub mod filling;
 pub mod freeing;
 pub mod items;
 pub mod linking;
-pub mod neighbouring;
 pub mod shelves;
 pub mod spacing;
 pub mod stacking;

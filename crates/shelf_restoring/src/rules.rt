@@ -13,10 +13,8 @@ ghost use Rattle.shelf_restoring.specs.Private.Rules.{BreaksRule, KeepsRules};
 
 use crate::judging::WalkedShelf;
 use crate::judging::freeing::used_marks;
-use crate::judging::neighbouring::has_empty_shelves_apart;
 use crate::judging::shelves::judge_shelves;
 use crate::judging::spacing::{is_space, none_allocated};
-use crate::judging::stacking::has_shelves;
 use etagere_base::{Frame, RestoreFault};
 use shelf_links::{LinkedItem, LinkedShelf};
 use std::alloc::Global;
@@ -59,13 +57,13 @@ pub fn judge_rules(
     if !judged.have_free_lists {
         return Err(RestoreFault::FreeList);
     }
-    if !has_shelves(frame, shelves, entries) {
+    if !judged.are_stacked {
         return Err(RestoreFault::Shelves);
     }
     if !judged.are_filled {
         return Err(RestoreFault::Runs);
     }
-    if !judged.are_apart || !has_empty_shelves_apart(frame, shelves, items, entries) {
+    if !judged.are_apart {
         return Err(RestoreFault::Neighbours);
     }
     if !none_allocated(items, unused) {

@@ -1,8 +1,10 @@
-//! One pass over the shelves that walks have met: of each, what the rules say of its links, its items and its free list.
+//! One pass over the shelves that walks have met: of each, what the rules say of its links, its items, its free list and
+//! where it stands.
 //!
-//! Definitions: `LinkBack` of `Judging`, `HasItems` of `StandsFor`, and `FreeOwn` of `Rules`.
+//! Definitions: `LinkBack` and `HasShelvesIn` of `Judging`, the latter being `HasShelves` of `StandsFor` over lists,
+//! `HasItems` and `HasNeighbours` of `StandsFor`, and `FreeOwn` of `Rules`.
 
-ghost use Rattle.std.specs.Prelude.{◌≡◌, ◌≤◌, ◌*◌, length, map};
+ghost use Rattle.std.specs.Prelude.{◌≡◌, ◌≤◌, ◌*◌, IsTrue, length, map};
 ghost use Rattle.etagere_base.specs.Deciding.{Decides};
 ghost use Rattle.etagere_base.specs.Frames.{IsFrame, longest_side};
 ghost use Rattle.etagere_base.specs.Lists.{NoNeighbours};
@@ -10,9 +12,10 @@ ghost use Rattle.etagere_links.specs.Links.{no_link};
 ghost use Rattle.shelf_links.specs.RecordLists.{Entry};
 ghost use Rattle.shelf_model.specs.Merging.{both_free};
 ghost use Rattle.shelf_model.specs.Space as space;
+ghost use Rattle.shelf_model.specs.State as state;
 ghost use Rattle.shelf_records.specs.AtlasRecords as spec;
-ghost use Rattle.shelf_records.specs.Private.Judging.{LinkBack, atlas_of_records};
-ghost use Rattle.shelf_records.specs.StandsFor.{HasItems};
+ghost use Rattle.shelf_records.specs.Private.Judging.{HasShelvesIn, LinkBack, atlas_of_records};
+ghost use Rattle.shelf_records.specs.StandsFor.{HasItems, HasNeighbours};
 ghost use Rattle.shelf_restoring.specs.Private.Rules.{FreeOwn};
 ghost use Rattle.std.specs.List.{AllByRecursion};
 
@@ -20,6 +23,7 @@ use crate::judging::WalkedShelf;
 use crate::judging::filling::is_one_free;
 use crate::judging::freeing::has_free_list;
 use crate::judging::items::judge_items;
+use crate::judging::stacking::{fills_columns, is_next};
 use etagere_base::Frame;
 use shelf_links::{LinkedItem, LinkedShelf};
 use shelf_records::fields;
@@ -31,12 +35,28 @@ pub struct JudgedShelves {
     pub are_linked: bool,
     /// Whether the free list of each has free items of its own alone, as many as there are, and links back.
     pub have_free_lists: bool,
+    /// Whether they fill each column, column after column, and each says rightly where it begins.
+    pub are_stacked: bool,
     /// Whether the items of each fill its column, and its record says rightly whether it is empty.
     pub are_filled: bool,
-    /// Whether no two free items stand side by side in any.
+    /// Where they are stacked, whether no two free items stand side by side in any, and no two empty shelves in a
+    /// column.
     pub are_apart: bool,
     /// The area of the allocated items, in square pixels.
     pub space: u64,
+}
+
+/// What the rules say of one shelf by itself.
+#[derive(Clone, Copy, Drop)]
+struct JudgedShelf {
+    is_linked: bool,
+    has_free_list: bool,
+    is_filled: bool,
+    /// Whether no two of its free items stand side by side.
+    is_apart: bool,
+    is_empty: bool,
+    /// The area of its allocated items, in square pixels.
+    space: u64,
 }
 
 /// Judges each of these shelves. The marks say which items are in use.
@@ -53,12 +73,13 @@ pub fn judge_shelves(
     ensures links { Decides result.are_linked (AllByRecursion (LinkBack items.now) entries.now) }
     ensures free { Decides result.have_free_lists
         (AllByRecursion (FreeOwn items.now marks.now) entries.now) }
+    ensures stacked { Decides result.are_stacked
+        (HasShelvesIn (atlas_of_records frame.now shelves.now items.now) entries.now) }
     ensures filled { Decides result.are_filled
         (AllByRecursion (HasItems (atlas_of_records frame.now shelves.now items.now)) entries.now) }
-    ensures apart { Decides result.are_apart
-        (AllByRecursion
-        (λ (entry : Entry). NoNeighbours both_free (map (spec.item_at items.now) entry.items))
-        entries.now) }
+    ensures apart { IsTrue result.are_stacked → Decides result.are_apart
+        (HasNeighbours
+        (spec.spelled_state (atlas_of_records frame.now shelves.now items.now) entries.now)) }
     ensures space { result.space
         ≡ space.space_in
         (map (spec.spelled_shelf (atlas_of_records frame.now shelves.now items.now)) entries.now) }
@@ -66,18 +87,31 @@ pub fn judge_shelves(
     let mut judged = JudgedShelves {
         are_linked: true,
         have_free_lists: true,
+        are_stacked: true,
         are_filled: true,
         are_apart: true,
         space: 0,
     };
+    let mut start = 0;
+    let mut height = 0;
+    let mut was_empty = false;
     for entry in entries {
         let one = judge_shelf(frame, shelves, items, marks, entry);
-        judged.are_linked = one.are_linked & judged.are_linked;
-        judged.have_free_lists = one.have_free_lists & judged.have_free_lists;
-        judged.are_filled = one.are_filled & judged.are_filled;
-        judged.are_apart = one.are_apart & judged.are_apart;
+        let along = u32::from(fields::along(shelves, usize::from(entry.number)));
+        let is_next = is_next(frame, shelves, start, height, entry);
+        let touches = (along == start) & (was_empty & one.is_empty);
+        judged.are_linked = one.is_linked & judged.are_linked;
+        judged.have_free_lists = one.has_free_list & judged.have_free_lists;
+        judged.are_stacked = is_next & judged.are_stacked;
+        judged.are_filled = one.is_filled & judged.are_filled;
+        judged.are_apart = (one.is_apart & !touches) & judged.are_apart;
         judged.space += one.space;
+        let below = if along == start { height } else { 0 };
+        height = below + u32::from(fields::height(shelves, usize::from(entry.number)));
+        start = along;
+        was_empty = one.is_empty;
     }
+    judged.are_stacked = fills_columns(frame, start, height) & judged.are_stacked;
     judged
 }
 
@@ -89,15 +123,16 @@ fn judge_shelf(
     items: &[LinkedItem],
     marks: &[bool],
     entry: &WalkedShelf,
-) -> JudgedShelves
+) -> JudgedShelf
     requires frame { IsFrame longest_side frame.now }
     requires short { length entry.now.items ≤ no_link }
-    ensures links { Decides result.are_linked (LinkBack items.now entry.now) }
-    ensures free { Decides result.have_free_lists (FreeOwn items.now marks.now entry.now) }
-    ensures filled { Decides result.are_filled
+    ensures links { Decides result.is_linked (LinkBack items.now entry.now) }
+    ensures free { Decides result.has_free_list (FreeOwn items.now marks.now entry.now) }
+    ensures filled { Decides result.is_filled
         (HasItems (atlas_of_records frame.now shelves.now items.now) entry.now) }
-    ensures apart { Decides result.are_apart
+    ensures apart { Decides result.is_apart
         (NoNeighbours both_free (map (spec.item_at items.now) entry.now.items)) }
+    ensures empty { result.is_empty ≡ state.is_one_free (map (spec.item_at items.now) entry.now.items) }
     ensures space { result.space
         ≡ space.allocated_width (map (spec.item_at items.now) entry.now.items)
         * spec.height_of shelves.now entry.now.number }
@@ -107,18 +142,20 @@ fn judge_shelf(
     let start = fields::along(shelves, shelf);
     let found = judge_items(frame, items, entry.number, start, entry.items);
     let is_full = found.lie_in_row & (found.width == frame.column_width);
-    let says_empty = fields::is_empty(shelves, shelf) == is_one_free(items, entry.items);
-    JudgedShelves {
-        are_linked: found.are_linked,
-        have_free_lists: has_free_list(
+    let is_empty = is_one_free(items, entry.items);
+    let says_empty = fields::is_empty(shelves, shelf) == is_empty;
+    JudgedShelf {
+        is_linked: found.are_linked,
+        has_free_list: has_free_list(
             items,
             marks,
             entry.number,
             entry.free_list,
             found.free_count,
         ),
-        are_filled: is_full & says_empty,
-        are_apart: found.are_apart,
+        is_filled: is_full & says_empty,
+        is_apart: found.are_apart,
+        is_empty,
         space: found.allocated_width * u64::from(fields::height(shelves, shelf)),
     }
 }

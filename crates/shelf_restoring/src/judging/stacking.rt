@@ -1,17 +1,13 @@
-//! Whether the shelves fill each column, column after column, and stand one on the other.
+//! Whether a shelf stands on those before it, and whether shelves fill all columns.
 //!
-//! Definitions: `HasShelvesIn` of `Judging`, which is `HasShelves` of `StandsFor` over lists, and `FollowFrom` of
-//! `Rules`: since columns rise, one pass keeps the height of one column alone, and where it starts, so no shelf takes a
-//! division.
+//! Definitions: `IsNext` and `FollowFrom` of `Rules`: since columns rise, a pass keeps the height of one column alone,
+//! and where it starts, so no shelf takes a division.
 
-ghost use Rattle.std.specs.Prelude.{◌≡◌, ◌≤◌, ◌/◌, ◌%◌, List, length};
+ghost use Rattle.std.specs.Prelude.{◌≡◌, ◌≤◌, ◌/◌, ◌%◌, List, []};
 ghost use Rattle.etagere_base.specs.Deciding.{Decides};
-ghost use Rattle.etagere_base.specs.Frames.{IsFrame, longest_side};
+ghost use Rattle.etagere_base.specs.Frames.{longest_side};
 ghost use Rattle.etagere_links.specs.Links.{no_link};
-ghost use Rattle.shelf_links.specs.RecordLists.{Entry};
-ghost use Rattle.shelf_links.specs.declared.records.LinkedItem.{LinkedItem};
-ghost use Rattle.shelf_records.specs.Private.Judging as judging;
-ghost use Rattle.shelf_records.specs.Private.Judging.{HasShelvesIn, atlas_of_records};
+ghost use Rattle.shelf_links.specs.declared.records.LinkedShelf.{LinkedShelf};
 ghost use Rattle.shelf_restoring.specs.Private.Rules.{FollowFrom, IsNext};
 
 use crate::judging::WalkedShelf;
@@ -19,42 +15,8 @@ use etagere_base::Frame;
 use shelf_links::LinkedShelf;
 use shelf_records::fields;
 
-/// Whether the shelves fill each column, column after column, and each says rightly where it
-/// begins.
-pub fn has_shelves(frame: &Frame, shelves: &[LinkedShelf], entries: &[WalkedShelf]) -> bool
-    requires frame { IsFrame longest_side frame.now }
-    requires few { length entries.now ≤ no_link }
-    ensures { (items : List LinkedItem) →
-        Decides result (HasShelvesIn (atlas_of_records frame.now shelves.now items) entries.now) }
-{
-    fill_columns(frame, shelves, entries)
-}
-
-/// Whether each of these shelves stands where the one before it says, and they fill all columns.
-fn fill_columns(frame: &Frame, shelves: &[LinkedShelf], entries: &[WalkedShelf]) -> bool
-    requires wide { 1 ≤ frame.now.column_width }
-    requires few { length entries.now ≤ no_link }
-    ensures { Decides result (FollowFrom frame.now shelves.now 0 0 entries.now) }
-{
-    let mut start = 0;
-    let mut height = 0;
-    for entry in entries {
-        if !is_next(frame, shelves, start, height, entry) {
-            return false;
-        }
-        let shelf = usize::from(entry.number);
-        let along = u32::from(fields::along(shelves, shelf));
-        if along != start {
-            height = 0;
-        }
-        height += u32::from(fields::height(shelves, shelf));
-        start = along;
-    }
-    height == frame.across_side() && start / frame.column_width + 1 == frame.columns
-}
-
-/// Whether a shelf stands where so much is filled of the column that starts here.
-fn is_next(
+/// Whether a shelf stands where so much is filled of the column that starts here, if a column does.
+pub fn is_next(
     frame: &Frame,
     shelves: &[LinkedShelf],
     start: u32,
@@ -62,9 +24,10 @@ fn is_next(
     entry: &WalkedShelf,
 ) -> bool
     requires wide { 1 ≤ frame.now.column_width }
+    requires narrow { frame.now.column_width ≤ longest_side }
     requires small { start ≤ no_link }
-    requires at_column { start % frame.now.column_width ≡ 0 }
-    ensures { Decides result
+    ensures { start % frame.now.column_width ≡ 0 →
+        Decides result
         (IsNext frame.now shelves.now (start / frame.now.column_width) height entry.now) }
 {
     let shelf = usize::from(entry.number);
@@ -76,11 +39,13 @@ fn is_next(
     u32::from(fields::across(shelves, shelf)) == below && fields::height(shelves, shelf) >= 1
 }
 
-/// The number of the column in which a shelf stands.
-pub fn column_of(frame: &Frame, shelves: &[LinkedShelf], entry: &WalkedShelf) -> u32
-    requires { 1 ≤ frame.now.column_width }
-    ensures value { result ≡ judging.column_at frame.now shelves.now entry.now }
-    ensures small { result ≤ no_link }
+/// Whether no column is left where so much is filled of the one that starts here.
+pub fn fills_columns(frame: &Frame, start: u32, height: u32) -> bool
+    requires wide { 1 ≤ frame.now.column_width }
+    requires small { start ≤ no_link }
+    ensures { (shelves : List LinkedShelf) →
+        Decides result
+        (FollowFrom frame.now shelves (start / frame.now.column_width) height []) }
 {
-    u32::from(fields::along(shelves, usize::from(entry.number))) / frame.column_width
+    height == frame.across_side() && start / frame.column_width + 1 == frame.columns
 }

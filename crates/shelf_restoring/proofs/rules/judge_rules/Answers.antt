@@ -1,20 +1,14 @@
 -- The rules that passes find kept or broken.
-use Rattle.std.proofs.Common.{◌≡◌, true, false, not, Bool, List, length, map, subst, sym, refl, ap, pos, to_z, of_z, w32, ◌∙◌}
+use Rattle.std.proofs.Common.{◌≡◌, true, false, not, Bool, List, length, subst, sym, refl, ap, pos, to_z, of_z, w32, ◌∙◌}
 use Rattle.std.proofs.lemmas.Int.{to_z-of_z}
 use Rattle.std.specs.List.{AllByRecursion}
 use Rattle.etagere_base.proofs.DecidingLemmas.{denied, granted}
-use Rattle.etagere_base.specs.Lists.{NoNeighbours}
-use Rattle.shelf_links.specs.RecordLists.{Entry}
-use Rattle.shelf_model.specs.Merging.{both_empty, both_free}
-use Rattle.shelf_model.specs.State.{Shelf}
-use Rattle.shelf_records.specs.AtlasRecords.{is_allocated_at, item_at, spelled_shelf}
+use Rattle.shelf_records.specs.AtlasRecords.{is_allocated_at, spelled_state}
 use Rattle.shelf_records.specs.Private.Judging.{AreUsed, HasShelvesIn, LinkBack, atlas_of_records}
-use Rattle.shelf_records.specs.StandsFor.{HasItems}
+use Rattle.shelf_records.specs.StandsFor.{HasItems, HasNeighbours}
 use Rattle.shelf_restoring.specs.Private.Rules.{FreeOwn}
-use Rattle.shelf_restoring.proofs.Judged.MappedLists.{each-map, each-unmap}
 use Rattle.shelf_restoring.proofs.Judged.OwnLists.{back-own, own-back, own-marked}
 use Rattle.shelf_restoring.proofs.rules.judge_rules.Goals as goal
-use Rattle.shelf_restoring.proofs.rules.judge_rules.Goals.{then-not-judged-4-via-then-not-judged-4, then-not-judged-4-via-else-not-judged-4+then-not-has_empty_shelves_apart}
 
 -- what is not denied
 was-true : (b : Bool) → not b ≡ false → b ≡ true
@@ -41,22 +35,14 @@ returns-then-not-judged-2-clause-fault c = λ back.
     judged.ensures.free (was-false judged.result.have_free_lists c.if-not-judged-2.true)
     (back-own items marks entries own back)
 
-pub returns-then-not-judged-4-clause-fault : goal.returns-then-not-judged-4-clause-fault
-returns-then-not-judged-4-clause-fault c = λ has.
-    let items = c.args.items.now in
+pub returns-then-not-judged-5-clause-fault : goal.returns-then-not-judged-5-clause-fault
+returns-then-not-judged-5-clause-fault c =
     let entries = c.args.entries.now in
-    let atlas = atlas_of_records c.args.frame.now c.args.shelves.now items in
+    let atlas = atlas_of_records c.args.frame.now c.args.shelves.now c.args.items.now in
     let judged = c.judge_shelves-judged in
-    elim c.then-not-judged-4.branch [
-      | then-not-judged-4-via-then-not-judged-4 w ↦
-          denied judged.result.are_apart (AllByRecursion (λ (entry : Entry). NoNeighbours both_free (map (item_at items) entry.items)) entries)
-          judged.ensures.apart
-          (was-false judged.result.are_apart w.if-not-judged-4.true) (each-unmap (λ (shelf : Shelf). NoNeighbours both_free shelf.items) (spelled_shelf atlas) entries has.items)
-      | then-not-judged-4-via-else-not-judged-4+then-not-has_empty_shelves_apart w ↦
-          denied w.has_empty_shelves_apart.result (NoNeighbours both_empty (map (spelled_shelf atlas) entries))
-          w.has_empty_shelves_apart.ensures
-          w.if-not-has_empty_shelves_apart.true has.shelves
-    ]
+    denied judged.result.are_apart (HasNeighbours (spelled_state atlas entries))
+    (judged.ensures.apart (was-true judged.result.are_stacked c.if-not-judged-3.false))
+    (was-false judged.result.are_apart c.if-not-judged-5.true)
 
 pub returns-then-not-none_allocated-clause-fault : goal.returns-then-not-none_allocated-clause-fault
 returns-then-not-none_allocated-clause-fault c = λ each.
@@ -77,28 +63,21 @@ returns-clause-ok c =
     judged.ensures.links (was-true judged.result.are_linked c.if-not-judged.false) in
     let used = subst (λ (m : List Bool). AreUsed (length items) unused m) (sym c.deref.ensures.value) c.in-Ok.ensures in
     let own = own-marked items marks (length items) unused entries c.requires.shelves c.requires.items used linked in
-    let Apart : Entry → Type 0 = λ entry. NoNeighbours both_free (map (item_at items) entry.items) in
+    let stacked : judged.result.are_stacked ≡ true = was-true judged.result.are_stacked c.if-not-judged-3.false in
     record {
       links = linked;
       free_lists = own-back items marks entries own c.requires.once
           (granted judged.result.have_free_lists (AllByRecursion (FreeOwn items marks) entries)
           judged.ensures.free
           (was-true judged.result.have_free_lists c.if-not-judged-2.false));
-      stacked = granted c.has_shelves.result (HasShelvesIn atlas entries)
-          (c.has_shelves.ensures items) c.if-not-has_shelves.false;
+      stacked = granted judged.result.are_stacked (HasShelvesIn atlas entries)
+          judged.ensures.stacked stacked;
       filled = granted judged.result.are_filled (AllByRecursion (HasItems atlas) entries)
           judged.ensures.filled
-          (was-true judged.result.are_filled c.if-not-judged-3.false);
-      neighbours =
-          record {
-            items = each-map (λ (shelf : Shelf). NoNeighbours both_free shelf.items) (spelled_shelf atlas) entries
-                (granted judged.result.are_apart (AllByRecursion Apart entries)
-                judged.ensures.apart
-                (was-true judged.result.are_apart c.if-not-judged-4.false));
-            shelves = granted c.has_empty_shelves_apart.result (NoNeighbours both_empty (map (spelled_shelf atlas) entries))
-                c.has_empty_shelves_apart.ensures
-                c.if-not-has_empty_shelves_apart.false;
-          };
+          (was-true judged.result.are_filled c.if-not-judged-4.false);
+      neighbours = granted judged.result.are_apart (HasNeighbours (spelled_state atlas entries))
+          (judged.ensures.apart stacked)
+          (was-true judged.result.are_apart c.if-not-judged-5.false);
       unused_free = granted c.none_allocated.result (AllByRecursion (λ item. is_allocated_at items item ≡ false) unused)
           c.none_allocated.ensures c.if-not-none_allocated.false;
       sum = sym (to_z-of_z w32 c.args.allocated_space c.ranges.allocated_space)

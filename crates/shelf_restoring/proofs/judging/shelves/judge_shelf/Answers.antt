@@ -48,22 +48,22 @@ returns-clause-filled c =
     let width : found.width ≡ state.total_width (map (item_at items) entry.items) =
     c.judge_items-found.ensures.width ∙ ap (λ (ns : List ℕ). state.total_width (map (item_at items) ns)) numbers in
     let says : c.is_empty.result ≡ is_empty_at shelves entry.number = c.is_empty.ensures ∙ ap (is_empty_at shelves) own in
-    let one : c.is_one_free.result ≡ state.is_one_free (map (item_at items) entry.items) =
-    c.is_one_free.ensures ∙ ap (λ (ns : List ℕ). state.is_one_free (map (item_at items) ns)) numbers in
+    let one : c.is_one_free-is_empty.result ≡ state.is_one_free (map (item_at items) entry.items) =
+    c.is_one_free-is_empty.ensures ∙ ap (λ (ns : List ℕ). state.is_one_free (map (item_at items) ns)) numbers in
     let row : Decides found.lie_in_row (RowFrom frame items (along_of shelves entry.number) entry.items) =
     subst (λ (s : ℕ). Decides found.lie_in_row (RowFrom frame items s entry.items)) start
     (subst (λ (ns : List ℕ). Decides found.lie_in_row (RowFrom frame items c.along-start.result ns)) numbers c.judge_items-found.ensures.places) in
     let full = decides-equal found.width frame.column_width (state.total_width (map (item_at items) entry.items) ≡ frame.column_width)
     (λ same. sym width ∙ same) (λ same. width ∙ same) in
-    let empty = decides-same c.is_empty.result c.is_one_free.result in
+    let empty = decides-same c.is_empty.result c.is_one_free-is_empty.result in
     let Row : Type 0 = RowFrom frame items (along_of shelves entry.number) entry.items in
     let Full : Type 0 = state.total_width (map (item_at items) entry.items) ≡ frame.column_width in
-    let Says : Type 0 = c.is_empty.result ≡ c.is_one_free.result in
-    decides-map ((found.lie_in_row && (found.width == frame.column_width)) && beq c.is_empty.result c.is_one_free.result) ((Row × Full) × Says) (HasItems atlas entry)
+    let Says : Type 0 = c.is_empty.result ≡ c.is_one_free-is_empty.result in
+    decides-map ((found.lie_in_row && (found.width == frame.column_width)) && beq c.is_empty.result c.is_one_free-is_empty.result) ((Row × Full) × Says) (HasItems atlas entry)
     (λ all. let lies = row-lies items frame (along_of shelves entry.number) entry.items all.0.0 in
     record { places = lies.0; items = lies.1; width = all.0.1; is_empty = sym says ∙ all.1 ∙ one })
     (λ has. ((lies-row items frame (along_of shelves entry.number) entry.items has.places has.items, has.width), says ∙ has.is_empty ∙ sym one))
-    (decides-both (found.lie_in_row && (found.width == frame.column_width)) (beq c.is_empty.result c.is_one_free.result) (Row × Full) Says
+    (decides-both (found.lie_in_row && (found.width == frame.column_width)) (beq c.is_empty.result c.is_one_free-is_empty.result) (Row × Full) Says
     (decides-both found.lie_in_row (found.width == frame.column_width) Row Full row full) empty)
 
 pub returns-clause-apart : goal.returns-clause-apart

@@ -8,7 +8,7 @@ use Rattle.shelf_restoring.proofs.judging.stacking.is_next.Goals as goal
 use Rattle.shelf_restoring.proofs.judging.stacking.is_next.Goals.{else-along-start-via-then-along-start+else-along-start-2, then-height-across_side, else-height-across_side, else-along-start-via-else-along-start, then-along-start-3, else-along-start-3}
 
 pub returns-then-from-below : goal.returns-then-from-below
-returns-then-from-below c =
+returns-then-from-below c = λ at_column.
     let frame = c.args.frame.now in
     let shelves = c.args.shelves.now in
     let entry = c.args.entry.now in
@@ -21,13 +21,13 @@ returns-then-from-below c =
     decides-tall c.height.result (height_of shelves entry.number) (IsNext frame shelves (start / frame.column_width) height entry) tall
     (λ high. elim c.if-along-start-3.branch [
       | then-along-start-3 w ↦
-          next-here frame shelves entry start height c.requires.wide c.requires.at_column (sym along ∙ w.if-along-start-3.true) (sym across ∙ c.if-from-below.true ∙ w.below-is) high
+          next-here frame shelves entry start height c.requires.wide at_column (sym along ∙ w.if-along-start-3.true) (sym across ∙ c.if-from-below.true ∙ w.below-is) high
       | else-along-start-3 w ↦ elim c.else-along-start.branch [
         | else-along-start-via-then-along-start+else-along-start-2 v ↦ elim v.if-height-across_side.branch [
           | then-height-across_side u ↦ absurd (grind (arith, u.value-is, v.if-along-start-2.false))
           | else-height-across_side u ↦
               let ends : c.from-along.result ≡ start + frame.column_width = grind (arith, u.value-is, v.if-along-start-2.false) in
-              next-after frame shelves entry start height c.requires.wide c.requires.at_column (sym along ∙ ends) (omega (arith, u.if-height-across_side.false, v.across_side.ensures))
+              next-after frame shelves entry start height c.requires.wide at_column (sym along ∙ ends) (omega (arith, u.if-height-across_side.false, v.across_side.ensures))
               (sym across ∙ c.if-from-below.true ∙ w.below-is) high
         ]
         | else-along-start-via-else-along-start v ↦ absurd (w.if-along-start-3.false (omega (arith, v.if-along-start.false)))
