@@ -1,4 +1,4 @@
-//! One pass over the shelves that walks have met: of each, what the rules say of its links, its items, its free list and
+//! One pass over the shelves that walks have met: of each, what the rules say of its links, items and free list, and of
 //! where it stands.
 //!
 //! Definitions: `LinkBack` and `HasShelvesIn` of `Judging`, the latter being `HasShelves` of `StandsFor` over lists,
