@@ -108,8 +108,8 @@ times-one c (m ∷ ms) h =
     alike m c n k e h = grind arith
 
 -- an id stands in a list
-abbrev pub is_among : ℕ → List ℕ → Bool
-is_among id numbers = list_any (λ number. number == id) numbers
+abbrev pub stands_in : ℕ → List ℕ → Bool
+stands_in id numbers = list_any (λ number. number == id) numbers
 
 -- a test or a count behind it as one count
 among_step : (b : Bool) (n : ℕ) → (b || nat_lt 0 n) ≡ nat_lt 0 (cond b 1 0 + n)
@@ -117,20 +117,20 @@ among_step true n = grind arith
 among_step false n = grind arith
 
 -- a number stands in a list where it does so at least once
-is_among-times : (n : ℕ) (ns : List ℕ) → is_among n ns ≡ nat_lt 0 (times n ns)
-is_among-times n [] = refl
-is_among-times n (m ∷ ms) = ap (λ (b : Bool). (m == n) || b) (is_among-times n ms) ∙ among_step (m == n) (times n ms)
+stands_in-times : (n : ℕ) (ns : List ℕ) → stands_in n ns ≡ nat_lt 0 (times n ns)
+stands_in-times n [] = refl
+stands_in-times n (m ∷ ms) = ap (λ (b : Bool). (m == n) || b) (stands_in-times n ms) ∙ among_step (m == n) (times n ms)
 
 -- a number that is not found in a list does not stand there
-pub not_among-times : (n : ℕ) (ns : List ℕ) → is_among n ns ≡ false → times n ns ≡ 0
-not_among-times n ns h = none (is_among n ns) (times n ns) (is_among-times n ns) h
+pub absent-times : (n : ℕ) (ns : List ℕ) → stands_in n ns ≡ false → times n ns ≡ 0
+absent-times n ns h = none (stands_in n ns) (times n ns) (stands_in-times n ns) h
   where
     none : (b : Bool) (k : ℕ) → b ≡ nat_lt 0 k → b ≡ false → k ≡ 0
     none b k e h = grind arith
 
 -- a number that does not stand in a list is not found there
-pub times-not_among : (n : ℕ) (ns : List ℕ) → times n ns ≡ 0 → is_among n ns ≡ false
-times-not_among n ns h = none (is_among n ns) (times n ns) (is_among-times n ns) h
+pub times-absent : (n : ℕ) (ns : List ℕ) → times n ns ≡ 0 → stands_in n ns ≡ false
+times-absent n ns h = none (stands_in n ns) (times n ns) (stands_in-times n ns) h
   where
     none : (b : Bool) (k : ℕ) → b ≡ nat_lt 0 k → k ≡ 0 → b ≡ false
     none b k e h = grind arith

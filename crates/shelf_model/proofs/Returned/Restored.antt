@@ -49,11 +49,11 @@ record IsRestored (id : ℕ) (items taken : List Item) : Type 0 where
   merged : merged_items (freed number taken) ≡ items
 
 -- an id holds one of the items
-abbrev is_among_ids : ℕ → List Item → Bool
-is_among_ids id items = list_any (λ (item : Item). has_id id item.id) items
+abbrev holds_one : ℕ → List Item → Bool
+holds_one id items = list_any (λ (item : Item). has_id id item.id) items
 
 -- the allocated item stands behind a front that the id doesn't hold
-restored-behind : (id width : ℕ) (front back items : List Item) → is_among_ids id front ≡ false
+restored-behind : (id width : ℕ) (front back items : List Item) → holds_one id front ≡ false
     → merged_items (front ++ free_item width ∷ back) ≡ items → IsRestored id items (front ++ allocated_item width id ∷ back)
 restored-behind id width front back items none merged =
     record {
@@ -79,7 +79,7 @@ merged_items-whole front item back free apart =
 
 -- an item that is taken and freed again is as it was
 restored-pieces : (frame : Frame) (placement : Placement) (id : ℕ) (front : List Item) (item : Item) (back : List Item) → IsRoom frame item placement
-    → NoNeighbours both_free (front ++ item ∷ back) → is_among_ids id front ≡ false
+    → NoNeighbours both_free (front ++ item ∷ back) → holds_one id front ≡ false
     → IsRestored id (front ++ item ∷ back) (front ++ (item_pieces placement id item ++ back))
 restored-pieces frame placement id front item back room apart none =
     pieces-cases (λ _ pieces. IsRestored id (front ++ item ∷ back) (front ++ (pieces ++ back))) frame placement id item room
@@ -92,7 +92,7 @@ restored-items : (frame : Frame) (placement : Placement) (id : ℕ) (shelf : She
 restored-items frame placement id shelf t none =
     let at = t.found.at in
     let test : Item → Bool = λ item. has_id id item.id in
-    let holds_none : is_among_ids id shelf.items ≡ false = sym (is_some-position test shelf.items) ∙ none in
+    let holds_none : holds_one id shelf.items ≡ false = sym (is_some-position test shelf.items) ∙ none in
     let front = list_any-parts test at.front t.found.item at.back (rw at.whole at holds_none) in
     subst₂ (λ (l taken : List Item). IsRestored id l taken) (sym at.whole) (sym (taken-items frame placement id shelf t))
     (restored-pieces frame placement id at.front t.found.item at.back t.room (rw at.whole at t.valid.apart) front.0)
