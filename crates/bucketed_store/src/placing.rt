@@ -56,7 +56,7 @@ pub fn placement_of(
     ensures { option_map spec.placement_seen result
         ≡ spec.kept_placement frame.now left.now sides.now store.now.shelves store.now.buckets }
 {
-    place_among(
+    placement_in(
         frame,
         left,
         sides,
@@ -68,7 +68,7 @@ pub fn placement_of(
 }
 
 /// The place for these sides among records, whose shelves are known to these blocks.
-fn place_among(
+fn placement_in(
     frame: &Frame,
     left: &Remaining,
     sides: &Sides,

@@ -18,7 +18,7 @@ use bucketed_records::records::{KeptShelf, LinkedBucket, wider};
 use etagere_base::{Frame, Sides};
 
 /// The widest room in the shelves that are at least so tall.
-pub(crate) fn widest_among(shelves: &[KeptShelf], height: u32) -> u16
+pub(crate) fn widest_in(shelves: &[KeptShelf], height: u32) -> u16
     ensures { result ≡ spec.kept_widest height shelves.now }
 {
     let mut widest = 0;
@@ -79,7 +79,7 @@ fn shelves_refusal(
         return BucketedRefusal::ItemsUsedUp;
     }
     BucketedRefusal::NoRoom {
-        widest: u32::from(widest_among(shelves, sides.across)),
+        widest: u32::from(widest_in(shelves, sides.across)),
     }
 }
 

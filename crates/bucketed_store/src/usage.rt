@@ -7,7 +7,7 @@ ghost use Rattle.bucketed_model.specs.State.{most_buckets};
 ghost use Rattle.bucketed_model.specs.Usage.{size_of};
 ghost use Rattle.bucketed_store.specs.Private.Refusals as spec;
 
-use crate::refusing::widest_among;
+use crate::refusing::widest_in;
 use crate::store::Store;
 use bucketed_model::usage::BucketedUsage;
 use bucketed_records::records::{KeptShelf, LinkedBucket, MOST_BUCKETS, wider};
@@ -33,7 +33,7 @@ fn largest_sides(shelves: &[KeptShelf]) -> Sides
     ensures along { result.along < 2 ^ 16 }
     ensures across { result.across < 2 ^ 16 }
 {
-    let width = widest_among(shelves, 1);
+    let width = widest_in(shelves, 1);
     let height = if width == 0 {
         0
     } else {

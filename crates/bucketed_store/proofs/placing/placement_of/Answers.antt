@@ -7,15 +7,15 @@ use Rattle.bucket_index.specs.Private.Spans.{AreSpans}
 use Rattle.bucketed_store.specs.Private.Placing.{kept_placement}
 use Rattle.bucketed_store.proofs.placing.placement_of.Goals as goal
 
-pub place_among-requires-clause-known : goal.place_among-requires-clause-known
-place_among-requires-clause-known c = subst (λ (shelves : List KeptShelf). AreKnown c.store.inside.blocks shelves) (sym c.deref.ensures.value) c.store.invariant.0
+pub placement_in-requires-clause-known : goal.placement_in-requires-clause-known
+placement_in-requires-clause-known c = subst (λ (shelves : List KeptShelf). AreKnown c.store.inside.blocks shelves) (sym c.deref.ensures.value) c.store.invariant.0
 
-pub place_among-requires-clause-spans : goal.place_among-requires-clause-spans
-place_among-requires-clause-spans c = subst (AreSpans c.store.inside.spans) (sym c.deref-2.ensures.value) c.store.invariant.1
+pub placement_in-requires-clause-spans : goal.placement_in-requires-clause-spans
+placement_in-requires-clause-spans c = subst (AreSpans c.store.inside.spans) (sym c.deref-2.ensures.value) c.store.invariant.1
 
 pub returns : goal.returns
 returns c =
-    c.place_among.ensures
+    c.placement_in.ensures
     ∙ ap (λ (shelves : List KeptShelf). kept_placement c.args.frame.now c.args.left.now c.args.sides.now shelves c.deref-2.result.now) c.deref.ensures.value
     ∙ ap (λ (buckets : List LinkedBucket). kept_placement c.args.frame.now c.args.left.now c.args.sides.now c.store.inside.shelves.items buckets) c.deref-2.ensures.value
     ∙ ap (λ (stored : Stored). kept_placement c.args.frame.now c.args.left.now c.args.sides.now stored.shelves stored.buckets) c.store.view_is
