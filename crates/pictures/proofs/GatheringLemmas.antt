@@ -71,6 +71,21 @@ pub begins-more : (old new : Option (List ℕ)) (gathered one other : List ℕ) 
 begins-more old new gathered one other begins start text is =
     subst (AppendsBeginning start new) (append_assoc text one other) (begins-first start new (text ++ one) other (begins start text is))
 
+-- room was made, and then a piece was added to what is gathered
+pub gathers-added : (old new : Option (List ℕ)) (gathered room more piece : List ℕ) → GathersMore old gathered new room [] → more ≡ room ++ piece → GathersMore old gathered new more piece
+gathers-added old new gathered room more piece makes added start text is =
+    let roomy = makes start text is in
+    record {
+      sent = roomy.sent;
+      out = roomy.out;
+      whole = ap (λ l. l ++ piece) (sym (append-nil text) ∙ roomy.whole) ∙ append_assoc roomy.sent room piece ∙ sym (ap (λ l. roomy.sent ++ l) added);
+    }
+
+-- four pieces were added, one behind another
+pub four-added : (old one two three four a b c d : List ℕ) → one ≡ old ++ a → two ≡ one ++ b → three ≡ two ++ c → four ≡ three ++ d → four ≡ old ++ (a ++ (b ++ (c ++ d)))
+four-added old one two three four a b c d first second third fourth =
+    rw (fourth, third, second, first, append_assoc, append_assoc, append_assoc) refl
+
 -- nothing was given
 nothing-given : (old : Option (List ℕ)) → IsGathered old old [] []
 nothing-given old = record { sent = []; out = appends-nothing old; whole = refl }

@@ -1,2 +1,3 @@
 mod Beginnings
+mod DigitCounts
 pub mod GatheringLemmas

@@ -3,7 +3,7 @@
 //! Definitions: `Drawing`. What a picture shows is not decided here: each atlas says which rectangles it
 //! draws, and in which order, as `Pictured`. Lines are gathered in a buffer of fixed size, so no memory is taken.
 
-ghost use Rattle.std.specs.Prelude.{◌≡◌, Some, OnOk, OnErr};
+ghost use Rattle.std.specs.Prelude.{◌≡◌, ◌≤◌, ◌+◌, ◌++◌, length, Some, OnOk, OnErr};
 ghost use Rattle.std.specs.Io.KnownBytes.{Appends};
 ghost use Rattle.std.specs.Option.{option_map};
 ghost use Rattle.etagere_base.specs.Drawing as spec;
@@ -65,36 +65,38 @@ pub fn drawn_at(frame: &Frame, colour: Colour, place: Sides, sides: Sides) -> Dr
     }
 }
 
-/// Adds a name and a number.
-fn push_attribute<W: Write>(
-    text: &mut GatheredText,
-    name: &str,
-    value: u32,
-    writer: &mut W,
-) -> io::Result<()>
-    ensures ok { OnOk result (GathersMore (W.contents writer.old) text.old
-        (W.contents writer.new) text.new (spec.attribute name.now value)) }
-    ensures err { OnErr result (SendsBeginning (W.contents writer.old) text.old
-        (W.contents writer.new) (spec.attribute name.now value)) }
+/// Adds a name and a number, where there is room for both.
+#[inline(always)]
+fn append_attribute(text: &mut GatheredText, name: &str, value: u32)
+    requires { length text.old + (length name.now + 10) ≤ 4096 }
+    ensures text { text.new ≡ text.old ++ spec.attribute name.now value }
+    ensures short { length text.new ≤ length text.old + (length name.now + 10) }
 {
-    text.push(name, writer)?;
-    text.push_number(value, writer)
+    text.append(name);
+    text.append_number(value);
 }
 
-/// Adds a name and a number that may be negative.
-fn push_signed_attribute<W: Write>(
-    text: &mut GatheredText,
-    name: &str,
-    value: i32,
-    writer: &mut W,
-) -> io::Result<()>
-    ensures ok { OnOk result (GathersMore (W.contents writer.old) text.old
-        (W.contents writer.new) text.new (spec.signed_attribute name.now value)) }
-    ensures err { OnErr result (SendsBeginning (W.contents writer.old) text.old
-        (W.contents writer.new) (spec.signed_attribute name.now value)) }
+/// Adds a name and a number that may be negative, where there is room for both.
+fn append_signed_attribute(text: &mut GatheredText, name: &str, value: i32)
+    requires { length text.old + (length name.now + 11) ≤ 4096 }
+    ensures text { text.new ≡ text.old ++ spec.signed_attribute name.now value }
+    ensures short { length text.new ≤ length text.old + (length name.now + 11) }
 {
-    text.push(name, writer)?;
-    text.push_signed(value, writer)
+    text.append(name);
+    text.append_signed(value);
+}
+
+/// Adds the line of a rectangle, where there is room for it.
+#[inline(always)]
+fn append_drawn(text: &mut GatheredText, drawn: &Drawn)
+    requires { length text.old + 256 ≤ 4096 }
+    ensures { text.new ≡ text.old ++ spec.drawn_line drawn.now }
+{
+    append_attribute(text, "    <rect x=\"", drawn.x);
+    append_attribute(text, "\" y=\"", drawn.y);
+    append_attribute(text, "\" width=\"", drawn.width);
+    append_attribute(text, "\" height=\"", drawn.height);
+    text.append(drawn.colour.text());
 }
 
 /// Adds the line of a rectangle.
@@ -108,27 +110,34 @@ pub fn push_drawn<W: Write>(
     ensures err { OnErr result (SendsBeginning (W.contents writer.old) text.old
         (W.contents writer.new) (spec.drawn_line drawn.now)) }
 {
-    push_attribute(text, "    <rect x=\"", drawn.x, writer)?;
-    push_attribute(text, "\" y=\"", drawn.y, writer)?;
-    push_attribute(text, "\" width=\"", drawn.width, writer)?;
-    push_attribute(text, "\" height=\"", drawn.height, writer)?;
-    text.push(drawn.colour.text(), writer)
+    text.make_room(writer)?;
+    append_drawn(text, drawn);
+    Ok(())
 }
 
-/// Adds what a picture this wide and tall shows of itself.
-fn push_view<W: Write>(
-    text: &mut GatheredText,
-    width: u32,
-    height: u32,
-    writer: &mut W,
-) -> io::Result<()>
-    ensures ok { OnOk result (GathersMore (W.contents writer.old) text.old
-        (W.contents writer.new) text.new (spec.view_text width height)) }
-    ensures err { OnErr result (SendsBeginning (W.contents writer.old) text.old
-        (W.contents writer.new) (spec.view_text width height)) }
+/// Adds what a picture this wide and tall shows of itself, where there is room for it.
+fn append_view(text: &mut GatheredText, width: u32, height: u32)
+    requires { length text.old + 36 ≤ 4096 }
+    ensures text { text.new ≡ text.old ++ spec.view_text width height }
+    ensures short { length text.new ≤ length text.old + 36 }
 {
-    push_attribute(text, "\" viewBox=\"0 0 ", width, writer)?;
-    push_attribute(text, " ", height, writer)
+    append_attribute(text, "\" viewBox=\"0 0 ", width);
+    append_attribute(text, " ", height);
+}
+
+/// Adds the first line of a document this wide and tall, where there is room for it.
+fn append_document_begin(text: &mut GatheredText, width: u32, height: u32)
+    requires { length text.old + 256 ≤ 4096 }
+    ensures { text.new ≡ text.old ++ spec.document_begin width height }
+{
+    append_attribute(
+        text,
+        "<svg xmlns=\"http://www.w3.org/2000/svg\" width=\"",
+        width,
+    );
+    append_attribute(text, "\" height=\"", height);
+    append_view(text, width, height);
+    text.append("\">\n");
 }
 
 /// Adds the first line of a document this wide and tall.
@@ -143,11 +152,9 @@ fn push_document_begin<W: Write>(
     ensures err { OnErr result (SendsBeginning (W.contents writer.old) text.old
         (W.contents writer.new) (spec.document_begin width height)) }
 {
-    let name = "<svg xmlns=\"http://www.w3.org/2000/svg\" width=\"";
-    push_attribute(text, name, width, writer)?;
-    push_attribute(text, "\" height=\"", height, writer)?;
-    push_view(text, width, height, writer)?;
-    text.push("\">\n", writer)
+    text.make_room(writer)?;
+    append_document_begin(text, width, height);
+    Ok(())
 }
 
 /// How far one place is past another: 0 where it isn't past it.
@@ -178,21 +185,26 @@ fn has_area(rectangle: &Rectangle) -> bool
     width_of(rectangle) > 0 && height_of(rectangle) > 0
 }
 
-/// Adds where a part of a document lies, and its sides.
-fn push_part_place<W: Write>(
-    text: &mut GatheredText,
-    rectangle: &Rectangle,
-    writer: &mut W,
-) -> io::Result<()>
-    ensures ok { OnOk result (GathersMore (W.contents writer.old) text.old
-        (W.contents writer.new) text.new (spec.part_place rectangle.now)) }
-    ensures err { OnErr result (SendsBeginning (W.contents writer.old) text.old
-        (W.contents writer.new) (spec.part_place rectangle.now)) }
+/// Adds where a part of a document lies, and its sides, where there is room for them.
+fn append_part_place(text: &mut GatheredText, rectangle: &Rectangle)
+    requires { length text.old + 78 ≤ 4096 }
+    ensures text { text.new ≡ text.old ++ spec.part_place rectangle.now }
+    ensures short { length text.new ≤ length text.old + 78 }
 {
-    push_signed_attribute(text, "    <svg x=\"", rectangle.min.x, writer)?;
-    push_signed_attribute(text, "\" y=\"", rectangle.min.y, writer)?;
-    push_attribute(text, "\" width=\"", width_of(rectangle), writer)?;
-    push_attribute(text, "\" height=\"", height_of(rectangle), writer)
+    append_signed_attribute(text, "    <svg x=\"", rectangle.min.x);
+    append_signed_attribute(text, "\" y=\"", rectangle.min.y);
+    append_attribute(text, "\" width=\"", width_of(rectangle));
+    append_attribute(text, "\" height=\"", height_of(rectangle));
+}
+
+/// Adds the first line of a picture this wide and tall that fills a rectangle of a document, where there is room for it.
+fn append_part_begin(text: &mut GatheredText, width: u32, height: u32, rectangle: &Rectangle)
+    requires { length text.old + 256 ≤ 4096 }
+    ensures { text.new ≡ text.old ++ spec.part_begin width height rectangle.now }
+{
+    append_part_place(text, rectangle);
+    append_view(text, width, height);
+    text.append("\" preserveAspectRatio=\"none\">\n");
 }
 
 /// Adds the first line of a picture this wide and tall that fills a rectangle of a document.
@@ -208,9 +220,9 @@ fn push_part_begin<W: Write>(
     ensures err { OnErr result (SendsBeginning (W.contents writer.old) text.old
         (W.contents writer.new) (spec.part_begin width height rectangle.now)) }
 {
-    push_part_place(text, rectangle, writer)?;
-    push_view(text, width, height, writer)?;
-    text.push("\" preserveAspectRatio=\"none\">\n", writer)
+    text.make_room(writer)?;
+    append_part_begin(text, width, height, rectangle);
+    Ok(())
 }
 
 /// Adds the lines of all that a picture shows.

@@ -1,34 +1,41 @@
 //! Text that is gathered in a buffer of fixed size, so that small pieces go out in few writes.
 //!
 //! Definitions: `Gathering`. No memory is taken. What goes out, and in how many writes, may change; that it
-//! is a beginning of the text, and after `finish` all of it, may not.
+//! is a beginning of the text, and after `finish` all of it, may not. A line first makes room for all of it, and
+//! then its pieces are added without a test or a fault of their own.
 
-ghost use Rattle.std.specs.Prelude.{[], ◌≡◌, ◌++◌, OnOk, OnErr, decimal};
+ghost use Rattle.std.specs.Prelude.{[], ◌≡◌, ◌≤◌, ◌+◌, ◌++◌, OnOk, OnErr, decimal, length};
 ghost use Rattle.std.specs.Fmt.{signed_decimal};
 ghost use Rattle.std.specs.Io.KnownBytes.{Appends};
 ghost use Rattle.pictures.specs.Gathering.{GathersMore, SendsBeginning, SendsWhole};
 ghost use Rattle.pictures.specs.Sending.{AppendsBeginning};
 
 use crate::sending::send;
-use arrayvec::ArrayString;
+use itoa::write_digits;
 use std::io::{self, Write};
 use std::marker::Model;
 
 /// How many bytes are gathered at most.
 const CAPACITY: usize = 4096;
 
+/// How many bytes a line has at most that is added without a test for each piece.
+const LINE_CAPACITY: usize = 256;
+
 /// The end of a text, which was not sent yet.
 #[derive(Drop)]
 pub struct GatheredText {
-    buffer: ArrayString<CAPACITY>,
+    bytes: [u8; CAPACITY],
+    length: usize,
 }
 
 impl Model for GatheredText {
-    ghost use Rattle.std.specs.Prelude.{ℕ, List};
+    ghost use Rattle.std.specs.Prelude.{ℕ, ◌≤◌, List, take};
 
     ghost Value = { List ℕ };
 
-    ghost view = { λ text. text.buffer.bytes };
+    ghost invariant = { λ text. text.length ≤ 4096 };
+
+    ghost view = { λ text. take text.length text.bytes };
 }
 
 impl GatheredText {
@@ -37,7 +44,8 @@ impl GatheredText {
         ensures { result ≡ [] }
     {
         GatheredText {
-            buffer: ArrayString::new(),
+            bytes: [0; CAPACITY],
+            length: 0,
         }
     }
 
@@ -49,35 +57,79 @@ impl GatheredText {
         ensures err { OnErr result (SendsBeginning
             (W.contents writer.old) self.old (W.contents writer.new) piece.now) }
     {
-        if piece.len() <= self.buffer.remaining_capacity() {
-            self.buffer.push_str(piece);
+        if piece.len() <= CAPACITY - self.length {
+            self.append(piece);
             return Ok(());
         }
-        send_both(self.buffer.as_str(), piece, writer)?;
-        self.buffer.clear();
+        send_both(self.as_bytes(), piece.as_bytes(), writer)?;
+        self.clear();
         Ok(())
     }
 
-    /// Adds the decimal digits of a number.
-    pub fn push_number<W: Write>(&mut self, number: u32, writer: &mut W) -> io::Result<()>
-        ensures ok { OnOk result (GathersMore (W.contents writer.old) self.old
-            (W.contents writer.new) self.new (decimal number)) }
-        ensures err { OnErr result (SendsBeginning (W.contents writer.old) self.old
-            (W.contents writer.new) (decimal number)) }
+    /// Sends all where there is no room for a line. After a fault of the writer a beginning of the text has gone out.
+    pub(crate) fn make_room<W: Write>(&mut self, writer: &mut W) -> io::Result<()>
+        ensures room { OnOk result (length self.new + 256 ≤ 4096) }
+        ensures ok { OnOk result (GathersMore
+            (W.contents writer.old) self.old (W.contents writer.new) self.new []) }
+        ensures err { OnErr result (SendsBeginning
+            (W.contents writer.old) self.old (W.contents writer.new) []) }
     {
-        let mut digits = itoa::Buffer::new();
-        self.push(digits.format(number), writer)
+        if self.length <= CAPACITY - LINE_CAPACITY {
+            return Ok(());
+        }
+        send_both(self.as_bytes(), &[], writer)?;
+        self.clear();
+        Ok(())
     }
 
-    /// Adds the decimal digits of a number, after a minus sign where it is negative.
-    pub fn push_signed<W: Write>(&mut self, number: i32, writer: &mut W) -> io::Result<()>
-        ensures ok { OnOk result (GathersMore (W.contents writer.old) self.old
-            (W.contents writer.new) self.new (signed_decimal number)) }
-        ensures err { OnErr result (SendsBeginning (W.contents writer.old) self.old
-            (W.contents writer.new) (signed_decimal number)) }
+    /// Adds a piece for which there is room.
+    #[inline(always)]
+    pub(crate) fn append(&mut self, piece: &str)
+        requires { length self.old + length piece.now ≤ 4096 }
+        ensures { self.new ≡ self.old ++ piece.now }
     {
-        let mut digits = itoa::Buffer::new();
-        self.push(digits.format(number), writer)
+        let at = self.length;
+        let end = at + piece.len();
+        self.bytes[at..end].copy_from_slice(piece.as_bytes());
+        self.length = end;
+    }
+
+    /// Adds the decimal digits of a number, where there is room for ten bytes.
+    #[inline(always)]
+    pub(crate) fn append_number(&mut self, number: u32)
+        requires { length self.old + 10 ≤ 4096 }
+        ensures text { self.new ≡ self.old ++ decimal number }
+        ensures short { length self.new ≤ length self.old + 10 }
+    {
+        let end = self.length + digits_of(number);
+        write_digits(number as u64, &mut self.bytes, end);
+        self.length = end;
+    }
+
+    /// Adds the decimal digits of a number, after a minus sign where it is negative, where there is room for 11 bytes.
+    pub(crate) fn append_signed(&mut self, number: i32)
+        requires { length self.old + 11 ≤ 4096 }
+        ensures text { self.new ≡ self.old ++ signed_decimal number }
+        ensures short { length self.new ≤ length self.old + 11 }
+    {
+        if number < 0 {
+            self.append("-");
+        }
+        self.append_number(number.unsigned_abs());
+    }
+
+    /// Makes the text empty.
+    fn clear(&mut self)
+        ensures { self.new ≡ [] }
+    {
+        self.length = 0;
+    }
+
+    /// The text.
+    fn as_bytes(&self) -> &[u8]
+        ensures { result.now ≡ self.now }
+    {
+        &self.bytes[..self.length]
     }
 
     /// Sends what is left.
@@ -87,18 +139,30 @@ impl GatheredText {
         ensures err { OnErr result (SendsBeginning
             (W.contents writer.old) self (W.contents writer.new) []) }
     {
-        send(self.buffer.as_str().as_bytes(), writer)
+        send(self.as_bytes(), writer)
     }
+}
+
+/// How many decimal digits a number has.
+#[inline(always)]
+fn digits_of(number: u32) -> usize
+    ensures count { result ≡ length (decimal number) }
+    ensures short { result ≤ 10 }
+{
+    if number < 10 {
+        return 1;
+    }
+    number.ilog10() as usize + 1
 }
 
 /// Sends two texts, one after the other. It is called once in 4096 bytes, and small pieces needn't pay for it.
 #[inline(never)]
-fn send_both<W: Write>(first: &str, second: &str, writer: &mut W) -> io::Result<()>
+fn send_both<W: Write>(first: &[u8], second: &[u8], writer: &mut W) -> io::Result<()>
     ensures whole { OnOk result (Appends
         (W.contents writer.old) (W.contents writer.new) (first.now ++ second.now)) }
     ensures beginning { OnErr result (AppendsBeginning
         (W.contents writer.old) (W.contents writer.new) (first.now ++ second.now)) }
 {
-    send(first.as_bytes(), writer)?;
-    send(second.as_bytes(), writer)
+    send(first, writer)?;
+    send(second, writer)
 }

@@ -1,38 +1,15 @@
--- The first line of a part of a document.
-use Rattle.std.proofs.Common.{◌++◌}
-use Rattle.std.proofs.lemmas.Result.{on_ok_weaker, on_err_weaker}
-use Rattle.std.specs.Prelude.{codes}
-use Rattle.etagere_base.specs.Drawing.{part_place, view_text}
-use Rattle.pictures.proofs.GatheringLemmas.{begins-both, begins-more, gathers-both, on-err}
+use Rattle.std.proofs.Common.{[]}
+use Rattle.etagere_base.specs.Drawing.{part_begin}
+use Rattle.pictures.proofs.GatheringLemmas.{begins-more, gathers-added, on-err}
 use Rattle.pictures.proofs.drawing.push_part_begin.Goals as goal
 
--- a beginning went out with piece 1
-pub returns-in_err-push_part_place-clause-err : goal.returns-in_err-push_part_place-clause-err
-returns-in_err-push_part_place-clause-err g c =
+-- a beginning went out before the line
+pub returns-in_err-make_room-clause-err : goal.returns-in_err-make_room-clause-err
+returns-in_err-make_room-clause-err g c =
     on-err c.from_residual.result
-    (begins-more (g.W.Write.contents c.args.writer.now) (g.W.Write.contents c.push_part_place.new.writer) c.args.text.now (part_place c.args.rectangle.now) ((view_text c.args.width c.args.height) ++ (codes "\" preserveAspectRatio=\"none\">\n")) c.in_err-push_part_place.ensures.err)
+    (begins-more (g.W.Write.contents c.args.writer.now) (g.W.Write.contents c.make_room.new.writer) c.args.text.now [] (part_begin c.args.width c.args.height c.args.rectangle.now) c.in_err-make_room.ensures.err)
 
--- a beginning went out with piece 2
-pub returns-in_err-push_view-clause-err : goal.returns-in_err-push_view-clause-err
-returns-in_err-push_view-clause-err g c =
-    on-err c.from_residual-in_err-push_view.result
-    (begins-both (g.W.Write.contents c.args.writer.now) (g.W.Write.contents c.push_part_place.new.writer) (g.W.Write.contents c.push_view.new.writer) c.args.text.now c.push_part_place.new.text (part_place c.args.rectangle.now) ((view_text c.args.width c.args.height) ++ (codes "\" preserveAspectRatio=\"none\">\n")) c.in_ok-push_part_place.ensures.ok
-    (begins-more (g.W.Write.contents c.push_part_place.new.writer) (g.W.Write.contents c.push_view.new.writer) c.push_part_place.new.text (view_text c.args.width c.args.height) (codes "\" preserveAspectRatio=\"none\">\n") c.in_err-push_view.ensures.err))
-
--- all pieces are gathered
+-- the line is gathered
 pub returns-clause-ok : goal.returns-clause-ok
 returns-clause-ok g c =
-    on_ok_weaker c.push.result
-    (λ out. (gathers-both (g.W.Write.contents c.args.writer.now) (g.W.Write.contents c.push_part_place.new.writer) (g.W.Write.contents c.push.new.writer) c.args.text.now c.push_part_place.new.text c.push.new.self (part_place c.args.rectangle.now) ((view_text c.args.width c.args.height) ++ (codes "\" preserveAspectRatio=\"none\">\n")) c.in_ok-push_part_place.ensures.ok
-    (gathers-both (g.W.Write.contents c.push_part_place.new.writer) (g.W.Write.contents c.push_view.new.writer) (g.W.Write.contents c.push.new.writer) c.push_part_place.new.text c.push_view.new.text c.push.new.self (view_text c.args.width c.args.height) (codes "\" preserveAspectRatio=\"none\">\n") c.in_ok-push_view.ensures.ok
-    out)))
-    c.push.ensures.ok
-
--- a beginning went out with the last piece
-pub returns-clause-err : goal.returns-clause-err
-returns-clause-err g c =
-    on_err_weaker c.push.result
-    (λ out. (begins-both (g.W.Write.contents c.args.writer.now) (g.W.Write.contents c.push_part_place.new.writer) (g.W.Write.contents c.push.new.writer) c.args.text.now c.push_part_place.new.text (part_place c.args.rectangle.now) ((view_text c.args.width c.args.height) ++ (codes "\" preserveAspectRatio=\"none\">\n")) c.in_ok-push_part_place.ensures.ok
-    (begins-both (g.W.Write.contents c.push_part_place.new.writer) (g.W.Write.contents c.push_view.new.writer) (g.W.Write.contents c.push.new.writer) c.push_part_place.new.text c.push_view.new.text (view_text c.args.width c.args.height) (codes "\" preserveAspectRatio=\"none\">\n") c.in_ok-push_view.ensures.ok
-    out)))
-    c.push.ensures.err
+    gathers-added (g.W.Write.contents c.args.writer.now) (g.W.Write.contents c.make_room.new.writer) c.args.text.now c.make_room.new.self c.append_part_begin.new.text (part_begin c.args.width c.args.height c.args.rectangle.now) c.in_ok-make_room.ensures.ok c.append_part_begin.ensures

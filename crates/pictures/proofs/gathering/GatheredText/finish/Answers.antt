@@ -10,7 +10,7 @@ pub returns-clause-err : goal.returns-clause-err
 returns-clause-err g c =
     let old = g.W.Write.contents c.args.writer.now in
     let new = g.W.Write.contents c.send.new.writer in
-    let gathered : c.as_bytes.result.now ≡ c.args.self ++ [] = c.as_bytes.ensures.value ∙ c.as_str.ensures.value ∙ c.self.view_is ∙ sym (append-nil c.args.self) in
+    let gathered : c.as_bytes.result.now ≡ c.args.self ++ [] = c.as_bytes.ensures ∙ sym (append-nil c.args.self) in
     on_err_weaker c.send.result
     (λ out. begins-piece old new c.args.self [] (subst (λ (l : List ℕ). AppendsBeginning old new l) gathered out))
     c.send.ensures.beginning
