@@ -59,7 +59,7 @@ fn with_shelf(block: Block, kept: &KeptShelf) -> Block
 {
     Block {
         widest_room: block.widest_room.max(kept.widest_room),
-        has_idle: block.has_idle || kept.is_idle(),
+        has_idle: block.has_idle | kept.is_idle(),
     }
 }
 
@@ -69,7 +69,7 @@ fn joined(one: Block, other: Block) -> Block
 {
     Block {
         widest_room: one.widest_room.max(other.widest_room),
-        has_idle: one.has_idle || other.has_idle,
+        has_idle: one.has_idle | other.has_idle,
     }
 }
 
