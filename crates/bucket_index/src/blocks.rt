@@ -59,7 +59,7 @@ fn with_shelf(block: Block, kept: &KeptShelf) -> Block
 {
     Block {
         widest_room: block.widest_room.max(kept.widest_room),
-        has_idle: block.has_idle | kept.is_idle(),
+        has_idle: block.has_idle || kept.is_idle(),
     }
 }
 
@@ -249,6 +249,11 @@ impl Blocks {
         let large = number / SHELVES_OF_LARGE;
         let fresh = counted(shelves, small * SHELVES_OF_BLOCK);
         set_block(&mut self.small, small, fresh);
+        if shelves.len() <= SHELVES_OF_BLOCK {
+            set_block(&mut self.middle, middle, fresh);
+            set_block(&mut self.large, large, fresh);
+            return;
+        }
         let fresh_middle = gathered(&self.small, middle * PARTS_OF_BLOCK);
         set_block(&mut self.middle, middle, fresh_middle);
         let fresh_large = gathered(&self.middle, large * PARTS_OF_BLOCK);

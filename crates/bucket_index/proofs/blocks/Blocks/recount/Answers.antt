@@ -1,7 +1,10 @@
-use Rattle.std.proofs.Common.{rules, ◌≡◌, length, arith, ◌∙◌}
+use Rattle.std.proofs.Common.{rules, ◌≡◌, ℕ, List, Some, length, arith, ◌∙◌}
+use Rattle.std.proofs.lemmas.Option.{slice_get_within}
 use Rattle.etagere_links.proofs.RecordChanges.{length-changed_by}
-use Rattle.std.specs.Prelude.{Some}
-use Rattle.bucket_index.specs.Private.Blocks.{AreKnownOf, Block, block_of}
+use Rattle.std.specs.Prelude.{slice_get}
+use Rattle.bucketed_records.specs.declared.records.KeptShelf.{KeptShelf}
+use Rattle.bucket_index.specs.declared.blocks.Blocks.{Blocks}
+use Rattle.bucket_index.specs.Private.Blocks.{AreKnownOf, Block, IsKnown, block_of}
 use Rattle.bucket_index.proofs.KnownBlocks.{gathered-large, gathered-middle, set-of}
 use Rattle.bucket_index.proofs.blocks.Blocks.recount.Goals as goal
 
@@ -28,3 +31,31 @@ returns c =
       large = rw c.set_block-3.ensures (set-of 512 number c.gathered-fresh_large.result old.large shelves
           (gathered-large number c.gathered-fresh_large.result c.set_block-2.new.blocks old.large shelves wide_ few middle c.gathered-fresh_large.ensures) c.requires.others.large);
     }
+
+-- all shelves stand in one small block
+pub returns-then-shelves-le-SHELVES_OF_BLOCK : goal.returns-then-shelves-le-SHELVES_OF_BLOCK
+returns-then-shelves-le-SHELVES_OF_BLOCK c =
+    record {
+      small = rw c.set_block.ensures (set-of 8 number fresh old.small shelves (λ n kept same low at. all n kept at) c.requires.others.small);
+      middle = rw c.set_block-then-shelves-le-SHELVES_OF_BLOCK.ensures (set-of 64 number fresh old.middle shelves (λ n kept same low at. all n kept at) c.requires.others.middle);
+      large = rw c.set_block-then-shelves-le-SHELVES_OF_BLOCK-2.ensures (set-of 512 number fresh old.large shelves (λ n kept same low at. all n kept at) c.requires.others.large);
+    }
+  where
+    shelves : List KeptShelf
+    shelves = c.args.shelves.now
+
+    number : ℕ
+    number = c.args.number
+
+    old : Blocks
+    old = c.args.self.now
+
+    fresh : Block
+    fresh = c.counted-fresh.result
+
+    all : (n : ℕ) (kept : KeptShelf) → slice_get shelves n ≡ Some kept → IsKnown kept fresh
+    all n kept at =
+        let within = slice_get_within shelves n kept at in
+        c.counted-fresh.ensures n kept
+        (omega (arith, within, c.requires.within, c.if-shelves-le-SHELVES_OF_BLOCK.true))
+        (omega (arith, within, c.requires.within, c.if-shelves-le-SHELVES_OF_BLOCK.true)) at
