@@ -283,7 +283,7 @@ fn breach_of_free_lists(
 
 fn breach_of_free_list(snapshot: &AtlasSnapshot, items: &Walk, free: &Walk) -> Option<Breach> {
     for item in &free.met {
-        if !items.met.iter().any(|other| other == item) || !is_free(snapshot, *item) {
+        if !items.met.contains(item) || !is_free(snapshot, *item) {
             return breach_at(
                 Record::Item(*item),
                 "the free list has it, but it isn't a free one of the shelf",
@@ -291,7 +291,7 @@ fn breach_of_free_list(snapshot: &AtlasSnapshot, items: &Walk, free: &Walk) -> O
         }
     }
     for item in &items.met {
-        if is_free(snapshot, *item) && !free.met.iter().any(|other| other == item) {
+        if is_free(snapshot, *item) && !free.met.contains(item) {
             return breach_at(Record::Item(*item), "it is free, but not in the free list");
         }
     }
