@@ -157,8 +157,9 @@ def judge(program, test):
     try:
         for row, turn in test.turns():
             answer = answered(stage, row, turn)
-            is_done = answer not in ({NOT_MADE} if row.wanted else NOT_DONE)
-            if not is_done or not is_wanted(answer, row.wanted):
+            wanted = None if row.wanted is None else expanded(row.wanted, turn)
+            is_done = answer not in ({NOT_MADE} if wanted else NOT_DONE)
+            if not is_done or not is_wanted(answer, wanted):
                 raise Otherwise(f"line {row.line}: answered {answer}")
     finally:
         stage.close()

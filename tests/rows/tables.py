@@ -72,10 +72,12 @@ def tests_of(text):
 
 
 def expanded(words, turn):
-    """The words, with a number in the place of each that stands for one, as `n`, `n+1`, `2n` and `2n+3` do, and `#2n`."""
+    """The words, with a number in the place of each that stands for one, as `n`, `n+1`, `2n`, `2n+3` and `9-2n` do, and
+    `#2n..2n+1` and `(0,2n)`."""
 
     def number(match):
-        mark, factor, added = match.groups()
-        return f"{mark}{int(factor or 1) * turn + int(added or 0)}"
+        whole, factor, added = match.groups()
+        counted = int(factor or 1) * turn
+        return str(int(whole) - counted if whole else counted + int(added or 0))
 
-    return " ".join(re.sub(r"\A(#?)(\d*)n(?:\+(\d+))?\Z", number, word) for word in words.split(" "))
+    return re.sub(r"(?<![^ #(,.])(?:(\d+)-)?(\d*)n(?:\+(\d+))?(?![^ ),.])", number, words)
