@@ -1,6 +1,8 @@
-//! Tests of what rows can't say, over several crates.
+//! Tests of what no clause and no row says, over several crates.
 #![tactic(auto)]
 
+#[cfg(test)]
+mod atlases;
 #[cfg(test)]
 mod maps;
 #[cfg(test)]

@@ -1,6 +1,6 @@
 //! How many links are read until a snapshot is restored or refused.
 
-use crate::assertions::holds;
+use crate::streams::assertions::holds;
 use etagere::laws::restore_atlas;
 use etagere::{AllocatorOptions, AtlasAllocator, DEFAULT_OPTIONS, RestoreFault, size2};
 use std::test::Fail;

@@ -1,6 +1,6 @@
 //! A long text through a small cache, compared with a plain one, and the numbers and names of faults.
 
-use crate::assertions::{equal, holds};
+use crate::streams::assertions::{equal, holds};
 use etagere::{Allocation, AtlasAllocator, DEFAULT_OPTIONS, OptionsFault, Size, size2};
 use glyph_shelf::{GlyphCache, GlyphFault};
 use std::alloc::Global;

@@ -1,6 +1,6 @@
 //! What no row of calls says of the iterator over allocations.
 
-use crate::assertions::equal;
+use crate::streams::assertions::equal;
 use etagere::AtlasAllocator;
 use std::test::Fail;
 use test_support::calls::{new, placed};
