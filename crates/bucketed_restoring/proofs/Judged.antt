@@ -4,5 +4,6 @@ pub mod Breaches
 pub mod Comparisons
 pub mod JudgedShelves
 pub mod LinksRead
+pub mod RowPasses
 pub mod RowTests
 pub mod StackTests

@@ -1,4 +1,4 @@
-//! Tests the rules of a snapshot, each by one pass over its records.
+//! Tests the rules of a snapshot: those of a shelf by one pass over its buckets, each other one by one pass.
 //!
 //! Definitions: `Judging`. The rules themselves are the fields of `StandsFor`.
 
@@ -8,9 +8,10 @@ ghost use Rattle.bucketed_model.specs.Frames.{IsBucketedFrame};
 ghost use Rattle.bucketed_model.specs.State.{generations, most_buckets};
 ghost use Rattle.bucketed_restoring.specs.Private.Judging as spec;
 
-use bucketed_records::records::{
-    KeptShelf, LinkedBucket, LinkedBucketShelf, MOST_GIVEN, record_room, wider,
-};
+mod buckets;
+
+use bucketed_records::records::{KeptShelf, LinkedBucket, LinkedBucketShelf};
+use buckets::{is_multiple, judged_buckets};
 use etagere_base::{Frame, RestoreFault};
 
 /// What is kept of a shelf, and the area that its buckets have used, in square pixels.
@@ -25,28 +26,6 @@ pub(crate) struct Judged {
 pub(crate) struct Stack {
     pub opened: u32,
     pub height: u32,
-}
-
-/// Whether the bucket of this number is there and names this shelf.
-fn is_owned(buckets: &[LinkedBucket], shelf: u16, number: u16) -> bool
-    ensures { result ≡ spec.is_owned buckets.now shelf number }
-{
-    match buckets.get(usize::from(number)) {
-        Some(bucket) => bucket.shelf == shelf,
-        None => false,
-    }
-}
-
-/// Whether the buckets of these numbers name this shelf.
-pub(crate) fn are_owned(buckets: &[LinkedBucket], shelf: u16, numbers: &[u16]) -> bool
-    ensures { result ≡ list_all (spec.is_owned buckets.now shelf) numbers.now }
-{
-    for number in numbers {
-        if !is_owned(buckets, shelf, *number) {
-            return false;
-        }
-    }
-    true
 }
 
 /// Whether the bucket of this number is there and nothing of it is live.
@@ -71,255 +50,13 @@ pub(crate) fn are_unused(buckets: &[LinkedBucket], numbers: &[u16]) -> bool
     true
 }
 
-/// Whether a bucket's used width, given count and live count agree, where its shelf has this bucket width and height.
-fn is_filled(alignment: u32, width: u16, height: u16, bucket: &LinkedBucket) -> bool
-    requires { 1 ≤ alignment }
-    ensures { result ≡ spec.is_filled alignment width height bucket.now }
+/// Whether the buckets of a shelf have a width that they may have.
+fn has_width(frame: &Frame, shelf: &LinkedBucketShelf) -> bool
+    requires { 1 ≤ spec.alignment_along frame.now }
+    ensures { result ≡ spec.has_width frame.now shelf.now }
 {
-    if bucket.free_space > width {
-        return false;
-    }
-    let used = u32::from(width - bucket.free_space);
-    if used % alignment != 0
-        || bucket.refcount > bucket.item_count
-        || bucket.item_count > MOST_GIVEN
-    {
-        return false;
-    }
-    if bucket.refcount == 0 {
-        bucket.item_count == 0 && used == 0
-    } else {
-        u64::from(bucket.item_count) * u64::from(alignment) <= u64::from(used) && 1 <= height
-    }
-}
-
-/// The same as `is_filled`, and reads the generation, which has 8 bits and so fits into an id.
-fn is_kept(alignment: u32, width: u16, height: u16, bucket: &LinkedBucket) -> bool
-    requires { 1 ≤ alignment }
-    ensures value { result ≡ spec.is_filled alignment width height bucket.now }
-    ensures generation { bucket.now.generation < generations }
-{
-    let _generation = bucket.generation;
-    is_filled(alignment, width, height, bucket)
-}
-
-/// Whether the bucket of this number is there and is filled as a bucket must be.
-fn is_filled_at(
-    alignment: u32,
-    width: u16,
-    height: u16,
-    buckets: &[LinkedBucket],
-    number: u16,
-) -> bool
-    requires { 1 ≤ alignment }
-    ensures value { result ≡ spec.is_filled_at alignment width height buckets.now number }
-    ensures generation { spec.generation_of buckets.now number < generations }
-{
-    match buckets.get(usize::from(number)) {
-        Some(bucket) => is_kept(alignment, width, height, bucket),
-        None => false,
-    }
-}
-
-/// Whether the buckets of these numbers, this wide and in a shelf this tall, are filled as buckets must be.
-pub(crate) fn are_filled(
-    alignment: u32,
-    width: u16,
-    height: u16,
-    buckets: &[LinkedBucket],
-    numbers: &[u16],
-) -> bool
-    requires { 1 ≤ alignment }
-    ensures value { result
-        ≡ list_all (spec.is_filled_at alignment width height buckets.now) numbers.now }
-    ensures generations { IsTrue result
-        → AllByRecursion (λ number. spec.generation_of buckets.now number < generations) numbers.now }
-{
-    for number in numbers {
-        if !is_filled_at(alignment, width, height, buckets, *number) {
-            return false;
-        }
-    }
-    true
-}
-
-/// Where a bucket stands along, if that is aligned and the bucket ends at `end` at most.
-fn stand_at(alignment: u32, width: u16, end: u32, bucket: &LinkedBucket) -> Option<u32>
-    requires { 1 ≤ alignment }
-    ensures { result ≡ spec.stand_at alignment width end bucket.now }
-{
-    let place = u32::from(bucket.x);
-    if place % alignment == 0 && place + u32::from(width) <= end {
-        Some(place)
-    } else {
-        None
-    }
-}
-
-/// Where the bucket of this number stands along, if it is there, as `stand_at` tells.
-fn stand_by(
-    alignment: u32,
-    width: u16,
-    buckets: &[LinkedBucket],
-    end: u32,
-    number: u16,
-) -> Option<u32>
-    requires { 1 ≤ alignment }
-    ensures { result ≡ spec.stand_by alignment width buckets.now end number }
-{
-    match buckets.get(usize::from(number)) {
-        Some(bucket) => stand_at(alignment, width, end, bucket),
-        None => None,
-    }
-}
-
-/// Where the last of the buckets of these numbers stands, if each ends at most where the one before it stands.
-pub(crate) fn last_stand(
-    alignment: u32,
-    width: u16,
-    buckets: &[LinkedBucket],
-    end: u32,
-    numbers: &[u16],
-) -> Option<u32>
-    requires { 1 ≤ alignment }
-    ensures { result ≡ spec.last_stand alignment width buckets.now end numbers.now }
-{
-    let mut place = end;
-    for number in numbers {
-        place = stand_by(alignment, width, buckets, place, *number)?;
-    }
-    Some(place)
-}
-
-/// Whether a bucket stands at `begin`, and ends at `end` at most.
-fn begins_at(width: u16, begin: u32, end: u32, bucket: &LinkedBucket) -> bool
-    ensures { result ≡ spec.begins_at width begin end bucket.now }
-{
-    let place = u32::from(bucket.x);
-    place == begin && place + u32::from(width) <= end
-}
-
-/// Whether the bucket of this number is there, stands at `begin`, and ends at `end` at most.
-fn begins_by(width: u16, buckets: &[LinkedBucket], begin: u32, end: u32, number: u16) -> bool
-    ensures { result ≡ spec.begins_by width begin end buckets.now number }
-{
-    match buckets.get(usize::from(number)) {
-        Some(bucket) => begins_at(width, begin, end, bucket),
-        None => false,
-    }
-}
-
-/// Whether the buckets of these numbers stand side by side: the last one at `begin`, each other one at an aligned
-/// place, and each ends at most where the one before it stands, the first at `end`.
-fn stand_together(
-    alignment: u32,
-    width: u16,
-    buckets: &[LinkedBucket],
-    begin: u32,
-    end: u32,
-    numbers: &[u16],
-) -> bool
-    requires { 1 ≤ alignment }
-    ensures { result ≡ spec.stand_together alignment width buckets.now begin end numbers.now }
-{
-    let Some((last, others)) = numbers.split_last() else {
-        return false;
-    };
-    match last_stand(alignment, width, buckets, end, others) {
-        Some(place) => begins_by(width, buckets, begin, place, *last),
-        None => false,
-    }
-}
-
-/// Whether the buckets of a shelf, of these numbers, keep their rule.
-fn has_buckets(
-    frame: &Frame,
-    buckets: &[LinkedBucket],
-    shelf: &LinkedBucketShelf,
-    numbers: &[u16],
-) -> bool
-    requires alignment { 1 ≤ spec.alignment_along frame.now }
-    requires narrow { frame.now.column_width < 2 ^ 16 }
-    ensures value { result ≡ spec.has_buckets frame.now buckets.now shelf.now numbers.now }
-    ensures generations { IsTrue result
-        → AllByRecursion (λ number. spec.generation_of buckets.now number < generations) numbers.now }
-{
-    let alignment = frame.alignment_along();
     let width = shelf.bucket_width;
-    let begin = u32::from(shelf.x);
-    let end = begin + frame.column_width;
-    u32::from(width) % alignment == 0
-        && (frame.columns != 1 || 1 <= width)
-        && are_filled(alignment, width, shelf.height, buckets, numbers)
-        && stand_together(alignment, width, buckets, begin, end, numbers)
-}
-
-/// How many items of the bucket of this number are live; 0 where it isn't there.
-fn live_at(buckets: &[LinkedBucket], number: u16) -> u16
-    ensures { result ≡ spec.live_of buckets.now number }
-{
-    match buckets.get(usize::from(number)) {
-        Some(bucket) => bucket.refcount,
-        None => 0,
-    }
-}
-
-/// How many items of the buckets of these numbers are live.
-pub(crate) fn live_items(buckets: &[LinkedBucket], numbers: &[u16]) -> u32
-    requires { length numbers.now < 2 ^ 16 }
-    ensures { result ≡ spec.live_by buckets.now numbers.now }
-{
-    let mut live: u32 = 0;
-    for number in numbers {
-        live += u32::from(live_at(buckets, *number));
-    }
-    live
-}
-
-/// How much of its width the bucket of this number has used; 0 where it isn't there.
-fn used_at(width: u16, buckets: &[LinkedBucket], number: u16) -> u16
-    requires { spec.free_of buckets.now number ≤ width }
-    ensures { result ≡ spec.used_at width buckets.now number }
-{
-    match buckets.get(usize::from(number)) {
-        Some(bucket) => width - bucket.free_space,
-        None => 0,
-    }
-}
-
-/// How much of their width the buckets of these numbers have used.
-pub(crate) fn used_width(width: u16, buckets: &[LinkedBucket], numbers: &[u16]) -> u32
-    requires few { length numbers.now < 2 ^ 16 }
-    requires free { AllByRecursion (λ number. spec.free_of buckets.now number ≤ width) numbers.now }
-    ensures value { result ≡ spec.used_by width buckets.now numbers.now }
-    ensures small { result ≤ length numbers.now * 2 ^ 16 }
-{
-    let mut used: u32 = 0;
-    for number in numbers {
-        used += u32::from(used_at(width, buckets, *number));
-    }
-    used
-}
-
-/// The width that the bucket of this number can give; 0 where it isn't there.
-fn room_at(buckets: &[LinkedBucket], number: u16) -> u16
-    ensures { result ≡ spec.room_at buckets.now number }
-{
-    match buckets.get(usize::from(number)) {
-        Some(bucket) => record_room(bucket),
-        None => 0,
-    }
-}
-
-/// The greatest width that one of the buckets of these numbers can give.
-pub(crate) fn widest_room(buckets: &[LinkedBucket], numbers: &[u16]) -> u16
-    ensures { result ≡ spec.widest_by buckets.now numbers.now }
-{
-    let mut widest = 0;
-    for number in numbers {
-        widest = wider(widest, room_at(buckets, *number));
-    }
-    widest
+    is_multiple(u32::from(width), frame.alignment_along()) && (frame.columns != 1 || 1 <= width)
 }
 
 /// Judges the shelf of a number with the buckets of these numbers, and tells what is kept of it.
@@ -341,20 +78,21 @@ pub(crate) fn judged_row(
     ensures fault { IfErr result
         (λ fault. spec.BreaksRow frame.now buckets.now number shelf.now numbers.now fault) }
 {
-    if !are_owned(buckets, number, numbers) {
+    let judged = judged_buckets(frame, buckets, shelf, number, numbers);
+    if !judged.are_owned {
         return Err(RestoreFault::Link);
     }
-    if !has_buckets(frame, buckets, shelf, numbers) {
+    let has_buckets = has_width(frame, shelf) & judged.are_filled & judged.stand_together;
+    if !has_buckets {
         return Err(RestoreFault::Runs);
     }
-    let used = used_width(shelf.bucket_width, buckets, numbers);
     Ok(Judged {
         kept: KeptShelf {
             shelf: *shelf,
-            live_items: live_items(buckets, numbers),
-            widest_room: widest_room(buckets, numbers),
+            live_items: judged.live_items,
+            widest_room: judged.widest_room,
         },
-        space: u64::from(used) * u64::from(shelf.height),
+        space: u64::from(judged.used_width) * u64::from(shelf.height),
     })
 }
 

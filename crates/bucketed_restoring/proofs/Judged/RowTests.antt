@@ -1,5 +1,5 @@
 -- The tests of the buckets of a shelf decide its rules, and what is added up over them is what the shelf has.
-use Rattle.std.proofs.Common.{◌≡◌, ℕ, ◌+◌, ◌-◌, ◌*◌, ◌%◌, ◌<◌, ◌≤◌, Bool, true, false, ◌&&◌, ◌||◌, not, cond, Option, None, Some, List, [], ◌∷◌, ◌++◌, length, map, max, refl, ap, arith, sym, ◌∙◌, subst, ⊎_elim, ◌==◌}
+use Rattle.std.proofs.Common.{◌≡◌, ℕ, ◌+◌, ◌-◌, ◌*◌, ◌%◌, ◌<◌, ◌≤◌, Bool, true, false, ◌&&◌, ◌||◌, not, cond, Option, None, Some, List, [], ◌∷◌, length, map, max, refl, ap, arith, sym, ◌∙◌, subst, ⊎_elim, ◌==◌}
 use Rattle.std.proofs.lemmas.Bool.{eqb-true}
 use Rattle.std.proofs.lemmas.Option.{slice_get_cases}
 use Rattle.std.specs.List.{AllByRecursion, list_all}
@@ -16,7 +16,7 @@ use Rattle.bucketed_records.specs.declared.records.LinkedBucketShelf.{LinkedBuck
 use Rattle.bucketed_records.specs.BucketRecords.{bucket_at, spelled_bucket}
 use Rattle.bucketed_records.specs.Private.Store.{record_room, live_items, room_of, widest_room}
 use Rattle.bucketed_records.specs.StandsFor.{AreBuckets, IsFilled, StandDown, free_of, live_of, place_of, shelf_of}
-use Rattle.bucketed_restoring.specs.Private.Judging.{begins_at, begins_by, has_buckets, is_filled, is_filled_at, is_owned, is_unused, last_stand, live_by, stand_at, stand_by, stand_together, used_by, widest_by}
+use Rattle.bucketed_restoring.specs.Private.Judging.{begins_at, begins_by, has_buckets, is_filled, is_filled_at, is_owned, is_unused, live_by, stand_at, stand_together, used_by, widest_by}
 use Rattle.bucketed_restoring.proofs.Judged.Comparisons.{decides-eq, decides-le}
 
 -- a record that is there
@@ -173,25 +173,6 @@ module _ (buckets : List LinkedBucket) where
       (decides-both _ _ (AllByRecursion Filled ns) R
       (all-decided buckets (is_filled_at al width shelf.height buckets) Filled ns (filled-one al width shelf.height) within)
       (stand-decided al width shelf.x end ns within)))
-
-  -- what comes of an option, and then of what was found
-  after-option : (o : Option ℕ) (f k : ℕ → Bool) (g : ℕ → Option ℕ) → ((place : ℕ) → f place ≡ option_map_or k (g place) false)
-      → option_map_or f o false ≡ option_map_or k (option_and_then g o) false
-  after-option None f k g same = refl
-  after-option (Some place) f k g same = same place
-
-  -- those before the last one stand, and then the last one
-  pub stand-last : (alignment width begin end : ℕ) (others : List ℕ) (last : ℕ)
-      → stand_together alignment width buckets begin end (others ++ last ∷ [])
-      ≡ option_map_or (λ (place : ℕ). begins_by width begin place buckets last) (last_stand alignment width buckets end others) false
-  stand-last alignment width begin end [] last = refl
-  stand-last alignment width begin end (n ∷ []) last =
-      after-option (stand_by alignment width buckets end n) (λ (place : ℕ). begins_by width begin place buckets last) (λ (place : ℕ). begins_by width begin place buckets last)
-      (λ (place : ℕ). Some place) (λ place. refl)
-  stand-last alignment width begin end (n ∷ o ∷ os) last =
-      after-option (stand_by alignment width buckets end n) (λ (place : ℕ). stand_together alignment width buckets begin place (o ∷ (os ++ last ∷ [])))
-      (λ (place : ℕ). begins_by width begin place buckets last) (λ (place : ℕ). last_stand alignment width buckets place (o ∷ os))
-      (λ place. stand-last alignment width begin place (o ∷ os) last)
 
 -- what records have used is what their buckets have used
 pub used-spelled : (buckets : List LinkedBucket) (width : ℕ) (ns : List ℕ) → used_by width buckets ns ≡ used_width (map (bucket_at buckets width) ns)

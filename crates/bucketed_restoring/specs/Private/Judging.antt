@@ -1,5 +1,5 @@
 -- The passes over the records of a snapshot that test its rules, as the code makes them.
-use Rattle.std.specs.Prelude.{◌≡◌, ◌<◌, ℕ, ◌+◌, ◌-◌, ◌*◌, ◌/◌, ◌%◌, ◌^◌, max, Bool, false, ◌&&◌, ◌||◌, not, Option, None, Some, option_and_then, List, [], ◌∷◌, length, map, slice_get, nat_le, nat_lt, ◌==◌, if◌then◌else◌}
+use Rattle.std.specs.Prelude.{◌≡◌, ◌<◌, ℕ, ◌+◌, ◌-◌, ◌*◌, ◌/◌, ◌%◌, max, Bool, false, ◌&&◌, ◌||◌, not, Option, None, Some, option_and_then, List, [], ◌∷◌, length, map, slice_get, nat_le, nat_lt, ◌==◌, if◌then◌else◌}
 use Rattle.std.specs.List.{AllByRecursion, list_all}
 use Rattle.std.specs.Option.{option_map_or}
 use Rattle.etagere_base.specs.declared.faults.RestoreFault.{RestoreFault}
@@ -50,13 +50,6 @@ stand_at alignment width end bucket =
 abbrev pub stand_by : ℕ → ℕ → List LinkedBucket → ℕ → ℕ → Option ℕ
 stand_by alignment width buckets end number = option_and_then (stand_at alignment width end) (slice_get buckets number)
 
--- where the last of the records of these numbers stands, each of them ending where the one before it stands at most
-abbrev pub last_stand : ℕ → ℕ → List LinkedBucket → ℕ → List ℕ → Option ℕ
-last_stand alignment width buckets end [] = Some end
-last_stand alignment width buckets end (number ∷ numbers) =
-    option_and_then (λ (place : ℕ). last_stand alignment width buckets place numbers)
-    (stand_by alignment width buckets end number)
-
 -- a bucket this wide stands at the begin, and ends by there at most
 abbrev pub begins_at : ℕ → ℕ → ℕ → LinkedBucket → Bool
 begins_at width begin end bucket = bucket.x == begin && nat_le (bucket.x + width) end
@@ -73,12 +66,17 @@ stand_together alignment width buckets begin end (number ∷ next ∷ numbers) =
     option_map_or (λ (place : ℕ). stand_together alignment width buckets begin place (next ∷ numbers))
     (stand_by alignment width buckets end number) false
 
+-- the buckets of a shelf have a width that they may have
+abbrev pub has_width : Frame → LinkedBucketShelf → Bool
+has_width frame shelf =
+    shelf.bucket_width % alignment_along frame == 0 && (not (frame.columns == 1) || nat_le 1 shelf.bucket_width)
+
 -- the records of these numbers are those of the buckets of a shelf
 abbrev pub has_buckets : Frame → List LinkedBucket → LinkedBucketShelf → List ℕ → Bool
 has_buckets frame buckets shelf numbers =
     let alignment = alignment_along frame in
     let width = shelf.bucket_width in
-    (width % alignment == 0 && (not (frame.columns == 1) || nat_le 1 width))
+    has_width frame shelf
     && (list_all (is_filled_at alignment width shelf.height buckets) numbers
     && stand_together alignment width buckets shelf.x (shelf.x + frame.column_width) numbers)
 
